@@ -1,0 +1,172 @@
+//! Rows and their cells.
+ghost use Rattle.std.specs.Prelude.{◌≡◌, ◌↔◌, IfOk, IsTrue, [], length, string_bytes, slice_get};
+ghost use Rattle.std.specs.Option.{option_copied};
+ghost use Rattle.key_extract.specs.Cells.{cell_cmp, optional_cell_cmp};
+
+use std::alloc::{AllocError, Global};
+use std::cmp::Ordering;
+use std::marker::Model;
+
+/// A text, seen as its bytes.
+#[derive(Debug, Drop)]
+pub struct Text {
+    text: String,
+}
+
+impl Model for Text {
+    ghost use Rattle.std.specs.Prelude.{List, ℕ, string_bytes};
+
+    ghost Value = { List ℕ };
+
+    ghost view = { λ t. string_bytes t.text };
+}
+
+impl Text {
+    /// The text of a string, which it takes. O(1).
+    pub fn new(text: String) -> Text
+        ensures { result ≡ string_bytes text }
+    {
+        Text { text }
+    }
+
+    /// A text of these bytes, newly allocated. O(length).
+    pub fn copy_of(alloc: Global, text: &str) -> Result<Text, AllocError>
+        ensures { IfOk result (λ copy. copy ≡ text.now) }
+    {
+        Ok(Text::new(String::from_str(alloc, text)?))
+    }
+
+    /// An equal text, newly allocated. O(length).
+    pub fn copy(&self, alloc: Global) -> Result<Text, AllocError>
+        ensures { IfOk result (λ copy. copy ≡ self.now) }
+    {
+        Text::copy_of(alloc, self.as_str())
+    }
+
+    /// The text, as long as it is borrowed. O(1).
+    pub fn as_str(&self) -> &str
+        ensures { result.now ≡ self.now }
+    {
+        self.text.as_str()
+    }
+
+    /// The length in bytes, which is not the number of characters. O(1).
+    pub fn len(&self) -> usize
+        ensures { result ≡ length self.now }
+    {
+        self.text.len()
+    }
+
+    /// Whether the text has no byte. O(1).
+    pub fn is_empty(&self) -> bool
+        ensures { IsTrue result ↔ (self.now ≡ []) }
+    {
+        self.text.is_empty()
+    }
+}
+
+impl PartialEq for Text {
+    ghost use Rattle.std.specs.Prelude.{nat_eq};
+    ghost use Rattle.std.specs.Cmp.{partial_equiv_from_equiv};
+    ghost use Rattle.std.specs.Cmp.Lexicographic.{nat_list_eq_equiv, pointwise};
+
+    ghost eq = { pointwise nat_eq };
+
+    ghost laws = { partial_equiv_from_equiv nat_list_eq_equiv };
+
+    fn eq(&self, other: &Text) -> bool {
+        self.as_str() == other.as_str()
+    }
+}
+
+impl Eq for Text {
+    ghost use Rattle.std.specs.Cmp.Lexicographic.{nat_list_eq_equiv};
+
+    ghost laws = { nat_list_eq_equiv };
+}
+
+/// A value of a row in one column.
+#[derive(Debug, Drop, PartialEq, Eq)]
+pub enum Cell {
+    Int(i64),
+    Text(Text),
+    Bool(bool),
+}
+
+impl Cell {
+    /// An equal cell; a text is newly allocated. O(length of the text).
+    pub fn copy(&self, alloc: Global) -> Result<Cell, AllocError>
+        ensures { IfOk result (λ copy. copy ≡ self.now) }
+    {
+        Ok(match self {
+            Cell::Int(value) => Cell::Int(*value),
+            Cell::Text(text) => Cell::Text(text.copy(alloc)?),
+            Cell::Bool(value) => Cell::Bool(*value),
+        })
+    }
+
+    /// Integers come before texts, and texts before truth values; a text compares by its bytes.
+    pub fn compare(&self, other: &Cell) -> Ordering
+        ensures { result ≡ cell_cmp self.now other.now }
+    {
+        match (self, other) {
+            (Cell::Int(a), Cell::Int(b)) => a.cmp(b),
+            (Cell::Text(a), Cell::Text(b)) => a.as_str().cmp(b.as_str()),
+            (Cell::Bool(a), Cell::Bool(b)) => a.cmp(b),
+            (Cell::Int(_), _) | (Cell::Text(_), Cell::Bool(_)) => Ordering::Less,
+            (Cell::Text(_), Cell::Int(_)) | (Cell::Bool(_), _) => Ordering::Greater,
+        }
+    }
+}
+
+/// A row of cells, one for each column.
+#[derive(Drop)]
+pub struct Row {
+    cells: Vec<Cell>,
+}
+
+impl Model for Row {
+    ghost use Rattle.std.specs.Prelude.{List};
+    ghost use Rattle.key_extract.specs.declared.cell.Cell.{Cell as CellValue};
+
+    ghost Value = { List CellValue };
+
+    ghost view = { λ r. r.cells.items };
+}
+
+impl Row {
+    pub fn new(cells: Vec<Cell>) -> Row
+        ensures { result ≡ cells.items }
+    {
+        Row { cells }
+    }
+
+    pub fn cells(&self) -> &[Cell]
+        ensures { result.now ≡ self.now }
+    {
+        &self.cells
+    }
+}
+
+// The cell of a column, which a row may lack.
+pub(crate) fn cell_at(cells: &[Cell], column: usize) -> Option<&Cell>
+    ensures { option_copied result ≡ slice_get cells.now column }
+{
+    if column < cells.len() {
+        Some(&cells[column])
+    } else {
+        None
+    }
+}
+
+// A cell that a row lacks comes before all.
+pub(crate) fn compare_optional(a: Option<&Cell>, b: Option<&Cell>) -> Ordering
+    ensures { result ≡ optional_cell_cmp (option_copied a.entry) (option_copied b.entry) }
+{
+    match (a, b) {
+        (None, None) => Ordering::Equal,
+        (None, Some(_)) => Ordering::Less,
+        (Some(_), None) => Ordering::Greater,
+        (Some(a), Some(b)) => a.compare(b),
+    }
+}

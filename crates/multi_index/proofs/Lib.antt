@@ -1,0 +1,4 @@
+pub mod Inserted
+pub mod PlainKept
+pub mod Slots
+pub mod Steps

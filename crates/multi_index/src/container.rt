@@ -1,0 +1,191 @@
+//! The container.
+ghost use Rattle.std.specs.Prelude.{◌≡◌, ◌↔◌, ℕ, ◌<◌, ◌≤◌, Bool, true, IsTrue, length, [], None, unwrap_or, Some, IfOk, IfErr, OnOk, OnErr};
+ghost use Rattle.container_model.specs.State.{IsState, KeysMatch, empty, list_at, row_of, has_key_kind};
+ghost use Rattle.container_model.specs.Find.{found, is_live, kind_at};
+ghost use Rattle.container_model.specs.Insert.{insert_refusal, new_handle, with_inserted};
+
+use crate::enter::{empty_lists, enter_each, first_ban, reserve_one};
+use crate::search::first_equal;
+use container_model::{Entry, Handle, Kind, Refused, Spec, Why};
+use key_extract::Extract;
+use std::alloc::{AllocError, Global};
+use std::marker::Model;
+
+/// Records under several indices, each of which keeps all of them in an order of its own.
+#[derive(Drop)]
+pub struct MultiIndex<R: Drop, E: Extract<R> + Drop> {
+    keys: E,
+    specs: Vec<Spec>,
+    max: u32,
+    writes: u64,
+    entries: Vec<Entry<R>>,
+    lists: Vec<Vec<Handle>>,
+}
+
+impl<R: Drop, E: Extract<R> + Drop> Model for MultiIndex<R, E> {
+    ghost use Rattle.container_model.specs.State.{State};
+    ghost use Rattle.multi_index.specs.Plain.{lists_of, IsPlain};
+
+    ghost Value = { State E R };
+
+    ghost view = { λ c. record { keys = c.keys; specs = c.specs.items; max = c.max; writes = c.writes; entries = c.entries.items; lists = lists_of c.lists.items } };
+
+    ghost invariant = { λ c. IsPlain E.has_key E.order_of (record { keys = c.keys; specs = c.specs.items; max = c.max; writes = c.writes; entries = c.entries.items; lists = lists_of c.lists.items }) };
+}
+
+impl<R: Drop, E: Extract<R> + Drop> MultiIndex<R, E> {
+    /// A container without records, whose last write has the number `first_write`.
+    pub fn new(
+        alloc: Global,
+        specs: Vec<Spec>,
+        keys: E,
+        max: u32,
+        first_write: u64,
+    ) -> Result<Self, AllocError>
+        requires { KeysMatch (E.has_key keys) specs.items }
+        ensures { IfOk result (λ made. made ≡ empty keys specs.items max first_write) }
+    {
+        let lists = empty_lists(alloc, &specs)?;
+        Ok(MultiIndex {
+            keys,
+            specs,
+            max,
+            writes: first_write,
+            entries: Vec::new(alloc),
+            lists,
+        })
+    }
+
+    /// The number of records.
+    pub fn len(&self) -> u64
+        ensures { result ≡ length self.now.entries }
+    {
+        self.entries.len() as u64
+    }
+
+    /// Whether there is no record.
+    pub fn is_empty(&self) -> bool
+        ensures { IsTrue result ↔ (self.now.entries ≡ []) }
+    {
+        self.entries.is_empty()
+    }
+
+    /// The number of the last accepted write.
+    pub fn writes(&self) -> u64
+        ensures number { result ≡ self.now.writes }
+        ensures kept { IsState E.has_key E.order_of self.now }
+    {
+        self.writes
+    }
+
+    /// Puts a record in: after its equals in the indices that are in order, and last in the others.
+    pub fn insert(&mut self, row: R) -> Result<Handle, Refused<R>>
+        ensures handle { IfOk result (λ handle. handle ≡ new_handle self.old) }
+        ensures allowed { OnOk result (insert_refusal E.order_of self.old row ≡ None) }
+        ensures ok { OnOk result (self.new ≡ with_inserted E.order_of self.old None row) }
+
+        // Memory is refused only where nothing else is.
+        ensures why { IfErr result (λ refused. refused.why ≡ unwrap_or (insert_refusal E.order_of self.old row) Why.Memory) }
+        ensures handed_back { IfErr result (λ refused. refused.row ≡ Some row) }
+        ensures unchanged { OnErr result (self.new ≡ self.old) }
+    {
+        if let Some(why) = self.insert_refusal(&row) {
+            return Err(Refused {
+                why,
+                row: Some(row),
+            });
+        }
+        if reserve_one(&mut self.entries, &mut self.lists).is_err() {
+            return Err(Refused {
+                why: Why::Memory,
+                row: Some(row),
+            });
+        }
+        let handle = Handle {
+            slot: self.entries.len() as u32,
+            stamp: self.writes + 1,
+        };
+        enter_each(
+            &self.keys,
+            &self.specs,
+            &self.entries,
+            &mut self.lists,
+            &row,
+            handle,
+        );
+        let _ = self.entries.push(Entry { handle, row });
+        self.writes = handle.stamp;
+        Ok(handle)
+    }
+
+    /// The record of a handle. A handle that names none is refused as stale. O(1).
+    pub fn get(&self, handle: Handle) -> Result<&R, Why>
+        ensures row { IfOk result (λ row. row_of self.now.entries handle ≡ Some row.now) }
+        ensures none { OnErr result (row_of self.now.entries handle ≡ None) }
+        ensures why { IfErr result (λ why. why ≡ Why.Stale) }
+    {
+        if self.has(handle) {
+            Ok(&self.entries[handle.slot as usize].row)
+        } else {
+            Err(Why::Stale)
+        }
+    }
+
+    /// The first record of the index that has the key.
+    pub fn find(&self, index: usize, probe: &E::Probe) -> Result<Option<Handle>, Why>
+        requires in_range { index < length self.now.specs }
+        requires fits { IsTrue (has_key_kind (kind_at self.now index)) → IsTrue (E.does_fit self.now.keys index probe.now) }
+        ensures { result ≡ found E.probe_order_of self.now index probe.now }
+    {
+        match self.specs[index].kind {
+            Kind::Sequenced | Kind::Random => Err(Why::Kind),
+            Kind::Ordered | Kind::Ranked | Kind::Hashed => {
+                let list = &self.lists[index];
+                Ok(first_equal(&self.keys, index, &self.entries, list, probe))
+            }
+        }
+    }
+
+    /// The records of the index, in its order.
+    pub fn view(&self, alloc: Global, index: usize) -> Result<Vec<Handle>, Why>
+        requires { index < length self.now.specs }
+        ensures ok { IfOk result (λ handles. handles.items ≡ list_at self.now.lists index) }
+        ensures memory_only { IfErr result (λ why. why ≡ Why.Memory) }
+    {
+        self.lists[index].to_vec(alloc).map_err(|_| Why::Memory)
+    }
+
+    // Whether the handle names a record.
+    fn has(&self, handle: Handle) -> bool
+        ensures { result ≡ is_live self.now handle }
+    {
+        let slot = handle.slot as usize;
+        slot < self.entries.len() && handle == self.entries[slot].handle
+    }
+
+    // Why a record may not go in, but for want of memory.
+    fn insert_refusal(&self, row: &R) -> Option<Why>
+        ensures { result ≡ insert_refusal E.order_of self.now row.now }
+    {
+        if let Some((index, by)) = first_ban(
+            &self.keys,
+            &self.specs,
+            &self.entries,
+            &self.lists,
+            None,
+            row,
+        ) {
+            return Some(Why::Banned { index, by });
+        }
+        if self.entries.len() as u64 == self.max as u64 {
+            return Some(Why::Full);
+        }
+        if self.writes == u64::MAX {
+            return Some(Why::Spent);
+        }
+        None
+    }
+}
+
+#[cfg(test)]
+mod tests;
