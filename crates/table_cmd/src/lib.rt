@@ -1,0 +1,17 @@
+//! Lines of JSON to commands, and replies to lines of JSON.
+#![tactic(auto)]
+
+mod command;
+mod fault;
+mod out;
+mod print;
+mod read;
+mod reply;
+
+pub use command::{Command, Field, Fields, Key, Value};
+pub use container_model::Handle;
+pub use fault::{CommandFault, Fault};
+pub use key_extract::{Cell, Row, Text};
+pub use out::{Out, OutOfRoom, READY_ROOM};
+pub use read::read_command;
+pub use reply::{Heading, Record, Reply, write_reply};

@@ -1,0 +1,183 @@
+//! Reads a line as a command.
+
+ghost use Rattle.std.specs.Prelude.{◌≡◌, ◌∷◌, [], IfOk, option_map, map, codes, bytes_eq, List, ℕ};
+ghost use Rattle.std.specs.List.{list_any};
+ghost use Rattle.serde_json.specs.Data.{object};
+ghost use Rattle.serde_json.specs.View.{view, items_view, members_view};
+ghost use Rattle.table_cmd.specs.Meaning.{Gives, value_of, values_of, fields_of, has_only, text_at, insert_of, find_of, list_of, command_for, command_of, or_fault, meaning};
+
+use crate::command::{Command, Field, Fields, Key, Value};
+use crate::fault::CommandFault;
+use key_extract::{Cell, Text};
+use serde_json::{Map, Value as Json};
+use std::alloc::{AllocError, Global};
+
+/// Reads a line as a command.
+pub fn read_command(alloc: Global, line: &[u8]) -> Result<Command, CommandFault>
+    ensures { Gives result (meaning line.now) }
+{
+    match Json::from_slice(alloc, line) {
+        Ok(value) => command_of(alloc, &value),
+        Err(e) => if e.is_memory() {
+            Err(CommandFault::Memory)
+        } else {
+            Err(CommandFault::Json)
+        },
+    }
+}
+
+fn value_of(alloc: Global, json: &Json) -> Result<Value, AllocError>
+    ensures { IfOk result (λ value. value ≡ value_of (view json.now)) }
+{
+    match json {
+        Json::Bool(b) => Ok(Value::Cell(Cell::Bool(*b))),
+        Json::Number(n) => Ok(match n.as_i64() {
+            Some(n) => Value::Cell(Cell::Int(n)),
+            None => Value::Other,
+        }),
+        Json::String(s) => Ok(Value::Cell(Cell::Text(Text::new(s.clone()?)))),
+        Json::Null | Json::Array(_) | Json::Object(_) => Ok(Value::Other),
+    }
+}
+
+fn key_of(alloc: Global, values: &Vec<Json>) -> Result<Key, AllocError>
+    ensures { IfOk result (λ key. key ≡ values_of (items_view values.now.items)) }
+{
+    let mut key = Vec::with_capacity(alloc, values.len())?;
+    for value in values {
+        key.push(value_of(alloc, value)?)?;
+    }
+    Ok(Key::new(key))
+}
+
+fn row_of(alloc: Global, members: &Map<String, Json>) -> Result<Fields, AllocError>
+    ensures { IfOk result (λ row. row ≡ fields_of (members_view members.now.entries)) }
+{
+    let mut row = Vec::with_capacity(alloc, members.len())?;
+    for (name, value) in members {
+        row.push(Field {
+            name: Text::new(name.clone()?),
+            value: value_of(alloc, value)?,
+        })?;
+    }
+    Ok(Fields::new(row))
+}
+
+fn has_only(members: &Map<String, Json>, names: &[&str]) -> bool
+    ensures { result ≡ has_only (map (λ s. s.now) names.now) (members_view members.now.entries) }
+{
+    for (name, _value) in members {
+        if !is_among(name.as_str(), names) {
+            return false;
+        }
+    }
+    true
+}
+
+#[tactic(auto, using(crate::proofs::Cells::list_any_map))]
+fn is_among(name: &str, names: &[&str]) -> bool
+    ensures { result ≡ list_any (λ n. bytes_eq n name.now) (map (λ s. s.now) names.now) }
+{
+    names.contains(&name)
+}
+
+fn text_at<'a>(value: &'a Json, name: &str) -> Option<&'a str>
+    ensures { option_map (λ s. s.now) result ≡ text_at name.now (view value.now) }
+{
+    value.get(name).and_then(Json::as_str)
+}
+
+#[tactic(auto, unfolding(crate::specs::Meaning::insert_of))]
+fn insert_of(alloc: Global, value: &Json) -> Result<Command, CommandFault>
+    ensures { Gives result (or_fault (insert_of (view value.now))) }
+{
+    let Some(table) = text_at(value, "t") else {
+        return Err(CommandFault::Command);
+    };
+    let Some(row) = value.get("r").and_then(Json::as_object) else {
+        return Err(CommandFault::Command);
+    };
+    Ok(Command::Insert {
+        table: Text::new(String::from_str(alloc, table)?),
+        row: row_of(alloc, row)?,
+    })
+}
+
+#[tactic(auto, unfolding(crate::specs::Meaning::find_of))]
+fn find_of(alloc: Global, value: &Json) -> Result<Command, CommandFault>
+    ensures { Gives result (or_fault (find_of (view value.now))) }
+{
+    let Some(table) = text_at(value, "t") else {
+        return Err(CommandFault::Command);
+    };
+    let Some(index) = text_at(value, "i") else {
+        return Err(CommandFault::Command);
+    };
+    let Some(key) = value.get("k").and_then(Json::as_array) else {
+        return Err(CommandFault::Command);
+    };
+    Ok(Command::Find {
+        table: Text::new(String::from_str(alloc, table)?),
+        index: Text::new(String::from_str(alloc, index)?),
+        key: key_of(alloc, key)?,
+    })
+}
+
+#[tactic(auto, unfolding(crate::specs::Meaning::list_of))]
+fn list_of(alloc: Global, value: &Json) -> Result<Command, CommandFault>
+    ensures { Gives result (or_fault (list_of (view value.now))) }
+{
+    let Some(table) = text_at(value, "t") else {
+        return Err(CommandFault::Command);
+    };
+    let Some(index) = text_at(value, "i") else {
+        return Err(CommandFault::Command);
+    };
+    Ok(Command::List {
+        table: Text::new(String::from_str(alloc, table)?),
+        index: Text::new(String::from_str(alloc, index)?),
+    })
+}
+
+#[tactic(auto, unfolding(crate::specs::Meaning::command_for))]
+fn command_for(
+    alloc: Global,
+    op: &str,
+    members: &Map<String, Json>,
+    value: &Json,
+) -> Result<Command, CommandFault>
+    requires { view value.now ≡ object (members_view members.now.entries) }
+    ensures { Gives result (or_fault (command_for op.now (members_view members.now.entries))) }
+{
+    if op == "insert" {
+        if !has_only(members, &["op", "t", "r"]) {
+            return Err(CommandFault::Command);
+        }
+        insert_of(alloc, value)
+    } else if op == "find" {
+        if !has_only(members, &["op", "t", "i", "k"]) {
+            return Err(CommandFault::Command);
+        }
+        find_of(alloc, value)
+    } else if op == "list" {
+        if !has_only(members, &["op", "t", "i"]) {
+            return Err(CommandFault::Command);
+        }
+        list_of(alloc, value)
+    } else {
+        Err(CommandFault::Command)
+    }
+}
+
+#[tactic(auto, unfolding(crate::specs::Meaning::command_of))]
+fn command_of(alloc: Global, value: &Json) -> Result<Command, CommandFault>
+    ensures { Gives result (or_fault (command_of (view value.now))) }
+{
+    let Json::Object(members) = value else {
+        return Err(CommandFault::Command);
+    };
+    let Some(op) = text_at(value, "op") else {
+        return Err(CommandFault::Command);
+    };
+    command_for(alloc, op, members, value)
+}

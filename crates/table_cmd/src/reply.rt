@@ -1,0 +1,74 @@
+//! What is answered to a command.
+
+ghost use Rattle.table_cmd.specs.Buffer.{Adds, AddsWhole};
+ghost use Rattle.table_cmd.specs.Answer.{answer, answer_text};
+
+use crate::fault::Fault;
+use crate::out::{Out, OutOfRoom};
+use crate::print::{push_banned, push_fault, push_found, push_listed};
+use container_model::Handle;
+use key_extract::{Row, Text};
+
+/// A column of an answer's rows: its name, and the place of its cell in a row.
+#[derive(Drop)]
+pub struct Heading {
+    pub name: Text,
+    pub place: usize,
+}
+
+/// A record that an answer shows.
+#[derive(Clone, Copy)]
+pub struct Record<'a> {
+    pub handle: Handle,
+    pub row: &'a Row,
+}
+
+/// What is answered to a command. `at` is the table's write number after it.
+#[derive(Clone, Copy)]
+pub enum Reply<'a> {
+    /// A record, or nothing.
+    Found {
+        at: u64,
+        handle: Option<Handle>,
+    },
+    /// A unique index, by its name, has a record with the new key.
+    Banned {
+        at: u64,
+        index: &'a str,
+        by: Handle,
+    },
+    /// Records, whose rows show the cells of the headings in their order.
+    Listed {
+        at: u64,
+        headings: &'a [Heading],
+        records: &'a [Record<'a>],
+    },
+    Fault(Fault),
+}
+
+/// Appends the line of a reply. At an `Err` nothing is appended.
+pub fn write_reply(reply: &Reply, out: &mut Out) -> Result<(), OutOfRoom>
+    ensures { AddsWhole result out.old out.new (answer_text (answer reply.now)) }
+{
+    let start = out.bytes().len();
+    if let Err(e) = push_reply(reply, out) {
+        out.truncate(start);
+        return Err(e);
+    }
+    Ok(())
+}
+
+fn push_reply(reply: &Reply, out: &mut Out) -> Result<(), OutOfRoom>
+    ensures { Adds result out.old out.new (answer_text (answer reply.now)) }
+{
+    match *reply {
+        Reply::Found { at, handle } => push_found(out, at, handle),
+        Reply::Banned { at, index, by } => push_banned(out, at, index, by),
+        Reply::Listed {
+            at,
+            headings,
+            records,
+        } => push_listed(out, at, headings, records),
+        Reply::Fault(fault) => push_fault(out, fault),
+    }
+}
