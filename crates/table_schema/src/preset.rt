@@ -73,3 +73,40 @@ fn by_first_column() -> KeySpec
     });
     KeySpec::new(parts)
 }
+
+#[cfg(test)]
+mod tests {
+    use super::*;
+    use std::test::Fail;
+
+    #[test]
+    fn is_one_table_under_two_indices(rt: HostRuntime) -> Result<(), Fail> {
+        let schema = builtin(rt.alloc())?;
+        assert_eq!(rt; schema.tables().len(), 1);
+        for table in schema.tables() {
+            let table = table.copy(rt.alloc())?;
+            assert_eq!(rt; table.name(), "f");
+            assert_eq!(rt; table.max(), 4294967295);
+            assert_eq!(rt; table.place(), 0);
+            assert_eq!(rt; table.tables(), 1);
+            for (column, (name, cell)) in table
+                .columns()
+                .iter()
+                .zip([("id", CellKind::Int), ("g", CellKind::Text)])
+            {
+                assert_eq!(rt; column.name.as_str(), name);
+                assert_eq!(rt; column.cell, cell);
+            }
+            for (index, (name, kind, unique)) in table.indices().iter().zip([
+                ("q", Kind::Sequenced, false),
+                ("u", Kind::Ordered, true),
+            ]) {
+                assert_eq!(rt; index.name.as_str(), name);
+                assert_eq!(rt; index.kind, kind);
+                assert_eq!(rt; index.unique, unique);
+                assert_eq!(rt; index.key.is_some(), unique);
+            }
+        }
+        Ok(())
+    }
+}

@@ -105,13 +105,21 @@ impl TableSpec {
     pub fn copy(&self, alloc: Global) -> Result<TableSpec, AllocError>
         ensures { IfOk result (λ copy. copy ≡ self.now) }
     {
+        let TableSpec {
+            name,
+            max,
+            columns,
+            indices,
+            place,
+            tables,
+        } = self;
         Ok(TableSpec::new(
-            self.name.copy(alloc)?,
-            self.max,
-            copy_columns(alloc, self.columns())?,
-            copy_indices(alloc, self.indices())?,
-            self.place,
-            self.tables,
+            name.copy(alloc)?,
+            *max,
+            copy_columns(alloc, columns)?,
+            copy_indices(alloc, indices)?,
+            *place,
+            *tables,
         ))
     }
 }
