@@ -1,5 +1,5 @@
 -- What is answered to a command, and the line that says it.
-use Rattle.std.specs.Prelude.{ℕ, List, [], ◌∷◌, ◌++◌, Bool, true, false, Option, Some, None, codes, decimal, map, slice_get}
+use Rattle.std.specs.Prelude.{ℕ, ◌<◌, ◌^◌, List, [], ◌∷◌, ◌++◌, Bool, true, false, Option, Some, None, codes, decimal, map, slice_get}
 use Rattle.serde_json.specs.Data.{Data, null, boolean, number, string, object, Members, no_members, member}
 use Rattle.serde_json.specs.Find.{of_integer}
 use Rattle.serde_json.specs.Written.{compact_text, comma_if}
@@ -13,6 +13,10 @@ use Rattle.table_cmd.specs.declared.reply.Record.{Record}
 use Rattle.table_cmd.specs.declared.reply.Reply.{Reply}
 use Rattle.table_cmd.specs.declared.reply.Reply.TheVariants as replies
 use Rattle.table_cmd.specs.Buffer.{joined}
+
+-- the numbers of a handle fit their types
+abbrev pub HandleFits : Handle → Type 0
+HandleFits h = (h.slot < 2 ^ 32) × (h.stamp < 2 ^ 64)
 
 -- a cell under the name of its column, which the row may lack
 pub record Named : Type 0 where

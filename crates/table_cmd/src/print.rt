@@ -109,8 +109,8 @@ fn push_records(out: &mut Out, headings: &[Heading], records: &[Record]) -> Resu
     ensures { Adds result out.old out.new (listed_texts false (map (listed_of headings.now) records.now)) }
 {
     let mut later = false;
-    for record in records {
-        push_next_record(out, later, headings, record)?;
+    for shown in records {
+        push_next_record(out, later, headings, shown)?;
         later = true;
     }
     out.try_push(b"]")
@@ -126,12 +126,12 @@ fn push_next_record(
     out: &mut Out,
     later: bool,
     headings: &[Heading],
-    record: &Record,
+    shown: &Record,
 ) -> Result<(), OutOfRoom>
-    ensures { Adds result out.old out.new (comma_if later ++ listed_text (listed_of headings.now record.now)) }
+    ensures { Adds result out.old out.new (comma_if later ++ listed_text (listed_of headings.now shown.now)) }
 {
     push_comma(out, later)?;
-    push_record(out, headings, record)
+    push_record(out, headings, shown)
 }
 
 fn push_record_front(out: &mut Out, handle: Handle) -> Result<(), OutOfRoom>
@@ -141,11 +141,11 @@ fn push_record_front(out: &mut Out, handle: Handle) -> Result<(), OutOfRoom>
     out.try_push_all(&["{\"h\":", handle.as_str(), ",\"r\":"])
 }
 
-fn push_record(out: &mut Out, headings: &[Heading], record: &Record) -> Result<(), OutOfRoom>
-    ensures { Adds result out.old out.new (listed_text (listed_of headings.now record.now)) }
+fn push_record(out: &mut Out, headings: &[Heading], shown: &Record) -> Result<(), OutOfRoom>
+    ensures { Adds result out.old out.new (listed_text (listed_of headings.now shown.now)) }
 {
-    push_record_front(out, record.handle)?;
-    push_row(out, headings, record.row.cells())?;
+    push_record_front(out, shown.handle)?;
+    push_row(out, headings, shown.row.cells())?;
     out.try_push(b"}")
 }
 

@@ -3,6 +3,6 @@ use Rattle.table_cmd.specs.Answer.{listed_of, listed_texts}
 use Rattle.table_cmd.proofs.Room.{Midway}
 use Rattle.table_cmd.proofs.print.push_records.Given as goal
 
-abbrev pub invariant-loop-record : goal.invariant-loop-record
-invariant-loop-record l =
-    Midway l.fn.out l.out (listed_texts l.later (map (listed_of l.headings) (drop l.record-index l.records))) (listed_texts false (map (listed_of l.headings) l.records))
+abbrev pub invariant-loop-shown : goal.invariant-loop-shown
+invariant-loop-shown l =
+    Midway l.fn.out l.out (listed_texts l.later (map (listed_of l.headings) (drop l.shown-index l.records))) (listed_texts false (map (listed_of l.headings) l.records))
