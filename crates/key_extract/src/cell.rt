@@ -7,7 +7,7 @@ use std::alloc::{AllocError, Global};
 use std::cmp::Ordering;
 use std::marker::Model;
 
-/// A text, seen as its bytes.
+/// A text, which compares by its bytes.
 #[derive(Debug, Drop)]
 pub struct Text {
     text: String,
@@ -88,8 +88,11 @@ impl Eq for Text {
 /// A value of a row in one column.
 #[derive(Debug, Drop, PartialEq, Eq)]
 pub enum Cell {
+    /// A whole number.
     Int(i64),
+    /// A text.
     Text(Text),
+    /// A truth value.
     Bool(bool),
 }
 
@@ -105,7 +108,7 @@ impl Cell {
         })
     }
 
-    /// Integers come before texts, and texts before truth values; a text compares by its bytes.
+    /// Whole numbers come before texts, and texts before truth values; false comes before true. O(length of the texts).
     pub fn compare(&self, other: &Cell) -> Ordering
         ensures { result ≡ cell_cmp self.now other.now }
     {
@@ -135,12 +138,14 @@ impl Model for Row {
 }
 
 impl Row {
+    /// A row of these cells, which it takes. O(1).
     pub fn new(cells: Vec<Cell>) -> Row
         ensures { result ≡ cells.items }
     {
         Row { cells }
     }
 
+    /// The cells, in column order. O(1).
     pub fn cells(&self) -> &[Cell]
         ensures { result.now ≡ self.now }
     {

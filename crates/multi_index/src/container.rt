@@ -34,7 +34,8 @@ impl<R: Drop, E: Extract<R> + Drop> Model for MultiIndex<R, E> {
 }
 
 impl<R: Drop, E: Extract<R> + Drop> MultiIndex<R, E> {
-    /// A container without records, whose last write has the number `first_write`.
+    /// A container without records, for at most `max`, whose last write has the number `first_write`. Each index of `specs`
+    /// that compares records has a key in `keys`, no other has one or is unique. O(indices).
     pub fn new(
         alloc: Global,
         specs: Vec<Spec>,
@@ -56,21 +57,21 @@ impl<R: Drop, E: Extract<R> + Drop> MultiIndex<R, E> {
         })
     }
 
-    /// The number of records.
+    /// The number of records. O(1).
     pub fn len(&self) -> u64
         ensures { result ≡ length self.now.entries }
     {
         self.entries.len() as u64
     }
 
-    /// Whether there is no record.
+    /// Whether there is no record. O(1).
     pub fn is_empty(&self) -> bool
         ensures { IsTrue result ↔ (self.now.entries ≡ []) }
     {
         self.entries.is_empty()
     }
 
-    /// The number of the last accepted write.
+    /// The number of the last accepted write; refused ones are not counted. O(1).
     pub fn writes(&self) -> u64
         ensures number { result ≡ self.now.writes }
         ensures kept { IsState E.has_key E.order_of self.now }
@@ -78,7 +79,8 @@ impl<R: Drop, E: Extract<R> + Drop> MultiIndex<R, E> {
         self.writes
     }
 
-    /// Puts a record in: after its equals in the indices that are in order, and last in the others.
+    /// Puts a record in: after its equals in the indices that are in order, and last in the others. A refused one is handed
+    /// back, and the container is unchanged: a ban comes before `Full`, and `Full` before `Spent`. O(indices · records).
     pub fn insert(&mut self, row: R) -> Result<Handle, Refused<R>>
         ensures handle { IfOk result (λ handle. handle ≡ new_handle self.old) }
         ensures allowed { OnOk result (insert_refusal E.order_of self.old row ≡ None) }
@@ -118,7 +120,7 @@ impl<R: Drop, E: Extract<R> + Drop> MultiIndex<R, E> {
         Ok(handle)
     }
 
-    /// The record of a handle. A handle that names none is refused as stale. O(1).
+    /// The record of a handle; a handle that names none is `Stale`. O(1).
     pub fn get(&self, handle: Handle) -> Result<&R, Why>
         ensures row { IfOk result (λ row. row_of self.now.entries handle ≡ Some row.now) }
         ensures none { OnErr result (row_of self.now.entries handle ≡ None) }
@@ -131,7 +133,7 @@ impl<R: Drop, E: Extract<R> + Drop> MultiIndex<R, E> {
         }
     }
 
-    /// The first record of the index that has the key.
+    /// The first record of the index that has the key, if any does; a sequence has none, and answers `Kind`. O(records).
     pub fn find(&self, index: usize, probe: &E::Probe) -> Result<Option<Handle>, Why>
         requires in_range { index < length self.now.specs }
         requires fits { IsTrue (has_key_kind (kind_at self.now index)) → IsTrue (E.does_fit self.now.keys index probe.now) }
@@ -146,7 +148,7 @@ impl<R: Drop, E: Extract<R> + Drop> MultiIndex<R, E> {
         }
     }
 
-    /// The records of the index, in its order.
+    /// The records of the index, in its order; a hashed one's in the order of insertion. O(records).
     pub fn view(&self, alloc: Global, index: usize) -> Result<Vec<Handle>, Why>
         requires { index < length self.now.specs }
         ensures ok { IfOk result (λ handles. handles.items ≡ list_at self.now.lists index) }
@@ -177,7 +179,7 @@ impl<R: Drop, E: Extract<R> + Drop> MultiIndex<R, E> {
         ) {
             return Some(Why::Banned { index, by });
         }
-        if self.entries.len() as u64 == self.max as u64 {
+        if self.len() == self.max as u64 {
             return Some(Why::Full);
         }
         if self.writes == u64::MAX {
