@@ -28,6 +28,7 @@ pub record Listed : Type 0 where
   pub handle : Handle
   pub row : List Named
 
+-- what an answer line says: a record or nothing, a ban, records, a fault
 pub data Answer : Type 0 where
   found : ℕ → Option Handle → Answer
   banned : ℕ → List ℕ → Handle → Answer
@@ -38,6 +39,7 @@ pub data Answer : Type 0 where
 abbrev pub named : List Heading → List Cell → List Named
 named headings row = map (λ h. record { name = h.name; cell = slice_get row h.place }) headings
 
+-- a record as it is shown under the headings
 abbrev pub listed_of : List Heading → Record → Listed
 listed_of headings r = record { handle = r.handle; row = named headings r.row.now }
 
@@ -48,6 +50,7 @@ answer (replies.Banned at index by) = banned at index.now by
 answer (replies.Listed at headings records) = listed at (map (listed_of headings.now) records.now)
 answer (replies.Fault f) = fault f
 
+-- the name of a fault
 abbrev pub fault_name : Fault → List ℕ
 fault_name faults.Line = codes "line"
 fault_name faults.Json = codes "json"
@@ -65,9 +68,11 @@ fault_name faults.Full = codes "full"
 fault_name faults.Spent = codes "spent"
 fault_name faults.Memory = codes "memory"
 
+-- a handle as a JSON text: its slot, a colon and its stamp
 unfoldable pub handle_text : Handle → List ℕ
 handle_text h = joined (codes "\"" ∷ decimal h.slot ∷ codes ":" ∷ decimal h.stamp ∷ codes "\"" ∷ [])
 
+-- a handle, or null
 unfoldable pub handle_or_null : Option Handle → List ℕ
 handle_or_null None = codes "null"
 handle_or_null (Some h) = handle_text h
@@ -79,6 +84,7 @@ data_of (Some (cells.Int n)) = number (of_integer n)
 data_of (Some (cells.Text s)) = string s
 data_of (Some (cells.Bool b)) = boolean b
 
+-- a row's cells as the members of an object, in the order given
 abbrev pub row_members : List Named → Members
 row_members [] = no_members
 row_members (n ∷ ns) = member n.name (data_of n.cell) (row_members ns)
@@ -87,12 +93,15 @@ row_members (n ∷ ns) = member n.name (data_of n.cell) (row_members ns)
 abbrev pub row_data : List Named → Data
 row_data ns = object (row_members ns)
 
+-- a record's text up to its row
 abbrev pub record_front : Handle → List ℕ
 record_front h = joined (codes "{\"h\":" ∷ handle_text h ∷ codes ",\"r\":" ∷ [])
 
+-- a list's line up to its first record
 abbrev pub listed_front : ℕ → List ℕ
 listed_front at = joined (codes "{\"at\":" ∷ decimal at ∷ codes ",\"ok\":true,\"rs\":[" ∷ [])
 
+-- a record as a JSON object: its handle and its row
 abbrev pub listed_text : Listed → List ℕ
 listed_text l = joined (codes "{\"h\":" ∷ handle_text l.handle ∷ codes ",\"r\":" ∷ compact_text (row_data l.row) ∷ codes "}" ∷ [])
 

@@ -5,22 +5,27 @@ ghost use Rattle.std.specs.Prelude.{◌≡◌};
 use key_extract::{Cell, Text};
 use std::marker::Model;
 
-/// A value of a command: a cell, or JSON that is no cell of any type.
-#[derive(Drop)]
+/// A value of a command.
+#[derive(Debug, Drop)]
 pub enum Value {
+    /// A whole number of 64 bits with its sign, a text or a truth value.
     Cell(Cell),
+    /// JSON that is a cell of no type: null, an array, an object, a number with a fraction or an exponent, `-0`, or
+    /// a whole number beyond 64 bits.
     Other,
 }
 
 /// A value under the name of its column.
-#[derive(Drop)]
+#[derive(Debug, Drop)]
 pub struct Field {
+    /// The name, which may be that of no column.
     pub name: Text,
+    /// The value, which may be no cell of the column's type.
     pub value: Value,
 }
 
-/// The fields of a row. One that was read from a line has them in ascending order of their names, each name once.
-#[derive(Drop)]
+/// The fields of a row. Those that were read from a line are in ascending order of their names' bytes, each name once.
+#[derive(Debug, Drop)]
 pub struct Fields {
     fields: Vec<Field>,
 }
@@ -35,12 +40,14 @@ impl Model for Fields {
 }
 
 impl Fields {
+    /// These fields, in this order. O(1).
     pub fn new(fields: Vec<Field>) -> Fields
         ensures { result ≡ fields.items }
     {
         Fields { fields }
     }
 
+    /// The fields, as long as they are borrowed. O(1).
     pub fn as_slice(&self) -> &[Field]
         ensures { result.now ≡ self.now }
     {
@@ -48,8 +55,8 @@ impl Fields {
     }
 }
 
-/// The values of a key, or of a leading part of one.
-#[derive(Drop)]
+/// The values of a key, or of its leading parts, first part first.
+#[derive(Debug, Drop)]
 pub struct Key {
     values: Vec<Value>,
 }
@@ -64,12 +71,14 @@ impl Model for Key {
 }
 
 impl Key {
+    /// These values, in this order. O(1).
     pub fn new(values: Vec<Value>) -> Key
         ensures { result ≡ values.items }
     {
         Key { values }
     }
 
+    /// The values, as long as they are borrowed. O(1).
     pub fn as_slice(&self) -> &[Value]
         ensures { result.now ≡ self.now }
     {
@@ -77,10 +86,13 @@ impl Key {
     }
 }
 
-/// A command on one table, with the names that the line gave.
-#[derive(Drop)]
+/// A command on one table, with the names that the line gave: no table, index or column need have them.
+#[derive(Debug, Drop)]
 pub enum Command {
+    /// A new record with this row.
     Insert { table: Text, row: Fields },
+    /// The first record at the index whose key is or begins with this one.
     Find { table: Text, index: Text, key: Key },
+    /// All records, in the order of the index.
     List { table: Text, index: Text },
 }

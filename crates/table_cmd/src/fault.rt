@@ -10,25 +10,40 @@ use thiserror::Error;
 /// Why a line is answered by nothing but a name. A banned insertion has an answer of its own, `Reply::Banned`.
 #[derive(Clone, Copy, Debug, PartialEq, Eq)]
 pub enum Fault {
+    /// The line is too long.
     Line,
+    /// The line is not JSON.
     Json,
+    /// The line is JSON, and no command.
     Command,
+    /// No table has the name.
     Table,
+    /// No index of the table has the name.
     Index,
+    /// The index is of a kind that has no such operation.
     Kind,
+    /// A row does not have the table's columns with cells of their types.
     Row,
+    /// A key does not fit the index.
     Key,
+    /// A text is no handle, or the handle is stale.
     Handle,
+    /// A place is past the end.
     Place,
+    /// A list of handles does not hold each live record once.
     Order,
+    /// A sum leaves the range of 64 bits.
     Overflow,
+    /// The table holds as many records as it may.
     Full,
+    /// The table's write number has no successor.
     Spent,
+    /// A growth was refused.
     Memory,
 }
 
 impl Fault {
-    /// The name that the answer line gives.
+    /// The name that the answer line gives. O(1).
     pub fn name(self) -> &'static str
         ensures { result.now ≡ fault_name self }
     {
@@ -55,10 +70,13 @@ impl Fault {
 /// Why a line is no command.
 #[derive(Clone, Copy, Debug, PartialEq, Eq, Error)]
 pub enum CommandFault {
+    /// It is not one JSON value in UTF-8.
     #[error("the line is not JSON")]
     Json,
+    /// It is JSON of another shape than a command has.
     #[error("the line is no command")]
     Command,
+    /// A growth was refused. Whether the line is a command is then not known.
     #[error("out of memory")]
     Memory,
 }

@@ -12,7 +12,7 @@ use key_extract::{Cell, Text};
 use serde_json::{Map, Value as Json};
 use std::alloc::{AllocError, Global};
 
-/// Reads a line as a command.
+/// Reads a line as a command. The last of repeated names counts. O(n · log n) for n bytes.
 pub fn read_command(alloc: Global, line: &[u8]) -> Result<Command, CommandFault>
     ensures { Gives result (meaning line.now) }
 {

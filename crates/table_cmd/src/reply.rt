@@ -12,26 +12,30 @@ use key_extract::{Row, Text};
 /// A column of an answer's rows: its name, and the place of its cell in a row.
 #[derive(Drop)]
 pub struct Heading {
+    /// The name, as it is printed.
     pub name: Text,
+    /// The place of the cell, from 0. Where a row has none there, it prints as null.
     pub place: usize,
 }
 
 /// A record that an answer shows.
 #[derive(Clone, Copy)]
 pub struct Record<'a> {
+    /// The record's name.
     pub handle: Handle,
+    /// Its cells.
     pub row: &'a Row,
 }
 
 /// What is answered to a command. `at` is the table's write number after it.
 #[derive(Clone, Copy)]
 pub enum Reply<'a> {
-    /// A record, or nothing.
+    /// A record, or nothing, which prints as null.
     Found {
         at: u64,
         handle: Option<Handle>,
     },
-    /// A unique index, by its name, has a record with the new key.
+    /// A unique index has a record with the new key. The index's name is printed as it stands: it must need no escape.
     Banned {
         at: u64,
         index: &'a str,
@@ -43,10 +47,12 @@ pub enum Reply<'a> {
         headings: &'a [Heading],
         records: &'a [Record<'a>],
     },
+    /// Nothing but the name of the fault.
     Fault(Fault),
 }
 
-/// Appends the line of a reply. At an `Err` nothing is appended.
+/// Appends the line of a reply, with its newline. At an `Err` nothing is appended: memory was refused, and the room
+/// was less than the line. O(length of the line).
 pub fn write_reply(reply: &Reply, out: &mut Out) -> Result<(), OutOfRoom>
     ensures { AddsWhole result out.old out.new (answer_text (answer reply.now)) }
 {
