@@ -1,5 +1,5 @@
 //! The container.
-ghost use Rattle.std.specs.Prelude.{◌≡◌, ◌↔◌, ℕ, ◌<◌, ◌≤◌, Bool, true, IsTrue, length, [], None, unwrap_or, Some, IfOk, IfErr, OnOk, OnErr};
+ghost use Rattle.std.specs.Prelude.{◌≡◌, ◌↔◌, ◌<◌, IsTrue, length, [], None, unwrap_or, Some, IfOk, IfErr, OnOk, OnErr};
 ghost use Rattle.container_model.specs.State.{IsState, KeysMatch, empty, list_at, row_of, has_key_kind};
 ghost use Rattle.container_model.specs.Find.{found, is_live, kind_at};
 ghost use Rattle.container_model.specs.Insert.{insert_refusal, new_handle, with_inserted};
