@@ -86,7 +86,7 @@ impl Key {
     }
 }
 
-/// A command on one table, with the names that the line gave: no table, index or column need have them.
+/// A command on one table, with the names that the line gave: they may be those of no table, index or column.
 #[derive(Debug, Drop)]
 pub enum Command {
     /// A new record with this row.

@@ -84,7 +84,7 @@ pub enum CommandFault {
 impl From<AllocError> for CommandFault {
     ghost from_gives = { λ _ e. e ≡ Memory };
 
-    fn from(_e: AllocError) -> CommandFault {
+    fn from(_error: AllocError) -> CommandFault {
         CommandFault::Memory
     }
 }
@@ -92,7 +92,7 @@ impl From<AllocError> for CommandFault {
 impl<T: Drop> From<AllocFailed<T>> for CommandFault {
     ghost from_gives = { λ _ e. e ≡ Memory };
 
-    fn from(_e: AllocFailed<T>) -> CommandFault {
+    fn from(_error: AllocFailed<T>) -> CommandFault {
         CommandFault::Memory
     }
 }

@@ -1,12 +1,12 @@
 //! The texts of replies.
 
-ghost use Rattle.std.specs.Prelude.{◌≡◌, ◌≤◌, ◌<◌, ◌∷◌, ◌++◌, [], length, map, codes, true, false, decimal, slice_get};
+ghost use Rattle.std.specs.Prelude.{◌≡◌, ◌<◌, ◌∷◌, ◌++◌, map, false, slice_get};
 ghost use Rattle.std.specs.Option.{option_copied};
-ghost use Rattle.json.specs.Print.{quoted, escape, escape_byte};
+ghost use Rattle.json.specs.Print.{quoted, escape_byte};
 ghost use Rattle.std.specs.Char.{digit_char};
 ghost use Rattle.serde_json.specs.Written.{compact_text, comma_if};
 ghost use Rattle.table_cmd.specs.Buffer.{Adds, AddsWhole};
-ghost use Rattle.table_cmd.specs.Answer.{found, banned, fault, listed, answer_text, fault_name, handle_text, handle_or_null, data_of, row_data, named, listed_of, listed_text, listed_texts, listed_front, record_front};
+ghost use Rattle.table_cmd.specs.Answer.{found, banned, fault, listed, answer_text, handle_text, handle_or_null, data_of, row_data, named, listed_of, listed_text, listed_texts, listed_front, record_front};
 
 use crate::fault::Fault;
 use crate::out::{Out, OutOfRoom};
@@ -186,7 +186,7 @@ fn push_cell(out: &mut Out, cell: Option<&Cell>) -> Result<(), OutOfRoom>
 {
     match cell {
         None => out.try_push(b"null"),
-        Some(Cell::Int(n)) => out.try_push(Buffer::new().format(*n).as_bytes()),
+        Some(Cell::Int(number)) => out.try_push(Buffer::new().format(*number).as_bytes()),
         Some(Cell::Text(text)) => push_quoted(out, text.as_str()),
         Some(Cell::Bool(true)) => out.try_push(b"true"),
         Some(Cell::Bool(false)) => out.try_push(b"false"),

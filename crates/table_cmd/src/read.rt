@@ -1,6 +1,6 @@
 //! Reads a line as a command.
 
-ghost use Rattle.std.specs.Prelude.{◌≡◌, ◌∷◌, [], IfOk, option_map, map, codes, bytes_eq, List, ℕ};
+ghost use Rattle.std.specs.Prelude.{◌≡◌, IfOk, option_map, map, bytes_eq};
 ghost use Rattle.std.specs.List.{list_any};
 ghost use Rattle.serde_json.specs.Data.{object};
 ghost use Rattle.serde_json.specs.View.{view, items_view, members_view};
@@ -18,7 +18,7 @@ pub fn read_command(alloc: Global, line: &[u8]) -> Result<Command, CommandFault>
 {
     match Json::from_slice(alloc, line) {
         Ok(value) => command_of(alloc, &value),
-        Err(e) => if e.is_memory() {
+        Err(error) => if error.is_memory() {
             Err(CommandFault::Memory)
         } else {
             Err(CommandFault::Json)
@@ -30,12 +30,12 @@ fn value_of(alloc: Global, json: &Json) -> Result<Value, AllocError>
     ensures { IfOk result (λ value. value ≡ value_of (view json.now)) }
 {
     match json {
-        Json::Bool(b) => Ok(Value::Cell(Cell::Bool(*b))),
-        Json::Number(n) => Ok(match n.as_i64() {
-            Some(n) => Value::Cell(Cell::Int(n)),
+        Json::Bool(truth) => Ok(Value::Cell(Cell::Bool(*truth))),
+        Json::Number(number) => Ok(match number.as_i64() {
+            Some(number) => Value::Cell(Cell::Int(number)),
             None => Value::Other,
         }),
-        Json::String(s) => Ok(Value::Cell(Cell::Text(Text::new(s.clone()?)))),
+        Json::String(text) => Ok(Value::Cell(Cell::Text(Text::new(text.clone()?)))),
         Json::Null | Json::Array(_) | Json::Object(_) => Ok(Value::Other),
     }
 }

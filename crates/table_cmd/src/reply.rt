@@ -57,9 +57,9 @@ pub fn write_reply(reply: &Reply, out: &mut Out) -> Result<(), OutOfRoom>
     ensures { AddsWhole result out.old out.new (answer_text (answer reply.now)) }
 {
     let start = out.bytes().len();
-    if let Err(e) = push_reply(reply, out) {
+    if let Err(error) = push_reply(reply, out) {
         out.truncate(start);
-        return Err(e);
+        return Err(error);
     }
     Ok(())
 }
