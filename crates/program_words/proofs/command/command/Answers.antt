@@ -1,0 +1,18 @@
+use Rattle.std.proofs.Common.{ap, ap₂, codes, true, ◌≡◌, ◌∙◌}
+use Rattle.std.proofs.lemmas.Result.{IfOk-weaker}
+use Rattle.clap.specs.Simple.{app_of_fields}
+use Rattle.clap.specs.Words.{App, app_of, new_app, with_subcommand}
+use Rattle.program_words.specs.Program.{first_word, program}
+use Rattle.program_words.proofs.command.command.Goals as goal
+
+pub returns : goal.returns
+unfolding program
+returns c =
+    let named_is : app_of c.about.result ≡ new_app (codes "table_server") =
+    ap app_of_fields c.about.ensures ∙ (ap app_of_fields c.in_ok-bin_name.ensures.0 ∙ c.new.ensures.app) in
+    let first_is : app_of c.subcommand_required.result ≡ first_word =
+    ap app_of_fields c.subcommand_required.ensures
+    ∙ (ap (λ f. app_of_fields (record f { subcommand_required = true })) c.disable_help_subcommand.ensures
+    ∙ (ap (λ f. app_of_fields (record f { disable_help_subcommand = true; subcommand_required = true })) c.no_binary_name.ensures
+    ∙ ap (λ (a : App). record a { top = record a.top { no_binary_name = true; disable_help_subcommand = true; subcommand_required = true } }) named_is)) in
+    IfOk-weaker c.subcommand.result _ _ (λ m h. h.shape c.in_ok-run.ensures.local ∙ ap₂ with_subcommand first_is (ap (λ (a : App). a.top) c.in_ok-run.ensures.words)) c.subcommand.ensures
