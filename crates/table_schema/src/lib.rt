@@ -2,13 +2,22 @@
 #![tactic(auto)]
 
 mod column;
+mod draft;
+mod fault;
+mod limits;
+mod names;
 mod preset;
+mod read;
+mod resolve;
 mod schema;
+mod shape;
 mod table;
 
 pub use column::{CellKind, Column, IndexSpec};
 pub use container_model::Kind;
+pub use fault::SchemaFault;
 pub use key_extract::{KeySpec, Part, Text};
 pub use preset::builtin;
+pub use read::read_schema;
 pub use schema::Schema;
 pub use table::TableSpec;

@@ -125,7 +125,7 @@ impl TableSpec {
 }
 
 // Equal columns, newly allocated.
-fn copy_columns(alloc: Global, columns: &[Column]) -> Result<Vec<Column>, AllocError>
+pub(crate) fn copy_columns(alloc: Global, columns: &[Column]) -> Result<Vec<Column>, AllocError>
     ensures { IfOk result (λ copies. copies.items ≡ columns.now) }
 {
     let mut copies = Vec::with_capacity(alloc, columns.len())?;

@@ -1,0 +1,8 @@
+use Rattle.std.proofs.Common.{rules, tests}
+use Rattle.std.proofs.lemmas.Iterator.{YieldsList-from_slice}
+use Rattle.std.proofs.lemmas.Iterator.Search.{all_from_yields_List}
+use Rattle.table_schema.specs.Tests.{index_is_within_limits}
+use Rattle.table_schema.proofs.limits.indices_are_within_limits.Goals as goal
+
+pub returns : goal.returns
+returns c = all_from_yields_List index_is_within_limits _ _ c.all.result c.all.ensures.ran (YieldsList-from_slice c.args.indices.now cc) (λ x b q k. search (rules, tests))
