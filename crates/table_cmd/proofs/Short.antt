@@ -25,9 +25,11 @@ fault_is_short Full = omega arith
 fault_is_short Spent = omega arith
 fault_is_short Memory = omega arith
 
+-- the length, text by text
 length-joined : (t : List ℕ) (ts : List (List ℕ)) → length (joined (t ∷ ts)) ≡ length t + length (joined ts)
 length-joined t ts = length-append t (joined ts)
 
+-- numbers of 64 bits have at most 20 digits, and those of 32 bits at most 10
 number_is_short : (n : ℕ) → n < 2 ^ 64 → length (decimal n) ≤ 20
 number_is_short n h = length-decimal-le 20 n (omega arith) (omega arith) h
 
