@@ -1,0 +1,8 @@
+pub mod Values
+pub mod Sharing
+pub mod Memory
+pub mod Keyed
+pub mod StoreLemmas
+mod ChainLemmas
+pub mod NodeLists
+pub mod ByNode

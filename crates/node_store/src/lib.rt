@@ -1,0 +1,309 @@
+//! A store of records in heap blocks that never move. Each node has a record and a block of links for each column.
+#![tactic(auto)]
+
+ghost use Rattle.std.specs.Prelude.{◌≡◌, ◌+◌, ◌<◌, ◌^◌, IfOk, IfErr, OnOk, OnErr, Some, IsTrue, ◌↔◌};
+ghost use Rattle.std.specs.Borrow.{sem};
+ghost use Rattle.node_store.specs.Store.{number_of, no_link, IsNodeOf, IsStore, len_of, empty_store};
+ghost use Rattle.node_store.specs.Column.{IsNode, IsPut, KeepsOthers};
+ghost use Rattle.node_store.specs.ByNode.{column_of, record_of, contents, AddsNode, RemovesNode};
+ghost use Rattle.node_store.specs.Chain.{HasBlock, with_next, with_prev, first_without};
+
+mod blocks;
+#[cfg(test)]
+mod tests;
+
+use blocks::{Blocks, Place};
+use std::alloc::{AllocFailed, Global};
+use std::marker::Model;
+
+/// How many columns of links each node has.
+pub const COLUMNS: usize = 8;
+
+/// A node of a store. It is one only until the store removes it.
+#[derive(Clone, Copy)]
+pub struct Node {
+    place: Place,
+    number: u64,
+}
+
+/// The links of one node in one column.
+#[derive(Clone, Copy)]
+pub struct Link {
+    pub a: Option<Node>,
+    pub b: Option<Node>,
+    pub up: Option<Node>,
+    pub tag: u64,
+    pub height: u8,
+}
+
+/// The record that found no room.
+#[derive(Drop)]
+pub struct NoRoom<R> {
+    pub value: R,
+}
+
+// The blocks are chained, the newest first.
+#[derive(Drop)]
+struct Block<R> {
+    prev: Option<Node>,
+    next: Option<Node>,
+    value: R,
+    links: [Link; 8],
+}
+
+/// The records, each with its links.
+pub struct NodeStore<R> {
+    blocks: Blocks<Block<R>, Global>,
+    alloc: Global,
+    first: Option<Node>,
+    len: usize,
+    added: u64,
+}
+
+impl<R> Model for NodeStore<R> {
+    ghost use Rattle.node_store.specs.Store.{Store, store_code};
+
+    ghost Value = { Store R };
+
+    ghost coded = { store_code R.code };
+
+    ghost use Rattle.node_store.specs.Chain.{store_of, IsSound};
+
+    ghost view = { λ s. store_of s.blocks.held s.added };
+
+    ghost invariant = { λ s. IsSound s.blocks.held s.alloc s.first s.len s.added };
+}
+
+impl Node {
+    /// The number of the node's add.
+    pub fn number(&self) -> u64
+        ensures { result ≡ number_of self.now }
+    {
+        self.number
+    }
+}
+
+impl PartialEq for Node {
+    ghost use Rattle.std.specs.Ordering.{on};
+    ghost use Rattle.std.specs.Prelude.{nat_eq};
+    ghost use Rattle.std.specs.Cmp.{on_equiv, partial_equiv_from_equiv, nat_eq_equiv};
+
+    ghost eq = { on number_of nat_eq };
+
+    ghost laws = { partial_equiv_from_equiv (on_equiv number_of nat_eq_equiv) };
+
+    fn eq(&self, other: &Node) -> bool {
+        self.number == other.number
+    }
+}
+
+impl Eq for Node {
+    ghost use Rattle.std.specs.Cmp.{on_equiv, nat_eq_equiv};
+
+    ghost laws = { on_equiv number_of nat_eq_equiv };
+}
+
+impl Link {
+    /// Links to no node.
+    pub fn empty() -> Link
+        ensures { result ≡ no_link }
+    {
+        Link {
+            a: None,
+            b: None,
+            up: None,
+            tag: 0,
+            height: 0,
+        }
+    }
+}
+
+// Names the block after that of `n`.
+fn set_next<R>(blocks: &mut Blocks<Block<R>, Global>, n: Option<Node>, next: Option<Node>)
+    requires { HasBlock n blocks.old.held }
+    ensures { blocks.new.held ≡ with_next n next blocks.old.held }
+{
+    if let Some(n) = n {
+        blocks.get_mut(n.number, n.place).next = next;
+    }
+}
+
+// Names the block before that of `n`.
+fn set_prev<R>(blocks: &mut Blocks<Block<R>, Global>, n: Option<Node>, prev: Option<Node>)
+    requires { HasBlock n blocks.old.held }
+    ensures { blocks.new.held ≡ with_prev n prev blocks.old.held }
+{
+    if let Some(n) = n {
+        blocks.get_mut(n.number, n.place).prev = prev;
+    }
+}
+
+// The first node once the one between `prev` and `next` has gone.
+fn first_between(prev: Option<Node>, next: Option<Node>, first: Option<Node>) -> Option<Node>
+    ensures { result ≡ first_without prev next first }
+{
+    match prev {
+        Some(_) => first,
+        None => next,
+    }
+}
+
+impl<R> NodeStore<R> {
+    ghost use Rattle.node_store.specs.Lends.{lends_record};
+    ghost use Rattle.node_store.specs.declared.Node.{Node};
+
+    /// A store with no node, which allocates nothing until the first `add`.
+    pub fn new(alloc: Global) -> NodeStore<R>
+        ensures { result ≡ empty_store }
+    {
+        NodeStore {
+            blocks: Blocks::new(),
+            alloc,
+            first: None,
+            len: 0,
+            added: 0,
+        }
+    }
+
+    /// How many nodes there are.
+    pub fn len(&self) -> usize
+        ensures len { result ≡ len_of self.now }
+        ensures sound { IsStore self.now }
+    {
+        self.len
+    }
+
+    /// How many records were added so far.
+    pub fn added(&self) -> u64
+        ensures added { result ≡ self.now.added }
+        ensures sound { IsStore self.now }
+    {
+        self.added
+    }
+
+    /// The node's record.
+    pub fn get(&self, n: Node) -> &R
+        requires { IsNodeOf self.now n }
+        ensures { record_of self.now n ≡ Some result.now }
+    {
+        &self.blocks.get(n.number, n.place).value
+    }
+
+    /// The node's record for writing.
+    pub fn get_mut(&mut self, n: Node) -> &mut R
+        requires { IsNodeOf self.old n }
+        ensures* writes_back { sem 𝓛 (lends_record R.row self.entry n result) }
+        ensures value { record_of self.old n ≡ Some result.now }
+    {
+        let block = self.blocks.get_mut(n.number, n.place);
+        &mut block.value
+    }
+
+    /// The node's links in a column.
+    pub fn link(&self, n: Node, col: usize) -> Link
+        requires node { IsNode (column_of self.now col) n }
+        requires col { col < 8 }
+        ensures { column_of self.now col n ≡ Some result }
+    {
+        self.blocks.get(n.number, n.place).links[col]
+    }
+
+    /// Whether `o` is the node `n`.
+    pub fn is_node(&self, o: Option<Node>, n: Node) -> bool
+        requires other { (m : Node) → o ≡ Some m → IsNodeOf self.now m }
+        requires node { IsNodeOf self.now n }
+        ensures { IsTrue result ↔ (o ≡ Some n) }
+    {
+        match o {
+            Some(m) => m.number == n.number,
+            None => false,
+        }
+    }
+
+    /// Replaces the node's links in a column.
+    pub fn set_link(&mut self, n: Node, col: usize, link: Link)
+        requires node { IsNode (column_of self.old col) n }
+        requires col { col < 8 }
+        ensures put { IsPut (column_of self.old col) (column_of self.new col) n link }
+        ensures others { KeepsOthers (column_of self.old) (column_of self.new) col }
+        ensures contents { contents self.new ≡ contents self.old }
+    {
+        let block = self.blocks.get_mut(n.number, n.place);
+        block.links[col] = link;
+    }
+}
+
+impl<R: Drop> NodeStore<R> {
+    /// Adds a node with empty links, or hands the record back where there is no memory.
+    pub fn add(&mut self, value: R) -> Result<Node, NoRoom<R>>
+        requires { self.old.added + 1 < 2 ^ 64 }
+        ensures number { IfOk result (λ n. number_of n ≡ self.old.added) }
+        ensures count { OnOk result (self.new.added ≡ self.old.added + 1) }
+        ensures added { IfOk result (λ n. AddsNode self.old self.new n value) }
+        ensures len { OnOk result (len_of self.new ≡ len_of self.old + 1) }
+        ensures unchanged { OnErr result (self.new ≡ self.old) }
+        ensures returned { IfErr result (λ e. e.value ≡ value) }
+    {
+        let block = Block {
+            prev: None,
+            next: self.first,
+            value,
+            links: [Link::empty(); 8],
+        };
+        match Box::new(self.alloc, block) {
+            Ok(boxed) => {
+                let number = self.added;
+                let (place, _) = self.blocks.put(number, boxed);
+                let node = Node { place, number };
+                set_prev(&mut self.blocks, self.first, Some(node));
+                self.first = Some(node);
+                self.len += 1;
+                self.added = number + 1;
+                Ok(node)
+            }
+            Err(failed) => {
+                let AllocFailed { value: block } = failed;
+                Err(NoRoom { value: block.value })
+            }
+        }
+    }
+
+    /// Removes the node, and returns its record.
+    pub fn remove(&mut self, n: Node) -> R
+        requires { IsNodeOf self.old n }
+        ensures value { record_of self.old n ≡ Some result }
+        ensures removed { RemovesNode self.old self.new n }
+        ensures count { self.new.added ≡ self.old.added }
+        ensures len { len_of self.new + 1 ≡ len_of self.old }
+    {
+        let block = self.blocks.take(n.number, n.place, self.alloc);
+        let Block {
+            prev,
+            next,
+            value,
+            links: _,
+        } = Box::into_inner(block);
+        set_next(&mut self.blocks, prev, next);
+        set_prev(&mut self.blocks, next, prev);
+        self.first = first_between(prev, next, self.first);
+        self.len -= 1;
+        value
+    }
+}
+
+impl<R: Drop> Drop for NodeStore<R> {
+    fn drop(self) {
+        let NodeStore {
+            mut blocks,
+            alloc,
+            mut first,
+            len: _,
+            added: _,
+        } = self;
+        while let Some(n) = first {
+            let block = Box::into_inner(blocks.take(n.number, n.place, alloc));
+            first = block.next;
+        }
+        blocks.end();
+    }
+}
