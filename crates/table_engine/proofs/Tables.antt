@@ -1,0 +1,37 @@
+-- The step of one table among those of all.
+use Rattle.std.proofs.Common.{◌≡◌, ℕ, ◌<◌, List, ◌++◌, length, get_or, slice_set, slice_get, Some, refl, sym, ap, subst, ◌∙◌, inl, inr}
+use Rattle.std.proofs.lemmas.List.{set-get_or}
+use Rattle.std.proofs.lemmas.Option.{slice_get_read}
+use Rattle.std.proofs.lemmas.List.Quantifiers.{position-Some}
+use Rattle.table_cmd.specs.declared.command.Command.{Command}
+use Rattle.table_step.specs.declared.outcome.Outcome.{Outcome}
+use Rattle.table_step.specs.declared.outcome.Outcome.TheVariants as outcomes
+use Rattle.table_step.specs.Step.{TableState, Step, Steps, Took, step_of, table_in}
+use Rattle.table_engine.specs.Tables.{Carried, Replies, carried, carried_at, stepped, table_at}
+
+-- a table that is as before
+pub set_same : (tables : List TableState) (place : ℕ) (old new : TableState) → old ≡ get_or tables place old → new ≡ old → slice_set tables place new ≡ tables
+set_same tables place old new is same = ap (slice_set tables place) (same ∙ is) ∙ set-get_or tables place old
+
+-- the step's answer and table
+took : (o : Outcome) (told_before told : List ℕ) (tables : List TableState) (place : ℕ) (new : TableState) (step : Step) → Took o told_before told new step
+    → Replies told_before told tables (slice_set tables place new) (stepped tables place step)
+took o told_before told tables place new step h = (_, h.line, inl (refl, ap (slice_set tables place) h.table))
+
+-- a table's step, as what all the tables answer
+pub Replies-from_Steps : (o : Outcome) (told_before told : List ℕ) (tables : List TableState) (place : ℕ) (old new : TableState) (step : Step)
+    → old ≡ get_or tables place old → Steps o told_before told old new step → Replies told_before told tables (slice_set tables place new) (stepped tables place step)
+Replies-from_Steps outcomes.Write told_before told tables place old new step is h = took outcomes.Write told_before told tables place new step h
+Replies-from_Steps outcomes.Read told_before told tables place old new step is h = took outcomes.Read told_before told tables place new step h
+Replies-from_Steps outcomes.Refusal told_before told tables place old new step is h = took outcomes.Refusal told_before told tables place new step h
+Replies-from_Steps outcomes.Memory told_before told tables place old new step is h = (_, h.0, inr (refl, set_same tables place old new is h.1))
+
+-- the table that the command names
+pub carried-at : (tables : List TableState) (command : Command) (place : ℕ) (old : TableState) → table_at tables (table_in command) ≡ Some place → old ≡ get_or tables place old
+    → carried tables command ≡ stepped tables place (step_of old command)
+carried-at tables command place old at is =
+    let within = (position-Some _ tables place old at).0 in
+    rw (at, slice_get_read tables (length tables) place old refl within is) refl
+
+pub table_within : (tables : List TableState) (name : List ℕ) (place : ℕ) (d : TableState) → table_at tables name ≡ Some place → place < length tables
+table_within tables name place d at = (position-Some _ tables place d at).0

@@ -1,0 +1,6 @@
+pub mod Lines
+pub mod Tables
+pub mod Run
+pub mod State
+pub mod Events
+pub mod Whole

@@ -1,0 +1,31 @@
+-- A whole stream as its lines.
+use Rattle.std.specs.Prelude.{◌≡◌, ℕ, ◌==◌, List, [], ◌∷◌, ◌++◌, length, nat_le, if◌then◌else◌}
+use Rattle.std.specs.List.{slice_split}
+use Rattle.table_cmd.specs.Buffer.{joined}
+use Rattle.table_step.specs.Step.{TableState}
+use Rattle.table_engine.specs.Lines.{Unfinished, short, long, max_line}
+use Rattle.table_engine.specs.Tables.{AnswersLine}
+use Rattle.table_engine.specs.Run.{Machine, Run, bytes_of, end, line_of}
+
+-- The lines of a stream: its parts between newlines. Where the stream is empty or ends with a newline, the last part is
+-- empty, and so has no answer.
+abbrev pub lines_of : List ℕ → List (List ℕ)
+lines_of bytes = slice_split (λ b. b == 10) bytes
+
+-- a whole line
+abbrev pub as_line : List ℕ → Unfinished
+as_line line = if nat_le (length line) max_line then short line else long
+
+-- The lines are answered one after another.
+abbrev pub AnswersLines : List TableState → List (List ℕ) → List ℕ → List TableState → Type 0
+AnswersLines old [] text new = (text ≡ []) × (new ≡ old)
+AnswersLines old (line ∷ lines) text new = (mid : List TableState) × (first : List ℕ) × (rest : List ℕ) × (text ≡ first ++ rest)
+    × AnswersLine old (as_line line) first mid × AnswersLines mid lines rest new
+
+-- The machine takes a session's stream to its end, and tells this text: what its lines are answered, where the session
+-- had no line begun.
+pub record Serves (old : Machine) (session : ℕ) (bytes : List ℕ) (written : List ℕ) (new : Machine) : Type 0 where
+  pub told : List (List ℕ)
+  pub run : Run old (bytes_of session bytes ++ end session ∷ []) told new
+  pub text : written ≡ joined told
+  pub lines : line_of old session ≡ short [] → AnswersLines old.tables (lines_of bytes) written new.tables

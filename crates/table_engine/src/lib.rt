@@ -1,0 +1,19 @@
+//! Answers streams of lines over the tables of a schema, however they come in pieces.
+#![tactic(auto)]
+
+mod carry;
+mod cutter;
+mod engine;
+mod event;
+mod run;
+mod session;
+mod stream;
+
+pub use cutter::{Cut, LineCutter, MAX_LINE};
+pub use engine::Engine;
+pub use event::{Event, Stop};
+pub use run::run_events;
+pub use stream::{StreamFault, serve_stream};
+
+#[cfg(test)]
+mod tests;

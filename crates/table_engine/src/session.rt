@@ -1,0 +1,98 @@
+//! One session's stream.
+
+ghost use Rattle.std.specs.Prelude.{◌≡◌, ◌≤◌, ◌<◌, ◌++◌, ◌==◌, ◌&&◌, List, ℕ, IsTrue, IsOk, OnOk, OnErr, IfErr, length, slice_get};
+ghost use Rattle.table_cmd.specs.Answer.{answer_text, fault};
+ghost use Rattle.table_cmd.specs.Buffer.{joined, Keeps};
+ghost use Rattle.table_engine.specs.Events.{taken_of};
+ghost use Rattle.table_engine.specs.Lines.{has_answer};
+ghost use Rattle.table_engine.specs.Run.{Run, TakesByte, TakesEnd, Waits, bytes_of};
+ghost use Rattle.table_engine.specs.State.{machine};
+
+use crate::carry::answer_line;
+use crate::cutter::{Cut, LineCutter};
+use crate::event::Stop;
+use std::alloc::Global;
+use table_cmd::{Fault, Out, OutOfRoom, READY_ROOM};
+use table_step::{Table, refuse};
+
+// Takes the next byte of a session, and answers the line that it completes.
+// Where there is no room for an answer, the byte is not taken.
+fn take_byte(
+    alloc: Global,
+    tables: &mut [Table],
+    cutter: &mut LineCutter,
+    byte: u8,
+    out: &mut Out,
+) -> Result<(), OutOfRoom>
+    ensures ok { OnOk result (TakesByte tables.old cutter.old.unfinished byte out.old.bytes out.new.bytes tables.new cutter.new.unfinished) }
+    ensures err { OnErr result ((tables.new ≡ tables.old) × (cutter.new.unfinished ≡ cutter.old.unfinished) × (out.new ≡ out.old)) }
+    ensures waits { OnErr result (IsTrue (byte == 10 && has_answer cutter.old.unfinished) × (out.old.room < READY_ROOM)) }
+    ensures kept { Keeps out.old out.new }
+{
+    if byte == b'\n' && cutter.has_answer() {
+        out.ready()?;
+    }
+    match cutter.feed(byte) {
+        Cut::Unended | Cut::Blank => {}
+        Cut::Long => {
+            refuse(Fault::Line, out);
+        }
+        Cut::Line => answer_line(alloc, tables, cutter.line(), out),
+    }
+    Ok(())
+}
+
+// Takes the end of a session's stream, and answers the line that it completes.
+// Where there is no room for an answer, the end is not taken.
+pub(crate) fn take_end(
+    alloc: Global,
+    tables: &mut [Table],
+    cutter: &mut LineCutter,
+    out: &mut Out,
+) -> Result<(), OutOfRoom>
+    ensures ok { OnOk result (TakesEnd tables.old cutter.old.unfinished out.old.bytes out.new.bytes tables.new cutter.new.unfinished) }
+    ensures err { OnErr result ((tables.new ≡ tables.old) × (cutter.new.unfinished ≡ cutter.old.unfinished) × (out.new ≡ out.old)) }
+    ensures waits { OnErr result (IsTrue (has_answer cutter.old.unfinished) × (out.old.room < READY_ROOM)) }
+    ensures ready { READY_ROOM ≤ out.old.room → IsOk result }
+    ensures kept { Keeps out.old out.new }
+{
+    if cutter.has_answer() {
+        out.ready()?;
+    }
+    match cutter.finish() {
+        Cut::Unended | Cut::Blank => {}
+        Cut::Long => {
+            refuse(Fault::Line, out);
+        }
+        Cut::Line => answer_line(alloc, tables, cutter.line(), out),
+    }
+    Ok(())
+}
+
+// Takes the bytes of a piece one after another. At an `Err` as many were taken as it says.
+pub(crate) fn take_piece(
+    alloc: Global,
+    tables: &mut [Table],
+    cutters: &mut [LineCutter],
+    session: usize,
+    piece: &[u8],
+    out: &mut Out,
+) -> Result<(), Stop>
+    requires { session < length cutters.old }
+    ensures run { (told : List (List ℕ)) × Run (machine tables.old cutters.old) (taken_of result (bytes_of session piece.now)) told (machine tables.new cutters.new)
+        × (out.new.bytes ≡ out.old.bytes ++ joined told) }
+    ensures stopped { IfErr result (λ stop. (stop.event ≡ 0) × (stop.taken < length piece.now)) }
+    ensures waits { IfErr result (λ stop. Waits (machine tables.new cutters.new) (λ _. out.new.room) (slice_get (bytes_of session piece.now) stop.taken)) }
+    ensures progress { READY_ROOM ≤ out.old.room → IfErr result (λ stop. 0 < stop.taken) }
+    ensures kept { Keeps out.old out.new }
+    ensures sessions { length cutters.new ≡ length cutters.old }
+{
+    let mut taken = 0;
+    for byte in piece {
+        match take_byte(alloc, tables, &mut cutters[session], *byte, out) {
+            Ok(()) => taken += 1,
+            Err(_) => return Err(Stop { event: 0, taken }),
+        }
+    }
+    Ok(())
+}
