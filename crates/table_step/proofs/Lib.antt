@@ -1,0 +1,6 @@
+pub mod Declared
+pub mod Kept
+pub mod Rows
+pub mod Shown
+pub mod Sorting
+pub mod Told

@@ -1,0 +1,4 @@
+pub mod Values
+pub mod Headings
+pub mod Step
+pub mod Told

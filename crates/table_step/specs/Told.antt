@@ -1,0 +1,33 @@
+-- What the parts of a step owe each other.
+use Rattle.std.specs.Prelude.{◌≡◌, ℕ, ◌++◌, ◌⊎◌, List, [], length, map, unwrap_or}
+use Rattle.container_model.specs.declared.handle.Handle.{Handle}
+use Rattle.container_model.specs.declared.handle.Entry.{Entry}
+use Rattle.container_model.specs.State.{State, row_of}
+use Rattle.table_cmd.specs.declared.reply.Record.{Record}
+use Rattle.table_cmd.specs.Answer.{Answer, answer_text}
+use Rattle.table_schema.specs.Shape.{TableShape}
+use Rattle.table_step.specs.declared.outcome.Outcome.{Outcome}
+use Rattle.table_step.specs.declared.outcome.Outcome.TheVariants as outcomes
+use Rattle.table_step.specs.Step.{Keys, Cells, TableState, keys_of, specs_of, memory_line}
+
+-- a table of this shape and these records
+abbrev pub table_of : TableShape → State Keys Cells → TableState
+table_of shape records = record { shape = shape; records = records }
+
+-- the line of the answer was appended, and the outcome is of its kind; or the memory line was
+abbrev pub Answers : Outcome → List ℕ → List ℕ → Outcome → Answer → Type 0
+Answers outcome told_before told_after kind answer =
+    ((outcome ≡ kind) × (told_after ≡ told_before ++ answer_text answer)) ⊎ ((outcome ≡ outcomes.Memory) × (told_after ≡ told_before ++ memory_line))
+
+-- the keys and kinds of a container's indices are the declared ones
+pub record HasIndices (shape : TableShape) (records : State Keys Cells) : Type 0 where
+  pub keys : records.keys ≡ keys_of shape
+  pub specs : records.specs ≡ specs_of shape
+
+-- the records of handles
+abbrev pub entries_of : List (Entry Cells) → List Handle → List (Entry Cells)
+entries_of entries handles = map (λ h. record { handle = h; row = unwrap_or (row_of entries h) [] }) handles
+
+-- the records that an answer shows
+abbrev pub shown_entries : List Record → List (Entry Cells)
+shown_entries records = map (λ r. record { handle = r.handle; row = r.row.now }) records

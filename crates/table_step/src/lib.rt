@@ -1,0 +1,16 @@
+//! One table: its records under their indices, and what each command does to them.
+#![tactic(auto)]
+
+mod find;
+mod headings;
+mod indices;
+mod insert;
+mod list;
+mod outcome;
+mod table;
+mod tell;
+mod values;
+
+pub use outcome::Outcome;
+pub use table::Table;
+pub use tell::{refuse, refuse_memory};

@@ -1,0 +1,118 @@
+//! A table and one step of it.
+
+ghost use Rattle.std.specs.Prelude.{◌≡◌, ◌≤◌, IfOk};
+ghost use Rattle.table_cmd.specs.Buffer.{Keeps};
+ghost use Rattle.table_step.specs.Step.{IsShort, Steps, new_table, step_of, table_in};
+
+use crate::find::find;
+use crate::headings::headings_of;
+use crate::indices::{keys_of, specs_of};
+use crate::insert::insert;
+use crate::list::list;
+use crate::outcome::Outcome;
+use crate::tell::refuse;
+use key_extract::{Row, RowKeys};
+use multi_index::MultiIndex;
+use std::alloc::{AllocError, Global};
+use std::marker::Model;
+use table_cmd::{Command, Fault, Heading, Out, READY_ROOM};
+use table_schema::TableSpec;
+
+/// A table: its records under the indices that its schema declares.
+#[derive(Drop)]
+pub struct Table {
+    alloc: Global,
+    spec: TableSpec,
+    headings: Vec<Heading>,
+    records: MultiIndex<Row, RowKeys>,
+}
+
+impl Model for Table {
+    ghost use Rattle.table_step.specs.Step.{TableState, FitsShape};
+
+    ghost Value = { TableState };
+
+    ghost view = { λ t. record { shape = t.spec; records = t.records } };
+
+    ghost invariant = { λ t. FitsShape t.spec t.headings.items t.records };
+}
+
+impl Table {
+    /// A table of this declaration without records. O(columns² + indices).
+    pub fn new(alloc: Global, spec: &TableSpec) -> Result<Table, AllocError>
+        ensures { IfOk result (λ table. table ≡ new_table spec.now) }
+    {
+        let keys = keys_of(alloc, spec.indices())?;
+        let specs = specs_of(alloc, spec.indices())?;
+        let records = MultiIndex::new(alloc, specs, keys, spec.max(), 0)?;
+        let headings = headings_of(alloc, spec.columns())?;
+        let spec = spec.copy(alloc)?;
+        Ok(Table {
+            alloc,
+            spec,
+            headings,
+            records,
+        })
+    }
+
+    /// The table's name. O(1).
+    pub fn name(&self) -> &str
+        ensures { result.now ≡ self.now.shape.name }
+    {
+        self.spec.name()
+    }
+
+    /// Carries a command out and appends the line of its answer, or that of a refusal. A refused command changes
+    /// nothing. Where memory is refused nothing is changed and the memory line is appended; an accepted write is
+    /// always answered. `out` keeps its memory.
+    ///
+    /// An insertion reads its row in O(columns · fields) and a listing shows it in O(records · columns), besides
+    /// what the container's own call costs.
+    #[tactic(auto, unfolding(crate::specs::Step::step_of))]
+    pub fn step(&mut self, command: &Command, out: &mut Out) -> Outcome
+        requires { READY_ROOM ≤ out.old.room }
+        ensures answer { Steps result out.old.bytes out.new.bytes self.old self.new (step_of self.old command.now) }
+        ensures short { IsShort result out.old.bytes out.new.bytes }
+        ensures kept { Keeps out.old out.new }
+        ensures shape { self.new.shape ≡ self.old.shape }
+    {
+        if table_in(command) != self.spec.name() {
+            return refuse(Fault::Table, out);
+        }
+        match command {
+            Command::Insert { row, .. } => insert(
+                self.alloc,
+                &self.spec,
+                &mut self.records,
+                row.as_slice(),
+                out,
+            ),
+            Command::Find { index, key, .. } => find(
+                self.alloc,
+                &self.spec,
+                &self.records,
+                index.as_str(),
+                key.as_slice(),
+                out,
+            ),
+            Command::List { index, .. } => list(
+                self.alloc,
+                &self.spec,
+                &self.headings,
+                &self.records,
+                index.as_str(),
+                out,
+            ),
+        }
+    }
+}
+
+// The table that a command names.
+fn table_in(command: &Command) -> &str
+    ensures { result.now ≡ table_in command.now }
+{
+    match command {
+        Command::Insert { table, .. } | Command::Find { table, .. } | Command::List { table, .. } =>
+            table.as_str(),
+    }
+}

@@ -1,0 +1,78 @@
+//! Answers that are appended, or the memory line in their place.
+
+ghost use Rattle.std.specs.Prelude.{◌≡◌, ◌≤◌, ◌+◌, ◌++◌, IsTrue, false, length};
+ghost use Rattle.table_cmd.specs.Answer.{answer, answer_text, fault};
+ghost use Rattle.table_cmd.specs.Buffer.{Keeps};
+ghost use Rattle.table_step.specs.Step.{IsShort, memory_line};
+ghost use Rattle.table_step.specs.Told.{Answers};
+
+use crate::outcome::Outcome;
+use table_cmd::{Fault, Out, READY_ROOM, Reply, write_reply};
+
+/// The answer where memory is refused.
+const MEMORY_LINE: &[u8] = b"{\"err\":\"memory\"}\n";
+
+// Appends the line of a reply, or else the memory line, and says which.
+fn tell(reply: &Reply, out: &mut Out) -> bool
+    requires { READY_ROOM ≤ out.old.room }
+    ensures written { IsTrue result → out.new.bytes ≡ out.old.bytes ++ answer_text (answer reply.now) }
+    ensures short { length (answer_text (answer reply.now)) ≤ READY_ROOM → IsTrue result }
+    ensures refused { result ≡ false → out.new.bytes ≡ out.old.bytes ++ memory_line }
+    ensures kept { Keeps out.old out.new }
+{
+    if write_reply(reply, out).is_ok() {
+        return true;
+    }
+    out.push(MEMORY_LINE);
+    false
+}
+
+// Appends the line of a reply that is short, which takes no memory.
+pub(crate) fn tell_short(reply: &Reply, out: &mut Out)
+    requires room { READY_ROOM ≤ out.old.room }
+    requires short { length (answer_text (answer reply.now)) ≤ 256 }
+    ensures line { out.new.bytes ≡ out.old.bytes ++ answer_text (answer reply.now) }
+    ensures short { length out.new.bytes ≤ length out.old.bytes + 256 }
+    ensures kept { Keeps out.old out.new }
+{
+    let _ = tell(reply, out);
+}
+
+// Appends the line that answers a read, or else the memory line.
+pub(crate) fn tell_read(reply: &Reply, out: &mut Out) -> Outcome
+    requires { READY_ROOM ≤ out.old.room }
+    ensures line { Answers result out.old.bytes out.new.bytes Outcome.Read (answer reply.now) }
+    ensures short { IsShort result out.old.bytes out.new.bytes }
+    ensures kept { Keeps out.old out.new }
+{
+    if tell(reply, out) {
+        Outcome::Read
+    } else {
+        Outcome::Memory
+    }
+}
+
+/// Appends the line of a fault, which takes no memory.
+#[tactic(auto, using(table_cmd::proofs::Short::fault_is_short))]
+pub fn refuse(why: Fault, out: &mut Out) -> Outcome
+    requires { READY_ROOM ≤ out.old.room }
+    ensures line { out.new.bytes ≡ out.old.bytes ++ answer_text (fault why) }
+    ensures outcome { result ≡ Outcome.Refusal }
+    ensures short { IsShort result out.old.bytes out.new.bytes }
+    ensures kept { Keeps out.old out.new }
+{
+    tell_short(&Reply::Fault(why), out);
+    Outcome::Refusal
+}
+
+/// Appends the memory line, which takes no memory.
+pub fn refuse_memory(out: &mut Out) -> Outcome
+    requires { READY_ROOM ≤ out.old.room }
+    ensures line { out.new.bytes ≡ out.old.bytes ++ memory_line }
+    ensures outcome { result ≡ Outcome.Memory }
+    ensures short { IsShort result out.old.bytes out.new.bytes }
+    ensures kept { Keeps out.old out.new }
+{
+    out.push(MEMORY_LINE);
+    Outcome::Memory
+}
