@@ -1,5 +1,5 @@
 -- One session's cutter among those of all.
-use Rattle.std.proofs.Common.{◌≡◌, ℕ, ◌+◌, ◌<◌, List, [], ◌∷◌, ◌++◌, length, take, get_or, slice_set, slice_get, option_map, refl, sym, ap, subst, ◌∙◌, append-nil, Result, Ok, Err, Option, Some, IsTrue, arith}
+use Rattle.std.proofs.Common.{◌≡◌, ℕ, ◌+◌, ◌<◌, List, [], ◌∷◌, ◌++◌, length, map, take, get_or, slice_set, slice_get, option_map, refl, sym, ap, subst, ◌∙◌, append-nil, Result, Ok, Err, Option, Some, IsTrue, arith}
 use Rattle.std.proofs.lemmas.List.{map-set, map_more, get_or-map, take-map, length-map, length-set, get_or-set_same}
 use Rattle.std.proofs.lemmas.Option.{slice_get-get_or, slice_get-map}
 use Rattle.std.proofs.lemmas.Grind.{flat_map-append}
@@ -8,7 +8,7 @@ use Rattle.table_cmd.specs.Buffer.{joined}
 use Rattle.table_step.specs.Step.{TableState}
 use Rattle.table_engine.specs.declared.event.Stop.{Stop}
 use Rattle.table_engine.specs.Lines.{Cutter, Unfinished, short}
-use Rattle.table_engine.specs.Run.{Machine, Signal, byte, session_of, Answers, Takes, Run, Waits, line_of, bytes_of, needs_answer, ready_room}
+use Rattle.table_engine.specs.Run.{Machine, Signal, byte, session_of, Answers, Takes, Run, Waits, line_of, bytes_of, forgotten, needs_answer, ready_room}
 use Rattle.table_engine.specs.State.{machine}
 use Rattle.table_engine.proofs.Runs.{Run-more}
 
@@ -54,6 +54,11 @@ waits_at sig t cutters old new next room within is same next_is needs few = reco
 pub next_byte : (s : ℕ) (piece : List ℕ) (n i : ℕ) → n ≡ i → i < length piece → slice_get (bytes_of s piece) n ≡ Some (byte s (get_or piece i 0))
 next_byte s piece n i e within =
     ap (slice_get (bytes_of s piece)) e ∙ (slice_get-map (byte s) piece i ∙ ap (option_map (byte s)) (slice_get-get_or piece i 0 within))
+
+-- a session whose line is begun anew
+pub forgets : (t : List TableState) (cutters : List Cutter) (s : ℕ) (new : Cutter) → new.unfinished ≡ short [] → machine t (slice_set cutters s new) ≡ forgotten (machine t cutters) s
+forgets t cutters s new e =
+    ap (λ lines. record { tables = t; unfinished = lines }) (map-set unfinished_of cutters s new ∙ ap (slice_set (map unfinished_of cutters) s) e)
 
 pub joined-more : (ts : List (List ℕ)) (t : List ℕ) → joined (ts ++ t ∷ []) ≡ joined ts ++ t
 joined-more ts t = flat_map-append (λ x. x) ts (t ∷ []) ∙ ap (λ x. joined ts ++ x) (append-nil t)

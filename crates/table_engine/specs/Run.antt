@@ -72,6 +72,10 @@ Run old (s ∷ ss) [] new = ⊥
 abbrev pub bytes_of : ℕ → List ℕ → List Signal
 bytes_of session piece = map (byte session) piece
 
+-- the machine where a session's line is begun anew
+abbrev pub forgotten : Machine → ℕ → Machine
+forgotten m session = record { tables = m.tables; unfinished = slice_set m.unfinished session (short []) }
+
 -- ---- what each session is told
 
 -- what one session is told

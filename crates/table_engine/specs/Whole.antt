@@ -5,7 +5,7 @@ use Rattle.table_cmd.specs.Buffer.{joined}
 use Rattle.table_step.specs.Step.{TableState}
 use Rattle.table_engine.specs.Lines.{Unfinished, short, long, max_line}
 use Rattle.table_engine.specs.Tables.{AnswersLine}
-use Rattle.table_engine.specs.Run.{Machine, Run, bytes_of, end, line_of}
+use Rattle.table_engine.specs.Run.{Machine, Signal, Run, bytes_of, end, forgotten, line_of}
 
 -- The lines of a stream: its parts between newlines. Where the stream is empty or ends with a newline, the last part is
 -- empty, and so has no answer.
@@ -29,3 +29,16 @@ pub record Serves (old : Machine) (session : ℕ) (bytes : List ℕ) (written : 
   pub run : Run old (bytes_of session bytes ++ end session ∷ []) told new
   pub text : written ≡ joined told
   pub lines : line_of old session ≡ short [] → AnswersLines old.tables (lines_of bytes) written new.tables
+
+-- the first elements of a list
+abbrev pub IsFront : {X : Type 0} → List X → List X → Type 0
+IsFront {X} front whole = (back : List X) × (front ++ back ≡ whole)
+
+-- The machine takes the signals of a session's stream up to a device's fault, tells this text, and forgets what the
+-- session has of a further line.
+pub record BreaksOff (old : Machine) (session : ℕ) (ss : List Signal) (text : List ℕ) (new : Machine) : Type 0 where
+  pub mid : Machine
+  pub told : List (List ℕ)
+  pub run : Run old ss told mid
+  pub is_told : text ≡ joined told
+  pub forgets : new ≡ forgotten mid session

@@ -99,6 +99,13 @@ impl LineCutter {
         cut
     }
 
+    // Forgets the line so far.
+    pub(crate) fn forget(&mut self)
+        ensures { self.new.unfinished ≡ short [] }
+    {
+        self.is_ended = true;
+    }
+
     /// What `finish` would answer.
     pub fn pending(&self) -> Cut
         ensures { result ≡ cut_at_end self.now.unfinished }

@@ -5,7 +5,7 @@ ghost use Rattle.table_cmd.specs.Buffer.{joined, Keeps};
 ghost use Rattle.table_step.specs.Step.{new_table};
 ghost use Rattle.table_engine.specs.Events.{taken_of};
 ghost use Rattle.table_engine.specs.Lines.{short};
-ghost use Rattle.table_engine.specs.Run.{Run, Waits, bytes_of, end};
+ghost use Rattle.table_engine.specs.Run.{Run, Waits, bytes_of, end, forgotten};
 
 use crate::cutter::LineCutter;
 use crate::event::Stop;
@@ -96,6 +96,14 @@ impl Engine {
             return Err(Stop { event: 0, taken: 0 });
         }
         Ok(())
+    }
+
+    // Forgets what a session's line has so far.
+    pub(crate) fn forget(&mut self, session: usize)
+        requires { session < length self.old.unfinished }
+        ensures { self.new ≡ forgotten self.old session }
+    {
+        self.cutters[session].forget();
     }
 }
 

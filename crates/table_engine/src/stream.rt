@@ -1,10 +1,10 @@
 //! One session over a reader and a writer.
 
-ghost use Rattle.std.specs.Prelude.{◌≡◌, ◌<◌, ◌≤◌, [], ◌∷◌, List, ℕ, length, Err, OnOk, IfErr};
+ghost use Rattle.std.specs.Prelude.{◌≡◌, ◌<◌, ◌≤◌, ◌++◌, [], ◌∷◌, List, ℕ, length, Err, OnOk, OnErr, IfErr};
 ghost use Rattle.std.specs.Io.KnownBytes.{Consumes, Appends, IsAtEnd};
 ghost use Rattle.table_cmd.specs.Buffer.{joined};
-ghost use Rattle.table_engine.specs.Run.{Run, bytes_of, end};
-ghost use Rattle.table_engine.specs.Whole.{Serves};
+ghost use Rattle.table_engine.specs.Run.{Run, Signal, bytes_of, end};
+ghost use Rattle.table_engine.specs.Whole.{BreaksOff, IsFront, Serves};
 
 use crate::engine::Engine;
 use std::alloc::Global;
@@ -26,7 +26,10 @@ pub enum StreamFault {
 }
 
 /// Serves a session's stream to its end. Up to 4,096 bytes are read at a time, and what they are answered is written
-/// before more are read.
+/// before more are read. The writer is not flushed.
+///
+/// At `Read` all lines that were completed are answered. At `Read` and `Write` what the session has of a further line is
+/// forgotten, and the session can serve a new stream.
 pub fn serve_stream<R: Read, W: Write>(
     alloc: Global,
     engine: &mut Engine,
@@ -38,6 +41,12 @@ pub fn serve_stream<R: Read, W: Write>(
     ensures served { OnOk result ((bytes : List ℕ) × Consumes (R.remaining reader.old) (R.remaining reader.new) bytes × IsAtEnd (R.remaining reader.new)
         × (text : List ℕ) × Serves engine.old session bytes text engine.new
         × Appends (W.contents writer.old) (W.contents writer.new) text) }
+    ensures read { result ≡ Err StreamFault.Read → (bytes : List ℕ) × Consumes (R.remaining reader.old) (R.remaining reader.new) bytes
+        × (text : List ℕ) × BreaksOff engine.old session (bytes_of session bytes) text engine.new
+        × Appends (W.contents writer.old) (W.contents writer.new) text }
+    ensures write { result ≡ Err StreamFault.Write → (bytes : List ℕ) × Consumes (R.remaining reader.old) (R.remaining reader.new) bytes
+        × (ss : List Signal) × IsFront ss (bytes_of session bytes ++ end session ∷ [])
+        × (text : List ℕ) × BreaksOff engine.old session ss text engine.new }
     ensures memory { result ≡ Err StreamFault.Memory → (engine.new ≡ engine.old) × (reader.new ≡ reader.old) × (writer.new ≡ writer.old) }
     ensures sessions { length engine.new.unfinished ≡ length engine.old.unfinished }
 {
@@ -45,16 +54,47 @@ pub fn serve_stream<R: Read, W: Write>(
     if out.ready().is_err() {
         return Err(StreamFault::Memory);
     }
+    let served = serve(engine, session, reader, writer, &mut out);
+    if let Err(fault) = served {
+        engine.forget(session);
+        return Err(fault);
+    }
+    Ok(())
+}
+
+// Serves a session's stream to its end, or to a fault of the reader or the writer.
+fn serve<R: Read, W: Write>(
+    engine: &mut Engine,
+    session: usize,
+    reader: &mut R,
+    writer: &mut W,
+    out: &mut Out,
+) -> Result<(), StreamFault>
+    requires session { session < length engine.old.unfinished }
+    requires empty { out.old.bytes ≡ [] }
+    requires ready { READY_ROOM ≤ out.old.room }
+    ensures served { OnOk result ((bytes : List ℕ) × Consumes (R.remaining reader.old) (R.remaining reader.new) bytes × IsAtEnd (R.remaining reader.new)
+        × (text : List ℕ) × Serves engine.old session bytes text engine.new
+        × Appends (W.contents writer.old) (W.contents writer.new) text) }
+    ensures read { result ≡ Err StreamFault.Read → (bytes : List ℕ) × Consumes (R.remaining reader.old) (R.remaining reader.new) bytes
+        × (told : List (List ℕ)) × Run engine.old (bytes_of session bytes) told engine.new
+        × Appends (W.contents writer.old) (W.contents writer.new) (joined told) }
+    ensures write { result ≡ Err StreamFault.Write → (bytes : List ℕ) × Consumes (R.remaining reader.old) (R.remaining reader.new) bytes
+        × (ss : List Signal) × IsFront ss (bytes_of session bytes ++ end session ∷ [])
+        × (told : List (List ℕ)) × Run engine.old ss told engine.new }
+    ensures memory { result ≡ Err StreamFault.Memory → ⊥ }
+    ensures sessions { length engine.new.unfinished ≡ length engine.old.unfinished }
+{
     let mut piece = [0u8; PIECE];
     for _ in 0..u32::MAX {
         let Ok(n) = reader.read(&mut piece) else {
             return Err(StreamFault::Read);
         };
         if n == 0 {
-            serve_end(engine, session, writer, &mut out)?;
+            serve_end(engine, session, writer, out)?;
             return Ok(());
         }
-        feed_piece(engine, session, &piece[..n], writer, &mut out)?;
+        feed_piece(engine, session, &piece[..n], writer, out)?;
     }
     Err(StreamFault::Read)
 }
@@ -72,6 +112,7 @@ fn serve_end<W: Write>(
     ensures served { OnOk result ((told : List (List ℕ)) × Run engine.old (end session ∷ []) told engine.new
         × Appends (W.contents writer.old) (W.contents writer.new) (joined told)) }
     ensures fault { IfErr result (λ e. e ≡ StreamFault.Write) }
+    ensures unwritten { OnErr result ((told : List (List ℕ)) × Run engine.old (end session ∷ []) told engine.new) }
     ensures sessions { length engine.new.unfinished ≡ length engine.old.unfinished }
 {
     engine.finish(session, out).unwrap();
@@ -96,6 +137,7 @@ fn feed_piece<W: Write>(
     ensures fed { OnOk result ((told : List (List ℕ)) × Run engine.old (bytes_of session piece.now) told engine.new
         × Appends (W.contents writer.old) (W.contents writer.new) (joined told)) }
     ensures fault { IfErr result (λ e. e ≡ StreamFault.Write) }
+    ensures unwritten { OnErr result ((front : List ℕ) × IsFront front piece.now × (told : List (List ℕ)) × Run engine.old (bytes_of session front) told engine.new) }
     ensures empty { OnOk result (out.new.bytes ≡ []) }
     ensures ready { OnOk result (READY_ROOM ≤ out.new.room) }
     ensures sessions { length engine.new.unfinished ≡ length engine.old.unfinished }

@@ -3,6 +3,8 @@ ghost use Rattle.std.specs.Prelude.{◌<◌, ◌≤◌, length};
 
 use super::*;
 use std::alloc::{AllocError, Global};
+use std::io;
+use std::io::{Read, Write};
 use std::test::Fail;
 use table_cmd::Out;
 use table_schema::builtin;
@@ -181,5 +183,79 @@ fn streams_are_served_to_their_end(rt: HostRuntime) -> Result<(), Fail> {
     let mut written = Vec::new(alloc);
     assert!(rt; serve_stream(alloc, &mut engine, 15, &mut reader, &mut written).is_ok());
     assert_eq!(rt; written.as_slice(), want.as_slice());
+    Ok(())
+}
+
+// A reader that gives two lines, the second of them begun, and then fails.
+#[derive(Drop)]
+struct Broken {
+    has_given: bool,
+}
+
+impl Read for Broken {
+    fn read(&mut self, buf: &mut [u8]) -> io::Result<usize> {
+        if self.has_given {
+            return Err(io::Error::from(io::ErrorKind::TimedOut));
+        }
+        self.has_given = true;
+        let text =
+            b"{\"op\":\"insert\",\"t\":\"f\",\"r\":{\"id\":1,\"g\":\"a\"}}\n{\"op\":\"insert\",";
+        let count = text.len().min(buf.len());
+        buf[..count].copy_from_slice(&text[..count]);
+        Ok(count)
+    }
+}
+
+// A writer that takes so many bytes, and then no more.
+#[derive(Drop)]
+struct Narrow {
+    room: usize,
+    taken: Vec<u8>,
+}
+
+impl Write for Narrow {
+    fn write(&mut self, buf: &[u8]) -> io::Result<usize> {
+        let count = buf.len().min(self.room);
+        self.taken.extend_from_slice(&buf[..count])?;
+        self.room -= count;
+        Ok(count)
+    }
+
+    fn flush(&mut self) -> io::Result<()> {
+        Ok(())
+    }
+}
+
+#[test]
+fn a_session_serves_a_new_stream_after_a_fault(rt: HostRuntime) -> Result<(), Fail> {
+    let alloc = rt.alloc();
+    let schema = builtin(alloc)?;
+    let mut engine = Engine::new(alloc, &schema, 1)?;
+    let mut reader = Broken { has_given: false };
+    let mut written = Vec::new(alloc);
+    let served = serve_stream(alloc, &mut engine, 0, &mut reader, &mut written);
+    assert_eq!(rt; served, Err(StreamFault::Read));
+    assert_eq!(rt;
+        written.as_slice(),
+        b"{\"at\":1,\"h\":\"0:1\",\"ok\":true}\n".as_slice()
+    );
+
+    let stream = text_of(alloc, &COMMANDS)?;
+    let mut reader = stream.as_slice();
+    let mut narrow = Narrow {
+        room: 10,
+        taken: Vec::new(alloc),
+    };
+    let served = serve_stream(alloc, &mut engine, 0, &mut reader, &mut narrow);
+    assert_eq!(rt; served, Err(StreamFault::Write));
+    assert_eq!(rt; narrow.taken.as_slice(), b"{\"at\":2,\"h".as_slice());
+
+    let mut reader = b"{\"op\":\"find\",\"t\":\"f\",\"i\":\"u\",\"k\":[2]}".as_slice();
+    written.clear();
+    assert!(rt; serve_stream(alloc, &mut engine, 0, &mut reader, &mut written).is_ok());
+    assert_eq!(rt;
+        written.as_slice(),
+        b"{\"at\":2,\"h\":\"1:2\",\"ok\":true}\n".as_slice()
+    );
     Ok(())
 }

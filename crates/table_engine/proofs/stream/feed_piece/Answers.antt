@@ -6,6 +6,7 @@ use Rattle.std.specs.Io.KnownBytes.{Appends}
 use Rattle.table_cmd.specs.Buffer.{joined}
 use Rattle.table_engine.specs.Run.{Run, bytes_of, byte}
 use Rattle.table_engine.proofs.Runs.{Run-append}
+use Rattle.table_engine.proofs.Serving.{fed_front}
 use Rattle.table_engine.proofs.stream.feed_piece.Goals as goal
 
 pub loop-rest-init : goal.loop-rest-init
@@ -62,4 +63,20 @@ returns-in-Ok-clause-fed g c =
       told,
       subst (λ ss. Run c.args.engine.now ss told c.feed-fed.new.self) whole run,
       subst (λ bs. Appends (contents c.args.writer.now) (contents c.write_all.new.self) bs) (sym (flat_map-append (λ x. x) inv.told fed.0)) written,
+    )
+
+pub returns-in-Err-clause-unwritten : goal.returns-in-Err-clause-unwritten
+returns-in-Err-clause-unwritten g c =
+    let loop = c.loop-rest in
+    let inv = loop.invariant in
+    let fed = c.feed-fed.ensures.run in
+    let session = c.args.session in
+    let part = fed_front c.feed-fed.result session loop.rest.now in
+    let told = inv.told ++ fed.0 in
+    let run = Run-append c.args.engine.now loop.engine c.feed-fed.new.self (bytes_of session inv.done) (bytes_of session part.front) inv.told fed.0 inv.run
+    (subst (λ ss. Run loop.engine ss fed.0 c.feed-fed.new.self) part.same fed.1) in (
+      inv.done ++ part.front,
+      (part.back, append_assoc inv.done part.front part.back ∙ (ap (λ xs. inv.done ++ xs) part.split ∙ inv.split)),
+      told,
+      subst (λ ss. Run c.args.engine.now ss told c.feed-fed.new.self) (sym (map-append (byte session) inv.done part.front)) run,
     )

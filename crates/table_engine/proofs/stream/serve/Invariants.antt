@@ -2,7 +2,7 @@ use Rattle.std.proofs.Common.{◌≡◌, ◌<◌, ◌≤◌, ℕ, [], List, leng
 use Rattle.std.specs.Io.KnownBytes.{Consumes, Appends}
 use Rattle.table_cmd.specs.Buffer.{joined}
 use Rattle.table_engine.specs.Run.{Run, bytes_of}
-use Rattle.table_engine.proofs.stream.serve_stream.Given as goal
+use Rattle.table_engine.proofs.stream.serve.Given as goal
 
 abbrev pub invariant-loop : goal.invariant-loop
 invariant-loop g l = record {
