@@ -6,6 +6,7 @@ use Rattle.table_schema.specs.declared.column.IndexSpec.{IndexSpec}
 use Rattle.table_schema.specs.declared.column.CellKind.TheVariants.{Int, Text}
 use Rattle.table_schema.specs.Shape.{TableShape}
 
+-- an integer and a text
 abbrev pub builtin_columns : List Column
 builtin_columns =
     record { name = codes "id"; cell = Int }
@@ -19,6 +20,7 @@ builtin_indices =
     ∷ record { name = codes "u"; kind = Ordered; unique = true; key = Some (record { column = 0; falling = false } ∷ []) }
     ∷ []
 
+-- the table `f` of these, with room for as many records as any
 abbrev pub builtin_table : TableShape
 builtin_table = record {
   name = codes "f";
@@ -29,5 +31,6 @@ builtin_table = record {
   tables = 1;
 }
 
+-- it stands alone
 abbrev pub builtin_schema : List TableShape
 builtin_schema = builtin_table ∷ []

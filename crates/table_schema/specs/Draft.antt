@@ -19,6 +19,7 @@ pub record IndexDraft : Type 0 where
   pub unique : Bool
   pub key : Option (List (List ℕ))
 
+-- a table as the file has it
 pub record TableDraft : Type 0 where
   pub name : List ℕ
   pub max : ℤ
@@ -30,6 +31,7 @@ abbrev pub all_of : {X : Type 0} → List (Option X) → Option (List X)
 all_of [] = Some []
 all_of (o ∷ os) = option_and_then (λ x. option_map (λ xs. x ∷ xs) (all_of os)) o
 
+-- the items of an array as a list
 abbrev pub list_of : Items → List Data
 list_of no_items = []
 list_of (item d ds) = d ∷ list_of ds
@@ -52,9 +54,11 @@ abbrev pub optional : {X : Type 0} → X → (Data → Option X) → Option Data
 optional missing read None = Some missing
 optional missing read (Some d) = read d
 
+-- the text at a key
 abbrev pub text_at : List ℕ → Members → Option (List ℕ)
 text_at key ms = option_and_then as_str (get_member key ms)
 
+-- the type of cells that a text names
 abbrev pub cell_of : List ℕ → Option CellKind
 cell_of text =
     if bytes_eq text (codes "int") then Some cells.Int
@@ -69,6 +73,7 @@ kind_of text =
     else (if bytes_eq text (codes "ordered") then Some Ordered
     else None)
 
+-- a column: its name, and the type of its cells
 unfoldable pub column_of : Data → Option Column
 column_of d = do
   ms ← table_with (codes "name" ∷ codes "cell" ∷ []) d
@@ -80,12 +85,15 @@ column_of d = do
 abbrev pub max_of : Members → Option ℤ
 max_of ms = optional (pos 4294967295) as_integer (get_member (codes "max") ms)
 
+-- where it is missing, false
 abbrev pub unique_of : Members → Option Bool
 unique_of ms = optional false as_bool (get_member (codes "unique") ms)
 
+-- the texts of a key, which need not be there
 abbrev pub key_of : Members → Option (Option (List (List ℕ)))
 key_of ms = optional None (λ d. option_map Some (each_of as_str d)) (get_member (codes "key") ms)
 
+-- an index: its name and kind, and what may be missing
 unfoldable pub index_of : Data → Option IndexDraft
 index_of d = do
   ms ← table_with (codes "name" ∷ codes "kind" ∷ codes "unique" ∷ codes "key" ∷ []) d
@@ -95,6 +103,7 @@ index_of d = do
   key ← key_of ms
   Some (record { name = name; kind = kind; unique = unique; key = key })
 
+-- a table: its name, its greatest number of records, its columns and its indices
 unfoldable pub table_of : Data → Option TableDraft
 table_of d = do
   ms ← table_with (codes "name" ∷ codes "max" ∷ codes "column" ∷ codes "index" ∷ []) d

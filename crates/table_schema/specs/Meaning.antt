@@ -10,6 +10,7 @@ use Rattle.table_schema.specs.Draft.{TableDraft, drafts_of}
 use Rattle.table_schema.specs.Tests.{is_within_limits, have_good_names}
 use Rattle.table_schema.specs.Resolved.{tables_for}
 
+-- what is there, or else the fault
 abbrev pub or_fault : {X : Type 0} → SchemaFault → Option X → Result X SchemaFault
 or_fault fault None = Err fault
 or_fault fault (Some x) = Ok x
@@ -20,10 +21,12 @@ tested drafts =
     if is_within_limits drafts then (if have_good_names drafts then or_fault faults.Key (tables_for drafts) else Err faults.Name)
     else Err faults.Limit
 
+-- after the shape
 abbrev pub of_drafts : Option (List TableDraft) → Result (List TableShape) SchemaFault
 of_drafts None = Err faults.Shape
 of_drafts (Some drafts) = tested drafts
 
+-- after the document
 abbrev pub of_document : Option Members → Result (List TableShape) SchemaFault
 of_document None = Err faults.Toml
 of_document (Some ms) = of_drafts (drafts_of ms)

@@ -17,6 +17,7 @@ abbrev pub part_of : List Column → List ℕ → Option Part
 part_of columns [] = part_at columns false []
 part_of columns (b ∷ name) = if b == 45 then part_at columns true name else part_at columns false (b ∷ name)
 
+-- the parts of a key, where there is one
 abbrev pub parts_of : List Column → Option (List (List ℕ)) → Option (Option (List Part))
 parts_of columns None = Some None
 parts_of columns (Some texts) = option_map Some (all_of (map (part_of columns) texts))
@@ -42,5 +43,6 @@ abbrev pub tables_from : ℕ → ℕ → List TableDraft → List (Option TableS
 tables_from tables place [] = []
 tables_from tables place (draft ∷ drafts) = table_for tables place draft ∷ tables_from tables (place + 1) drafts
 
+-- the tables of a file, where each key is good
 abbrev pub tables_for : List TableDraft → Option (List TableShape)
 tables_for drafts = all_of (tables_from (length drafts) 0 drafts)

@@ -9,10 +9,11 @@ use Rattle.table_schema.specs.Valid.{is_within, are_names}
 abbrev pub index_is_within_limits : IndexDraft → Bool
 index_is_within_limits index = option_map_or (λ key. is_within 1 4 (length key)) index.key true
 
+-- 1 to 4294967295 records
 abbrev pub max_is_within_limits : ℤ → Bool
 max_is_within_limits max = int_le (pos 1) max && int_le max (pos 4294967295)
 
--- 1 to 4294967295 records, 1 to 16 columns, 1 to 8 indices
+-- 1 to 16 columns, 1 to 8 indices
 unfoldable pub table_is_within_limits : TableDraft → Bool
 table_is_within_limits table =
     max_is_within_limits table.max
@@ -29,5 +30,6 @@ unfoldable pub has_good_names : TableDraft → Bool
 has_good_names table =
     are_names (map (λ column. column.name) table.columns) && are_names (map (λ index. index.name) table.indices)
 
+-- and so have the tables
 unfoldable pub have_good_names : List TableDraft → Bool
 have_good_names tables = are_names (map (λ table. table.name) tables) && list_all has_good_names tables

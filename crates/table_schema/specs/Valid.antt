@@ -9,6 +9,7 @@ use Rattle.container_model.specs.State.{has_key_kind, is_hashed_kind}
 use Rattle.table_schema.specs.declared.column.IndexSpec.{IndexSpec}
 use Rattle.table_schema.specs.Shape.{TableShape}
 
+-- low ≤ n ≤ high
 abbrev pub is_within : ℕ → ℕ → ℕ → Bool
 is_within low high n = nat_le low n && nat_le n high
 
@@ -44,6 +45,7 @@ abbrev pub has_good_key : ℕ → IndexSpec → Bool
 has_good_key columns index =
     cond (has_key_kind index.kind) (option_map_or (is_key columns index.kind) index.key false) (is_none index.key && not index.unique)
 
+-- what each table of a schema keeps
 pub record IsValidTable (t : TableShape) : Type 0 where
   pub name : IsTrue (is_name t.name)
   pub max : IsTrue (is_within 1 4294967295 t.max)
@@ -55,6 +57,7 @@ pub record IsValidTable (t : TableShape) : Type 0 where
   pub place : IsTrue (nat_lt t.place t.tables)
   pub tables : IsTrue (is_within 1 16 t.tables)
 
+-- what a whole schema keeps
 pub record IsValidSchema (ts : List TableShape) : Type 0 where
   pub count : IsTrue (is_within 1 16 (length ts))
   pub names : IsTrue (are_names (map (λ t. t.name) ts))

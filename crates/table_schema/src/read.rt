@@ -62,3 +62,6 @@ fn tested(alloc: Global, drafts: &[DraftTable]) -> Result<Schema, SchemaFault>
         None => Err(SchemaFault::Key),
     }
 }
+
+#[cfg(test)]
+mod tests;
