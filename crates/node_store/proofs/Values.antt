@@ -1,9 +1,9 @@
 -- The machine values of a place, of the owner of the blocks and of a box. Assumes `Logic`.
-use Rattle.std.proofs.Common.{◌≡◌, refl, ◌∙◌, ap, sym, List, [], ◌∷◌, ◌++◌}
+use Rattle.std.proofs.Common.{◌≡◌, refl, ◌∙◌, ap, List, [], ◌∷◌, ◌++◌}
 use seplogic.Ra.Ura.{Ura}
 use mir.Val.{Val, vstruct, vcons, vnil, of_list}
 use types.Logic.{Logic}
-use types.Kit.{Item, Goal, Seq, Step, ‵, ◌$◌}
+use types.Kit.{Item, Goal, Seq, Step, ‵}
 use denote.RattleType.{RattleType}
 use denote.Laws.{Is, shows}
 use denote.RawPtr.{Ptr, ptr_val}
@@ -11,8 +11,7 @@ use denote.Shadow.{pure_l, pure_i}
 use denote.Steps.{facts}
 use denote.Struct.Struct.{Struct}
 use denote.Struct.Owning.{shape}
-use Rattle.std_alloc.proofs.BoxSteps.Form.{Bx, R, P, B, D, Good, word as box_word, box_typed}
-use Rattle.std_alloc.proofs.BoxSteps.Steps.{box_out, box_in}
+use Rattle.std_alloc.proofs.BoxSteps.Form.{Bx, R, P}
 use Rattle.std_alloc.proofs.RcSteps.{word}
 use Rattle.node_store.specs.contracts.blocks.Place as place
 use Rattle.node_store.specs.contracts.blocks.Blocks as owner

@@ -1,6 +1,7 @@
 //! Values in heap blocks of their own, each reached by its pointer and its number.
-ghost use Rattle.std.specs.Prelude.{◌≡◌, ℕ, List, [], ◌∷◌, Some, IsSome};
+ghost use Rattle.std.specs.Prelude.{◌≡◌, ℕ, List, [], ◌∷◌, Some};
 ghost use Rattle.std.specs.Borrow.{sem};
+ghost use Rattle.std.specs.Ptr.{null_ptr};
 ghost use Rattle.std_alloc.specs.Box.{box_allocator};
 ghost use Rattle.node_store.specs.Blocks.{Lying, lying, block_of, without_block, LiesAt, IsAt};
 ghost use Rattle.node_store.specs.Ownership.{blocks_own, blocks_lent};
@@ -8,13 +9,24 @@ ghost use Rattle.node_store.specs.Ownership.{blocks_own, blocks_lent};
 use std::alloc::Allocator;
 use std::marker::{Model, PhantomData};
 
-/// Where a block lies. It owns nothing.
+/// Where a block lies. It owns nothing, and says nothing of whether the block is still there.
 #[derive(Clone, Copy)]
 pub(crate) struct Place {
     ptr: *const u8,
 }
 
-/// The owner of many blocks, by number. It takes no space.
+impl Place {
+    /// A place where no block lies.
+    pub(crate) fn nowhere() -> Place
+        ensures { result.ptr ≡ null_ptr }
+    {
+        Place {
+            ptr: std::ptr::null(),
+        }
+    }
+}
+
+/// The owner of many blocks, each known by a number that is not read when the program runs. It takes no space.
 pub(crate) struct Blocks<T, A: Allocator> {
     mark: PhantomData<*const (T, A)>,
     ghost held: { List (ℕ × Lying T A) },
@@ -29,18 +41,21 @@ impl<T, A: Allocator> Model for Blocks<T, A> {
 impl<T, A: Allocator> Blocks<T, A> {
     ghost use Rattle.node_store.specs.BlocksLends.{lends_block};
 
+    /// The owner of no block.
     pub(crate) fn new() -> Blocks<T, A>
         ensures { result.held ≡ [] }
     {
         Blocks { mark: PhantomData }
     }
 
+    /// Ends an owner that has no block left.
     pub(crate) fn end(self)
         requires { self.held ≡ [] }
     {
         let Blocks { mark: _ } = self;
     }
 
+    /// The value in the block of this number.
     pub(crate) fn get(&self, number: u64, place: Place) -> &T
         requires { LiesAt self.now.held number place.ptr }
         ensures { (h : Lying T A) → block_of number self.now.held ≡ Some h → result.now ≡ h.value }
@@ -48,6 +63,7 @@ impl<T, A: Allocator> Blocks<T, A> {
         unsafe { &*(place.ptr as *const T) }
     }
 
+    /// The value in the block of this number, for writing.
     pub(crate) fn get_mut(&mut self, number: u64, place: Place) -> &mut T
         requires { LiesAt self.old.held number place.ptr }
         ensures* writes_back { sem 𝓛 (lends_block T.row A.row A.Allocator self.entry number result) }
@@ -58,7 +74,7 @@ impl<T, A: Allocator> Blocks<T, A> {
 }
 
 impl<T: Drop, A: Allocator> Blocks<T, A> {
-    /// Takes in the block of a box.
+    /// Takes over a box's block under this number, and returns where it lies and the handle that frees it.
     pub(crate) fn put(&mut self, number: u64, block: Box<T, A>) -> (Place, A)
         ensures held { self.new.held ≡ (number, lying result.0.ptr (box_allocator block) block.value) ∷ self.old.held }
         ensures alloc { result.1 ≡ box_allocator block }
@@ -72,7 +88,7 @@ impl<T: Drop, A: Allocator> Blocks<T, A> {
         )
     }
 
-    /// Gives the block out as a box.
+    /// Gives the block of this number out as a box.
     pub(crate) fn take(&mut self, number: u64, place: Place, alloc: A) -> Box<T, A>
         requires { IsAt self.old.held number place.ptr alloc }
         ensures value { block_of number self.old.held ≡ Some (lying place.ptr alloc result.value) }

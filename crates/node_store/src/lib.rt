@@ -1,4 +1,8 @@
-//! A store of records in heap blocks that never move. Each node has a record and a block of links for each column.
+//! A store of records in heap blocks that never move.
+//!
+//! A node has a record and, in each of `COLUMNS` columns, links to other nodes with a tag and a height. What the
+//! links mean is for the layers above: the store only keeps them. Every call is O(1) but the store's drop, which
+//! is O(length). `add` allocates one block; no other call allocates.
 #![tactic(auto)]
 
 ghost use Rattle.std.specs.Prelude.{◌≡◌, ◌+◌, ◌<◌, ◌^◌, IfOk, IfErr, OnOk, OnErr, Some, IsTrue, ◌↔◌};
@@ -9,24 +13,27 @@ ghost use Rattle.node_store.specs.ByNode.{column_of, record_of, contents, AddsNo
 ghost use Rattle.node_store.specs.Chain.{HasBlock, with_next, with_prev, first_without};
 
 mod blocks;
+mod stored;
 #[cfg(test)]
 mod tests;
 
 use blocks::{Blocks, Place};
 use std::alloc::{AllocFailed, Global};
 use std::marker::Model;
+use stored::Stored;
 
-/// How many columns of links each node has.
+/// How many columns of links each node has. A column is named by a number below it.
 pub const COLUMNS: usize = 8;
 
-/// A node of a store. It is one only until the store removes it.
+/// A node of a store, until the store removes it. Nodes are compared by the number of their add, so only those of
+/// one store can be told apart.
 #[derive(Clone, Copy)]
 pub struct Node {
     place: Place,
     number: u64,
 }
 
-/// The links of one node in one column.
+/// The links of one node in one column, with two values that the layer above keeps there.
 #[derive(Clone, Copy)]
 pub struct Link {
     pub a: Option<Node>,
@@ -36,22 +43,22 @@ pub struct Link {
     pub height: u8,
 }
 
-/// The record that found no room.
+/// A record that `add` hands back, since there was no memory for its block.
 #[derive(Drop)]
 pub struct NoRoom<R> {
     pub value: R,
 }
 
-// The blocks are chained, the newest first.
+// The blocks are chained in the order of their adds, the newest first.
 #[derive(Drop)]
 struct Block<R> {
     prev: Option<Node>,
     next: Option<Node>,
     value: R,
-    links: [Link; 8],
+    links: [Stored; 8],
 }
 
-/// The records, each with its links.
+/// Records with their links, each in a heap block of its own.
 pub struct NodeStore<R> {
     blocks: Blocks<Block<R>, Global>,
     alloc: Global,
@@ -75,7 +82,7 @@ impl<R> Model for NodeStore<R> {
 }
 
 impl Node {
-    /// The number of the node's add.
+    /// The number of the node's add. The first is 0.
     pub fn number(&self) -> u64
         ensures { result ≡ number_of self.now }
     {
@@ -93,7 +100,7 @@ impl PartialEq for Node {
     ghost laws = { partial_equiv_from_equiv (on_equiv number_of nat_eq_equiv) };
 
     fn eq(&self, other: &Node) -> bool {
-        self.number == other.number
+        other.number == self.number
     }
 }
 
@@ -104,7 +111,7 @@ impl Eq for Node {
 }
 
 impl Link {
-    /// Links to no node.
+    /// Links to no node, with tag and height 0.
     pub fn empty() -> Link
         ensures { result ≡ no_link }
     {
@@ -173,7 +180,7 @@ impl<R> NodeStore<R> {
         self.len
     }
 
-    /// How many records were added so far.
+    /// How many records were added so far, whether or not they were removed since.
     pub fn added(&self) -> u64
         ensures added { result ≡ self.now.added }
         ensures sound { IsStore self.now }
@@ -189,7 +196,7 @@ impl<R> NodeStore<R> {
         &self.blocks.get(n.number, n.place).value
     }
 
-    /// The node's record for writing.
+    /// The node's record for writing. No link changes.
     pub fn get_mut(&mut self, n: Node) -> &mut R
         requires { IsNodeOf self.old n }
         ensures* writes_back { sem 𝓛 (lends_record R.row self.entry n result) }
@@ -205,10 +212,10 @@ impl<R> NodeStore<R> {
         requires col { col < 8 }
         ensures { column_of self.now col n ≡ Some result }
     {
-        self.blocks.get(n.number, n.place).links[col]
+        self.blocks.get(n.number, n.place).links[col].link()
     }
 
-    /// Whether `o` is the node `n`.
+    /// Whether `o` is the node `n`. Their numbers decide, so both must be nodes of this store.
     pub fn is_node(&self, o: Option<Node>, n: Node) -> bool
         requires other { (m : Node) → o ≡ Some m → IsNodeOf self.now m }
         requires node { IsNodeOf self.now n }
@@ -220,7 +227,7 @@ impl<R> NodeStore<R> {
         }
     }
 
-    /// Replaces the node's links in a column.
+    /// Replaces the node's links in a column. Its record, its other columns and all other nodes stay as they were.
     pub fn set_link(&mut self, n: Node, col: usize, link: Link)
         requires node { IsNode (column_of self.old col) n }
         requires col { col < 8 }
@@ -228,13 +235,14 @@ impl<R> NodeStore<R> {
         ensures others { KeepsOthers (column_of self.old) (column_of self.new) col }
         ensures contents { contents self.new ≡ contents self.old }
     {
-        let block = self.blocks.get_mut(n.number, n.place);
-        block.links[col] = link;
+        let changed = self.blocks.get_mut(n.number, n.place);
+        changed.links[col] = Stored::of(link, n);
     }
 }
 
 impl<R: Drop> NodeStore<R> {
-    /// Adds a node with empty links, or hands the record back where there is no memory.
+    /// Adds a node with empty links in each column. Where there is no memory for its block, the record is handed
+    /// back and the store stays as it was.
     pub fn add(&mut self, value: R) -> Result<Node, NoRoom<R>>
         requires { self.old.added + 1 < 2 ^ 64 }
         ensures number { IfOk result (λ n. number_of n ≡ self.old.added) }
@@ -244,11 +252,15 @@ impl<R: Drop> NodeStore<R> {
         ensures unchanged { OnErr result (self.new ≡ self.old) }
         ensures returned { IfErr result (λ e. e.value ≡ value) }
     {
+        let nowhere = Node {
+            place: Place::nowhere(),
+            number: 0,
+        };
         let block = Block {
             prev: None,
             next: self.first,
             value,
-            links: [Link::empty(); 8],
+            links: [Stored::of(Link::empty(), nowhere); 8],
         };
         match Box::new(self.alloc, block) {
             Ok(boxed) => {
@@ -268,7 +280,8 @@ impl<R: Drop> NodeStore<R> {
         }
     }
 
-    /// Removes the node, and returns its record.
+    /// Removes the node, frees its block and returns its record. Other nodes' links to it stay as they were, and
+    /// name no node from then on.
     pub fn remove(&mut self, n: Node) -> R
         requires { IsNodeOf self.old n }
         ensures value { record_of self.old n ≡ Some result }

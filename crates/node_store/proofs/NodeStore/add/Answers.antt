@@ -2,6 +2,8 @@ use Rattle.std.proofs.Common.{[], ◌∷◌, ◌+◌, ◌∙◌, ap, sym, subst,
 use Rattle.std_alloc.specs.Box.{box_allocator}
 use Rattle.node_store.specs.declared.Node.{Node}
 use Rattle.node_store.specs.declared.Block.{Block}
+use Rattle.std.specs.Prelude.{map}
+use Rattle.node_store.specs.Stored.{link_of}
 use Rattle.node_store.specs.Blocks.{lying}
 use Rattle.node_store.specs.Chain.{store_of, with_prev, HasBlock, IsSound}
 use Rattle.node_store.specs.Store.{with_node, len_of}
@@ -16,7 +18,7 @@ set_prev-requires g c =
     subst (HasBlock c.self.inside.first) (sym c.put.ensures.held)
     (HasBlock-added c.self.inside.blocks.held c.self.inside.alloc c.self.inside.first c.self.inside.len c.self.inside.added c.self.invariant
     (lying c.put.result.0.ptr (box_allocator c.in-Ok.boxed) c.in-Ok.boxed.value) (c.in-Ok.ensures.allocator)
-    (ap (λ (b : Block g.row.R.Denot). b.prev) v) (ap (λ (b : Block g.row.R.Denot). b.next) v) (ap (λ (b : Block g.row.R.Denot). b.links) v ∙ ap (λ l. l ∷ l ∷ l ∷ l ∷ l ∷ l ∷ l ∷ l ∷ []) c.empty.ensures))
+    (ap (λ (b : Block g.row.R.Denot). b.prev) v) (ap (λ (b : Block g.row.R.Denot). b.next) v) (ap (λ (b : Block g.row.R.Denot). map link_of b.links) v ∙ ap (λ l. l ∷ l ∷ l ∷ l ∷ l ∷ l ∷ l ∷ l ∷ []) (c.of.ensures ∙ c.empty.ensures)))
 
 pub invariant_of-self : goal.invariant_of-self
 invariant_of-self g c =
@@ -27,7 +29,7 @@ invariant_of-self g c =
     subst (λ xs. IsSound xs c.self.inside.alloc (Some node) (c.self.inside.len + 1) (c.self.inside.added + 1)) (sym to)
     (IsSound-added c.self.inside.blocks.held c.self.inside.alloc first c.self.inside.len c.self.inside.added c.self.invariant
     (lying c.put.result.0.ptr (box_allocator c.in-Ok.boxed) c.in-Ok.boxed.value) (c.in-Ok.ensures.allocator)
-    (ap (λ (b : Block g.row.R.Denot). b.prev) v) (ap (λ (b : Block g.row.R.Denot). b.next) v) (ap (λ (b : Block g.row.R.Denot). b.links) v ∙ ap (λ l. l ∷ l ∷ l ∷ l ∷ l ∷ l ∷ l ∷ l ∷ []) c.empty.ensures))
+    (ap (λ (b : Block g.row.R.Denot). b.prev) v) (ap (λ (b : Block g.row.R.Denot). b.next) v) (ap (λ (b : Block g.row.R.Denot). map link_of b.links) v ∙ ap (λ l. l ∷ l ∷ l ∷ l ∷ l ∷ l ∷ l ∷ l ∷ []) (c.of.ensures ∙ c.empty.ensures)))
 
 pub returns-in-Ok-clause-added : goal.returns-in-Ok-clause-added
 returns-in-Ok-clause-added g c =
@@ -39,7 +41,7 @@ returns-in-Ok-clause-added g c =
     let to = ap (λ xs. store_of xs (added + 1)) (c.set_prev.ensures ∙ ap (with_prev first (Some node)) c.put.ensures.held)
     ∙ store_added c.self.inside.blocks.held c.self.inside.alloc first c.self.inside.len added c.self.invariant
     (lying c.put.result.0.ptr (box_allocator c.in-Ok.boxed) c.in-Ok.boxed.value) (c.in-Ok.ensures.allocator)
-    (ap (λ (b : Block g.row.R.Denot). b.prev) v) (ap (λ (b : Block g.row.R.Denot). b.next) v) (ap (λ (b : Block g.row.R.Denot). b.links) v ∙ ap (λ l. l ∷ l ∷ l ∷ l ∷ l ∷ l ∷ l ∷ l ∷ []) c.empty.ensures)
+    (ap (λ (b : Block g.row.R.Denot). b.prev) v) (ap (λ (b : Block g.row.R.Denot). b.next) v) (ap (λ (b : Block g.row.R.Denot). map link_of b.links) v ∙ ap (λ l. l ∷ l ∷ l ∷ l ∷ l ∷ l ∷ l ∷ l ∷ []) (c.of.ensures ∙ c.empty.ensures))
     ∙ ap (λ (b : Block g.row.R.Denot). with_node s node b.value) v in
     let absent = (IsStore-view _ _ _ _ _ c.self.invariant).bounded added (omega arith) in
     rw (← c.self.view_is, to) (AddsNode-added _ _ node c.args.value (Adds-with_node s node c.args.value absent))
@@ -54,7 +56,7 @@ returns-in-Ok-clause-len g c =
     let to = ap (λ xs. store_of xs (added + 1)) (c.set_prev.ensures ∙ ap (with_prev first (Some node)) c.put.ensures.held)
     ∙ store_added c.self.inside.blocks.held c.self.inside.alloc first c.self.inside.len added c.self.invariant
     (lying c.put.result.0.ptr (box_allocator c.in-Ok.boxed) c.in-Ok.boxed.value) (c.in-Ok.ensures.allocator)
-    (ap (λ (b : Block g.row.R.Denot). b.prev) v) (ap (λ (b : Block g.row.R.Denot). b.next) v) (ap (λ (b : Block g.row.R.Denot). b.links) v ∙ ap (λ l. l ∷ l ∷ l ∷ l ∷ l ∷ l ∷ l ∷ l ∷ []) c.empty.ensures)
+    (ap (λ (b : Block g.row.R.Denot). b.prev) v) (ap (λ (b : Block g.row.R.Denot). b.next) v) (ap (λ (b : Block g.row.R.Denot). map link_of b.links) v ∙ ap (λ l. l ∷ l ∷ l ∷ l ∷ l ∷ l ∷ l ∷ l ∷ []) (c.of.ensures ∙ c.empty.ensures))
     ∙ ap (λ (b : Block g.row.R.Denot). with_node s node b.value) v in
     let absent = (IsStore-view _ _ _ _ _ c.self.invariant).bounded added (omega arith) in
     ap len_of to ∙ len-with_node s node c.args.value absent ∙ ap (λ t. len_of t + 1) c.self.view_is

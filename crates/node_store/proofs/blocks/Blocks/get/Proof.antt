@@ -17,7 +17,7 @@ use contract.BorrowLft.{◌⊑◌}
 use contract.Running.{tables}
 use denote.RattleType.{RattleType, owns}
 use denote.Param.{layout}
-use denote.RawPtr.{Ptr, block_ptr, null_ptr, in_a_block}
+use denote.RawPtr.{Ptr, null_ptr, in_a_block}
 use denote.Builtin.{u64}
 use denote.Signature.{types_at, plain, shr_ref_to}
 use denote.Opens.{hide, unhide}
@@ -29,7 +29,7 @@ use Rattle.std_alloc.proofs.BoxSteps.Form.{Bx, args, R}
 use Rattle.std_alloc.proofs.RcSteps.{word, word-Good}
 use Rattle.std_alloc.proofs.VecSteps.Shapes.{after}
 use Rattle.node_store.specs.Blocks.{block_of, LiesAt}
-use Rattle.node_store.proofs.Memory.{Held, Lent, found, seen}
+use Rattle.node_store.proofs.Memory.{Held, found, seen}
 use Rattle.node_store.proofs.Values.{Owner, place_had}
 use Rattle.node_store.specs.contracts.blocks.Place as place
 use Rattle.node_store.specs.contracts.blocks.Blocks.get.{ended, clauses}

@@ -4,7 +4,7 @@ use mir.Syntax.{Args, ty_ptr, w64, a_type, dcons, dnil}
 use mir.Val.{Val, vptr, vint, vstruct, of_list}
 use mir.MapTy.{inst_fn}
 use base.Logic.{SProp, ent, emp, id⊢}
-use base.Fml.{Fml, Lft, ftrue, fsep, flft}
+use base.Fml.{Fml, ftrue, fsep, flft}
 use prog.Wp.{WpFn}
 use types.Kit.{‵, raw, ◌⊛◌, some, later, ◌$◌, ◌∵◌, !, qed, by, move, keep, drop, split, split3, join, fsplit, fsplit3, fjoin, fjoin3, fpick, pick, await, use0, use1, use2, suffices, rewrite, feq_i, feq_l, flt_l}
 use types.Run.{stop, fld, of_opd, and_then, no_more, returns, enter}
@@ -32,8 +32,7 @@ use Rattle.std_alloc.proofs.Pairs.{pair_of, pair_val, pair_Typed}
 use Rattle.std_alloc.proofs.RcSteps.{word, word-Good, Ptr-Good}
 use Rattle.std_alloc.specs.contracts.boxed.Box.into_raw_with_allocator as apart
 use Rattle.std_alloc.proofs.boxed.Box.into_raw_with_allocator.Met.{met}
-use Rattle.node_store.specs.Blocks.{Lying, lying}
-use Rattle.node_store.proofs.Memory.{Held}
+use Rattle.node_store.specs.Blocks.{lying}
 use Rattle.node_store.proofs.Values.{Owner, place_made}
 use Rattle.node_store.specs.contracts.blocks.Place as place
 use Rattle.node_store.specs.contracts.blocks.Blocks.put.{ended, clauses}

@@ -5,7 +5,7 @@ use mir.Syntax.{Args, w64, a_type, dcons, dnil}
 use mir.Val.{Val, vptr, vint, has_ty, WT}
 use mir.MapTy.{inst_fn}
 use base.Logic.{SProp, ent, emp, id⊢}
-use base.Fml.{Fml, Lft, ftrue, fsep, flft}
+use base.Fml.{Fml, ftrue, fsep, flft}
 use prog.Wp.{WpFn}
 use types.Kit.{‵, raw, ◌⊛◌, some, later, at_ret, ◌$◌, ◌∵◌, !, qed, by, move, keep, drop, split, split3, join, fsplit, fsplit3, fjoin, fjoin3, pick, await, use0, use1, suffices, rewrite, feq_i, feq_l, flt_l}
 use types.Run.{stop, fld, of_opd, and_then, no_more, first, blocks, exec, returns, enter}
@@ -33,7 +33,7 @@ use Rattle.std_alloc.proofs.RcSteps.{word, word-Good, Ptr-Good}
 use Rattle.std_alloc.proofs.VecSteps.Shapes.{after}
 use Rattle.std_alloc.specs.contracts.boxed.Box.from_raw as whole_again
 use Rattle.std_alloc.proofs.boxed.Box.from_raw.Met.{met}
-use Rattle.node_store.specs.Blocks.{Lying, lying, block_of, without_block, IsAt}
+use Rattle.node_store.specs.Blocks.{lying, block_of, without_block, IsAt}
 use Rattle.node_store.proofs.Memory.{Held, Own, One, found, taken}
 use Rattle.node_store.proofs.Values.{Owner, place_had}
 use Rattle.node_store.specs.contracts.blocks.Place as place

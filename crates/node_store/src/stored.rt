@@ -1,0 +1,56 @@
+//! Links as a block keeps them.
+ghost use Rattle.std.specs.Prelude.{◌≡◌, Some, None, cond};
+ghost use Rattle.node_store.specs.Stored.{link_of};
+
+use crate::{Link, Node};
+
+/// Links in which an absent node has a flag in place of a tag of its own, so that the whole is shorter.
+#[derive(Clone, Copy)]
+pub(crate) struct Stored {
+    a: Node,
+    b: Node,
+    up: Node,
+    tag: u64,
+    height: u8,
+    has_a: bool,
+    has_b: bool,
+    has_up: bool,
+}
+
+// The node, where it is there.
+fn node_if(there: bool, node: Node) -> Option<Node>
+    ensures { result ≡ cond there (Some node) None }
+{
+    if there { Some(node) } else { None }
+}
+
+impl Stored {
+    /// The links, with `filler` where there is no node.
+    pub(crate) fn of(link: Link, filler: Node) -> Stored
+        ensures { link_of result ≡ link }
+    {
+        Stored {
+            a: link.a.unwrap_or(filler),
+            b: link.b.unwrap_or(filler),
+            up: link.up.unwrap_or(filler),
+            tag: link.tag,
+            height: link.height,
+            has_a: link.a.is_some(),
+            has_b: link.b.is_some(),
+            has_up: link.up.is_some(),
+        }
+    }
+
+    /// The links that were stored.
+    pub(crate) fn link(self) -> Link
+        ensures { result ≡ link_of self }
+    {
+        Link {
+            a: node_if(self.has_a, self.a),
+            b: node_if(self.has_b, self.b),
+            up: node_if(self.has_up, self.up),
+            tag: self.tag,
+            height: self.height,
+        }
+    }
+}
