@@ -1,19 +1,15 @@
 -- The indices of a table, as the schema declares them and as the container has them.
-use Rattle.std.proofs.Common.{◌≡◌, ℕ, zero, suc, ◌<◌, ◌≤◌, List, [], ◌∷◌, length, map, Some, ap, arith}
+use Rattle.std.proofs.Common.{◌≡◌, ℕ, zero, suc, ◌≤◌, List, [], ◌∷◌, length, map, Some, ap, arith}
 use Rattle.std.specs.Prelude.{slice_get, unwrap_or, IsTrue, bytes_eq}
 use Rattle.std.specs.List.{list_all}
 use Rattle.std.specs.Option.{option_map_or}
 use Rattle.std.proofs.lemmas.Bool.{and_parts}
-use Rattle.std.proofs.lemmas.List.{length-map}
-use Rattle.std.proofs.lemmas.Option.{slice_get_within}
-use Rattle.container_model.specs.declared.handle.Spec.{Spec}
-use Rattle.container_model.specs.declared.handle.Kind.TheVariants.{Sequenced}
 use Rattle.key_extract.specs.Keys.{key_at, parts_at}
 use Rattle.table_schema.specs.declared.column.IndexSpec.{IndexSpec}
 use Rattle.table_schema.specs.Shape.{TableShape}
 use Rattle.table_schema.specs.Valid.{IsValidTable, is_name, are_distinct}
 use Rattle.table_schema.proofs.Facts.{name_is_short}
-use Rattle.table_step.specs.Step.{spec_of, keys_of, specs_of}
+use Rattle.table_step.specs.Step.{keys_of}
 use Rattle.table_step.specs.Values.{parts_of}
 
 -- the key of a declared index

@@ -1,5 +1,5 @@
 -- What the parts of a step owe each other.
-use Rattle.std.specs.Prelude.{◌≡◌, ℕ, ◌++◌, ◌⊎◌, List, [], length, map, unwrap_or}
+use Rattle.std.specs.Prelude.{◌≡◌, ℕ, ◌++◌, ◌⊎◌, List, [], map, unwrap_or}
 use Rattle.container_model.specs.declared.handle.Handle.{Handle}
 use Rattle.container_model.specs.declared.handle.Entry.{Entry}
 use Rattle.container_model.specs.State.{State, row_of}
