@@ -1,0 +1,50 @@
+use Rattle.std.proofs.Common.{rules, ◌≡◌, ◌≢◌, ◌++◌, List, Some, subst, arith}
+use Rattle.node_store.specs.declared.Node.{Node}
+use Rattle.node_store.specs.Nodes.{Lacks}
+use Rattle.node_store.specs.ByNode.{column_of, same_node}
+use Rattle.node_store.proofs.ByNode.{IsNodeOf_kept}
+use Rattle.list_model.specs.Walk.{without}
+use Rattle.seq_index.specs.Spelled.{Spells, spelled}
+use Rattle.seq_index.proofs.Laws.{node_held, kept_held}
+use Rattle.seq_index.proofs.Moves.{beside, lands_in, Spells_stays_before, Spells_stays_after, without_lacks, length_without}
+use Rattle.seq_index.proofs.SeqIndex.move_to.Goals as goal
+use Rattle.seq_index.proofs.SeqIndex.move_to.Goals.{then-is_node-via-then-is_node, then-is_node-via-else-is_node+then-is_node-2}
+
+pub is_node-requires-clause-node : goal.is_node-requires-clause-node
+is_node-requires-clause-node g c = node_held c.args.store.now c.args.self.now c.args.n c.requires.chain c.requires.held
+
+pub is_node-requires-else-is_node-clause-node : goal.is_node-requires-else-is_node-clause-node
+is_node-requires-else-is_node-clause-node g c = node_held c.args.store.now c.args.self.now c.args.n c.requires.chain c.requires.held
+
+pub returns-then-is_node-clause-list : goal.returns-then-is_node-clause-list
+returns-then-is_node-clause-list g c =
+    let s = beside (spelled (column_of c.args.store.now) c.args.self.now) c.args.n c.args.place c.ends_at-before.result.0 c.ends_at-before.result.1 c.requires.held c.requires.chain.distinct c.requires.place c.ends_at-before.ensures.before c.ends_at-before.ensures.after in
+    elim c.then-is_node.branch [
+      | then-is_node-via-then-is_node w ↦ Spells_stays_before _ _ _ c.args.n c.args.place _ _ c.requires.held c.requires.chain s (c.is_node.ensures.0 w.if-is_node.true)
+      | then-is_node-via-else-is_node+then-is_node-2 w ↦ Spells_stays_after _ _ _ c.args.n c.args.place _ _ c.requires.held c.requires.chain s (w.is_node-else-is_node.ensures.0 w.if-is_node-2.true)
+    ]
+
+pub insert_between-requires-clause-node : goal.insert_between-requires-clause-node
+insert_between-requires-clause-node g c =
+    IsNodeOf_kept c.args.store.now c.unlink.new.store c.args.n c.unlink.ensures.contents (node_held c.args.store.now c.args.self.now c.args.n c.requires.chain c.requires.held)
+
+pub insert_between-requires-clause-before : goal.insert_between-requires-clause-before
+insert_between-requires-clause-before g c = kept_held c.args.store.now c.unlink.new.store c.ends_at-before.result.0 c.unlink.ensures.contents c.ends_at-before.ensures.before_held
+
+pub insert_between-requires-clause-after : goal.insert_between-requires-clause-after
+insert_between-requires-clause-after g c = kept_held c.args.store.now c.unlink.new.store c.ends_at-before.result.1 c.unlink.ensures.contents c.ends_at-before.ensures.after_held
+
+pub insert_between-requires-clause-fits : goal.insert_between-requires-clause-fits
+insert_between-requires-clause-fits g c =
+    let less = length_without (spelled (column_of c.args.store.now) c.args.self.now) c.args.n c.requires.held c.requires.chain.distinct in
+    omega (arith, less, c.unlink.ensures.list.len, c.requires.chain.len, c.requires.chain.fits)
+
+pub returns-clause-list : goal.returns-clause-list
+returns-clause-list g c =
+    let s = beside (spelled (column_of c.args.store.now) c.args.self.now) c.args.n c.args.place c.ends_at-before.result.0 c.ends_at-before.result.1 c.requires.held c.requires.chain.distinct c.requires.place c.ends_at-before.ensures.before c.ends_at-before.ensures.after in
+    let not_before : c.ends_at-before.result.0 ≢ Some c.args.n = λ e. search (rules, c.is_node.ensures.1 e, c.if-is_node.false) in
+    let not_after : c.ends_at-before.result.1 ≢ Some c.args.n = λ e. search (rules, c.is_node-else-is_node.ensures.1 e, c.if-is_node-2.false) in
+    let land = lands_in (spelled (column_of c.args.store.now) c.args.self.now) c.args.n c.args.place c.ends_at-before.result.0 c.ends_at-before.result.1 c.requires.held s not_before not_after in
+    let rest = subst (λ (z : List Node). Spells (column_of c.unlink.new.store) c.unlink.new.self z) land.rest c.unlink.ensures.list in
+    let lacks = subst (λ (z : List Node). Lacks z c.args.n) land.rest (without_lacks (spelled (column_of c.args.store.now) c.args.self.now) c.args.n c.requires.held c.requires.chain.distinct) in
+    rw (← land.moved) (c.insert_between.ensures.list land.front land.back rest lacks land.before_is land.after_is)

@@ -1,0 +1,19 @@
+use Rattle.std.proofs.Common.{None, sym, ap, ◌∙◌, List}
+use Rattle.node_store.specs.declared.Node.{Node}
+use Rattle.node_store.specs.ByNode.{same_node}
+use Rattle.list_model.specs.Walk.{prev}
+use Rattle.seq_index.proofs.Walks.{prev_at}
+use Rattle.seq_index.proofs.ChainLists.{at_node}
+use Rattle.seq_index.proofs.Runs.{Runs-node}
+use Rattle.seq_index.proofs.SeqIndex.prev.Goals as goal
+
+pub link-requires-clause-node : goal.link-requires-clause-node
+link-requires-clause-node g c =
+    let h = rw c.requires.held.is at c.requires.chain.runs in
+    Runs-node _ None c.requires.held.before c.args.n c.requires.held.after None h
+
+pub returns : goal.returns
+returns g c =
+    let h = rw c.requires.held.is at c.requires.chain in
+    let at = at_node _ _ c.requires.held.before c.args.n c.requires.held.after c.link.result h c.link.ensures in
+    at.a ∙ sym (ap (λ (z : List Node). prev (same_node c.args.n) z) c.requires.held.is ∙ prev_at c.requires.held.before c.args.n c.requires.held.after h.distinct)

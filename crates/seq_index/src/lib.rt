@@ -1,0 +1,176 @@
+//! A sequence of nodes: a doubly linked chain in one column of the store's links.
+//!
+//! Each call takes the store. It reads and writes the links of its own column alone, so a node may
+//! stand in one sequence of each column at once.
+#![tactic(auto)]
+
+ghost use Rattle.std.specs.Prelude.{◌≡◌, ◌≢◌, ℕ, ◌+◌, ◌^◌, ◌<◌, ◌≤◌, List, [], ◌∷◌, ◌++◌, length, Option, Some, None, IsOk, insert, slice_get};
+ghost use Rattle.node_store.specs.declared.Node.{Node};
+ghost use Rattle.node_store.specs.Store.{IsNodeOf};
+ghost use Rattle.node_store.specs.Nodes.{Lacks, first_or, last_or};
+ghost use Rattle.node_store.specs.ByNode.{column_of, contents, same_node};
+ghost use Rattle.list_model.specs.Walk.{without, next as the_next, prev as the_prev, last as the_last};
+ghost use Rattle.seq_index.specs.Links.{AreNodesOf};
+
+mod ends;
+mod order;
+mod walk;
+
+use ends::{chain_link, end_beside, set_next, set_prev};
+use node_store::{Link, Node, NodeStore};
+use std::alloc::AllocError;
+
+/// A chain of nodes through one column of links.
+#[derive(Drop)]
+pub struct SeqIndex {
+    col: usize,
+    first: Option<Node>,
+    last: Option<Node>,
+    len: u64,
+    ghost col_exists: { col < 8 },
+}
+
+impl SeqIndex {
+    ghost use Rattle.seq_index.specs.Spelled.{Spells, IsSound, spelled, col_of, HasRoom, KeepsOthers, Holds};
+
+    /// A sequence of no nodes in column `col`. O(1).
+    pub fn new(col: usize) -> SeqIndex
+        requires { col < 8 }
+        ensures col { col_of result ≡ col }
+        ensures empty { (cs : _) → Spells cs result [] }
+    {
+        SeqIndex {
+            col,
+            first: None,
+            last: None,
+            len: 0,
+        }
+    }
+
+    /// Makes room for one more node. A chain needs no memory for it, so this is always `Ok`. O(1).
+    pub fn reserve_one<R>(&mut self, store: &NodeStore<R>) -> Result<(), AllocError>
+        ensures granted { IsOk result }
+        ensures same { self.new ≡ self.old }
+        ensures room { HasRoom self.new }
+    {
+        Ok(())
+    }
+
+    /// The first node. O(1).
+    pub fn first<R>(&self, store: &NodeStore<R>) -> Option<Node>
+        requires { IsSound (column_of store.now) self.now }
+        ensures { result ≡ slice_get (spelled (column_of store.now) self.now) 0 }
+    {
+        self.first
+    }
+
+    /// The last node. O(1).
+    pub fn last<R>(&self, store: &NodeStore<R>) -> Option<Node>
+        requires { IsSound (column_of store.now) self.now }
+        ensures { result ≡ the_last (spelled (column_of store.now) self.now) }
+    {
+        self.last
+    }
+
+    /// The node after `n`, or `None` at the end. O(1).
+    pub fn next<R>(&self, store: &NodeStore<R>, n: Node) -> Option<Node>
+        requires chain { IsSound (column_of store.now) self.now }
+        requires held { Holds (spelled (column_of store.now) self.now) n }
+        ensures { result ≡ the_next (same_node n) (spelled (column_of store.now) self.now) }
+    {
+        store.link(n, self.col).b
+    }
+
+    /// The node before `n`, or `None` at the front. O(1).
+    pub fn prev<R>(&self, store: &NodeStore<R>, n: Node) -> Option<Node>
+        requires chain { IsSound (column_of store.now) self.now }
+        requires held { Holds (spelled (column_of store.now) self.now) n }
+        ensures { result ≡ the_prev (same_node n) (spelled (column_of store.now) self.now) }
+    {
+        store.link(n, self.col).a
+    }
+
+    /// Puts `n` last. O(1).
+    pub fn push<R>(&mut self, store: &mut NodeStore<R>, n: Node)
+        requires chain { IsSound (column_of store.old) self.old }
+        requires node { IsNodeOf store.old n }
+        requires new { Lacks (spelled (column_of store.old) self.old) n }
+        requires room { HasRoom self.old }
+        requires fits { length (spelled (column_of store.old) self.old) + 1 < 2 ^ 64 }
+        ensures list { Spells (column_of store.new) self.new (spelled (column_of store.old) self.old ++ n ∷ []) }
+        ensures col { col_of self.new ≡ col_of self.old }
+        ensures others { KeepsOthers (column_of store.old) (column_of store.new) (col_of self.old) }
+        ensures contents { contents store.new ≡ contents store.old }
+    {
+        self.insert_between(store, self.last, n, None);
+    }
+
+    /// Puts `n` before the node at `place`, or last where `place` is the length.
+    ///
+    /// O(d), where d is the distance of `place` from the nearer end.
+    pub fn insert_at<R>(&mut self, store: &mut NodeStore<R>, place: u64, n: Node)
+        requires chain { IsSound (column_of store.old) self.old }
+        requires node { IsNodeOf store.old n }
+        requires new { Lacks (spelled (column_of store.old) self.old) n }
+        requires place { place ≤ length (spelled (column_of store.old) self.old) }
+        requires room { HasRoom self.old }
+        requires fits { length (spelled (column_of store.old) self.old) + 1 < 2 ^ 64 }
+        ensures list { Spells (column_of store.new) self.new (insert (spelled (column_of store.old) self.old) place n) }
+        ensures col { col_of self.new ≡ col_of self.old }
+        ensures others { KeepsOthers (column_of store.old) (column_of store.new) (col_of self.old) }
+        ensures contents { contents store.new ≡ contents store.old }
+    {
+        let (before, after) = self.ends_at(store, place);
+        self.insert_between(store, before, n, after);
+    }
+
+    /// Takes `n` out. It reads no record, so the node's may have changed. O(1).
+    pub fn unlink<R>(&mut self, store: &mut NodeStore<R>, n: Node)
+        requires chain { IsSound (column_of store.old) self.old }
+        requires held { Holds (spelled (column_of store.old) self.old) n }
+        ensures list { Spells (column_of store.new) self.new (without (same_node n) (spelled (column_of store.old) self.old)) }
+        ensures room { HasRoom self.new }
+        ensures col { col_of self.new ≡ col_of self.old }
+        ensures others { KeepsOthers (column_of store.old) (column_of store.new) (col_of self.old) }
+        ensures contents { contents store.new ≡ contents store.old }
+    {
+        let Link {
+            a: before,
+            b: after,
+            ..
+        } = store.link(n, self.col);
+        set_next(store, self.col, before, after);
+        set_prev(store, self.col, after, before);
+        store.set_link(n, self.col, chain_link(None, None));
+        self.first = end_beside(before, self.first, after);
+        self.last = end_beside(after, self.last, before);
+        self.len -= 1;
+    }
+
+    // Puts `n` between two neighbours, or at an end where one is `None`.
+    fn insert_between<R>(
+        &mut self,
+        store: &mut NodeStore<R>,
+        before: Option<Node>,
+        n: Node,
+        after: Option<Node>,
+    )
+        requires node { IsNodeOf store.old n }
+        requires before { AreNodesOf store.old before }
+        requires after { AreNodesOf store.old after }
+        requires fits { self.old.len + 1 < 2 ^ 64 }
+        ensures list { (xs ys : List Node) → Spells (column_of store.old) self.old (xs ++ ys) → Lacks (xs ++ ys) n
+            → before ≡ last_or xs None → after ≡ first_or ys None
+            → Spells (column_of store.new) self.new (xs ++ n ∷ ys) }
+        ensures col { col_of self.new ≡ col_of self.old }
+        ensures others { KeepsOthers (column_of store.old) (column_of store.new) (col_of self.old) }
+        ensures contents { contents store.new ≡ contents store.old }
+    {
+        store.set_link(n, self.col, chain_link(before, after));
+        set_next(store, self.col, before, Some(n));
+        set_prev(store, self.col, after, Some(n));
+        self.first = end_beside(before, self.first, Some(n));
+        self.last = end_beside(after, self.last, Some(n));
+        self.len += 1;
+    }
+}

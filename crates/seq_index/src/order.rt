@@ -1,0 +1,69 @@
+//! Changes of the order of a sequence.
+ghost use Rattle.std.specs.Prelude.{◌≡◌, ◌≤◌, length, reverse as the_reverse};
+ghost use Rattle.node_store.specs.Nodes.{AllNodes, IsDistinct};
+ghost use Rattle.node_store.specs.ByNode.{column_of, contents, same_node};
+ghost use Rattle.list_model.specs.Walk.{relocated};
+ghost use Rattle.seq_index.specs.Spelled.{Spells, IsSound, spelled, col_of, KeepsOthers, Holds};
+
+use crate::SeqIndex;
+use crate::ends::chain_link;
+use node_store::{Link, Node, NodeStore};
+use std::mem;
+
+impl SeqIndex {
+    /// Moves `n` before the node at `place`, or last where `place` is the length.
+    ///
+    /// Places count with `n` still in, so its own place and the one after it leave the sequence as it is.
+    /// O(d), where d is the distance of `place` from the nearer end.
+    pub fn move_to<R>(&mut self, store: &mut NodeStore<R>, place: u64, n: Node)
+        requires chain { IsSound (column_of store.old) self.old }
+        requires held { Holds (spelled (column_of store.old) self.old) n }
+        requires place { place ≤ length (spelled (column_of store.old) self.old) }
+        ensures list { Spells (column_of store.new) self.new (relocated (same_node n) n place (spelled (column_of store.old) self.old)) }
+        ensures col { col_of self.new ≡ col_of self.old }
+        ensures others { KeepsOthers (column_of store.old) (column_of store.new) (col_of self.old) }
+        ensures contents { contents store.new ≡ contents store.old }
+    {
+        let (before, after) = self.ends_at(store, place);
+        if store.is_node(before, n) || store.is_node(after, n) {
+            return;
+        }
+        self.unlink(store, n);
+        self.insert_between(store, before, n, after);
+    }
+
+    /// Makes these nodes the sequence, in this order. Each may be named once.
+    ///
+    /// A node that stood in the sequence and is not named leaves it. O(n).
+    pub fn rearrange<R>(&mut self, store: &mut NodeStore<R>, nodes: &[Node])
+        requires distinct { IsDistinct nodes.now }
+        requires nodes { AllNodes (column_of store.old (col_of self.old)) nodes.now }
+        ensures list { Spells (column_of store.new) self.new nodes.now }
+        ensures col { col_of self.new ≡ col_of self.old }
+        ensures others { KeepsOthers (column_of store.old) (column_of store.new) (col_of self.old) }
+        ensures contents { contents store.new ≡ contents store.old }
+    {
+        *self = SeqIndex::new(self.col);
+        for n in nodes {
+            self.push(store, *n);
+        }
+    }
+
+    /// Turns the order round. O(n).
+    pub fn reverse<R>(&mut self, store: &mut NodeStore<R>)
+        requires { IsSound (column_of store.old) self.old }
+        ensures list { Spells (column_of store.new) self.new (the_reverse (spelled (column_of store.old) self.old)) }
+        ensures col { col_of self.new ≡ col_of self.old }
+        ensures others { KeepsOthers (column_of store.old) (column_of store.new) (col_of self.old) }
+        ensures contents { contents store.new ≡ contents store.old }
+    {
+        let mut at = self.first;
+        for _ in 0..self.len {
+            let Some(n) = at else { unreachable!() };
+            let Link { a, b, .. } = store.link(n, self.col);
+            store.set_link(n, self.col, chain_link(b, a));
+            at = b;
+        }
+        mem::swap(&mut self.first, &mut self.last);
+    }
+}
