@@ -1,5 +1,4 @@
 pub mod Values
-pub mod Sharing
 pub mod Memory
 pub mod Keyed
 pub mod StoreLemmas
