@@ -37,10 +37,10 @@ impl Text {
     }
 
     /// An equal text, newly allocated. O(length).
-    pub fn copy(&self, alloc: Global) -> Result<Text, AllocError>
+    pub fn copy(&self) -> Result<Text, AllocError>
         ensures { IfOk result (λ copy. copy ≡ self.now) }
     {
-        Text::copy_of(alloc, self.as_str())
+        Text::copy_of(*self.text.allocator(), self.as_str())
     }
 
     /// The text, as long as it is borrowed. O(1).
@@ -98,12 +98,12 @@ pub enum Cell {
 
 impl Cell {
     /// An equal cell; a text is newly allocated. O(length of the text).
-    pub fn copy(&self, alloc: Global) -> Result<Cell, AllocError>
+    pub fn copy(&self) -> Result<Cell, AllocError>
         ensures { IfOk result (λ copy. copy ≡ self.now) }
     {
         Ok(match self {
             Cell::Int(value) => Cell::Int(*value),
-            Cell::Text(text) => Cell::Text(text.copy(alloc)?),
+            Cell::Text(text) => Cell::Text(text.copy()?),
             Cell::Bool(value) => Cell::Bool(*value),
         })
     }

@@ -73,14 +73,14 @@ fn copies_are_equal(rt: HostRuntime) -> Result<(), Fail> {
     let alloc = rt.alloc();
     for (value, len) in [("", 0), ("ab", 2), ("\u{e9}t\u{e9}", 5)] {
         let text = Text::copy_of(alloc, value)?;
-        assert_eq!(rt; text.copy(alloc)?.as_str(), value);
+        assert_eq!(rt; text.copy()?.as_str(), value);
         assert_eq!(rt; text.len(), len);
         assert_eq!(rt; text.is_empty(), len == 0);
         let cell = Cell::Text(text);
-        assert_eq!(rt; cell.copy(alloc)?, cell);
+        assert_eq!(rt; cell.copy()?, cell);
     }
-    assert_eq!(rt; Cell::Int(-7).copy(alloc)?, Cell::Int(-7));
-    assert_eq!(rt; Cell::Bool(true).copy(alloc)?, Cell::Bool(true));
+    assert_eq!(rt; Cell::Int(-7).copy()?, Cell::Int(-7));
+    assert_eq!(rt; Cell::Bool(true).copy()?, Cell::Bool(true));
     Ok(())
 }
 

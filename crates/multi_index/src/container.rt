@@ -149,12 +149,13 @@ impl<R: Drop, E: Extract<R> + Drop> MultiIndex<R, E> {
     }
 
     /// The records of the index, in its order; a hashed one's in the order of insertion. O(records).
-    pub fn view(&self, alloc: Global, index: usize) -> Result<Vec<Handle>, Why>
+    pub fn view(&self, index: usize) -> Result<Vec<Handle>, Why>
         requires { index < length self.now.specs }
         ensures ok { IfOk result (λ handles. handles.items ≡ list_at self.now.lists index) }
         ensures memory_only { IfErr result (λ why. why ≡ Why.Memory) }
     {
-        self.lists[index].to_vec(alloc).map_err(|_| Why::Memory)
+        let records = &self.lists[index];
+        records.to_vec(*records.allocator()).map_err(|_| Why::Memory)
     }
 
     // Whether the handle names a record.

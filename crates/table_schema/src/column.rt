@@ -3,7 +3,7 @@ ghost use Rattle.std.specs.Prelude.{◌≡◌, IfOk};
 
 use container_model::Kind;
 use key_extract::{KeySpec, Text};
-use std::alloc::{AllocError, Global};
+use std::alloc::AllocError;
 
 /// The type of a column's cells.
 #[derive(Clone, Copy, Debug, PartialEq, Eq)]
@@ -22,11 +22,11 @@ pub struct Column {
 
 impl Column {
     // An equal column, newly allocated.
-    pub(crate) fn copy(&self, alloc: Global) -> Result<Column, AllocError>
+    pub(crate) fn copy(&self) -> Result<Column, AllocError>
         ensures { IfOk result (λ copy. copy ≡ self.now) }
     {
         Ok(Column {
-            name: self.name.copy(alloc)?,
+            name: self.name.copy()?,
             cell: self.cell,
         })
     }
@@ -43,11 +43,11 @@ pub struct IndexSpec {
 
 impl IndexSpec {
     // An equal index, newly allocated.
-    pub(crate) fn copy(&self, alloc: Global) -> Result<IndexSpec, AllocError>
+    pub(crate) fn copy(&self) -> Result<IndexSpec, AllocError>
         ensures { IfOk result (λ copy. copy ≡ self.now) }
     {
         Ok(IndexSpec {
-            name: self.name.copy(alloc)?,
+            name: self.name.copy()?,
             kind: self.kind,
             unique: self.unique,
             key: self.key.as_ref().map(|key| key.copy()),

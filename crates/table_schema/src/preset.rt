@@ -84,7 +84,7 @@ mod tests {
         let schema = builtin(rt.alloc())?;
         assert_eq!(rt; schema.tables().len(), 1);
         for table in schema.tables() {
-            let table = table.copy(rt.alloc())?;
+            let table = table.copy()?;
             assert_eq!(rt; table.name(), "f");
             assert_eq!(rt; table.max(), 4294967295);
             assert_eq!(rt; table.place(), 0);

@@ -53,7 +53,7 @@ fn table(
     let Some(indices) = indices(alloc, &draft.columns, &draft.indices)? else {
         return Ok(None);
     };
-    let name = draft.name.copy(alloc)?;
+    let name = draft.name.copy()?;
     let max = most_records(draft.max);
     let columns = copy_columns(alloc, &draft.columns)?;
     Ok(Some(TableSpec::new(name, max, columns, indices, place, tables)))
@@ -98,7 +98,7 @@ fn index(
         return Ok(None);
     };
     let index = IndexSpec {
-        name: draft.name.copy(alloc)?,
+        name: draft.name.copy()?,
         kind: draft.kind,
         unique: draft.unique,
         key,

@@ -102,7 +102,7 @@ impl TableSpec {
     }
 
     /// An equal table, newly allocated. O(columns + indices).
-    pub fn copy(&self, alloc: Global) -> Result<TableSpec, AllocError>
+    pub fn copy(&self) -> Result<TableSpec, AllocError>
         ensures { IfOk result (λ copy. copy ≡ self.now) }
     {
         let TableSpec {
@@ -113,8 +113,9 @@ impl TableSpec {
             place,
             tables,
         } = self;
+        let alloc = *columns.allocator();
         Ok(TableSpec::new(
-            name.copy(alloc)?,
+            name.copy()?,
             *max,
             copy_columns(alloc, columns)?,
             copy_indices(alloc, indices)?,
@@ -130,7 +131,7 @@ pub(crate) fn copy_columns(alloc: Global, columns: &[Column]) -> Result<Vec<Colu
 {
     let mut copies = Vec::with_capacity(alloc, columns.len())?;
     for column in columns {
-        copies.push(column.copy(alloc)?)?;
+        copies.push(column.copy()?)?;
     }
     Ok(copies)
 }
@@ -141,7 +142,7 @@ fn copy_indices(alloc: Global, indices: &[IndexSpec]) -> Result<Vec<IndexSpec>, 
 {
     let mut copies = Vec::with_capacity(alloc, indices.len())?;
     for index in indices {
-        copies.push(index.copy(alloc)?)?;
+        copies.push(index.copy()?)?;
     }
     Ok(copies)
 }

@@ -28,7 +28,7 @@ pub(crate) fn headings_of(alloc: Global, columns: &[Column]) -> Result<Vec<Headi
 {
     let mut headings = Vec::with_capacity(alloc, columns.len())?;
     for (place, column) in columns.iter().enumerate() {
-        let name = column.name.copy(alloc)?;
+        let name = column.name.copy()?;
         let upper = upper_place(&headings, name.as_str());
         headings.insert(upper, Heading { name, place })?;
     }

@@ -58,7 +58,7 @@ fn list_in(
     ensures kept { Keeps out.old out.new }
 {
     let at = records.writes();
-    let Ok(handles) = records.view(alloc, place) else {
+    let Ok(handles) = records.view(place) else {
         return refuse_memory(out);
     };
     let Ok(shown) = shown(alloc, records, &handles) else {

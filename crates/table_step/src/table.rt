@@ -46,7 +46,7 @@ impl Table {
         let specs = specs_of(alloc, spec.indices())?;
         let records = MultiIndex::new(alloc, specs, keys, spec.max(), 0)?;
         let headings = headings_of(alloc, spec.columns())?;
-        let spec = spec.copy(alloc)?;
+        let spec = spec.copy()?;
         Ok(Table {
             alloc,
             spec,

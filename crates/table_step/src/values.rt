@@ -70,7 +70,7 @@ pub(crate) fn row_from(
         let Some(cell) = column_cell(column, fields) else {
             return Ok(None);
         };
-        cells.push(cell.copy(alloc)?)?;
+        cells.push(cell.copy()?)?;
     }
     Ok(Some(Row::new(cells)))
 }
@@ -129,7 +129,7 @@ pub(crate) fn probe_from(
         let Some(cell) = part_cell(columns, parts, place, value) else {
             return Ok(None);
         };
-        cells.push(cell.copy(alloc)?)?;
+        cells.push(cell.copy()?)?;
     }
     Ok(Some(Probe::new(cells)))
 }
