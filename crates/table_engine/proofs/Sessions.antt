@@ -1,12 +1,11 @@
 -- One session's cutter among those of all.
-use Rattle.std.proofs.Common.{◌≡◌, ℕ, ◌+◌, ◌<◌, List, [], ◌∷◌, ◌++◌, length, map, take, get_or, slice_set, slice_get, option_map, refl, sym, ap, subst, ◌∙◌, append-nil, Result, Ok, Err, Option, Some, IsTrue, arith}
-use Rattle.std.proofs.lemmas.List.{map-set, map_more, get_or-map, take-map, length-map, length-set, get_or-set_same}
+use Rattle.std.proofs.Common.{◌≡◌, ℕ, ◌+◌, ◌<◌, List, [], ◌∷◌, ◌++◌, length, map, take, get_or, slice_set, slice_get, option_map, sym, ap, subst, ◌∙◌, append-nil, Option, Some, IsTrue, arith}
+use Rattle.std.proofs.lemmas.List.{map-set, map_more, get_or-map, length-map}
 use Rattle.std.proofs.lemmas.Option.{slice_get-get_or, slice_get-map}
 use Rattle.std.proofs.lemmas.Grind.{flat_map-append}
 use Rattle.std.proofs.Math.Seq.{map-set_same}
 use Rattle.table_cmd.specs.Buffer.{joined}
 use Rattle.table_step.specs.Step.{TableState}
-use Rattle.table_engine.specs.declared.event.Stop.{Stop}
 use Rattle.table_engine.specs.Lines.{Cutter, Unfinished, short}
 use Rattle.table_engine.specs.Run.{Machine, Signal, byte, session_of, Answers, Takes, Run, Waits, line_of, bytes_of, forgotten, needs_answer, ready_room}
 use Rattle.table_engine.specs.State.{machine}

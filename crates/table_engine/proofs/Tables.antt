@@ -1,5 +1,5 @@
 -- The step of one table among those of all.
-use Rattle.std.proofs.Common.{◌≡◌, ℕ, ◌<◌, List, ◌++◌, length, get_or, slice_set, slice_get, Some, refl, sym, ap, subst, ◌∙◌, inl, inr}
+use Rattle.std.proofs.Common.{◌≡◌, ℕ, ◌<◌, List, length, get_or, slice_set, Some, refl, ap, ◌∙◌, inl, inr}
 use Rattle.std.proofs.lemmas.List.{set-get_or}
 use Rattle.std.proofs.lemmas.Option.{slice_get_read}
 use Rattle.std.proofs.lemmas.List.Quantifiers.{position-Some}
@@ -7,7 +7,7 @@ use Rattle.table_cmd.specs.declared.command.Command.{Command}
 use Rattle.table_step.specs.declared.outcome.Outcome.{Outcome}
 use Rattle.table_step.specs.declared.outcome.Outcome.TheVariants as outcomes
 use Rattle.table_step.specs.Step.{TableState, Step, Steps, Took, step_of, table_in}
-use Rattle.table_engine.specs.Tables.{Carried, Replies, carried, carried_at, stepped, table_at}
+use Rattle.table_engine.specs.Tables.{Replies, carried, stepped, table_at}
 
 -- a table that is as before
 pub set_same : (tables : List TableState) (place : ℕ) (old new : TableState) → old ≡ get_or tables place old → new ≡ old → slice_set tables place new ≡ tables

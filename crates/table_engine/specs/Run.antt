@@ -1,5 +1,5 @@
 -- What is answered to streams that come in pieces, as one machine over whole lines would.
-use Rattle.std.specs.Prelude.{◌≡◌, ℕ, ◌<◌, ◌==◌, List, [], ◌∷◌, ◌++◌, take, length, Bool, true, false, ◌&&◌, if◌then◌else◌, IsTrue, Option, Some, None, Result, Ok, Err, slice_set, map, slice_index_or}
+use Rattle.std.specs.Prelude.{◌≡◌, ℕ, ◌<◌, ◌==◌, List, [], ◌∷◌, ◌++◌, length, Bool, true, false, ◌&&◌, if◌then◌else◌, IsTrue, Option, Some, slice_set, map, slice_index_or}
 use Rattle.std.specs.Bool.{MatchBool}
 use Rattle.table_cmd.specs.Buffer.{Buffer}
 use Rattle.table_step.specs.Step.{TableState}

@@ -1,6 +1,6 @@
 //! Lines carried out on the tables.
 
-ghost use Rattle.std.specs.Prelude.{◌≡◌, ◌≤◌, position, bytes_eq};
+ghost use Rattle.std.specs.Prelude.{◌≡◌, ◌≤◌};
 ghost use Rattle.table_cmd.specs.Buffer.{Keeps};
 ghost use Rattle.table_cmd.specs.Meaning.{meaning};
 ghost use Rattle.table_step.specs.Step.{table_in};

@@ -1,6 +1,6 @@
 //! Cuts a stream into lines.
 
-ghost use Rattle.std.specs.Prelude.{◌≡◌, ◌==◌, [], ◌∷◌, if◌then◌else◌};
+ghost use Rattle.std.specs.Prelude.{◌≡◌, ◌==◌, [], if◌then◌else◌};
 ghost use Rattle.table_engine.specs.Lines.{short, add, is_blank, is_space, has_answer, cut_of, cut_at_end, Cutter};
 
 use arrayvec::ArrayVec;
@@ -34,7 +34,7 @@ pub struct LineCutter {
 }
 
 impl Model for LineCutter {
-    ghost use Rattle.table_engine.specs.Lines.{Cutter, Unfinished, short, long};
+    ghost use Rattle.table_engine.specs.Lines.{Cutter, short, long};
     ghost use Rattle.std.specs.Prelude.{[], if◌then◌else◌};
 
     ghost Value = { Cutter };

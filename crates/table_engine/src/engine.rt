@@ -1,6 +1,6 @@
 //! The tables of a schema behind several sessions.
 
-ghost use Rattle.std.specs.Prelude.{◌≡◌, ◌≤◌, ◌<◌, ◌++◌, [], ◌∷◌, List, ℕ, IsOk, OnOk, OnErr, IfOk, IfErr, Some, length, map, replicate, slice_get};
+ghost use Rattle.std.specs.Prelude.{◌≡◌, ◌≤◌, ◌<◌, ◌++◌, [], ◌∷◌, List, ℕ, IsOk, OnErr, IfOk, IfErr, Some, length, map, replicate, slice_get};
 ghost use Rattle.table_cmd.specs.Buffer.{joined, Keeps};
 ghost use Rattle.table_step.specs.Step.{new_table};
 ghost use Rattle.table_engine.specs.Events.{taken_of};

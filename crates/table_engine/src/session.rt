@@ -1,7 +1,6 @@
 //! One session's stream.
 
 ghost use Rattle.std.specs.Prelude.{◌≡◌, ◌≤◌, ◌<◌, ◌++◌, ◌==◌, ◌&&◌, List, ℕ, IsTrue, IsOk, OnOk, OnErr, IfErr, length, slice_get};
-ghost use Rattle.table_cmd.specs.Answer.{answer_text, fault};
 ghost use Rattle.table_cmd.specs.Buffer.{joined, Keeps};
 ghost use Rattle.table_engine.specs.Events.{taken_of};
 ghost use Rattle.table_engine.specs.Lines.{has_answer};

@@ -1,4 +1,4 @@
-use Rattle.std.proofs.Common.{◌≡◌, List, Some, get_or, slice_set, sym, ap, subst, ◌∙◌}
+use Rattle.std.proofs.Common.{◌≡◌, Some, get_or, slice_set, sym, ap, subst, ◌∙◌}
 use Rattle.table_step.specs.Step.{step_of, table_in}
 use Rattle.table_engine.specs.Tables.{Carried, Replies, table_at}
 use Rattle.table_engine.proofs.Tables.{Replies-from_Steps, carried-at}

@@ -1,7 +1,6 @@
-use Rattle.std.proofs.Common.{[], ◌++◌, take, get_or, ap, sym, subst, ◌∙◌, arith}
+use Rattle.std.proofs.Common.{[], ◌++◌, take, get_or, sym, subst, ◌∙◌, arith}
 use Rattle.table_engine.specs.declared.event.Event.{Event}
 use Rattle.table_engine.specs.declared.event.Event.TheVariants.{Piece}
-use Rattle.table_engine.specs.declared.event.Stop.{Stop}
 use Rattle.table_engine.specs.Run.{Run, Tells, Waits, room_at}
 use Rattle.table_engine.specs.Events.{signals, signals_of}
 use Rattle.table_engine.proofs.Runs.{Run-append}

@@ -1,4 +1,4 @@
-use Rattle.std.proofs.Common.{◌≡◌, ◌++◌, sym, subst, ap}
+use Rattle.std.proofs.Common.{◌≡◌, ◌++◌, sym, subst}
 use Rattle.table_cmd.specs.Buffer.{Buffer, joined}
 use Rattle.table_engine.specs.Run.{bytes_of}
 use Rattle.table_engine.specs.Events.{taken_of}

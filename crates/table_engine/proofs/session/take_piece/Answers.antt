@@ -1,7 +1,7 @@
-use Rattle.std.proofs.Common.{◌≡◌, ◌<◌, ℕ, ◌∷◌, [], ◌++◌, length, take, get_or, slice_get, slice_set, Some, List, refl, sym, ap, subst, ◌∙◌, append_assoc, arith}
+use Rattle.std.proofs.Common.{◌≡◌, ◌<◌, ◌∷◌, [], ◌++◌, length, take, get_or, slice_get, slice_set, Some, sym, ap, subst, ◌∙◌, append_assoc, arith}
 use Rattle.std.proofs.lemmas.List.{take-map, length-set}
 use Rattle.table_cmd.specs.Buffer.{joined}
-use Rattle.table_engine.specs.Run.{Machine, Signal, Run, bytes_of, byte}
+use Rattle.table_engine.specs.Run.{Run, bytes_of, byte}
 use Rattle.table_engine.specs.State.{machine}
 use Rattle.table_engine.proofs.Sessions.{taken_by, left_by, waits_at, joined-more, Run-byte, next_byte}
 use Rattle.table_engine.proofs.session.take_piece.Goals as goal

@@ -1,4 +1,4 @@
-use Rattle.std.proofs.Common.{◌≡◌, ◌<◌, ◌≤◌, ℕ, [], List, length}
+use Rattle.std.proofs.Common.{◌≡◌, ◌≤◌, ℕ, [], List, length}
 use Rattle.std.specs.Io.KnownBytes.{Consumes, Appends}
 use Rattle.table_cmd.specs.Buffer.{joined}
 use Rattle.table_engine.specs.Run.{Run, bytes_of}

@@ -1,11 +1,11 @@
-use Rattle.std.proofs.Common.{◌≡◌, ◌<◌, [], ◌∷◌, ◌++◌, List, length, slice_set, Some, refl, sym, ap, subst, ◌∙◌, append-nil, arith}
+use Rattle.std.proofs.Common.{◌≡◌, [], ◌∷◌, ◌++◌, List, slice_set, refl, sym, ap, subst, ◌∙◌, append-nil}
 use Rattle.std.specs.Vec.{with_items}
 use Rattle.std.proofs.lemmas.List.{with_items_is}
 use Rattle.table_step.specs.Step.{TableState}
-use Rattle.table_engine.specs.Run.{Machine, Run, Waits, AnswersEnd, end}
+use Rattle.table_engine.specs.Run.{Run, AnswersEnd, end}
 use Rattle.table_engine.specs.State.{machine}
 use Rattle.table_engine.proofs.Runs.{Run-one}
-use Rattle.table_engine.proofs.Sessions.{taken_by, left_by, waits_at, within, machine_is}
+use Rattle.table_engine.proofs.Sessions.{taken_by, left_by, waits_at, within}
 use Rattle.table_engine.proofs.engine.Engine.finish.Goals as goal
 
 pub returns-clause-run : goal.returns-clause-run
