@@ -1,5 +1,5 @@
 -- The laws of what an index spells, for the crates above.
-use Rattle.std.proofs.Common.{◌≡◌, ℕ, List, [], ◌∷◌, ◌++◌, Option, Some, None, take, drop, ap, sym, ◌∙◌, subst}
+use Rattle.std.proofs.Common.{◌≡◌, ℕ, List, [], ◌∷◌, ◌++◌, Option, Some, None, take, drop, ap, sym, ◌∙◌, subst, slice_get, append_assoc}
 use Rattle.node_store.specs.declared.Node.{Node}
 use Rattle.node_store.specs.Column.{Column}
 use Rattle.node_store.specs.Nodes.{AllNodes, Lacks, IsDistinct, IsSameAt}
@@ -12,6 +12,10 @@ use Rattle.seq_index.specs.declared.SeqIndex.{SeqIndex}
 use Rattle.seq_index.specs.Spelled.{Spells, IsSound, spelled, col_of, follow, Holds}
 use Rattle.seq_index.specs.Links.{Runs, chain_link, AreNodesOf}
 use Rattle.node_store.specs.Nodes.{first_or, last_or}
+use Rattle.node_store.specs.ByNode.{same_node}
+use Rattle.list_model.specs.Walk.{without, next}
+use Rattle.seq_index.proofs.Walks.{without_at, next_at}
+use Rattle.seq_index.proofs.Moves.{without_lacks}
 use Rattle.seq_index.proofs.ChainLists as chain
 
 -- an index spells one list
@@ -91,3 +95,30 @@ module _ {R : Type 0} where
 
   pub kept_held : (old new : Store R) (o : Option Node) → contents new ≡ contents old → AreNodesOf old o → AreNodesOf new o
   kept_held old new o e h = λ m is. IsNodeOf_kept old new m e (h m is)
+
+-- ---- nodes that calls answer, and nodes that they take out
+
+-- the list without a node lacks it
+pub Lacks_without : (cs : ℕ → Column) (i : SeqIndex) (n : Node) → IsSound cs i → Holds (spelled cs i) n → Lacks (without (same_node n) (spelled cs i)) n
+Lacks_without cs i n h k = without_lacks (spelled cs i) n k h.distinct
+
+-- the list without a node, by what stands before and after it
+pub without_is : (cs : ℕ → Column) (i : SeqIndex) (xs ys : List Node) (n : Node) → IsSound cs i → spelled cs i ≡ xs ++ n ∷ ys → without (same_node n) (spelled cs i) ≡ xs ++ ys
+without_is cs i xs ys n h e = ap (λ (z : List Node). without (same_node n) z) e ∙ without_at xs n ys (subst IsDistinct e h.distinct)
+
+-- the first node stands in the list
+pub Holds_first : (xs : List Node) (n : Node) → slice_get xs 0 ≡ Some n → Holds xs n
+Holds_first [] n e = cc
+Holds_first (x ∷ xs) n e = let s : x ≡ n = cc in record { before = []; after = xs; is = ap (λ (z : Node). z ∷ xs) s }
+
+-- so does the node after one of the list
+pub Holds_next : (xs : List Node) (m n : Node) → IsDistinct xs → Holds xs m → next (same_node m) xs ≡ Some n → Holds xs n
+Holds_next xs m n dist h e =
+    let f : first_or h.after None ≡ Some n = sym (next_at h.before m h.after (subst IsDistinct h.is dist)) ∙ (ap (λ (z : List Node). next (same_node m) z) (sym h.is) ∙ e) in
+    held h.before h.after h.is f
+  where
+    held : (front back : List Node) → xs ≡ front ++ m ∷ back → first_or back None ≡ Some n → Holds xs n
+    held front [] is f = cc
+    held front (x ∷ back) is f =
+        let s : x ≡ n = cc in
+        record { before = front ++ m ∷ []; after = back; is = is ∙ ap (λ (z : Node). front ++ m ∷ z ∷ back) s ∙ sym (append_assoc front (m ∷ []) (n ∷ back)) }

@@ -4,16 +4,17 @@
 //! stand in one sequence of each column at once.
 #![tactic(auto)]
 
-ghost use Rattle.std.specs.Prelude.{◌≡◌, ◌≢◌, ℕ, ◌+◌, ◌^◌, ◌<◌, ◌≤◌, List, [], ◌∷◌, ◌++◌, length, Option, Some, None, IsOk, insert, slice_get};
+ghost use Rattle.std.specs.Prelude.{◌≡◌, ◌≢◌, ℕ, ◌+◌, ◌^◌, ◌<◌, ◌≤◌, List, [], ◌∷◌, ◌++◌, length, Option, Some, None, IsOk, insert};
 ghost use Rattle.node_store.specs.declared.Node.{Node};
 ghost use Rattle.node_store.specs.Store.{IsNodeOf};
 ghost use Rattle.node_store.specs.Nodes.{Lacks, first_or, last_or};
 ghost use Rattle.node_store.specs.ByNode.{column_of, contents, same_node};
-ghost use Rattle.list_model.specs.Walk.{without, next as the_next, prev as the_prev, last as the_last};
+ghost use Rattle.list_model.specs.Walk.{without};
 ghost use Rattle.seq_index.specs.Links.{AreNodesOf};
 
 mod ends;
 mod order;
+mod reads;
 mod walk;
 
 use ends::{chain_link, end_beside, set_next, set_prev};
@@ -54,40 +55,6 @@ impl SeqIndex {
         ensures room { HasRoom self.new }
     {
         Ok(())
-    }
-
-    /// The first node. O(1).
-    pub fn first<R>(&self, store: &NodeStore<R>) -> Option<Node>
-        requires { IsSound (column_of store.now) self.now }
-        ensures { result ≡ slice_get (spelled (column_of store.now) self.now) 0 }
-    {
-        self.first
-    }
-
-    /// The last node. O(1).
-    pub fn last<R>(&self, store: &NodeStore<R>) -> Option<Node>
-        requires { IsSound (column_of store.now) self.now }
-        ensures { result ≡ the_last (spelled (column_of store.now) self.now) }
-    {
-        self.last
-    }
-
-    /// The node after `n`, or `None` at the end. O(1).
-    pub fn next<R>(&self, store: &NodeStore<R>, n: Node) -> Option<Node>
-        requires chain { IsSound (column_of store.now) self.now }
-        requires held { Holds (spelled (column_of store.now) self.now) n }
-        ensures { result ≡ the_next (same_node n) (spelled (column_of store.now) self.now) }
-    {
-        store.link(n, self.col).b
-    }
-
-    /// The node before `n`, or `None` at the front. O(1).
-    pub fn prev<R>(&self, store: &NodeStore<R>, n: Node) -> Option<Node>
-        requires chain { IsSound (column_of store.now) self.now }
-        requires held { Holds (spelled (column_of store.now) self.now) n }
-        ensures { result ≡ the_prev (same_node n) (spelled (column_of store.now) self.now) }
-    {
-        store.link(n, self.col).a
     }
 
     /// Puts `n` last. O(1).
