@@ -1,0 +1,77 @@
+-- The laws of what an index spells, for the crates above.
+use Rattle.std.proofs.Common.{◌≡◌, ℕ, Bool, true, false, cond, not, List, [], ◌∷◌, Option, Some, None, refl, ap, sym, subst}
+use Rattle.node_store.specs.declared.Node.{Node}
+use Rattle.node_store.specs.Column.{Column}
+use Rattle.node_store.specs.Nodes.{AllNodes, Lacks, IsDistinct, IsSameAt}
+use Rattle.node_store.specs.Store.{Store, IsNodeOf}
+use Rattle.node_store.specs.ByNode.{same_node, column_of, AddsNode, RemovesNode}
+use Rattle.node_store.proofs.ByNode.{lacks_added, same_added, same_removed, node_of_column}
+use Rattle.node_store.proofs.NodeLists.{IsSameAt-kept}
+use Rattle.list_model.specs.Walk.{without}
+use Rattle.row_index.specs.declared.RowIndex.{RowIndex}
+use Rattle.row_index.specs.Spelled.{Spells, IsSound, spelled, col_of, Holds}
+use Rattle.row_index.proofs.Places.{numbered_nodes, numbered_same, held_node, differ}
+
+-- an index spells one list
+pub spelled_is : (cs : ℕ → Column) (i : RowIndex) (xs : List Node) → Spells cs i xs → spelled cs i ≡ xs
+unfolding spelled
+spelled_is cs i xs h = h.nodes
+
+-- it depends on the links of its own nodes in its own column alone
+pub Spells_same : (cs ds : ℕ → Column) (i : RowIndex) (xs : List Node) → IsSameAt (cs (col_of i)) (ds (col_of i)) xs → Spells cs i xs → Spells ds i xs
+Spells_same cs ds i xs s h = record { nodes = h.nodes; places = numbered_same (cs (col_of i)) (ds (col_of i)) 0 xs s h.places; distinct = h.distinct }
+
+pub Spells_distinct : (cs : ℕ → Column) (i : RowIndex) (xs : List Node) → Spells cs i xs → IsDistinct xs
+Spells_distinct cs i xs h = h.distinct
+
+-- an index stays as it is where its column stays
+pub spelled_kept : (cs ds : ℕ → Column) (i : RowIndex) → ds (col_of i) ≡ cs (col_of i) → spelled ds i ≡ spelled cs i
+unfolding spelled
+spelled_kept cs ds i e = refl
+
+pub Spells_kept : (cs ds : ℕ → Column) (i : RowIndex) (xs : List Node) → ds (col_of i) ≡ cs (col_of i) → Spells cs i xs → Spells ds i xs
+Spells_kept cs ds i xs e h = Spells_same cs ds i xs (IsSameAt-kept (cs (col_of i)) (ds (col_of i)) xs e) h
+
+-- an index that spells a list is sound
+pub IsSound_from : (cs : ℕ → Column) (i : RowIndex) (xs : List Node) → Spells cs i xs → IsSound cs i
+IsSound_from cs i xs h = subst (λ (z : List Node). Spells cs i z) (sym (spelled_is cs i xs h)) h
+
+pub IsSound_kept : (cs ds : ℕ → Column) (i : RowIndex) → ds (col_of i) ≡ cs (col_of i) → IsSound cs i → IsSound ds i
+IsSound_kept cs ds i e h = IsSound_from ds i (spelled cs i) (Spells_kept cs ds i (spelled cs i) e h)
+
+without_by : (xs : List Node) (n x : Node) (b : Bool) → same_node n x ≡ b → Lacks (without (same_node n) xs) n → Lacks (cond (not b) (x ∷ without (same_node n) xs) (without (same_node n) xs)) n
+without_by xs n x true e h = h
+without_by xs n x false e h = (differ n x e, h)
+
+-- a list without a node lacks it
+pub Lacks_without : (xs : List Node) (n : Node) → Lacks (without (same_node n) xs) n
+Lacks_without [] n = tt
+Lacks_without (x ∷ xs) n = without_by xs n x (same_node n x) refl (Lacks_without xs n)
+
+-- ---- when nodes come and go in the store
+
+-- the store has each node of the list
+pub Spells_nodes : (cs : ℕ → Column) (i : RowIndex) (xs : List Node) → Spells cs i xs → AllNodes (cs (col_of i)) xs
+Spells_nodes cs i xs h = numbered_nodes (cs (col_of i)) 0 xs h.places
+
+module _ {R : Type 0} where
+  pub Spells_added : (old new : Store R) (n : Node) (value : R) (i : RowIndex) (xs : List Node) → AddsNode old new n value → Spells (column_of old) i xs → Spells (column_of new) i xs
+  Spells_added old new n value i xs a h =
+      Spells_same (column_of old) (column_of new) i xs (same_added old new n value (col_of i) xs a (Spells_nodes (column_of old) i xs h)) h
+
+  -- the new node is not in the list
+  pub Lacks_added : (old new : Store R) (n : Node) (value : R) (i : RowIndex) (xs : List Node) → AddsNode old new n value → Spells (column_of old) i xs → Lacks xs n
+  Lacks_added old new n value i xs a h = lacks_added old new n value (col_of i) xs a (Spells_nodes (column_of old) i xs h)
+
+  pub Spells_removed : (old new : Store R) (n : Node) (i : RowIndex) (xs : List Node) → RemovesNode old new n → Lacks xs n → Spells (column_of old) i xs → Spells (column_of new) i xs
+  Spells_removed old new n i xs r lacks h = Spells_same (column_of old) (column_of new) i xs (same_removed old new n (col_of i) xs r lacks) h
+
+  pub spelled_added : (old new : Store R) (n : Node) (value : R) (i : RowIndex) → AddsNode old new n value → IsSound (column_of old) i → spelled (column_of new) i ≡ spelled (column_of old) i
+  spelled_added old new n value i a h = spelled_is (column_of new) i (spelled (column_of old) i) (Spells_added old new n value i (spelled (column_of old) i) a h)
+
+  pub IsSound_added : (old new : Store R) (n : Node) (value : R) (i : RowIndex) → AddsNode old new n value → IsSound (column_of old) i → IsSound (column_of new) i
+  IsSound_added old new n value i a h = IsSound_from (column_of new) i (spelled (column_of old) i) (Spells_added old new n value i (spelled (column_of old) i) a h)
+
+  -- a node of the list is one of the store
+  pub node_held : (s : Store R) (i : RowIndex) (n : Node) → IsSound (column_of s) i → Holds (spelled (column_of s) i) n → IsNodeOf s n
+  node_held s i n h held = node_of_column s (col_of i) n (held_node (column_of s (col_of i)) (spelled (column_of s) i) n h.places held)
