@@ -1,4 +1,4 @@
--- The machine values of a place, of the owner of the blocks and of a box. Assumes `Logic`.
+-- The machine values of a place and of the owner of the blocks. Assumes `Logic`.
 use Rattle.std.proofs.Common.{◌≡◌, refl, ◌∙◌, ap, List, [], ◌∷◌, ◌++◌}
 use seplogic.Ra.Ura.{Ura}
 use mir.Val.{Val, vstruct, vcons, vnil, of_list}
