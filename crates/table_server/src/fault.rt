@@ -1,0 +1,123 @@
+//! Why the program ends before its lines do.
+ghost use Rattle.std.specs.Prelude.{◌≡◌};
+ghost use Rattle.std.specs.IoError.{error_kind};
+ghost use Rattle.table_server.specs.Fault.{of_file, of_schema, of_stream, of_words, status_of, text_of};
+
+use program_words::WordsFault;
+use std::alloc::AllocError;
+use std::io;
+use std::io::{ErrorKind, Write};
+use table_engine::StreamFault;
+use table_schema::SchemaFault;
+
+/// Why the program ends before its lines do.
+#[derive(Debug, Drop)]
+pub enum Fault {
+    /// A read failed, or a file can't be opened.
+    Read,
+    /// A write failed.
+    Write,
+    /// Memory was refused.
+    Memory,
+    /// The words are wrong, or ask for help; with the text for the user.
+    Words(String),
+    /// The schema is refused.
+    Schema(SchemaFault),
+}
+
+impl Fault {
+    /// Writes the fault's text, as far as the writer takes it, and gives the exit status.
+    pub fn report<E: Write>(&self, faults: &mut E) -> u8
+        ensures { result ≡ status_of self.now }
+    {
+        let _ = faults.write_all(self.text().as_bytes());
+        self.status()
+    }
+
+    /// The exit status.
+    fn status(&self) -> u8
+        ensures { result ≡ status_of self.now }
+    {
+        match self {
+            Fault::Read | Fault::Write | Fault::Memory => 1,
+            Fault::Words(_) => 2,
+            Fault::Schema(_) => 3,
+        }
+    }
+
+    /// The text for the user, with its newline.
+    fn text(&self) -> &str
+        ensures { result.now ≡ text_of self.now }
+    {
+        match self {
+            Fault::Read => "device: read\n",
+            Fault::Write => "device: write\n",
+            Fault::Memory => "memory\n",
+            Fault::Words(text) => text.as_str(),
+            Fault::Schema(fault) => match fault {
+                SchemaFault::Toml => "schema: toml\n",
+                SchemaFault::Shape => "schema: shape\n",
+                SchemaFault::Limit => "schema: limit\n",
+                SchemaFault::Name => "schema: name\n",
+                SchemaFault::Key => "schema: key\n",
+                SchemaFault::Memory => "memory\n",
+            },
+        }
+    }
+}
+
+/// The fault of a file that is opened or read.
+impl From<io::Error> for Fault {
+    ghost from_gives = { λ given fault. fault ≡ of_file (error_kind given) };
+
+    fn from(error: io::Error) -> Fault {
+        match error.kind() {
+            ErrorKind::OutOfMemory => Fault::Memory,
+            _ => Fault::Read,
+        }
+    }
+}
+
+impl From<AllocError> for Fault {
+    ghost use Rattle.table_server.specs.declared.fault.Fault.TheVariants.{Memory};
+
+    ghost from_gives = { λ _ fault. fault ≡ Memory };
+
+    fn from(_error: AllocError) -> Fault {
+        Fault::Memory
+    }
+}
+
+impl From<WordsFault> for Fault {
+    ghost from_gives = { λ given fault. fault ≡ of_words given };
+
+    fn from(fault: WordsFault) -> Fault {
+        match fault {
+            WordsFault::Words(text) => Fault::Words(text),
+            WordsFault::Memory => Fault::Memory,
+        }
+    }
+}
+
+impl From<SchemaFault> for Fault {
+    ghost from_gives = { λ given fault. fault ≡ of_schema given };
+
+    fn from(fault: SchemaFault) -> Fault {
+        match fault {
+            SchemaFault::Memory => Fault::Memory,
+            refused => Fault::Schema(refused),
+        }
+    }
+}
+
+impl From<StreamFault> for Fault {
+    ghost from_gives = { λ given fault. fault ≡ of_stream given };
+
+    fn from(fault: StreamFault) -> Fault {
+        match fault {
+            StreamFault::Read => Fault::Read,
+            StreamFault::Write => Fault::Write,
+            StreamFault::Memory => Fault::Memory,
+        }
+    }
+}

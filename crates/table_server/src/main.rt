@@ -1,0 +1,26 @@
+//! Answers lines of commands on tables that are kept in memory.
+#![tactic(auto)]
+
+mod fault;
+mod program;
+#[cfg(test)]
+mod tests;
+
+use program::{given_words, main_with};
+use std::io;
+use std::process::ExitCode;
+
+fn main(rt: HostRuntime) -> ExitCode {
+    let mut faults = rt.stderr();
+    let status = match given_words(&rt) {
+        Ok(words) => main_with(
+            &rt,
+            &words,
+            &mut rt.reader(),
+            &mut io::writer(&rt),
+            &mut faults,
+        ),
+        Err(fault) => fault.report(&mut faults),
+    };
+    ExitCode::from(status)
+}

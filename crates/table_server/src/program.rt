@@ -1,0 +1,107 @@
+//! The program over its words, files and streams.
+ghost use Rattle.std.specs.Prelude.{◌≡◌, ◌≢◌, ◌≤◌, ◌⊎◌, Some, None, IfErr, IfOk, IsErrAnd, OnOk, List, ℕ};
+ghost use Rattle.program_words.specs.Asked.{Files, run_of, texts};
+ghost use Rattle.table_schema.specs.Builtin.{builtin_schema};
+ghost use Rattle.table_server.specs.Done.{Done, ReadsAll, Serves};
+ghost use Rattle.table_server.specs.Fault.{status_of};
+
+use crate::fault::Fault;
+use program_words::{Asked, read_words};
+use std::alloc::Global;
+use std::env::Env;
+use std::io::{ErrorKind, Read, Write};
+use std::rt::Files;
+use std::{env, fs};
+use table_engine::{Engine, serve_stream};
+use table_schema::{Schema, builtin, read_schema};
+
+/// The words that follow the program's name.
+pub fn given_words<R: Env + AllocGlobal>(rt: &R) -> Result<Vec<String>, Fault>
+    ensures { IfErr result (λ fault. (status_of fault ≡ 2) ⊎ (fault ≡ Fault.Memory)) }
+{
+    match env::args(rt) {
+        Ok(all) => Ok(all.skip(1).collect(rt.alloc())?),
+        Err(error) if error.kind() == ErrorKind::OutOfMemory => Err(Fault::Memory),
+        Err(_) => Err(Fault::Words(String::from_str(rt.alloc(), "error: a word is not UTF-8\n")?)),
+    }
+}
+
+/// Does what the words ask for, and gives the exit status: 0 done, 1 device or memory, 2 words,
+/// 3 schema. The text of a fault goes to `faults`, with a newline. Words, schema, file of lines and
+/// lines come in this order, and the first fault ends the run.
+pub fn main_with<R: AllocGlobal + Files, I: Read, O: Write, E: Write>(
+    rt: &R,
+    words: &[String],
+    input: &mut I,
+    output: &mut O,
+    faults: &mut E,
+) -> u8
+    ensures done { result ≡ 0 → (files : Files) × (run_of (texts words.now) ≡ Some files)
+        × Done files (I.remaining input.old) (I.remaining input.new) (O.contents output.old) (O.contents output.new) }
+    ensures words { result ≡ 2 → run_of (texts words.now) ≡ None }
+    ensures wrong_words { run_of (texts words.now) ≡ None → (result ≡ 2) ⊎ (result ≡ 1) }
+    ensures untouched { run_of (texts words.now) ≡ None → (input.new ≡ input.old) × (output.new ≡ output.old) }
+    ensures schema { result ≡ 3 → (files : Files) × (run_of (texts words.now) ≡ Some files) × (files.schema ≢ None) }
+    ensures status { result ≤ 3 }
+{
+    match run(rt, words, input, output) {
+        Ok(()) => 0,
+        Err(fault) => fault.report(faults),
+    }
+}
+
+/// Does what the words ask for.
+fn run<R: AllocGlobal + Files, I: Read, O: Write>(
+    rt: &R,
+    words: &[String],
+    input: &mut I,
+    output: &mut O,
+) -> Result<(), Fault>
+    ensures done { OnOk result ((files : Files) × (run_of (texts words.now) ≡ Some files)
+        × Done files (I.remaining input.old) (I.remaining input.new) (O.contents output.old) (O.contents output.new)) }
+    ensures words { IfErr result (λ fault. status_of fault ≡ 2 → run_of (texts words.now) ≡ None) }
+    ensures wrong_words { run_of (texts words.now) ≡ None
+        → IsErrAnd result (λ fault. (status_of fault ≡ 2) ⊎ (fault ≡ Fault.Memory)) }
+    ensures untouched { run_of (texts words.now) ≡ None → (input.new ≡ input.old) × (output.new ≡ output.old) }
+    ensures schema { IfErr result (λ fault. status_of fault ≡ 3
+        → (files : Files) × (run_of (texts words.now) ≡ Some files) × (files.schema ≢ None)) }
+{
+    let Asked::Run { schema, commands } = read_words(rt.alloc(), words)?;
+    let schema = schema_of(rt, schema)?;
+    match commands {
+        None => serve(rt.alloc(), &schema, input, output),
+        Some(path) => {
+            let mut file = fs::open(rt, path)?;
+            serve(rt.alloc(), &schema, &mut file, output)
+        }
+    }
+}
+
+/// The schema of a file, or the built-in one.
+fn schema_of<R: AllocGlobal + Files>(rt: &R, path: Option<&str>) -> Result<Schema, Fault>
+    ensures builtin { path.entry ≡ None → IfOk result (λ schema. schema ≡ builtin_schema) }
+    ensures file { IfErr result (λ fault. (status_of fault ≡ 1) ⊎ ((status_of fault ≡ 3) × (path.entry ≢ None))) }
+{
+    match path {
+        None => Ok(builtin(rt.alloc())?),
+        Some(path) => {
+            let bytes = fs::read(rt, path)?;
+            Ok(read_schema(rt.alloc(), &bytes)?)
+        }
+    }
+}
+
+/// Answers the lines of a reader on empty tables.
+fn serve<I: Read, O: Write>(
+    alloc: Global,
+    schema: &Schema,
+    input: &mut I,
+    output: &mut O,
+) -> Result<(), Fault>
+    ensures served { OnOk result ((bytes : List ℕ) × ReadsAll (I.remaining input.old) (I.remaining input.new) bytes
+        × Serves schema.now bytes (O.contents output.old) (O.contents output.new)) }
+    ensures fault { IfErr result (λ fault. status_of fault ≡ 1) }
+{
+    let mut engine = Engine::new(alloc, schema, 1)?;
+    Ok(serve_stream(alloc, &mut engine, 0, input, output)?)
+}

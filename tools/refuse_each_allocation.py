@@ -1,0 +1,168 @@
+"""Runs the built program with its Nth allocation refused, for every N, and judges each outcome.
+
+python3 refuse_each_allocation.py PROGRAM REFUSING_MALLOC STORED_INPUT STORED_OUTPUT ROOM
+
+A run of lines ends in one of two ways: status 1 with the text `memory` and no answer, or status 0 with one answer to each
+line: the memory line, and then the line changed nothing, or what the plain machine answers. A run with wrong words or
+files ends with its own status and text, or with status 1 and `memory`.
+"""
+import collections
+import os
+import subprocess
+import sys
+
+from plain_machine import MEMORY, Machine, judge
+
+MORE = b"""
+{"op":"insert","t":"f","r":{"id":7,"g":"\\u00e9\\n"}}
+{"op":"find","t":"f","i":"u","k":[7]}
+{"op":"find","t":"f","i":"u","k":[8]}
+[1
+{"op":"insert","t":"f"}
+{"op":"list","t":"p","i":"q"}
+{"op":"list","t":"f","i":"r"}
+{"op":"find","t":"f","i":"q","k":[1]}
+{"op":"insert","t":"f","r":{"id":1.5,"g":"a"}}
+{"op":"find","t":"f","i":"u","k":["x"]}
+"""
+
+SCHEMA = b"""
+[[table]]
+name = "f"
+column = [{name = "id", cell = "int"}, {name = "g", cell = "text"}]
+index = [{name = "q", kind = "sequenced"}, {name = "u", kind = "ordered", unique = true, key = ["id"]}]
+"""
+
+Outcome = collections.namedtuple("Outcome", "status said complained")
+
+
+class Program:
+    """The built program, on words and an input, with one allocation refused."""
+
+    def __init__(self, path, library, room, words=(), given=b""):
+        self.path, self.library, self.room, self.words, self.given = path, library, room, words, given
+        self.mark = f"{room}/refused"
+
+    def run(self, refuse_at, on=False):
+        """Returns the outcome, and whether that many allocations were asked for."""
+        if os.path.exists(self.mark):
+            os.remove(self.mark)
+        names = {"LD_PRELOAD": self.library, "REFUSE_AT": str(refuse_at), "REFUSED_FILE": self.mark}
+        names |= {"REFUSE_ON": "1"} if on else {}
+        ran = subprocess.run([self.path, *self.words], input=self.given, capture_output=True, env=names, cwd=self.room, timeout=60)
+        return Outcome(ran.returncode, ran.stdout, ran.stderr), os.path.exists(self.mark)
+
+    def outcomes(self, on=False):
+        """Yields each outcome with an allocation refused, and then the one where none was."""
+        at, was_refused = 0, True
+        while was_refused:
+            at += 1
+            outcome, was_refused = self.run(at, on)
+            yield at, was_refused, outcome
+
+
+OUT_OF_MEMORY = Outcome(1, b"", b"memory\n")
+
+
+def judge_lines(text, outcome, was_refused):
+    """Returns what is wrong with the outcome of a run over the lines of the text, or None."""
+    if was_refused and outcome == OUT_OF_MEMORY:
+        return None
+    if outcome.status != 0 or outcome.complained:
+        return f"status {outcome.status} with {outcome.complained[:200]!r} and {len(outcome.said)} bytes of answers"
+    if not was_refused and MEMORY in outcome.said.split(b"\n"):
+        return "a memory line where no allocation was refused"
+    return judge(text, outcome.said)
+
+
+def planted(text, outcome):
+    """Wrong outcomes, each made from a right one in which a line was refused."""
+    lines = outcome.said.split(b"\n")[:-1]
+    at = lines.index(MEMORY)
+    joined = lambda them: outcome._replace(said=b"".join(it + b"\n" for it in them))
+    machine = Machine()
+    for line in text.split(b"\n")[:at]:
+        machine.keep(machine.answer(line)[1])
+    yield "an answer is missing", joined(lines[:-1])
+    yield "an answer stands twice", joined([*lines, lines[-1]])
+    yield "another fault stands for the memory line", joined([*lines[:at], b'{"err":"json"}', *lines[at + 1 :]])
+    yield "the refused write was carried out", joined([*lines[:at], MEMORY, *unrefused(text)[at + 1 :]])
+    yield "another number of the write", joined([it.replace(b'"at":2', b'"at":3') for it in lines])
+    yield "the last newline is missing", outcome._replace(said=outcome.said[:-1])
+    yield "a status of 1 behind answers", outcome._replace(status=1, complained=b"memory\n")
+    yield "another status", Outcome(2, b"", b"memory\n")
+    yield "a fault with status 0", outcome._replace(complained=b"memory\n")
+    yield "a signal", Outcome(-11, b"", b"")
+
+
+def unrefused(text):
+    """The plain machine's answers, none refused."""
+    machine, answers = Machine(), []
+    for line in text.split(b"\n")[:-1]:
+        answer, record = machine.answer(line)
+        machine.keep(record)
+        answers.append(answer)
+    return answers
+
+
+def self_test(text, program):
+    """Fails where a planted wrong outcome is judged right."""
+    begins = lambda it: it.said.startswith(MEMORY + b"\n")
+    refused = next((it for _, was, it in program.outcomes() if was and begins(it)), None)
+    if refused is None:
+        sys.exit("self-test: no run has the memory line first")
+    found = 0
+    for name, wrong in planted(text, refused):
+        if wrong == refused or judge_lines(text, wrong, True) is None:
+            sys.exit(f"self-test: {name}: this planted outcome is judged right")
+        found += 1
+    print(f"self-test: {found} planted outcomes, each judged wrong")
+
+
+def cases_of(path, library, room, text):
+    """Yields the words and input of each sweep, with what judges an outcome."""
+    files = {"lines": text, "schema": SCHEMA, "broken": b"a = "}
+    for name, content in files.items():
+        with open(f"{room}/{name}", "wb") as file:
+            file.write(content)
+    program = lambda words, given=b"": Program(path, library, room, words, given)
+    lines = lambda outcome, was_refused: judge_lines(text, outcome, was_refused)
+    yield program([], text), lines
+    yield program(["run", "--schema", "schema", "--commands", "lines"]), lines
+    for words in (["run", "--schema", "broken"], ["run", "--commands", "absent"], ["fly"], ["run", "--help"]):
+        refuser = program(words)
+        yield refuser, judge_fault(refuser.run(0)[0])
+
+
+def judge_fault(plain):
+    """Returns what judges an outcome of a run that ends with this one where no allocation is refused."""
+    if plain.status == 0 or plain.said or not plain.complained:
+        sys.exit(f"a fault is told as {plain}")
+    return lambda outcome, was_refused: None if outcome == plain or was_refused and outcome == OUT_OF_MEMORY else f"{outcome}"
+
+
+def sweep(program, judged, on):
+    """Returns how many allocations were refused and how many outcomes were wrong."""
+    refused = wrong = 0
+    for at, was_refused, outcome in program.outcomes(on):
+        why = judged(outcome, was_refused)
+        refused, wrong = refused + was_refused, wrong + (why is not None)
+        if why and wrong <= 5:
+            print(f"{' '.join(program.words)}: allocation {at} {'and all later ones ' * on}refused: {why}")
+    return refused, wrong
+
+
+def main():
+    path, library, stored_input, stored_output, room = sys.argv[1:]
+    stored, wanted = (open(it, "rb").read() for it in (stored_input, stored_output))
+    text = stored + MORE.lstrip(b"\n")
+    if Program(path, library, room, given=stored).run(0)[0] != Outcome(0, wanted, b""):
+        sys.exit("the stored run gives another output")
+    self_test(text, Program(path, library, room, given=text))
+    swept = [sweep(*case, on) for case in cases_of(path, library, room, text) for on in (False, True)]
+    refused, wrong = (sum(it) for it in zip(*swept))
+    print(f"{refused} allocations refused: {refused + len(swept)} runs, {wrong} wrong")
+    sys.exit(1 if wrong else 0)
+
+
+main()

@@ -1,0 +1,61 @@
+/* Refuses one allocation of a program: preloaded, with REFUSE_AT the number of the refused call, counted from 1,
+   and REFUSED_FILE a file that is made when it is refused. REFUSE_ON=1 refuses every later call too. */
+#define _GNU_SOURCE
+#include <dlfcn.h>
+#include <errno.h>
+#include <fcntl.h>
+#include <stdlib.h>
+#include <unistd.h>
+
+static long count, refused_at = -1;
+static int refuses_on;
+static char *mark;
+
+static int refused(void)
+{
+    if (refused_at < 0) {
+        char *number = getenv("REFUSE_AT");
+        refused_at = number ? atol(number) : 0;
+        refuses_on = getenv("REFUSE_ON") != NULL;
+        mark = getenv("REFUSED_FILE");
+    }
+    count++;
+    if (refused_at == 0 || !(count == refused_at || (refuses_on && count > refused_at)))
+        return 0;
+    if (count == refused_at && mark)
+        close(open(mark, O_CREAT | O_WRONLY, 0600));
+    errno = ENOMEM;
+    return 1;
+}
+
+void *malloc(size_t size)
+{
+    static void *(*real)(size_t);
+    if (!real)
+        real = dlsym(RTLD_NEXT, "malloc");
+    return refused() ? NULL : real(size);
+}
+
+void *realloc(void *old, size_t size)
+{
+    static void *(*real)(void *, size_t);
+    if (!real)
+        real = dlsym(RTLD_NEXT, "realloc");
+    return refused() ? NULL : real(old, size);
+}
+
+int posix_memalign(void **block, size_t align, size_t size)
+{
+    static int (*real)(void **, size_t, size_t);
+    if (!real)
+        real = dlsym(RTLD_NEXT, "posix_memalign");
+    return refused() ? ENOMEM : real(block, align, size);
+}
+
+void *aligned_alloc(size_t align, size_t size)
+{
+    static void *(*real)(size_t, size_t);
+    if (!real)
+        real = dlsym(RTLD_NEXT, "aligned_alloc");
+    return refused() ? NULL : real(align, size);
+}
