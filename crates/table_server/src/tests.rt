@@ -1,8 +1,8 @@
 //! Exit statuses and texts.
 use crate::program::main_with;
-use std::io::{Error, ErrorKind, Read, Result, Write};
+use std::io::{Error, ErrorKind, Read, Write};
 use std::test::Fail;
-use std::{env, fs};
+use std::{env, fs, io};
 
 /// A reader that fails once its bytes are read.
 #[derive(Drop)]
@@ -11,7 +11,7 @@ struct Failing<'a> {
 }
 
 impl Read for Failing<'_> {
-    fn read(&mut self, buf: &mut [u8]) -> Result<usize> {
+    fn read(&mut self, buf: &mut [u8]) -> io::Result<usize> {
         match self.rest.split_first() {
             Some((byte, rest)) if !buf.is_empty() => {
                 buf[0] = *byte;
@@ -28,11 +28,11 @@ impl Read for Failing<'_> {
 struct Full;
 
 impl Write for Full {
-    fn write(&mut self, _buf: &[u8]) -> Result<usize> {
+    fn write(&mut self, _buf: &[u8]) -> io::Result<usize> {
         Err(Error::from(ErrorKind::Other))
     }
 
-    fn flush(&mut self) -> Result<()> {
+    fn flush(&mut self) -> io::Result<()> {
         Ok(())
     }
 }
@@ -46,13 +46,13 @@ const JSON: &str = "{\"err\":\"json\"}\n";
 const TABLE: &str = "{\"err\":\"table\"}\n";
 
 /// A file's path in the folder of temporary files.
-fn path_of(rt: &HostRuntime, name: &str) -> core::result::Result<String, Fail> {
+fn path_of(rt: &HostRuntime, name: &str) -> Result<String, Fail> {
     let file = format!(in rt.alloc(); "table_server_test_{name}")?;
     Ok(env::temp_dir(rt)?.join(rt.alloc(), &file)?.into_string())
 }
 
 /// The words of a text, where `@` stands before the name of a temporary file.
-fn words_of(rt: &HostRuntime, text: &str) -> core::result::Result<Vec<String>, Fail> {
+fn words_of(rt: &HostRuntime, text: &str) -> Result<Vec<String>, Fail> {
     let mut words = Vec::new(rt.alloc());
     for word in text.split_whitespace() {
         words.push(match word.strip_prefix('@') {
@@ -64,7 +64,7 @@ fn words_of(rt: &HostRuntime, text: &str) -> core::result::Result<Vec<String>, F
 }
 
 #[test]
-fn words_and_files(rt: HostRuntime) -> core::result::Result<(), Fail> {
+fn words_and_files(rt: HostRuntime) -> Result<(), Fail> {
     fs::write(&rt, path_of(&rt, "schema")?.as_str(), SCHEMA)?;
     fs::write(&rt, path_of(&rt, "broken")?.as_str(), "a = ")?;
     fs::write(&rt, path_of(&rt, "lines")?.as_str(), "[1\n")?;
@@ -104,7 +104,7 @@ fn words_and_files(rt: HostRuntime) -> core::result::Result<(), Fail> {
 }
 
 #[test]
-fn devices(rt: HostRuntime) -> core::result::Result<(), Fail> {
+fn devices(rt: HostRuntime) -> Result<(), Fail> {
     let alloc = rt.alloc();
     let mut output = Vec::new(alloc);
     let mut faults = Vec::new(alloc);
