@@ -155,7 +155,9 @@ impl<R: Drop, E: Extract<R> + Drop> MultiIndex<R, E> {
         ensures memory_only { IfErr result (λ why. why ≡ Why.Memory) }
     {
         let records = &self.lists[index];
-        records.to_vec(*records.allocator()).map_err(|_| Why::Memory)
+        records
+            .to_vec(*records.allocator())
+            .map_err(|_| Why::Memory)
     }
 
     // Whether the handle names a record.
