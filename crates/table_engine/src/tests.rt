@@ -83,12 +83,16 @@ fn sessions_interleave_byte_by_byte(rt: HostRuntime) -> Result<(), Fail> {
     let mut engine = Engine::new(alloc, &schema, 2)?;
     let mut outs = [Out::new(alloc), Out::new(alloc)];
     for at in 0..first.len().min(second.len()) {
-        for (session, stream) in [(0, &first), (1, &second)] {
-            let bytes = &stream[at..at + 1];
-            assert!(rt;
-                run_events(&mut engine, &[Event::Piece { session, bytes }], &mut outs).is_ok()
-            );
-        }
+        let events = [Event::Piece {
+            session: 0,
+            bytes: &first[at..at + 1],
+        }];
+        assert!(rt; run_events(&mut engine, &events, &mut outs).is_ok());
+        let events = [Event::Piece {
+            session: 1,
+            bytes: &second[at..at + 1],
+        }];
+        assert!(rt; run_events(&mut engine, &events, &mut outs).is_ok());
     }
     assert_eq!(rt;
         outs[0].bytes(),
