@@ -1,12 +1,12 @@
 -- Where a node lands that is moved before a place.
-use Rattle.std.proofs.Common.{◌≡◌, ◌≢◌, ℕ, zero, suc, ◌+◌, ◌-◌, ◌≤◌, ◌<◌, Bool, true, false, cond, List, [], ◌∷◌, ◌++◌, length, take, drop, insert, nat_le, Option, Some, None, refl, sym, ap, ◌∙◌, subst, arith, ◌⊎◌, inl, inr, length-append, length-drop}
+use Rattle.std.proofs.Common.{◌≡◌, ◌≢◌, ℕ, zero, suc, ◌+◌, ◌-◌, ◌≤◌, ◌<◌, cond, List, [], ◌∷◌, ◌++◌, length, take, drop, insert, nat_le, Option, Some, None, refl, sym, ap, ◌∙◌, subst, arith, ◌⊎◌, inl, inr, length-append, length-drop}
 use Rattle.std.proofs.lemmas.List.{take-append-le, drop-append-le, take-append-drop, append-nil, length-take-le}
 use Rattle.std.proofs.lemmas.Bool.{cases_lt}
 use Rattle.node_store.specs.declared.Node.{Node}
 use Rattle.node_store.specs.Nodes.{Lacks, IsDistinct, first_or, last_or}
 use Rattle.node_store.specs.ByNode.{same_node}
-use Rattle.node_store.proofs.NodeLists.{IsDistinct-parts, AreApart-head, Lacks-append, last_or-append, first_or-append}
-use Rattle.list_model.specs.Walk.{place_of, without, relocated}
+use Rattle.node_store.proofs.NodeLists.{IsDistinct-parts, AreApart-head, Lacks-append, last_or-append}
+use Rattle.list_model.specs.Walk.{without, relocated}
 use Rattle.seq_index.proofs.Walks.{without_at, place_at}
 use Rattle.node_store.specs.Column.{Column}
 use Rattle.seq_index.specs.declared.SeqIndex.{SeqIndex}

@@ -1,9 +1,8 @@
-use Rattle.std.proofs.Common.{rules, ◌≡◌, ◌≢◌, ◌++◌, List, Some, subst, arith}
+use Rattle.std.proofs.Common.{rules, ◌≢◌, List, Some, subst, arith}
 use Rattle.node_store.specs.declared.Node.{Node}
 use Rattle.node_store.specs.Nodes.{Lacks}
-use Rattle.node_store.specs.ByNode.{column_of, same_node}
+use Rattle.node_store.specs.ByNode.{column_of}
 use Rattle.node_store.proofs.ByNode.{IsNodeOf_kept}
-use Rattle.list_model.specs.Walk.{without}
 use Rattle.seq_index.specs.Spelled.{Spells, spelled}
 use Rattle.seq_index.proofs.Laws.{node_held, kept_held}
 use Rattle.seq_index.proofs.Moves.{beside, lands_in, Spells_stays_before, Spells_stays_after, without_lacks, length_without}

@@ -1,5 +1,4 @@
-use Rattle.std.proofs.Common.{◌≡◌, ◌<◌, length, refl, ◌∙◌, arith}
-use Rattle.node_store.specs.ByNode.{column_of}
+use Rattle.std.proofs.Common.{refl, ◌∙◌, arith}
 use Rattle.node_store.proofs.ByNode.{node_of_column, IsNodeOf_kept}
 use Rattle.seq_index.specs.Spelled.{col_of}
 use Rattle.seq_index.proofs.Laws.{IsSound_from}

@@ -1,6 +1,6 @@
 use Rattle.std.proofs.Common.{◌≡◌, refl, ◌∙◌, arith}
 use Rattle.node_store.specs.ByNode.{column_of}
-use Rattle.seq_index.specs.Spelled.{spelled, col_of}
+use Rattle.seq_index.specs.Spelled.{spelled}
 use Rattle.seq_index.proofs.Turns.{Turning_node, Turning_step, Turning_done}
 use Rattle.seq_index.proofs.SeqIndex.reverse.Goals as goal
 
