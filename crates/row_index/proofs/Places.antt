@@ -1,10 +1,10 @@
 -- Laws of nodes numbered by a column.
-use Rattle.std.proofs.Common.{◌≡◌, ◌≢◌, ℕ, zero, suc, ◌+◌, ◌-◌, ◌<◌, ◌≤◌, min, Bool, true, false, cond, List, [], ◌∷◌, ◌++◌, length, get_or, take, drop, Option, Some, None, refl, sym, ap, ◌∙◌, subst, arith, add-zero, ◌⊎◌, inl, inr, ⊎_elim}
+use Rattle.std.proofs.Common.{◌≡◌, ◌≢◌, ℕ, zero, suc, ◌+◌, ◌-◌, ◌<◌, ◌≤◌, Bool, true, false, cond, List, [], ◌∷◌, ◌++◌, length, get_or, take, drop, Option, Some, None, refl, sym, ap, ◌∙◌, subst, arith, add-zero, ⊎_elim}
 use Rattle.std.specs.Prelude.{insert, remove, slice_get, IsPermutation, count_by}
 use Rattle.std.specs.List.{AllByRecursion}
 use Rattle.std.specs.Option.{option_map}
 use Rattle.std.proofs.lemmas.Bool.{false_from_ne_true}
-use Rattle.std.proofs.lemmas.List.{take-append-drop, drop_more, take_more, take_at, drop_at, take-take, take-append-le, length-take-le, length-append, get_or_at}
+use Rattle.std.proofs.lemmas.List.{take-append-drop, drop_more, take_more, take_at, take-take, take-append-le, length-take-le, length-append, get_or_at}
 use Rattle.std.proofs.lemmas.List.Sorted.{IsPermutation-insert, IsPermutation-remove, IsPermutation-trans}
 use Rattle.node_store.specs.declared.Node.{Node}
 use Rattle.node_store.specs.declared.Link.{Link}
@@ -197,6 +197,11 @@ numbered_more c d xs k n l h within is tag put =
     }
 
 -- ---- a node of the row
+
+pub without_at : (xs : List Node) (n : Node) (ys : List Node) → IsDistinct (xs ++ n ∷ ys) → without (same_node n) (xs ++ n ∷ ys) ≡ xs ++ ys
+without_at xs n ys h =
+    let parts = IsDistinct-parts xs (n ∷ ys) h in
+    without-middle (same_node n) xs n ys (lacks_false xs n (AreApart-head xs ys n parts.apart)) (same_node-refl n) (lacks_false ys n parts.back.0)
 
 -- what its place says
 pub record AtPlace (xs : List Node) (n : Node) (place : ℕ) : Type 0 where
