@@ -1,10 +1,14 @@
 //! Rows and their cells.
 ghost use Rattle.std.specs.Prelude.{◌≡◌, ◌↔◌, IfOk, IsTrue, [], length, string_bytes, slice_get};
 ghost use Rattle.std.specs.Option.{option_copied};
+ghost use Rattle.std.specs.Prelude.{fold};
+ghost use Rattle.std.specs.Hash.FoldHasher as folding;
 ghost use Rattle.key_extract.specs.Cells.{cell_cmp, optional_cell_cmp};
+ghost use Rattle.key_extract.specs.Hashes.{optional_cell_writes};
 
 use std::alloc::{AllocError, Global};
 use std::cmp::Ordering;
+use std::hash::{FoldHasher, Hash, Hasher};
 use std::marker::Model;
 
 /// A text, which compares by its bytes.
@@ -85,8 +89,22 @@ impl Eq for Text {
     ghost laws = { nat_list_eq_equiv };
 }
 
+impl Hash for Text {
+    ghost use Rattle.std.specs.Hash.{str};
+    ghost use Rattle.std.specs.Cmp.Rules.{hashing};
+    ghost use Rattle.std.proofs.Common.{rules};
+
+    ghost hash_input = { str };
+
+    ghost respects_eq = { Prim.search (hashing, rules) };
+
+    fn hash<H: Hasher>(&self, state: &mut H) {
+        self.text.hash(state);
+    }
+}
+
 /// A value of a row in one column.
-#[derive(Debug, Drop, PartialEq, Eq)]
+#[derive(Debug, Drop, PartialEq, Eq, Hash)]
 pub enum Cell {
     /// A whole number.
     Int(i64),
@@ -174,4 +192,11 @@ pub(crate) fn compare_optional(a: Option<&Cell>, b: Option<&Cell>) -> Ordering
         (Some(_), None) => Ordering::Greater,
         (Some(a), Some(b)) => a.compare(b),
     }
+}
+
+// Feeds a cell, or that there is none.
+pub(crate) fn feed_optional(cell: Option<&Cell>, state: &mut FoldHasher)
+    ensures { state.new ≡ fold folding.write state.old (optional_cell_writes (option_copied cell.entry)) }
+{
+    cell.hash(state);
 }

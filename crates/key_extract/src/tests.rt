@@ -124,6 +124,13 @@ fn a_probe_may_be_a_leading_part(rt: HostRuntime) -> Result<(), Fail> {
         assert!(rt; keys.fits(1, &probe));
         assert_eq!(rt; keys.whole(1, &probe), n.is_some(), "{group}");
         assert_eq!(rt; keys.order_probe(1, &a, &probe), order, "{group}");
+        if keys.whole(1, &probe) {
+            assert_eq!(rt;
+                keys.hash_probe(1, &probe) == keys.hash(1, &a),
+                order == Ordering::Equal,
+                "{group}"
+            );
+        }
     }
     let none = Probe::new(Vec::new(alloc));
     assert!(rt; !keys.fits(1, &none));
@@ -132,5 +139,42 @@ fn a_probe_may_be_a_leading_part(rt: HostRuntime) -> Result<(), Fail> {
         cells.push(Cell::Int(n))?;
     }
     assert!(rt; !keys.fits(1, &Probe::new(cells)));
+    Ok(())
+}
+
+#[test]
+fn different_keys_have_different_hashes(rt: HostRuntime) -> Result<(), Fail> {
+    let alloc = rt.alloc();
+    let keys = keys(alloc)?;
+    assert!(rt; keys.has(1));
+    let mut rows = Vec::new(alloc);
+    for cell in [
+        Cell::Int(0),
+        Cell::Int(1),
+        Cell::Int(-1),
+        text(alloc, "")?,
+        text(alloc, "a")?,
+        text(alloc, "aa")?,
+        Cell::Bool(false),
+        Cell::Bool(true),
+    ] {
+        let mut cells = Vec::new(alloc);
+        cells.push(Cell::Int(7))?;
+        cells.push(cell)?;
+        rows.push(Row::new(cells))?;
+    }
+    for n in [0, 1, 256] {
+        rows.push(row(alloc, 7, "a", n)?)?;
+    }
+    rows.push(Row::new(Vec::new(alloc)))?;
+    for i in 0..rows.len() {
+        for j in 0..rows.len() {
+            assert_eq!(rt;
+                keys.hash(1, &rows[i]) == keys.hash(1, &rows[j]),
+                i == j,
+                "{i} and {j}"
+            );
+        }
+    }
     Ok(())
 }
