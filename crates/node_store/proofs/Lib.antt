@@ -5,3 +5,4 @@ pub mod StoreLemmas
 mod ChainLemmas
 pub mod NodeLists
 pub mod ByNode
+pub mod Members

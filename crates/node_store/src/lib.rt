@@ -60,7 +60,7 @@ struct Block<R> {
 
 /// Records with their links, each in a heap block of its own.
 pub struct NodeStore<R> {
-    blocks: Blocks<Block<R>, Global>,
+    heap: Blocks<Block<R>, Global>,
     alloc: Global,
     first: Option<Node>,
     len: usize,
@@ -76,9 +76,9 @@ impl<R> Model for NodeStore<R> {
 
     ghost use Rattle.node_store.specs.Chain.{store_of, IsSound};
 
-    ghost view = { λ s. store_of s.blocks.held s.added };
+    ghost view = { λ s. store_of s.heap.held s.added };
 
-    ghost invariant = { λ s. IsSound s.blocks.held s.alloc s.first s.len s.added };
+    ghost invariant = { λ s. IsSound s.heap.held s.alloc s.first s.len s.added };
 }
 
 impl Node {
@@ -164,7 +164,7 @@ impl<R> NodeStore<R> {
         ensures { result ≡ empty_store }
     {
         NodeStore {
-            blocks: Blocks::new(),
+            heap: Blocks::new(),
             alloc,
             first: None,
             len: 0,
@@ -193,7 +193,7 @@ impl<R> NodeStore<R> {
         requires { IsNodeOf self.now n }
         ensures { record_of self.now n ≡ Some result.now }
     {
-        &self.blocks.get(n.number, n.place).value
+        &self.heap.get(n.number, n.place).value
     }
 
     /// The node's record for writing. No link changes.
@@ -202,7 +202,7 @@ impl<R> NodeStore<R> {
         ensures* writes_back { sem 𝓛 (lends_record R.row self.entry n result) }
         ensures value { record_of self.old n ≡ Some result.now }
     {
-        let block = self.blocks.get_mut(n.number, n.place);
+        let block = self.heap.get_mut(n.number, n.place);
         &mut block.value
     }
 
@@ -212,7 +212,7 @@ impl<R> NodeStore<R> {
         requires col { col < 8 }
         ensures { column_of self.now col n ≡ Some result }
     {
-        self.blocks.get(n.number, n.place).links[col].link()
+        self.heap.get(n.number, n.place).links[col].link()
     }
 
     /// Whether `o` is the node `n`. Their numbers decide, so both must be nodes of this store.
@@ -235,7 +235,7 @@ impl<R> NodeStore<R> {
         ensures others { KeepsOthers (column_of self.old) (column_of self.new) col }
         ensures contents { contents self.new ≡ contents self.old }
     {
-        let changed = self.blocks.get_mut(n.number, n.place);
+        let changed = self.heap.get_mut(n.number, n.place);
         changed.links[col] = Stored::of(link, n);
     }
 }
@@ -265,9 +265,9 @@ impl<R: Drop> NodeStore<R> {
         match Box::new(self.alloc, block) {
             Ok(boxed) => {
                 let number = self.added;
-                let (place, _) = self.blocks.put(number, boxed);
+                let (place, _) = self.heap.put(number, boxed);
                 let node = Node { place, number };
-                set_prev(&mut self.blocks, self.first, Some(node));
+                set_prev(&mut self.heap, self.first, Some(node));
                 self.first = Some(node);
                 self.len += 1;
                 self.added = number + 1;
@@ -289,15 +289,15 @@ impl<R: Drop> NodeStore<R> {
         ensures count { self.new.added ≡ self.old.added }
         ensures len { len_of self.new + 1 ≡ len_of self.old }
     {
-        let block = self.blocks.take(n.number, n.place, self.alloc);
+        let block = self.heap.take(n.number, n.place, self.alloc);
         let Block {
             prev,
             next,
             value,
             links: _,
         } = Box::into_inner(block);
-        set_next(&mut self.blocks, prev, next);
-        set_prev(&mut self.blocks, next, prev);
+        set_next(&mut self.heap, prev, next);
+        set_prev(&mut self.heap, next, prev);
         self.first = first_between(prev, next, self.first);
         self.len -= 1;
         value
@@ -307,16 +307,16 @@ impl<R: Drop> NodeStore<R> {
 impl<R: Drop> Drop for NodeStore<R> {
     fn drop(self) {
         let NodeStore {
-            mut blocks,
+            mut heap,
             alloc,
             mut first,
             len: _,
             added: _,
         } = self;
         while let Some(n) = first {
-            let block = Box::into_inner(blocks.take(n.number, n.place, alloc));
+            let block = Box::into_inner(heap.take(n.number, n.place, alloc));
             first = block.next;
         }
-        blocks.end();
+        heap.end();
     }
 }

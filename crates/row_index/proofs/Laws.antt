@@ -1,5 +1,5 @@
 -- The laws of what an index spells, for the crates above.
-use Rattle.std.proofs.Common.{◌≡◌, ℕ, zero, suc, ◌+◌, ◌<◌, Bool, true, false, cond, not, List, [], ◌∷◌, ◌++◌, length, Some, refl, ap, sym, ◌∙◌, subst, arith, slice_get}
+use Rattle.std.proofs.Common.{◌≡◌, ℕ, ◌+◌, Bool, true, false, cond, not, List, [], ◌∷◌, ◌++◌, length, Some, refl, ap, sym, ◌∙◌, subst, slice_get}
 use Rattle.node_store.specs.declared.Node.{Node}
 use Rattle.node_store.specs.Column.{Column}
 use Rattle.node_store.specs.Nodes.{AllNodes, Lacks, IsDistinct, IsSameAt}
@@ -7,10 +7,13 @@ use Rattle.node_store.specs.Store.{Store, IsNodeOf}
 use Rattle.node_store.specs.ByNode.{same_node, column_of, AddsNode, RemovesNode}
 use Rattle.node_store.proofs.ByNode.{lacks_added, same_added, same_removed, node_of_column}
 use Rattle.node_store.proofs.NodeLists.{IsSameAt-kept}
-use Rattle.list_model.specs.Walk.{place_of, without, next}
+use Rattle.node_store.proofs.Members.{differ, each_held}
+pub use Rattle.node_store.proofs.Members.{Holds_at, within_at}
+use Rattle.list_model.specs.Walk.{place_of, without, next, prev, last}
+use Rattle.list_model.proofs.Neighbours.{some_prev}
 use Rattle.row_index.specs.declared.RowIndex.{RowIndex}
 use Rattle.row_index.specs.Spelled.{Spells, IsSound, spelled, col_of, Holds}
-use Rattle.row_index.proofs.Places.{numbered_nodes, numbered_same, held_node, differ, without_at}
+use Rattle.row_index.proofs.Places.{numbered_nodes, numbered_same, held_node, without_at}
 
 -- an index spells one list
 pub spelled_is : (cs : ℕ → Column) (i : RowIndex) (xs : List Node) → Spells cs i xs → spelled cs i ≡ xs
@@ -39,6 +42,24 @@ IsSound_from cs i xs h = subst (λ (z : List Node). Spells cs i z) (sym (spelled
 pub IsSound_kept : (cs ds : ℕ → Column) (i : RowIndex) → ds (col_of i) ≡ cs (col_of i) → IsSound cs i → IsSound ds i
 IsSound_kept cs ds i e h = IsSound_from ds i (spelled cs i) (Spells_kept cs ds i (spelled cs i) e h)
 
+-- ---- nodes that calls answer, and nodes that they take out
+
+-- the first node stands in the list
+pub Holds_first : (xs : List Node) (n : Node) → slice_get xs 0 ≡ Some n → Holds xs n
+Holds_first xs n e = Holds_at xs 0 n e
+
+-- so does the last one
+pub Holds_last : (xs : List Node) (n : Node) → last xs ≡ Some n → Holds xs n
+Holds_last [] n e = cc
+Holds_last (x ∷ xs) n e = Holds_at (x ∷ xs) (length xs) n e
+
+-- and the node after another, and the one before it
+pub Holds_next : (xs : List Node) (m n : Node) → next (same_node m) xs ≡ Some n → Holds xs n
+Holds_next xs m n e = Holds_at xs (place_of (same_node m) xs + 1) n e
+
+pub Holds_prev : (xs : List Node) (m n : Node) → prev (same_node m) xs ≡ Some n → Holds xs n
+Holds_prev xs m n e = some_prev (Holds xs) (same_node m) xs (each_held xs) n e
+
 without_by : (xs : List Node) (n x : Node) (b : Bool) → same_node n x ≡ b → Lacks (without (same_node n) xs) n → Lacks (cond (not b) (x ∷ without (same_node n) xs) (without (same_node n) xs)) n
 without_by xs n x true e h = h
 without_by xs n x false e h = (differ n x e, h)
@@ -47,31 +68,13 @@ lacks_it : (xs : List Node) (n : Node) → Lacks (without (same_node n) xs) n
 lacks_it [] n = tt
 lacks_it (x ∷ xs) n = without_by xs n x (same_node n x) refl (lacks_it xs n)
 
--- ---- nodes that calls answer, and nodes that they take out
-
 -- the list without a node lacks it
 pub Lacks_without : (cs : ℕ → Column) (i : RowIndex) (n : Node) → IsSound cs i → Holds (spelled cs i) n → Lacks (without (same_node n) (spelled cs i)) n
 Lacks_without cs i n h k = lacks_it (spelled cs i) n
 
 -- the list without a node, by what stands before and after it
 pub without_is : (cs : ℕ → Column) (i : RowIndex) (xs ys : List Node) (n : Node) → IsSound cs i → spelled cs i ≡ xs ++ n ∷ ys → without (same_node n) (spelled cs i) ≡ xs ++ ys
-without_is cs i xs ys n h e = ap (without (same_node n)) e ∙ without_at xs n ys (subst IsDistinct e h.distinct)
-
--- the node at a place stands in the list
-pub Holds_at : (xs : List Node) (place : ℕ) (n : Node) → slice_get xs place ≡ Some n → Holds xs n
-Holds_at [] place n e = cc
-Holds_at (x ∷ xs) zero n e = let s : x ≡ n = cc in record { before = []; after = xs; is = ap (λ (z : Node). z ∷ xs) s }
-Holds_at (x ∷ xs) (suc place) n e = let h = Holds_at xs place n e in record { before = x ∷ h.before; after = h.after; is = ap (λ (l : List Node). x ∷ l) h.is }
-
--- so does the node after one of the list
-pub Holds_next : (xs : List Node) (m n : Node) → next (same_node m) xs ≡ Some n → Holds xs n
-Holds_next xs m n e = Holds_at xs (place_of (same_node m) xs + 1) n e
-
--- a place that has a node is below the length
-pub within_at : (xs : List Node) (place : ℕ) (n : Node) → slice_get xs place ≡ Some n → place < length xs
-within_at [] place n e = cc
-within_at (x ∷ xs) zero n e = omega arith
-within_at (x ∷ xs) (suc place) n e = omega (arith, within_at xs place n e)
+without_is cs i xs ys n h e = ap (λ (z : List Node). without (same_node n) z) e ∙ without_at xs n ys (subst IsDistinct e h.distinct)
 
 -- ---- when nodes come and go in the store
 
@@ -80,6 +83,10 @@ pub Spells_nodes : (cs : ℕ → Column) (i : RowIndex) (xs : List Node) → Spe
 Spells_nodes cs i xs h = numbered_nodes (cs (col_of i)) 0 xs h.places
 
 module _ {R : Type 0} where
+  -- a node of the list is one of the store
+  pub node_held : (s : Store R) (i : RowIndex) (n : Node) → IsSound (column_of s) i → Holds (spelled (column_of s) i) n → IsNodeOf s n
+  node_held s i n h held = node_of_column s (col_of i) n (held_node (column_of s (col_of i)) (spelled (column_of s) i) n h.places held)
+
   pub Spells_added : (old new : Store R) (n : Node) (value : R) (i : RowIndex) (xs : List Node) → AddsNode old new n value → Spells (column_of old) i xs → Spells (column_of new) i xs
   Spells_added old new n value i xs a h =
       Spells_same (column_of old) (column_of new) i xs (same_added old new n value (col_of i) xs a (Spells_nodes (column_of old) i xs h)) h
@@ -91,6 +98,7 @@ module _ {R : Type 0} where
   pub Spells_removed : (old new : Store R) (n : Node) (i : RowIndex) (xs : List Node) → RemovesNode old new n → Lacks xs n → Spells (column_of old) i xs → Spells (column_of new) i xs
   Spells_removed old new n i xs r lacks h = Spells_same (column_of old) (column_of new) i xs (same_removed old new n (col_of i) xs r lacks) h
 
+  -- the same for an index that is sound, with the list that it spells
   pub spelled_added : (old new : Store R) (n : Node) (value : R) (i : RowIndex) → AddsNode old new n value → IsSound (column_of old) i → spelled (column_of new) i ≡ spelled (column_of old) i
   spelled_added old new n value i a h = spelled_is (column_of new) i (spelled (column_of old) i) (Spells_added old new n value i (spelled (column_of old) i) a h)
 
@@ -100,6 +108,8 @@ module _ {R : Type 0} where
   pub Lacks_spelled_added : (old new : Store R) (n : Node) (value : R) (i : RowIndex) → AddsNode old new n value → IsSound (column_of old) i → Lacks (spelled (column_of new) i) n
   Lacks_spelled_added old new n value i a h = subst (λ (z : List Node). Lacks z n) (sym (spelled_added old new n value i a h)) (Lacks_added old new n value i (spelled (column_of old) i) a h)
 
-  -- a node of the list is one of the store
-  pub node_held : (s : Store R) (i : RowIndex) (n : Node) → IsSound (column_of s) i → Holds (spelled (column_of s) i) n → IsNodeOf s n
-  node_held s i n h held = node_of_column s (col_of i) n (held_node (column_of s (col_of i)) (spelled (column_of s) i) n h.places held)
+  pub spelled_removed : (old new : Store R) (n : Node) (i : RowIndex) → RemovesNode old new n → Lacks (spelled (column_of old) i) n → IsSound (column_of old) i → spelled (column_of new) i ≡ spelled (column_of old) i
+  spelled_removed old new n i r lacks h = spelled_is (column_of new) i (spelled (column_of old) i) (Spells_removed old new n i (spelled (column_of old) i) r lacks h)
+
+  pub IsSound_removed : (old new : Store R) (n : Node) (i : RowIndex) → RemovesNode old new n → Lacks (spelled (column_of old) i) n → IsSound (column_of old) i → IsSound (column_of new) i
+  IsSound_removed old new n i r lacks h = IsSound_from (column_of new) i (spelled (column_of old) i) (Spells_removed old new n i (spelled (column_of old) i) r lacks h)

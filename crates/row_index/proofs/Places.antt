@@ -1,9 +1,7 @@
 -- Laws of nodes numbered by a column.
-use Rattle.std.proofs.Common.{◌≡◌, ◌≢◌, ℕ, zero, suc, ◌+◌, ◌-◌, ◌<◌, ◌≤◌, Bool, true, false, cond, List, [], ◌∷◌, ◌++◌, length, get_or, take, drop, Option, Some, None, refl, sym, ap, ◌∙◌, subst, arith, add-zero, ⊎_elim}
-use Rattle.std.specs.Prelude.{insert, remove, slice_get, IsPermutation, count_by}
-use Rattle.std.specs.List.{AllByRecursion}
+use Rattle.std.proofs.Common.{◌≡◌, ◌≢◌, ℕ, zero, suc, ◌+◌, ◌-◌, ◌<◌, ◌≤◌, cond, List, [], ◌∷◌, ◌++◌, length, get_or, take, drop, Option, Some, None, refl, sym, ap, ◌∙◌, subst, arith, add-zero}
+use Rattle.std.specs.Prelude.{insert, remove, slice_get, IsPermutation}
 use Rattle.std.specs.Option.{option_map}
-use Rattle.std.proofs.lemmas.Bool.{false_from_ne_true}
 use Rattle.std.proofs.lemmas.List.{take-append-drop, drop_more, take_more, take_at, take-take, take-append-le, length-take-le, length-append, get_or_at}
 use Rattle.std.proofs.lemmas.List.Sorted.{IsPermutation-insert, IsPermutation-remove, IsPermutation-trans}
 use Rattle.node_store.specs.declared.Node.{Node}
@@ -12,12 +10,10 @@ use Rattle.node_store.specs.Column.{Column, IsNode, IsPut}
 use Rattle.node_store.specs.Nodes.{Lacks, IsDistinct, AllNodes, IsSameAt}
 use Rattle.node_store.specs.ByNode.{same_node}
 use Rattle.node_store.proofs.NodeLists.{IsSameAt-others, IsDistinct-parts, AreApart-head}
-use Rattle.node_store.proofs.ByNode.{same_node-refl, same_node-true, node_cases}
+use Rattle.node_store.proofs.ByNode.{same_node-refl}
+use Rattle.node_store.proofs.Members.{others_differ, IsDistinct_moved, AllNodes_moved, AllNodes_kept}
 use Rattle.list_model.specs.Walk.{place_of, without, prev, prev_onto}
-use Rattle.list_model.proofs.Counts.{count_by-cons, count_by_none}
-use Rattle.list_model.proofs.Permuted.{count_by-permutation, none_passes}
 use Rattle.list_model.proofs.Settled.{place_of-middle, without-middle, prev-middle, last_from}
-use Rattle.list_model.proofs.Lists.{All-moved}
 use Rattle.row_index.specs.Spelled.{tag_at, AreNumbered, IsNumberedTo, Holds}
 
 -- a node with a place is one of the column
@@ -69,65 +65,6 @@ numbered_at c p (x ∷ xs) n ys h =
     let e : (p + 1) + length xs ≡ p + length (x ∷ xs) = omega arith in
     numbered_at c (p + 1) xs n ys h.1 ∙ ap Some e
 
--- ---- a list with the same members
-
-same_node-false : (m n : Node) → m ≢ n → same_node m n ≡ false
-same_node-false m n apart = false_from_ne_true (same_node m n) (λ e. apart (same_node-true m n e))
-
-pub lacks_false : (xs : List Node) (n : Node) → Lacks xs n → AllByRecursion (λ y. same_node n y ≡ false) xs
-lacks_false [] n h = tt
-lacks_false (x ∷ xs) n h = (same_node-false n x h.0, lacks_false xs n h.1)
-
-pub differ : (n x : Node) → same_node n x ≡ false → n ≢ x
-differ n x e k = let bad : true ≡ false = sym (same_node-refl n) ∙ (ap (same_node n) k ∙ e) in cc
-
-false_lacks : (xs : List Node) (n : Node) → AllByRecursion (λ y. same_node n y ≡ false) xs → Lacks xs n
-false_lacks [] n h = tt
-false_lacks (x ∷ xs) n h = (differ n x h.0, false_lacks xs n h.1)
-
-abbrev weight : Bool → ℕ
-weight b = cond b 1 0
-
--- each node is counted once at most
-counted_once : (xs : List Node) (n : Node) → IsDistinct xs → count_by (same_node n) xs ≤ 1
-counted_once [] n h = omega arith
-counted_once (x ∷ xs) n h =
-    ⊎_elim
-    (λ (e : n ≡ x). let none : count_by (same_node n) xs ≡ 0 = count_by_none (same_node n) xs (lacks_false xs n (subst (Lacks xs) (sym e) h.0)) in
-    let one : weight (same_node n x) ≤ 1 = at_most_one (same_node n x) in omega (arith, one, none, count_by-cons (same_node n) x xs))
-    (λ (ne : n ≢ x). let none : weight (same_node n x) ≡ 0 = ap weight (same_node-false n x ne) in
-    omega (arith, none, count_by-cons (same_node n) x xs, counted_once xs n h.1))
-    (node_cases n x)
-  where
-    at_most_one : (b : Bool) → weight b ≤ 1
-    at_most_one true = omega arith
-    at_most_one false = omega arith
-
-distinct_counted : (xs : List Node) → ((n : Node) → count_by (same_node n) xs ≤ 1) → IsDistinct xs
-distinct_counted [] h = tt
-distinct_counted (x ∷ xs) h =
-    let self : weight (same_node x x) ≡ 1 = ap weight (same_node-refl x) in
-    let none : count_by (same_node x) xs ≡ 0 = omega (arith, self, h x, count_by-cons (same_node x) x xs) in
-    (false_lacks xs x (none_passes (same_node x) xs none), distinct_counted xs (λ n. omega (arith, h n, count_by-cons (same_node n) x xs)))
-
-pub distinct_moved : (xs ys : List Node) → IsPermutation xs ys → IsDistinct xs → IsDistinct ys
-distinct_moved xs ys moved h = distinct_counted ys (λ n. let e = count_by-permutation (same_node n) xs ys moved in omega (arith, e, counted_once xs n h))
-
-all_nodes : (c : Column) (xs : List Node) → AllByRecursion (IsNode c) xs → AllNodes c xs
-all_nodes c [] h = tt
-all_nodes c (x ∷ xs) h = (h.0, all_nodes c xs h.1)
-
-each_node : (c : Column) (xs : List Node) → AllNodes c xs → AllByRecursion (IsNode c) xs
-each_node c [] h = tt
-each_node c (x ∷ xs) h = (h.0, each_node c xs h.1)
-
-pub nodes_moved : (c : Column) (xs ys : List Node) → IsPermutation xs ys → AllNodes c xs → AllNodes c ys
-nodes_moved c xs ys moved h = all_nodes c ys (All-moved (IsNode c) xs ys moved (each_node c xs h))
-
-pub nodes_kept : (c d : Column) (xs : List Node) → ((m : Node) → IsNode c m → IsNode d m) → AllNodes c xs → AllNodes d xs
-nodes_kept c d [] keep h = tt
-nodes_kept c d (x ∷ xs) keep h = (keep x h.0, nodes_kept c d xs keep h.1)
-
 -- ---- what is to be numbered anew
 
 take_insert : (k i : ℕ) (xs : List Node) (n : Node) → k ≤ i → i ≤ length xs → take k (insert xs i n) ≡ take k xs
@@ -142,8 +79,8 @@ pub to_insert : (c : Column) (xs : List Node) (i : ℕ) (n : Node) → AreNumber
 to_insert c xs i n h node lacks within =
     let moved = IsPermutation-insert xs i n in
     record {
-      nodes = nodes_moved c (n ∷ xs) (insert xs i n) moved (node, numbered_nodes c 0 xs h);
-      distinct = distinct_moved (n ∷ xs) (insert xs i n) moved (lacks, numbered_distinct c 0 xs h);
+      nodes = AllNodes_moved c (n ∷ xs) (insert xs i n) moved (node, numbered_nodes c 0 xs h);
+      distinct = IsDistinct_moved (n ∷ xs) (insert xs i n) moved (lacks, numbered_distinct c 0 xs h);
       front = subst (AreNumbered c 0) (sym (take_insert i i xs n (omega arith) within)) (numbered_take c i xs h);
     }
 
@@ -151,8 +88,8 @@ pub to_remove : (c : Column) (xs : List Node) (i : ℕ) (n : Node) → AreNumber
 to_remove c xs i n h within is =
     let moved = IsPermutation-remove xs i n within is in
     record {
-      nodes = (nodes_moved c xs (n ∷ remove xs i) moved (numbered_nodes c 0 xs h)).1;
-      distinct = (distinct_moved xs (n ∷ remove xs i) moved (numbered_distinct c 0 xs h)).1;
+      nodes = (AllNodes_moved c xs (n ∷ remove xs i) moved (numbered_nodes c 0 xs h)).1;
+      distinct = (IsDistinct_moved xs (n ∷ remove xs i) moved (numbered_distinct c 0 xs h)).1;
       front = subst (AreNumbered c 0) (sym (take_remove i i xs (omega arith) (omega arith))) (numbered_take c i xs h);
     }
 
@@ -160,15 +97,15 @@ pub to_move : (c : Column) (xs : List Node) (from to low : ℕ) (n : Node) → A
 to_move c xs from to low n h inside is within before_from before_to =
     let moved = IsPermutation-trans xs (n ∷ remove xs from) (insert (remove xs from) to n) (IsPermutation-remove xs from n inside is) (IsPermutation-insert (remove xs from) to n) in
     record {
-      nodes = nodes_moved c xs (insert (remove xs from) to n) moved (numbered_nodes c 0 xs h);
-      distinct = distinct_moved xs (insert (remove xs from) to n) moved (numbered_distinct c 0 xs h);
+      nodes = AllNodes_moved c xs (insert (remove xs from) to n) moved (numbered_nodes c 0 xs h);
+      distinct = IsDistinct_moved xs (insert (remove xs from) to n) moved (numbered_distinct c 0 xs h);
       front = subst (AreNumbered c 0) (sym (take_insert low to (remove xs from) n before_to within ∙ take_remove low from xs before_from (omega arith))) (numbered_take c low xs h);
     }
 
 pub to_rearrange : (c : Column) (xs ys : List Node) → IsPermutation xs ys → AreNumbered c 0 xs → IsNumberedTo c 0 ys
 to_rearrange c xs ys moved h = record {
-  nodes = nodes_moved c xs ys moved (numbered_nodes c 0 xs h);
-  distinct = distinct_moved xs ys moved (numbered_distinct c 0 xs h);
+  nodes = AllNodes_moved c xs ys moved (numbered_nodes c 0 xs h);
+  distinct = IsDistinct_moved xs ys moved (numbered_distinct c 0 xs h);
   front = tt;
 }
 
@@ -191,7 +128,7 @@ numbered_more c d xs k n l h within is tag put =
     let lacks = AreApart-head (take k xs) (drop (k + 1) xs) n apart in
     let e : l.tag ≡ 0 + length (take k xs) = omega (arith, tag, length-take-le k xs (omega arith)) in
     record {
-      nodes = nodes_kept c d xs put.nodes h.nodes;
+      nodes = AllNodes_kept c d xs put.nodes h.nodes;
       distinct = h.distinct;
       front = subst (AreNumbered d 0) (sym more) (numbered_push d 0 (take k xs) n (numbered_same c d 0 (take k xs) (IsSameAt-others c d n put.others (take k xs) lacks) h.front) (ap (option_map (λ (x : Link). x.tag)) put.at ∙ ap Some e));
     }
@@ -201,7 +138,7 @@ numbered_more c d xs k n l h within is tag put =
 pub without_at : (xs : List Node) (n : Node) (ys : List Node) → IsDistinct (xs ++ n ∷ ys) → without (same_node n) (xs ++ n ∷ ys) ≡ xs ++ ys
 without_at xs n ys h =
     let parts = IsDistinct-parts xs (n ∷ ys) h in
-    without-middle (same_node n) xs n ys (lacks_false xs n (AreApart-head xs ys n parts.apart)) (same_node-refl n) (lacks_false ys n parts.back.0)
+    without-middle (same_node n) xs n ys (others_differ n xs (AreApart-head xs ys n parts.apart)) (same_node-refl n) (others_differ n ys parts.back.0)
 
 -- what its place says
 pub record AtPlace (xs : List Node) (n : Node) (place : ℕ) : Type 0 where
@@ -213,8 +150,8 @@ pub record AtPlace (xs : List Node) (n : Node) (place : ℕ) : Type 0 where
 at_middle : (xs : List Node) (n : Node) (ys : List Node) (place : ℕ) → IsDistinct (xs ++ n ∷ ys) → place ≡ length xs → AtPlace (xs ++ n ∷ ys) n place
 at_middle xs n ys place h e =
     let parts = IsDistinct-parts xs (n ∷ ys) h in
-    let before = lacks_false xs n (AreApart-head xs ys n parts.apart) in
-    let after = lacks_false ys n parts.back.0 in
+    let before = others_differ n xs (AreApart-head xs ys n parts.apart) in
+    let after = others_differ n ys parts.back.0 in
     let here = same_node-refl n in
     let tail : drop (suc place) (xs ++ n ∷ ys) ≡ ys = ap (λ k. drop (suc k) (xs ++ n ∷ ys)) e ∙ behind xs n ys in
     record {
@@ -250,7 +187,7 @@ slice_before y (z ∷ front) x back = slice_before z front x back
 
 at_later : (y : Node) (front : List Node) (n : Node) (back : List Node) (place : ℕ) → IsDistinct (y ∷ (front ++ n ∷ back)) → place ≡ length (y ∷ front) → prev (same_node n) (y ∷ (front ++ n ∷ back)) ≡ slice_get (y ∷ (front ++ n ∷ back)) (place - 1)
 at_later y front n back place h e =
-    let before = lacks_false (y ∷ front) n (AreApart-head (y ∷ front) back n (IsDistinct-parts (y ∷ front) (n ∷ back) h).apart) in
+    let before = others_differ n (y ∷ front) (AreApart-head (y ∷ front) back n (IsDistinct-parts (y ∷ front) (n ∷ back) h).apart) in
     let k : place - 1 ≡ length front = omega arith in
     prev-middle (same_node n) y front n back before (same_node-refl n) ∙ (sym (slice_before y front n back) ∙ ap (slice_get (y ∷ (front ++ n ∷ back))) (sym k))
 
@@ -272,7 +209,7 @@ before_middle (y ∷ front) n back place h e = record {
 pub held_before : (c : Column) (xs : List Node) (n : Node) → AreNumbered c 0 xs → Holds xs n → Before xs n (place_of (same_node n) xs)
 held_before c xs n h held =
     let d : IsDistinct (held.before ++ n ∷ held.after) = subst IsDistinct held.is (numbered_distinct c 0 xs h) in
-    let front = lacks_false held.before n (AreApart-head held.before held.after n (IsDistinct-parts held.before (n ∷ held.after) d).apart) in
+    let front = others_differ n held.before (AreApart-head held.before held.after n (IsDistinct-parts held.before (n ∷ held.after) d).apart) in
     subst (λ z. Before z n (place_of (same_node n) z)) (sym held.is) (before_middle held.before n held.after _ d (place_of-middle (same_node n) held.before n held.after front (same_node-refl n)))
 
 pub held_place : (c : Column) (xs : List Node) (n : Node) → AreNumbered c 0 xs → Holds xs n → AtPlace xs n (place_of (same_node n) xs)

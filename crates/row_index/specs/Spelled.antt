@@ -1,10 +1,11 @@
 -- The list that a row spells.
-use Rattle.std.specs.Prelude.{◌≡◌, ℕ, ◌+◌, ◌<◌, List, [], ◌∷◌, ◌++◌, take, Option, Some}
+use Rattle.std.specs.Prelude.{◌≡◌, ℕ, ◌+◌, ◌<◌, List, [], ◌∷◌, take, Option, Some}
 use Rattle.std.specs.Option.{option_map}
 use Rattle.std.specs.Vec.{vec_len, vec_capacity}
 use Rattle.node_store.specs.declared.Node.{Node}
 use Rattle.node_store.specs.Column.{Column}
 pub use Rattle.node_store.specs.Column.{KeepsOthers}
+pub use Rattle.node_store.specs.Nodes.{Holds}
 use Rattle.node_store.specs.Nodes.{IsDistinct, AllNodes}
 use Rattle.row_index.specs.declared.RowIndex.{RowIndex}
 
@@ -30,12 +31,6 @@ col_of i = i.col
 -- an insertion needs no more memory
 abbrev pub HasRoom : RowIndex → Type 0
 HasRoom i = vec_len i.nodes < vec_capacity i.nodes
-
--- the node stands somewhere in the list
-pub record Holds (xs : List Node) (n : Node) : Type 0 where
-  pub before : List Node
-  pub after : List Node
-  pub is : xs ≡ before ++ n ∷ after
 
 -- the list that the column spells
 unfoldable pub spelled : (ℕ → Column) → RowIndex → List Node

@@ -44,20 +44,20 @@ impl Pair {
         Some(node.number())
     }
 
-    fn unlink_left(&mut self, place: usize) {
+    fn unlink_left(&mut self, place: u64) {
         if let Some(node) = self.left.nth(&self.store, place) {
             self.left.unlink(&mut self.store, node);
         }
     }
 
-    fn unlink_right(&mut self, place: usize) {
+    fn unlink_right(&mut self, place: u64) {
         if let Some(node) = self.right.nth(&self.store, place) {
             self.right.unlink(&mut self.store, node);
         }
     }
 
     // Moves the node at one place before the node at another.
-    fn move_left(&mut self, from: usize, to: usize) {
+    fn move_left(&mut self, from: u64, to: u64) {
         let Some(node) = self.left.nth(&self.store, from) else {
             return;
         };
@@ -71,12 +71,12 @@ impl Pair {
         self.left.reverse(&mut self.store);
     }
 
-    fn left_at(&self, place: usize) -> Option<u64> {
+    fn left_at(&self, place: u64) -> Option<u64> {
         let node = self.left.nth(&self.store, place)?;
         Some(node.number())
     }
 
-    fn right_at(&self, place: usize) -> Option<u64> {
+    fn right_at(&self, place: u64) -> Option<u64> {
         let node = self.right.nth(&self.store, place)?;
         Some(node.number())
     }
@@ -113,7 +113,7 @@ fn change(pair: &mut Pair, plain: &mut Vec<u64>, draw: u32) -> Option<()> {
             plain.reverse();
         }
         1 | 2 => {
-            pair.move_left(from, to);
+            pair.move_left(from as u64, to as u64);
             if from < plain.len() && to < plain.len() {
                 let number = plain.remove(from);
                 plain
@@ -122,7 +122,7 @@ fn change(pair: &mut Pair, plain: &mut Vec<u64>, draw: u32) -> Option<()> {
             }
         }
         3 => {
-            pair.unlink_left(from);
+            pair.unlink_left(from as u64);
             if from < plain.len() {
                 plain.remove(from);
             }
@@ -143,8 +143,8 @@ fn drawn_changes_as_of_a_plain_vector(rt: HostRuntime) -> Result<(), Fail> {
     for _ in 0..60u64 {
         draw = draw.wrapping_mul(1_664_525).wrapping_add(1_013_904_223);
         assert!(rt; change(&mut pair, &mut plain, draw / 65_536).is_some());
-        for place in 0..20usize {
-            assert!(rt; pair.left_at(place) == plain.get(place).copied());
+        for place in 0..20u64 {
+            assert!(rt; pair.left_at(place) == plain.get(place as usize).copied());
         }
     }
     Ok(())

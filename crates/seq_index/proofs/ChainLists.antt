@@ -5,9 +5,12 @@ use Rattle.node_store.specs.declared.Node.{Node}
 use Rattle.node_store.specs.declared.Link.{Link}
 use Rattle.node_store.specs.Column.{Column, IsNode}
 use Rattle.node_store.specs.Nodes.{IsSameAt, first_or, last_or}
+use Rattle.node_store.specs.Store.{Store}
+use Rattle.node_store.specs.ByNode.{column_of, contents}
+use Rattle.node_store.proofs.ByNode.{node_of_column, IsNodeOf_kept}
 use Rattle.node_store.proofs.NodeLists.{last_or-append}
 use Rattle.seq_index.specs.declared.SeqIndex.{SeqIndex}
-use Rattle.seq_index.specs.Links.{Runs, AreNodes, end_beside}
+use Rattle.seq_index.specs.Links.{Runs, AreNodes, AreNodesOf, end_beside}
 use Rattle.seq_index.specs.Spelled.{Spells, spelled, follow, following}
 use Rattle.seq_index.proofs.Runs.{Runs-same, Runs-at, Runs-node, AreNodes-last, AreNodes-first}
 
@@ -122,6 +125,17 @@ pub place_nodes : (cs : ℕ → Column) (i : SeqIndex) (xs : List Node) (k : ℕ
 place_nodes cs i xs k s =
     let runs = subst (λ (z : List Node). Runs (cs i.col) None z None) (sym (take-append-drop k xs)) s.runs in
     (AreNodes-last (cs i.col) None (take k xs) (drop k xs) None runs, AreNodes-first (cs i.col) None (take k xs) (drop k xs) None runs)
+
+module _ {R : Type 0} where
+  -- a node beside a place is one of the store
+  pub node_before : (s : Store R) (i : SeqIndex) (xs : List Node) (k : ℕ) (o : Option Node) → Spells (column_of s) i xs → o ≡ last_or (take k xs) None → AreNodesOf s o
+  node_before s i xs k o h e = λ m is. node_of_column s i.col m ((place_nodes (column_of s) i xs k h).0 m (sym e ∙ is))
+
+  pub node_after : (s : Store R) (i : SeqIndex) (xs : List Node) (k : ℕ) (o : Option Node) → Spells (column_of s) i xs → o ≡ first_or (drop k xs) None → AreNodesOf s o
+  node_after s i xs k o h e = λ m is. node_of_column s i.col m ((place_nodes (column_of s) i xs k h).1 m (sym e ∙ is))
+
+  pub AreNodesOf_kept : (old new : Store R) (o : Option Node) → contents new ≡ contents old → AreNodesOf old o → AreNodesOf new o
+  AreNodesOf_kept old new o e h = λ m is. IsNodeOf_kept old new m e (h m is)
 
 -- ---- a walk back from the end
 

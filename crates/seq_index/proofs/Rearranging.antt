@@ -1,5 +1,5 @@
 -- A sequence that is built from a list, node by node.
-use Rattle.std.proofs.Common.{◌≡◌, ℕ, zero, suc, ◌+◌, ◌<◌, List, [], ◌∷◌, ◌++◌, length, get_or, take, drop, Some, None, refl, sym, ap, ◌∙◌, subst, arith}
+use Rattle.std.proofs.Common.{◌≡◌, ℕ, zero, suc, ◌+◌, ◌<◌, ◌≤◌, List, [], ◌∷◌, ◌++◌, length, get_or, take, drop, Some, None, refl, sym, ap, ◌∙◌, subst, arith}
 use Rattle.std.proofs.lemmas.List.{length-take-le}
 use Rattle.node_store.specs.declared.Node.{Node}
 use Rattle.node_store.specs.Column.{Column, IsNode}
@@ -40,5 +40,5 @@ pub spelled_coming : (cs ds : ℕ → Column) (i j : SeqIndex) (ns : List Node) 
 spelled_coming cs ds i j ns k n h m s =
     subst (λ (z : List Node). Spells ds j z) (ap (λ (z : List Node). z ++ n ∷ []) (spelled_is cs i (take k ns) h) ∙ sym m.taken) s
 
-pub length_coming : (cs : ℕ → Column) (i : SeqIndex) (ns : List Node) (k : ℕ) → k < length ns → Spells cs i (take k ns) → length (spelled cs i) ≡ k
-length_coming cs i ns k h s = ap (λ (z : List Node). length z) (spelled_is cs i (take k ns) s) ∙ length-take-le k ns (omega (arith, h))
+pub len_taken : (cs : ℕ → Column) (i : SeqIndex) (ns : List Node) (k : ℕ) → k ≤ length ns → Spells cs i (take k ns) → i.len ≡ k
+len_taken cs i ns k h s = s.len ∙ length-take-le k ns h

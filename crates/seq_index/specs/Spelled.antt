@@ -1,9 +1,10 @@
 -- The list that a chain spells.
-use Rattle.std.specs.Prelude.{◌≡◌, ◌<◌, ◌^◌, ℕ, zero, suc, List, [], ◌∷◌, ◌++◌, length, Option, Some, None, option_and_then}
+use Rattle.std.specs.Prelude.{◌≡◌, ◌+◌, ◌<◌, ◌^◌, ℕ, zero, suc, List, [], ◌∷◌, length, Option, Some, None, option_and_then}
 use Rattle.node_store.specs.declared.Node.{Node}
 use Rattle.node_store.specs.Column.{Column}
 use Rattle.node_store.specs.Nodes.{IsDistinct, first_or, last_or}
 use Rattle.seq_index.specs.declared.SeqIndex.{SeqIndex}
+pub use Rattle.node_store.specs.Nodes.{Holds}
 pub use Rattle.seq_index.specs.Links.{Runs, KeepsOthers, KeepsNodes, AreNodes}
 
 -- the index is the chain of these nodes
@@ -19,15 +20,9 @@ pub record Spells (cs : ℕ → Column) (i : SeqIndex) (xs : List Node) : Type 0
 abbrev pub col_of : SeqIndex → ℕ
 col_of i = i.col
 
--- an insertion needs no more memory
+-- one node more can be counted
 abbrev pub HasRoom : SeqIndex → Type 0
-HasRoom i = Unit {0}
-
--- the node stands somewhere in the list
-pub record Holds (xs : List Node) (n : Node) : Type 0 where
-  pub before : List Node
-  pub after : List Node
-  pub is : xs ≡ before ++ n ∷ after
+HasRoom i = i.len + 1 < 2 ^ 64
 
 -- the node that `b` leads to
 abbrev pub following : Column → Node → Option Node

@@ -4,8 +4,9 @@
 //! stand in one sequence of each column at once.
 #![tactic(auto)]
 
-ghost use Rattle.std.specs.Prelude.{◌≡◌, ◌≢◌, ℕ, ◌+◌, ◌^◌, ◌<◌, ◌≤◌, List, [], ◌∷◌, ◌++◌, length, Option, Some, None, IsOk, insert};
+ghost use Rattle.std.specs.Prelude.{◌≡◌, ◌≢◌, ℕ, ◌+◌, ◌^◌, ◌<◌, ◌≤◌, List, [], ◌∷◌, ◌++◌, length, Option, Some, None, OnOk, OnErr, insert};
 ghost use Rattle.node_store.specs.declared.Node.{Node};
+ghost use Rattle.node_store.specs.Column.{Column};
 ghost use Rattle.node_store.specs.Store.{IsNodeOf};
 ghost use Rattle.node_store.specs.Nodes.{Lacks, first_or, last_or};
 ghost use Rattle.node_store.specs.ByNode.{column_of, contents, same_node};
@@ -40,7 +41,7 @@ impl SeqIndex {
     pub fn new(col: usize) -> SeqIndex
         requires { col < 8 }
         ensures col { col_of result ≡ col }
-        ensures empty { (cs : _) → Spells cs result [] }
+        ensures empty { (cs : ℕ → Column) → Spells cs result [] }
     {
         SeqIndex {
             col,
@@ -50,12 +51,19 @@ impl SeqIndex {
         }
     }
 
-    /// Makes room for one more node. A chain needs no memory for it, so this is always `Ok`. O(1).
+    /// Makes room for one more node. A chain takes no memory for it: only a sequence of 2^64 - 1 nodes has no room.
+    /// O(1).
     pub fn reserve_one<R>(&mut self, store: &NodeStore<R>) -> Result<(), AllocError>
-        ensures granted { IsOk result }
         ensures same { self.new ≡ self.old }
-        ensures room { HasRoom self.new }
+        ensures list { (cs : ℕ → Column) (xs : List Node) → Spells cs self.old xs → Spells cs self.new xs }
+        ensures spelled { (cs : ℕ → Column) → spelled cs self.new ≡ spelled cs self.old }
+        ensures col { col_of self.new ≡ col_of self.old }
+        ensures room { OnOk result (HasRoom self.new) }
+        ensures full { OnErr result (¬ HasRoom self.old) }
     {
+        if self.len == u64::MAX {
+            return Err(AllocError);
+        }
         Ok(())
     }
 
@@ -65,7 +73,6 @@ impl SeqIndex {
         requires node { IsNodeOf store.old n }
         requires new { Lacks (spelled (column_of store.old) self.old) n }
         requires room { HasRoom self.old }
-        requires fits { length (spelled (column_of store.old) self.old) + 1 < 2 ^ 64 }
         ensures list { Spells (column_of store.new) self.new (spelled (column_of store.old) self.old ++ n ∷ []) }
         ensures col { col_of self.new ≡ col_of self.old }
         ensures others { KeepsOthers (column_of store.old) (column_of store.new) (col_of self.old) }
@@ -83,7 +90,6 @@ impl SeqIndex {
         requires new { Lacks (spelled (column_of store.old) self.old) n }
         requires place { place ≤ length (spelled (column_of store.old) self.old) }
         requires room { HasRoom self.old }
-        requires fits { length (spelled (column_of store.old) self.old) + 1 < 2 ^ 64 }
         ensures list { Spells (column_of store.new) self.new (insert (spelled (column_of store.old) self.old) place n) }
         ensures col { col_of self.new ≡ col_of self.old }
         ensures others { KeepsOthers (column_of store.old) (column_of store.new) (col_of self.old) }
@@ -127,10 +133,11 @@ impl SeqIndex {
         requires node { IsNodeOf store.old n }
         requires before { AreNodesOf store.old before }
         requires after { AreNodesOf store.old after }
-        requires fits { self.old.len + 1 < 2 ^ 64 }
+        requires room { HasRoom self.old }
         ensures list { (xs ys : List Node) → Spells (column_of store.old) self.old (xs ++ ys) → Lacks (xs ++ ys) n
             → before ≡ last_or xs None → after ≡ first_or ys None
             → Spells (column_of store.new) self.new (xs ++ n ∷ ys) }
+        ensures len { self.new.len ≡ self.old.len + 1 }
         ensures col { col_of self.new ≡ col_of self.old }
         ensures others { KeepsOthers (column_of store.old) (column_of store.new) (col_of self.old) }
         ensures contents { contents store.new ≡ contents store.old }

@@ -1,9 +1,8 @@
 //! Changes of the order of a sequence.
-ghost use Rattle.std.specs.Prelude.{◌≡◌, ◌≤◌, length, reverse as the_reverse};
-ghost use Rattle.node_store.specs.Nodes.{AllNodes, IsDistinct};
+ghost use Rattle.std.specs.Prelude.{◌≡◌, ◌≤◌, length, reverse as the_reverse, IsPermutation};
 ghost use Rattle.node_store.specs.ByNode.{column_of, contents, same_node};
 ghost use Rattle.list_model.specs.Walk.{relocated};
-ghost use Rattle.seq_index.specs.Spelled.{Spells, IsSound, spelled, col_of, KeepsOthers, Holds};
+ghost use Rattle.seq_index.specs.Spelled.{Spells, IsSound, spelled, col_of, HasRoom, KeepsOthers, Holds};
 
 use crate::SeqIndex;
 use crate::ends::chain_link;
@@ -20,6 +19,7 @@ impl SeqIndex {
         requires held { Holds (spelled (column_of store.old) self.old) n }
         requires place { place ≤ length (spelled (column_of store.old) self.old) }
         ensures list { Spells (column_of store.new) self.new (relocated (same_node n) n place (spelled (column_of store.old) self.old)) }
+        ensures room { HasRoom self.old → HasRoom self.new }
         ensures col { col_of self.new ≡ col_of self.old }
         ensures others { KeepsOthers (column_of store.old) (column_of store.new) (col_of self.old) }
         ensures contents { contents store.new ≡ contents store.old }
@@ -32,19 +32,18 @@ impl SeqIndex {
         self.insert_between(store, before, n, after);
     }
 
-    /// Makes these nodes the sequence, in this order. Each may be named once.
-    ///
-    /// A node that stood in the sequence and is not named leaves it. O(n).
-    pub fn rearrange<R>(&mut self, store: &mut NodeStore<R>, nodes: &[Node])
-        requires distinct { IsDistinct nodes.now }
-        requires nodes { AllNodes (column_of store.old (col_of self.old)) nodes.now }
-        ensures list { Spells (column_of store.new) self.new nodes.now }
+    /// Puts the nodes into this order. It takes no memory. O(n).
+    pub fn rearrange<R>(&mut self, store: &mut NodeStore<R>, order: &[Node])
+        requires chain { IsSound (column_of store.old) self.old }
+        requires same { IsPermutation (spelled (column_of store.old) self.old) order.now }
+        ensures list { Spells (column_of store.new) self.new order.now }
+        ensures room { HasRoom self.old → HasRoom self.new }
         ensures col { col_of self.new ≡ col_of self.old }
         ensures others { KeepsOthers (column_of store.old) (column_of store.new) (col_of self.old) }
         ensures contents { contents store.new ≡ contents store.old }
     {
         *self = SeqIndex::new(self.col);
-        for n in nodes {
+        for n in order {
             self.push(store, *n);
         }
     }
@@ -53,6 +52,7 @@ impl SeqIndex {
     pub fn reverse<R>(&mut self, store: &mut NodeStore<R>)
         requires { IsSound (column_of store.old) self.old }
         ensures list { Spells (column_of store.new) self.new (the_reverse (spelled (column_of store.old) self.old)) }
+        ensures room { HasRoom self.old → HasRoom self.new }
         ensures col { col_of self.new ≡ col_of self.old }
         ensures others { KeepsOthers (column_of store.old) (column_of store.new) (col_of self.old) }
         ensures contents { contents store.new ≡ contents store.old }

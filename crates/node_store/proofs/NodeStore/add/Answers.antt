@@ -16,7 +16,7 @@ pub set_prev-requires : goal.set_prev-requires
 set_prev-requires g c =
     let v = c.in-Ok.ensures.ok in
     subst (HasBlock c.self.inside.first) (sym c.put.ensures.held)
-    (HasBlock-added c.self.inside.blocks.held c.self.inside.alloc c.self.inside.first c.self.inside.len c.self.inside.added c.self.invariant
+    (HasBlock-added c.self.inside.heap.held c.self.inside.alloc c.self.inside.first c.self.inside.len c.self.inside.added c.self.invariant
     (lying c.put.result.0.ptr (box_allocator c.in-Ok.boxed) c.in-Ok.boxed.value) (c.in-Ok.ensures.allocator)
     (ap (λ (b : Block g.row.R.Denot). b.prev) v) (ap (λ (b : Block g.row.R.Denot). b.next) v) (ap (λ (b : Block g.row.R.Denot). map link_of b.links) v ∙ ap (λ l. l ∷ l ∷ l ∷ l ∷ l ∷ l ∷ l ∷ l ∷ []) (c.of.ensures ∙ c.empty.ensures)))
 
@@ -27,7 +27,7 @@ invariant_of-self g c =
     let node : Node = record { place = c.put.result.0; number = c.self.inside.added } in
     let to = c.set_prev.ensures ∙ ap (with_prev first (Some node)) c.put.ensures.held in
     subst (λ xs. IsSound xs c.self.inside.alloc (Some node) (c.self.inside.len + 1) (c.self.inside.added + 1)) (sym to)
-    (IsSound-added c.self.inside.blocks.held c.self.inside.alloc first c.self.inside.len c.self.inside.added c.self.invariant
+    (IsSound-added c.self.inside.heap.held c.self.inside.alloc first c.self.inside.len c.self.inside.added c.self.invariant
     (lying c.put.result.0.ptr (box_allocator c.in-Ok.boxed) c.in-Ok.boxed.value) (c.in-Ok.ensures.allocator)
     (ap (λ (b : Block g.row.R.Denot). b.prev) v) (ap (λ (b : Block g.row.R.Denot). b.next) v) (ap (λ (b : Block g.row.R.Denot). map link_of b.links) v ∙ ap (λ l. l ∷ l ∷ l ∷ l ∷ l ∷ l ∷ l ∷ l ∷ []) (c.of.ensures ∙ c.empty.ensures)))
 
@@ -36,10 +36,10 @@ returns-in-Ok-clause-added g c =
     let v = c.in-Ok.ensures.ok in
     let first = c.self.inside.first in
     let added = c.self.inside.added in
-    let s = store_of c.self.inside.blocks.held added in
+    let s = store_of c.self.inside.heap.held added in
     let node : Node = record { place = c.put.result.0; number = added } in
     let to = ap (λ xs. store_of xs (added + 1)) (c.set_prev.ensures ∙ ap (with_prev first (Some node)) c.put.ensures.held)
-    ∙ store_added c.self.inside.blocks.held c.self.inside.alloc first c.self.inside.len added c.self.invariant
+    ∙ store_added c.self.inside.heap.held c.self.inside.alloc first c.self.inside.len added c.self.invariant
     (lying c.put.result.0.ptr (box_allocator c.in-Ok.boxed) c.in-Ok.boxed.value) (c.in-Ok.ensures.allocator)
     (ap (λ (b : Block g.row.R.Denot). b.prev) v) (ap (λ (b : Block g.row.R.Denot). b.next) v) (ap (λ (b : Block g.row.R.Denot). map link_of b.links) v ∙ ap (λ l. l ∷ l ∷ l ∷ l ∷ l ∷ l ∷ l ∷ l ∷ []) (c.of.ensures ∙ c.empty.ensures))
     ∙ ap (λ (b : Block g.row.R.Denot). with_node s node b.value) v in
@@ -51,10 +51,10 @@ returns-in-Ok-clause-len g c =
     let v = c.in-Ok.ensures.ok in
     let first = c.self.inside.first in
     let added = c.self.inside.added in
-    let s = store_of c.self.inside.blocks.held added in
+    let s = store_of c.self.inside.heap.held added in
     let node : Node = record { place = c.put.result.0; number = added } in
     let to = ap (λ xs. store_of xs (added + 1)) (c.set_prev.ensures ∙ ap (with_prev first (Some node)) c.put.ensures.held)
-    ∙ store_added c.self.inside.blocks.held c.self.inside.alloc first c.self.inside.len added c.self.invariant
+    ∙ store_added c.self.inside.heap.held c.self.inside.alloc first c.self.inside.len added c.self.invariant
     (lying c.put.result.0.ptr (box_allocator c.in-Ok.boxed) c.in-Ok.boxed.value) (c.in-Ok.ensures.allocator)
     (ap (λ (b : Block g.row.R.Denot). b.prev) v) (ap (λ (b : Block g.row.R.Denot). b.next) v) (ap (λ (b : Block g.row.R.Denot). map link_of b.links) v ∙ ap (λ l. l ∷ l ∷ l ∷ l ∷ l ∷ l ∷ l ∷ l ∷ []) (c.of.ensures ∙ c.empty.ensures))
     ∙ ap (λ (b : Block g.row.R.Denot). with_node s node b.value) v in

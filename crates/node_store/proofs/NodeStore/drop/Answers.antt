@@ -11,13 +11,13 @@ loop-first-init g c = IsReached-chain _ None _ _ _ c.self.invariant.chain
 
 pub take-requires : goal.take-requires
 take-requires g c =
-    let es = c.loop-first.blocks.held in
+    let es = c.loop-first.heap.held in
     let r = reached c.self.inside.alloc c.in-Some.n es (subst (λ o. IsReached c.self.inside.alloc o es) c.in-Some.is c.loop-first.invariant) in
     is_at es c.in-Some.n.number c.in-Some.n.place.ptr c.self.inside.alloc r.0 r.1 r.2 r.3
 
 pub loop-first-smaller : goal.loop-first-smaller
 loop-first-smaller g c =
-    let es = c.loop-first.blocks.held in
+    let es = c.loop-first.heap.held in
     let r = reached c.self.inside.alloc c.in-Some.n es (subst (λ o. IsReached c.self.inside.alloc o es) c.in-Some.is c.loop-first.invariant) in
     let shorter = r.5 in
     let left = ap length c.take.ensures.held in
@@ -25,7 +25,7 @@ loop-first-smaller g c =
 
 pub loop-first-preserved : goal.loop-first-preserved
 loop-first-preserved g c =
-    let es = c.loop-first.blocks.held in
+    let es = c.loop-first.heap.held in
     let al = c.self.inside.alloc in
     let r = reached al c.in-Some.n es (subst (λ o. IsReached al o es) c.in-Some.is c.loop-first.invariant) in
     let same : r.0 ≡ lying c.in-Some.n.place.ptr al c.take.result.value = same_Some _ _ (sym r.1 ∙ c.take.ensures.value) in
@@ -35,5 +35,5 @@ loop-first-preserved g c =
 
 pub end-requires : goal.end-requires
 end-requires g c =
-    let es = c.loop-first.blocks.held in
+    let es = c.loop-first.heap.held in
     none_reached c.self.inside.alloc es (subst (λ o. IsReached c.self.inside.alloc o es) c.in_default.is c.loop-first.invariant)

@@ -12,12 +12,12 @@ use Rattle.node_store.proofs.NodeStore.remove.Goals as goal
 pub take-block-requires : goal.take-block-requires
 take-block-requires g c =
     let node = rw (← c.self.view_is) at c.requires in
-    let b = node_block c.self.inside.blocks.held c.self.inside.added c.args.n node in
-    is_at c.self.inside.blocks.held c.args.n.number c.args.n.place.ptr c.self.inside.alloc b.0 b.1 b.2 (chain_block _ _ _ _ _ c.self.invariant.chain c.args.n.number b.0 b.1).0
+    let b = node_block c.self.inside.heap.held c.self.inside.added c.args.n node in
+    is_at c.self.inside.heap.held c.args.n.number c.args.n.place.ptr c.self.inside.alloc b.0 b.1 b.2 (chain_block _ _ _ _ _ c.self.invariant.chain c.args.n.number b.0 b.1).0
 
 pub set_next-requires : goal.set_next-requires
 set_next-requires g c =
-    let es = c.self.inside.blocks.held in
+    let es = c.self.inside.heap.held in
     let h = lying c.args.n.place.ptr c.self.inside.alloc c.into_inner-prev.result in
     let value = c.into_inner-prev.ensures in
     let here = c.take-block.ensures.value ∙ ap (λ (v : Block g.row.R.Denot). Some (lying c.args.n.place.ptr c.self.inside.alloc v)) (sym value) in
@@ -25,7 +25,7 @@ set_next-requires g c =
 
 pub set_prev-requires : goal.set_prev-requires
 set_prev-requires g c =
-    let es = c.self.inside.blocks.held in
+    let es = c.self.inside.heap.held in
     let h = lying c.args.n.place.ptr c.self.inside.alloc c.into_inner-prev.result in
     let value = c.into_inner-prev.ensures in
     let here = c.take-block.ensures.value ∙ ap (λ (v : Block g.row.R.Denot). Some (lying c.args.n.place.ptr c.self.inside.alloc v)) (sym value) in
@@ -34,7 +34,7 @@ set_prev-requires g c =
 
 pub invariant_of-self : goal.invariant_of-self
 invariant_of-self g c =
-    let es = c.self.inside.blocks.held in
+    let es = c.self.inside.heap.held in
     let h = lying c.args.n.place.ptr c.self.inside.alloc c.into_inner-prev.result in
     let value = c.into_inner-prev.ensures in
     let here = c.take-block.ensures.value ∙ ap (λ (v : Block g.row.R.Denot). Some (lying c.args.n.place.ptr c.self.inside.alloc v)) (sym value) in
@@ -47,7 +47,7 @@ invariant_of-self g c =
 pub returns-clause-value : goal.returns-clause-value
 unfolding records
 returns-clause-value g c =
-    let es = c.self.inside.blocks.held in
+    let es = c.self.inside.heap.held in
     let h = lying c.args.n.place.ptr c.self.inside.alloc c.into_inner-prev.result in
     let value = c.into_inner-prev.ensures in
     let here = c.take-block.ensures.value ∙ ap (λ (v : Block g.row.R.Denot). Some (lying c.args.n.place.ptr c.self.inside.alloc v)) (sym value) in
@@ -56,7 +56,7 @@ returns-clause-value g c =
 
 pub returns-clause-removed : goal.returns-clause-removed
 returns-clause-removed g c =
-    let es = c.self.inside.blocks.held in
+    let es = c.self.inside.heap.held in
     let h = lying c.args.n.place.ptr c.self.inside.alloc c.into_inner-prev.result in
     let value = c.into_inner-prev.ensures in
     let here = c.take-block.ensures.value ∙ ap (λ (v : Block g.row.R.Denot). Some (lying c.args.n.place.ptr c.self.inside.alloc v)) (sym value) in
@@ -69,7 +69,7 @@ returns-clause-removed g c =
 pub returns-clause-len : goal.returns-clause-len
 returns-clause-len g c =
     let node = rw (← c.self.view_is) at c.requires in
-    let es = c.self.inside.blocks.held in
+    let es = c.self.inside.heap.held in
     let h = lying c.args.n.place.ptr c.self.inside.alloc c.into_inner-prev.result in
     let value = c.into_inner-prev.ensures in
     let here = c.take-block.ensures.value ∙ ap (λ (v : Block g.row.R.Denot). Some (lying c.args.n.place.ptr c.self.inside.alloc v)) (sym value) in

@@ -25,5 +25,5 @@ returns-clause-list g c = λ xs ys h new before after.
       last = rw (c.end_beside-self-2.ensures, after, h.last) (last-insert xs c.args.n ys);
       distinct = Distinct-insert xs c.args.n ys h.distinct new;
       len = ap (λ (k : ℕ). k + 1) h.len ∙ length-insert xs c.args.n ys;
-      fits = c.requires.fits;
+      fits = c.requires.room;
     }

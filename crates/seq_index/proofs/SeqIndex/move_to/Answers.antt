@@ -4,7 +4,8 @@ use Rattle.node_store.specs.Nodes.{Lacks}
 use Rattle.node_store.specs.ByNode.{column_of}
 use Rattle.node_store.proofs.ByNode.{IsNodeOf_kept}
 use Rattle.seq_index.specs.Spelled.{Spells, spelled}
-use Rattle.seq_index.proofs.Laws.{node_held, kept_held}
+use Rattle.seq_index.proofs.Laws.{node_held}
+use Rattle.seq_index.proofs.ChainLists.{AreNodesOf_kept}
 use Rattle.seq_index.proofs.Moves.{beside, lands_in, Spells_stays_before, Spells_stays_after, without_lacks, length_without}
 use Rattle.seq_index.proofs.SeqIndex.move_to.Goals as goal
 use Rattle.seq_index.proofs.SeqIndex.move_to.Goals.{then-is_node-via-then-is_node, then-is_node-via-else-is_node+then-is_node-2}
@@ -28,15 +29,15 @@ insert_between-requires-clause-node g c =
     IsNodeOf_kept c.args.store.now c.unlink.new.store c.args.n c.unlink.ensures.contents (node_held c.args.store.now c.args.self.now c.args.n c.requires.chain c.requires.held)
 
 pub insert_between-requires-clause-before : goal.insert_between-requires-clause-before
-insert_between-requires-clause-before g c = kept_held c.args.store.now c.unlink.new.store c.ends_at-before.result.0 c.unlink.ensures.contents c.ends_at-before.ensures.before_held
+insert_between-requires-clause-before g c = AreNodesOf_kept c.args.store.now c.unlink.new.store c.ends_at-before.result.0 c.unlink.ensures.contents c.ends_at-before.ensures.before_held
 
 pub insert_between-requires-clause-after : goal.insert_between-requires-clause-after
-insert_between-requires-clause-after g c = kept_held c.args.store.now c.unlink.new.store c.ends_at-before.result.1 c.unlink.ensures.contents c.ends_at-before.ensures.after_held
+insert_between-requires-clause-after g c = AreNodesOf_kept c.args.store.now c.unlink.new.store c.ends_at-before.result.1 c.unlink.ensures.contents c.ends_at-before.ensures.after_held
 
-pub insert_between-requires-clause-fits : goal.insert_between-requires-clause-fits
-insert_between-requires-clause-fits g c =
+pub returns-clause-room : goal.returns-clause-room
+returns-clause-room g c = λ room.
     let less = length_without (spelled (column_of c.args.store.now) c.args.self.now) c.args.n c.requires.held c.requires.chain.distinct in
-    omega (arith, less, c.unlink.ensures.list.len, c.requires.chain.len, c.requires.chain.fits)
+    omega (arith, room, less, c.insert_between.ensures.len, c.unlink.ensures.list.len, c.requires.chain.len)
 
 pub returns-clause-list : goal.returns-clause-list
 returns-clause-list g c =

@@ -1,8 +1,10 @@
 use Rattle.std.proofs.Common.{refl, ◌∙◌, arith}
+use Rattle.std.proofs.lemmas.List.Sorted.{length_permutation}
+use Rattle.node_store.proofs.Members.{IsDistinct_moved, AllNodes_moved}
 use Rattle.node_store.proofs.ByNode.{node_of_column, IsNodeOf_kept}
 use Rattle.seq_index.specs.Spelled.{col_of}
-use Rattle.seq_index.proofs.Laws.{IsSound_from}
-use Rattle.seq_index.proofs.Rearranging.{all_at, coming, lacks_coming, spelled_coming, length_coming}
+use Rattle.seq_index.proofs.Laws.{IsSound_from, Spells_nodes}
+use Rattle.seq_index.proofs.Rearranging.{all_at, coming, lacks_coming, spelled_coming, len_taken}
 use Rattle.seq_index.proofs.SeqIndex.rearrange.Goals as goal
 
 pub loop-n-init : goal.loop-n-init
@@ -14,20 +16,26 @@ push-requires-clause-chain g c = IsSound_from _ _ _ c.loop-n.invariant.list
 pub push-requires-clause-node : goal.push-requires-clause-node
 push-requires-clause-node g c =
     IsNodeOf_kept c.args.store.now c.loop-n.store _ c.loop-n.invariant.contents
-    (node_of_column c.args.store.now (col_of c.args.self.now) _ (all_at _ c.args.nodes.now c.loop-n.n-index _ c.loop-n-test.true c.requires.nodes))
+    (node_of_column c.args.store.now (col_of c.args.self.now) _ (all_at _ c.args.order.now c.loop-n.n-index _ c.loop-n-test.true (AllNodes_moved _ _ _ c.requires.same (Spells_nodes _ _ _ c.requires.chain))))
 
 pub push-requires-clause-new : goal.push-requires-clause-new
 push-requires-clause-new g c =
-    lacks_coming _ _ c.args.nodes.now c.loop-n.n-index _ c.loop-n.invariant.list (coming c.args.nodes.now c.loop-n.n-index _ c.loop-n-test.true c.requires.distinct)
+    lacks_coming _ _ c.args.order.now c.loop-n.n-index _ c.loop-n.invariant.list (coming c.args.order.now c.loop-n.n-index _ c.loop-n-test.true (IsDistinct_moved _ _ c.requires.same c.requires.chain.distinct))
 
-pub push-requires-clause-fits : goal.push-requires-clause-fits
-push-requires-clause-fits g c =
-    let e = length_coming _ _ c.args.nodes.now c.loop-n.n-index c.loop-n-test.true c.loop-n.invariant.list in
+pub push-requires-clause-room : goal.push-requires-clause-room
+push-requires-clause-room g c =
+    let e = len_taken _ _ c.args.order.now c.loop-n.n-index (omega arith) c.loop-n.invariant.list in
     omega (arith, e)
+
+pub returns-clause-room : goal.returns-clause-room
+returns-clause-room g c = λ room.
+    let e = len_taken _ _ c.args.order.now c.loop-n.n-index (omega arith) c.loop-n.invariant.list in
+    let same = length_permutation _ _ c.requires.same in
+    omega (arith, room, e, same, c.requires.chain.len)
 
 pub loop-n-preserved : goal.loop-n-preserved
 loop-n-preserved g c = record {
-  list = spelled_coming _ _ _ _ c.args.nodes.now c.loop-n.n-index _ c.loop-n.invariant.list (coming c.args.nodes.now c.loop-n.n-index _ c.loop-n-test.true c.requires.distinct) c.push.ensures.list;
+  list = spelled_coming _ _ _ _ c.args.order.now c.loop-n.n-index _ c.loop-n.invariant.list (coming c.args.order.now c.loop-n.n-index _ c.loop-n-test.true (IsDistinct_moved _ _ c.requires.same c.requires.chain.distinct)) c.push.ensures.list;
   col = c.push.ensures.col ∙ c.loop-n.invariant.col;
   others = λ j ne. c.push.ensures.others j (λ e. ne (e ∙ c.loop-n.invariant.col)) ∙ c.loop-n.invariant.others j ne;
   contents = c.push.ensures.contents ∙ c.loop-n.invariant.contents;

@@ -20,11 +20,6 @@ insert_at-requires-clause-place c =
     let e = IsSound_added c.args.store.now c.add.new.self c.in-Ok.n c.args.place c.args.index.now c.in-Ok.ensures.added c.requires.sound in
     omega (arith, e.len, c.min.ensures)
 
-pub insert_at-requires-clause-fits : goal.insert_at-requires-clause-fits
-insert_at-requires-clause-fits c =
-    let e = IsSound_added c.args.store.now c.add.new.self c.in-Ok.n c.args.place c.args.index.now c.in-Ok.ensures.added c.requires.sound in
-    omega (arith, e.len, c.if-index-ge1000.false)
-
 pub returns-clause-sound : goal.returns-clause-sound
 returns-clause-sound c = IsSound_from _ _ _ c.insert_at.ensures.list
 

@@ -11,4 +11,4 @@ pub next-at-requires-clause-held : goal.next-at-requires-clause-held
 next-at-requires-clause-held c = c.loop.invariant c.in-Some.n c.in-Some.is
 
 pub loop-preserved : goal.loop-preserved
-loop-preserved c = λ n e. Holds_next (spelled (column_of c.args.store.now) c.args.index.now) c.in-Some.n n c.requires.distinct (c.loop.invariant c.in-Some.n c.in-Some.is) (sym c.next-at.ensures ∙ e)
+loop-preserved c = λ n e. Holds_next (spelled (column_of c.args.store.now) c.args.index.now) c.in-Some.n n (sym c.next-at.ensures ∙ e)
