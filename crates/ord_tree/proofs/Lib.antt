@@ -1,0 +1,13 @@
+pub mod TreeLinks
+pub mod Rotations
+pub mod Heights
+pub mod Rising
+pub mod Descent
+pub mod Seeking
+pub mod Linking
+pub mod Removing
+pub mod Laws
+pub mod Climbing
+pub mod Tallies
+pub mod Sides
+pub mod NodeWalks

@@ -1,0 +1,16 @@
+//! Ordered indices: balanced trees of nodes, each through the links of one column of a store.
+//!
+//! Each call takes the store. It reads and writes the links of its own column alone, so a node may
+//! stand in one tree of each column at once.
+#![tactic(auto)]
+
+mod removal;
+mod seek;
+mod steps;
+mod tally;
+mod tree;
+mod walk;
+
+pub use seek::Cut;
+pub use tally::{NoTally, Tally};
+pub use tree::OrdTree;

@@ -1,0 +1,265 @@
+//! The steps of a change of a tree.
+ghost use Rattle.std.specs.Prelude.{◌≡◌, ℕ, ◌+◌, ◌<◌, ◌≤◌, Option, Some, None};
+ghost use Rattle.node_store.specs.Column.{IsNode};
+ghost use Rattle.ord_tree.specs.Tree.{Tree, Fork, root, nodes, stored_height, stored_tag, AreNodes, Hangs};
+ghost use Rattle.ord_tree.specs.Path.{Path, Replaced, ReplacedAt, Rises, Grafted, GraftedSide, Turned};
+ghost use Rattle.ord_tree.specs.Steps.{CanHang, KeepsOthers, KeepsNodes, SetsUp, Joins, Sides, Becomes, rotated_right, rotated_left, rebalanced};
+ghost use Rattle.node_store.specs.ByNode.{column_of, contents};
+
+use crate::tally::Tally;
+use node_store::{Link, Node, NodeStore};
+
+/// The height of the subtree below `child`.
+fn height_of<R>(store: &NodeStore<R>, col: usize, child: Option<Node>) -> u8
+    requires col { col < 8 }
+    requires node { AreNodes (column_of store.now col) child }
+    ensures { result ≡ stored_height (column_of store.now col) child }
+{
+    match child {
+        None => 0,
+        Some(n) => store.link(n, col).height,
+    }
+}
+
+/// The tally of the subtree below `child`.
+fn tally_of<R>(store: &NodeStore<R>, col: usize, child: Option<Node>) -> u64
+    requires col { col < 8 }
+    requires node { AreNodes (column_of store.now col) child }
+    ensures { result ≡ stored_tag (column_of store.now col) child }
+{
+    match child {
+        None => 0,
+        Some(n) => store.link(n, col).tag,
+    }
+}
+
+/// Hangs the subtree below `child` under another parent.
+pub(crate) fn set_up<T: Tally, R>(
+    store: &mut NodeStore<R>,
+    col: usize,
+    child: Option<Node>,
+    parent: Option<Node>,
+)
+    requires col { col < 8 }
+    requires node { AreNodes (column_of store.old col) child }
+    ensures up { SetsUp T.of (column_of store.old col) (column_of store.new col) child parent }
+    ensures others { KeepsOthers (column_of store.old) (column_of store.new) col }
+    ensures contents { contents store.new ≡ contents store.old }
+{
+    if let Some(n) = child {
+        let link = store.link(n, col);
+        store.set_link(n, col, Link { up: parent, ..link });
+    }
+}
+
+/// Makes `n` the root of a tree of two subtrees.
+pub(crate) fn join<T: Tally, R>(
+    store: &mut NodeStore<R>,
+    col: usize,
+    left: Option<Node>,
+    n: Node,
+    right: Option<Node>,
+)
+    requires col { col < 8 }
+    requires node { IsNode (column_of store.old col) n }
+    requires left { CanHang (column_of store.old col) left }
+    requires right { CanHang (column_of store.old col) right }
+    ensures joined { Joins T.of (column_of store.old col) (column_of store.new col) left n right }
+    ensures others { KeepsOthers (column_of store.old) (column_of store.new) col }
+    ensures contents { contents store.new ≡ contents store.old }
+{
+    let height = height_of(store, col, left).max(height_of(store, col, right)) + 1;
+    let link = Link {
+        a: left,
+        b: right,
+        up: None,
+        tag: T::of(tally_of(store, col, left), tally_of(store, col, right)),
+        height,
+    };
+    store.set_link(n, col, link);
+    set_up::<T, R>(store, col, left, Some(n));
+    set_up::<T, R>(store, col, right, Some(n));
+}
+
+/// Rotates to the right: the left side of `n` is too high, and its root goes up, or the middle below it.
+fn rotate_right<T: Tally, R>(
+    store: &mut NodeStore<R>,
+    col: usize,
+    left: Node,
+    n: Node,
+    right: Option<Node>,
+) -> Node
+    requires col { col < 8 }
+    requires node { IsNode (column_of store.old col) n }
+    requires sides { Sides T.of (column_of store.old col) (Some left) n right }
+    ensures tree { (s : Sides T.of (column_of store.old col) (Some left) n right)
+        → Becomes T.of (column_of store.old col) (column_of store.new col) (nodes (Fork s.l n s.r)) (rotated_right s.l n s.r) result }
+    ensures nodes { KeepsNodes (column_of store.old col) (column_of store.new col) }
+    ensures others { KeepsOthers (column_of store.old) (column_of store.new) col }
+    ensures contents { contents store.new ≡ contents store.old }
+{
+    let Link {
+        a: outer,
+        b: inner,
+        ..
+    } = store.link(left, col);
+    if height_of(store, col, inner) <= height_of(store, col, outer) {
+        join::<T, R>(store, col, inner, n, right);
+        join::<T, R>(store, col, outer, left, Some(n));
+        return left;
+    }
+    let Some(middle) = inner else { unreachable!() };
+    let Link {
+        a: first,
+        b: second,
+        ..
+    } = store.link(middle, col);
+    join::<T, R>(store, col, outer, left, first);
+    join::<T, R>(store, col, second, n, right);
+    join::<T, R>(store, col, Some(left), middle, Some(n));
+    middle
+}
+
+/// Rotates to the left: the right side of `n` is too high, and its root goes up, or the middle below it.
+fn rotate_left<T: Tally, R>(
+    store: &mut NodeStore<R>,
+    col: usize,
+    left: Option<Node>,
+    n: Node,
+    right: Node,
+) -> Node
+    requires col { col < 8 }
+    requires node { IsNode (column_of store.old col) n }
+    requires sides { Sides T.of (column_of store.old col) left n (Some right) }
+    ensures tree { (s : Sides T.of (column_of store.old col) left n (Some right))
+        → Becomes T.of (column_of store.old col) (column_of store.new col) (nodes (Fork s.l n s.r)) (rotated_left s.l n s.r) result }
+    ensures nodes { KeepsNodes (column_of store.old col) (column_of store.new col) }
+    ensures others { KeepsOthers (column_of store.old) (column_of store.new) col }
+    ensures contents { contents store.new ≡ contents store.old }
+{
+    let Link {
+        a: inner,
+        b: outer,
+        ..
+    } = store.link(right, col);
+    if height_of(store, col, inner) <= height_of(store, col, outer) {
+        join::<T, R>(store, col, left, n, inner);
+        join::<T, R>(store, col, Some(n), right, outer);
+        return right;
+    }
+    let Some(middle) = inner else { unreachable!() };
+    let Link {
+        a: first,
+        b: second,
+        ..
+    } = store.link(middle, col);
+    join::<T, R>(store, col, left, n, first);
+    join::<T, R>(store, col, second, right, outer);
+    join::<T, R>(store, col, Some(n), middle, Some(right));
+    middle
+}
+
+/// Makes a balanced tree of two sides whose heights differ by at most two, with `n` between them.
+fn balance<T: Tally, R>(
+    store: &mut NodeStore<R>,
+    col: usize,
+    left: Option<Node>,
+    n: Node,
+    right: Option<Node>,
+) -> Node
+    requires col { col < 8 }
+    requires node { IsNode (column_of store.old col) n }
+    requires sides { Sides T.of (column_of store.old col) left n right }
+    ensures tree { (s : Sides T.of (column_of store.old col) left n right)
+        → Becomes T.of (column_of store.old col) (column_of store.new col) (nodes (Fork s.l n s.r)) (rebalanced s.l n s.r) result }
+    ensures nodes { KeepsNodes (column_of store.old col) (column_of store.new col) }
+    ensures others { KeepsOthers (column_of store.old) (column_of store.new) col }
+    ensures contents { contents store.new ≡ contents store.old }
+{
+    let left_height = height_of(store, col, left);
+    let right_height = height_of(store, col, right);
+    if left_height > right_height + 1 {
+        let Some(high) = left else { unreachable!() };
+        return rotate_right::<T, R>(store, col, high, n, right);
+    }
+    if right_height > left_height + 1 {
+        let Some(high) = right else { unreachable!() };
+        return rotate_left::<T, R>(store, col, left, n, high);
+    }
+    join::<T, R>(store, col, left, n, right);
+    n
+}
+
+/// Puts the subtree below `new` in the place of the one that had the root `old`, below `at`, and
+/// balances the nodes from there up. Answers the root of the whole tree.
+pub(crate) fn rise<T: Tally, R>(
+    store: &mut NodeStore<R>,
+    col: usize,
+    mut old: Node,
+    mut at: Option<Node>,
+    mut new: Option<Node>,
+) -> Option<Node>
+    requires col { col < 8 }
+    requires replaced { Replaced T.of (column_of store.old col) old at new }
+    requires old { IsNode (column_of store.old col) old }
+    ensures tree { (path : Path) (was now : Tree) → ReplacedAt T.of (column_of store.old col) old at new path was now
+        → Rises T.of (column_of store.old col) (column_of store.new col) path now result }
+    ensures nodes { KeepsNodes (column_of store.old col) (column_of store.new col) }
+    ensures others { KeepsOthers (column_of store.old) (column_of store.new) col }
+    ensures contents { contents store.new ≡ contents store.old }
+{
+    while let Some(n) = at {
+        let Link {
+            a: left,
+            b: right,
+            up,
+            ..
+        } = store.link(n, col);
+        let top = if store.is_node(left, old) {
+            balance::<T, R>(store, col, new, n, right)
+        } else {
+            balance::<T, R>(store, col, left, n, new)
+        };
+        old = n;
+        at = up;
+        new = Some(top);
+    }
+    set_up::<T, R>(store, col, new, None);
+    new
+}
+
+/// Makes the subtree below `new` a child of `at`, on the right or on the left, and balances the nodes
+/// from there up. Answers the root of the whole tree.
+pub(crate) fn graft<T: Tally, R>(
+    store: &mut NodeStore<R>,
+    col: usize,
+    at: Option<Node>,
+    on_right: bool,
+    new: Option<Node>,
+) -> Option<Node>
+    requires col { col < 8 }
+    requires grafted { GraftedSide T.of (column_of store.old col) at on_right new }
+    ensures tree { (path : Path) (was now : Tree) → Grafted T.of (column_of store.old col) at new path was now → Turned path on_right
+        → Rises T.of (column_of store.old col) (column_of store.new col) path now result }
+    ensures nodes { KeepsNodes (column_of store.old col) (column_of store.new col) }
+    ensures others { KeepsOthers (column_of store.old) (column_of store.new) col }
+    ensures contents { contents store.new ≡ contents store.old }
+{
+    let Some(n) = at else {
+        set_up::<T, R>(store, col, new, None);
+        return new;
+    };
+    let Link {
+        a: left,
+        b: right,
+        up,
+        ..
+    } = store.link(n, col);
+    if on_right {
+        let top = balance::<T, R>(store, col, left, n, new);
+        rise::<T, R>(store, col, n, up, Some(top))
+    } else {
+        let top = balance::<T, R>(store, col, new, n, right);
+        rise::<T, R>(store, col, n, up, Some(top))
+    }
+}

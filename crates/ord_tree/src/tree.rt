@@ -1,0 +1,125 @@
+//! An ordered index, and its changes.
+ghost use Rattle.std.specs.Prelude.{◌≡◌, ◌+◌, ◌^◌, ◌<◌, Some, [], length, IsOk, IsTrue};
+ghost use Rattle.node_store.specs.Store.{IsNodeOf, no_link};
+ghost use Rattle.node_store.specs.Nodes.{Lacks};
+ghost use Rattle.node_store.specs.ByNode.{column_of, record_of, contents, same_node};
+ghost use Rattle.list_model.specs.Order.{IsInOrder};
+ghost use Rattle.list_model.specs.Walk.{without, placed};
+ghost use Rattle.ord_tree.specs.Side.{order_at};
+ghost use Rattle.std.specs.Ordering.{is_le};
+
+use crate::removal::take_out;
+use crate::steps::{graft, join};
+use crate::tally::Tally;
+use key_extract::Extract;
+use node_store::{Link, Node, NodeStore};
+use std::alloc::AllocError;
+use std::marker::PhantomData;
+
+/// A balanced tree of nodes through one column of links, in the order of one index's keys.
+#[derive(Drop)]
+pub struct OrdTree<T: Tally> {
+    pub(crate) col: usize,
+    index: usize,
+    pub(crate) root: Option<Node>,
+    len: u64,
+    tally: PhantomData<T>,
+    ghost col_exists: { col < 8 },
+}
+
+impl<T: Tally> OrdTree<T> {
+    ghost use Rattle.ord_tree.specs.Path.{Place};
+    ghost use Rattle.ord_tree.specs.Spelled.{Spells, IsSound, Holds, KeepsOthers, spelled, tree_of, col_of, index_of, HasRoom};
+
+    /// A tree of no nodes in column `col`, ordered by the keys of index number `index`. O(1).
+    pub fn new(col: usize, index: usize) -> OrdTree<T>
+        requires { col < 8 }
+        ensures col { col_of result ≡ col }
+        ensures index { index_of result ≡ index }
+        ensures empty { (cs : _) → Spells cs result [] }
+    {
+        OrdTree {
+            col,
+            index,
+            root: None,
+            len: 0,
+            tally: PhantomData,
+        }
+    }
+
+    /// Makes room for one more node. A tree needs no memory for it, so this is always `Ok`. O(1).
+    pub fn reserve_one<R>(&mut self, store: &NodeStore<R>) -> Result<(), AllocError>
+        ensures granted { IsOk result }
+        ensures same { self.new ≡ self.old }
+        ensures room { HasRoom self.new }
+    {
+        Ok(())
+    }
+
+    /// Puts `n` after all whose key is at most its own. O(log n), comparisons included.
+    #[tactic(auto, using(node_store::proofs::ByNode::node_in_column))]
+    pub fn link<R, E: Extract<R>>(&mut self, store: &mut NodeStore<R>, keys: &E, n: Node)
+        requires tree { IsSound (column_of store.old) self.old }
+        requires node { IsNodeOf store.old n }
+        requires new { Lacks (spelled (column_of store.old) self.old) n }
+        requires key { IsTrue (E.has_key keys.now (index_of self.old)) }
+        requires order { IsInOrder (order_at (record_of store.old) (E.order_of keys.now (index_of self.old))) (spelled (column_of store.old) self.old) }
+        requires room { HasRoom self.old }
+        requires fits { length (spelled (column_of store.old) self.old) + 1 < 2 ^ 64 }
+        ensures list { Spells (column_of store.new) self.new
+            (placed (λ m. order_at (record_of store.old) (E.order_of keys.now (index_of self.old)) m n) n (spelled (column_of store.old) self.old)) }
+        ensures col { col_of self.new ≡ col_of self.old }
+        ensures index { index_of self.new ≡ index_of self.old }
+        ensures others { KeepsOthers (column_of store.old) (column_of store.new) (col_of self.old) }
+        ensures contents { contents store.new ≡ contents store.old }
+    {
+        let (parent, on_right) = self.place_of(store, keys, n);
+        join::<T, R>(store, self.col, None, n, None);
+        self.root = graft::<T, R>(store, self.col, parent, on_right, Some(n));
+        self.len += 1;
+    }
+
+    /// Takes `n` out, and empties its links. It reads no record, so the node's may have changed. O(log n).
+    pub fn unlink<R>(&mut self, store: &mut NodeStore<R>, n: Node)
+        requires tree { IsSound (column_of store.old) self.old }
+        requires held { Holds (spelled (column_of store.old) self.old) n }
+        ensures list { Spells (column_of store.new) self.new (without (same_node n) (spelled (column_of store.old) self.old)) }
+        ensures emptied { column_of store.new (col_of self.old) n ≡ Some no_link }
+        ensures room { HasRoom self.new }
+        ensures col { col_of self.new ≡ col_of self.old }
+        ensures index { index_of self.new ≡ index_of self.old }
+        ensures others { KeepsOthers (column_of store.old) (column_of store.new) (col_of self.old) }
+        ensures contents { contents store.new ≡ contents store.old }
+    {
+        self.root = take_out::<T, R>(store, self.col, n);
+        self.len -= 1;
+        store.set_link(n, self.col, Link::empty());
+    }
+
+    // Where a leaf for `n` goes: its parent, and on which side of it.
+    fn place_of<R, E: Extract<R>>(
+        &self,
+        store: &NodeStore<R>,
+        keys: &E,
+        n: Node,
+    ) -> (Option<Node>, bool)
+        requires tree { IsSound (column_of store.now) self.now }
+        requires node { IsNodeOf store.now n }
+        requires key { IsTrue (E.has_key keys.now (index_of self.now)) }
+        requires order { IsInOrder (order_at (record_of store.now) (E.order_of keys.now (index_of self.now))) (spelled (column_of store.now) self.now) }
+        ensures { Place (λ m. is_le (order_at (record_of store.now) (E.order_of keys.now (index_of self.now)) m n))
+            (tree_of (column_of store.now) self.now) result.0 result.1 }
+    {
+        let own = store.get(n);
+        let mut parent = None;
+        let mut on_right = false;
+        let mut at = self.root;
+        while let Some(m) = at {
+            let link = store.link(m, self.col);
+            parent = Some(m);
+            on_right = keys.order(self.index, store.get(m), own).is_le();
+            at = if on_right { link.b } else { link.a };
+        }
+        (parent, on_right)
+    }
+}
