@@ -1,7 +1,6 @@
 //! Rows and their cells.
-ghost use Rattle.std.specs.Prelude.{◌≡◌, ◌↔◌, IfOk, IsTrue, [], length, string_bytes, slice_get};
+ghost use Rattle.std.specs.Prelude.{◌≡◌, ◌<◌, ◌↔◌, IfOk, IsTrue, [], length, string_bytes, slice_get, slice_set, fold, Some};
 ghost use Rattle.std.specs.Option.{option_copied};
-ghost use Rattle.std.specs.Prelude.{fold};
 ghost use Rattle.std.specs.Hash.FoldHasher as folding;
 ghost use Rattle.key_extract.specs.Cells.{cell_cmp, optional_cell_cmp};
 ghost use Rattle.key_extract.specs.Hashes.{optional_cell_writes};
@@ -10,6 +9,7 @@ use std::alloc::{AllocError, Global};
 use std::cmp::Ordering;
 use std::hash::{FoldHasher, Hash, Hasher};
 use std::marker::Model;
+use std::mem::replace;
 
 /// A text, which compares by its bytes.
 #[derive(Debug, Drop)]
@@ -169,6 +169,33 @@ impl Row {
     {
         &self.cells
     }
+
+    /// Puts a cell in a column, from 0, that the row has, and answers the cell that was there. The others stay. O(1).
+    pub fn set(&mut self, column: usize, cell: Cell) -> Cell
+        requires { column < length self.old }
+        ensures answer { slice_get self.old column ≡ Some result }
+        ensures row { self.new ≡ slice_set self.old column cell }
+    {
+        replace(&mut self.cells[column], cell)
+    }
+
+    /// An equal row, newly allocated. O(length of all cells).
+    pub fn copy(&self) -> Result<Row, AllocError>
+        ensures { IfOk result (λ copy. copy ≡ self.now) }
+    {
+        Ok(Row::new(copy_cells(*self.cells.allocator(), self.cells())?))
+    }
+}
+
+// Equal cells, newly allocated.
+pub(crate) fn copy_cells(alloc: Global, cells: &[Cell]) -> Result<Vec<Cell>, AllocError>
+    ensures { IfOk result (λ copies. copies.items ≡ cells.now) }
+{
+    let mut copies = Vec::with_capacity(alloc, cells.len())?;
+    for cell in cells {
+        copies.push(cell.copy()?)?;
+    }
+    Ok(copies)
 }
 
 // The cell of a column, which a row may lack.

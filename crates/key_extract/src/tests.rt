@@ -19,9 +19,9 @@ fn row(alloc: Global, id: i64, group: &str, n: i64) -> Result<Row, AllocError> {
     Ok(Row::new(cells))
 }
 
-// No key for the first index; for the second the group, and within a group the greatest number first.
-fn keys(alloc: Global) -> Result<RowKeys, AllocError>
-    ensures { IfOk result (λ made. made ≡ None ∷ Some (record { column = 1; falling = false } ∷ record { column = 2; falling = true } ∷ []) ∷ []) }
+// The group, and within a group the greatest number first.
+fn group_key() -> KeySpec
+    ensures { result ≡ record { column = 1; falling = false } ∷ record { column = 2; falling = true } ∷ [] }
 {
     let mut parts = ArrayVec::new();
     parts.push(Part {
@@ -32,7 +32,14 @@ fn keys(alloc: Global) -> Result<RowKeys, AllocError>
         column: 2,
         falling: true,
     });
-    RowKeys::new(alloc, &[None, Some(KeySpec::new(parts))])
+    KeySpec::new(parts)
+}
+
+// No key for the first index.
+fn keys(alloc: Global) -> Result<RowKeys, AllocError>
+    ensures { IfOk result (λ made. made ≡ None ∷ Some (record { column = 1; falling = false } ∷ record { column = 2; falling = true } ∷ []) ∷ []) }
+{
+    RowKeys::new(alloc, &[None, Some(group_key())])
 }
 
 // A group, and a number where one is given.
@@ -81,6 +88,10 @@ fn copies_are_equal(rt: HostRuntime) -> Result<(), Fail> {
     }
     assert_eq!(rt; Cell::Int(-7).copy()?, Cell::Int(-7));
     assert_eq!(rt; Cell::Bool(true).copy()?, Cell::Bool(true));
+    let row = row(alloc, 1, "a", 5)?;
+    assert_eq!(rt; row.copy()?.cells(), row.cells());
+    let probe = probe(alloc, "a", Some(5))?;
+    assert_eq!(rt; probe.copy()?.cells(), probe.cells());
     Ok(())
 }
 
@@ -91,6 +102,7 @@ fn the_second_part_falls(rt: HostRuntime) -> Result<(), Fail> {
     assert!(rt; !keys.has(0));
     assert!(rt; keys.has(1));
     assert!(rt; !keys.has(2));
+    let sort = RowSort::new(group_key());
     let a = row(alloc, 1, "a", 5)?;
     for (id, group, n, order) in [
         (2, "a", 3, Ordering::Less),
@@ -101,6 +113,7 @@ fn the_second_part_falls(rt: HostRuntime) -> Result<(), Fail> {
         let b = row(alloc, id, group, n)?;
         assert_eq!(rt; keys.order(1, &a, &b), order, "row {id}");
         assert_eq!(rt; keys.same(1, &a, &b), order == Ordering::Equal, "row {id}");
+        assert_eq!(rt; sort.compare(&a, &b), order, "row {id}");
     }
     let short = Row::new(Vec::new(alloc));
     assert_eq!(rt; keys.order(1, &short, &a), Ordering::Less);
