@@ -1,18 +1,14 @@
 -- What the definitions on lists say of a list at one of its nodes.
 use Rattle.std.proofs.Common.{◌≡◌, Bool, true, false, cond, List, [], ◌∷◌, ◌++◌, length, slice_get, Option, Some, None, refl, ap, sym, subst, ◌∙◌}
 use Rattle.std.specs.List.{AllByRecursion}
-use Rattle.std.proofs.lemmas.Bool.{false_from_ne_true}
 use Rattle.node_store.specs.declared.Node.{Node}
 use Rattle.node_store.specs.Nodes.{Lacks, IsDistinct, first_or, last_or}
 use Rattle.node_store.specs.ByNode.{same_node}
-use Rattle.node_store.proofs.ByNode.{same_node-refl, same_node-true}
+use Rattle.node_store.proofs.ByNode.{same_node-refl}
+use Rattle.node_store.proofs.Members.{others_differ}
 use Rattle.node_store.proofs.NodeLists.{IsDistinct-parts, AreApart-head, Lacks-append}
 use Rattle.list_model.specs.Walk.{without, next, prev, prev_onto, last}
 use Rattle.list_model.proofs.Settled.{without-middle, next-middle, first}
-
-pub others_differ : (n : Node) (xs : List Node) → Lacks xs n → AllByRecursion (λ y. same_node n y ≡ false) xs
-others_differ n [] h = tt
-others_differ n (x ∷ xs) h = (false_from_ne_true (same_node n x) (λ e. h.0 (same_node-true n x e)), others_differ n xs h.1)
 
 -- no node beside this one is this one
 pub record Apart (n : Node) (xs ys : List Node) : Type 0 where

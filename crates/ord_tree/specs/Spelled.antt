@@ -1,11 +1,11 @@
 -- The list that a tree of links spells.
-use Rattle.std.specs.Prelude.{◌≡◌, ℕ, zero, suc, ◌^◌, ◌<◌, List, length, Option, Some, None}
+use Rattle.std.specs.Prelude.{◌≡◌, ◌+◌, ℕ, zero, suc, ◌^◌, ◌<◌, List, length, Option, Some, None}
 use Rattle.node_store.specs.declared.Node.{Node}
 use Rattle.node_store.specs.Column.{Column}
 pub use Rattle.node_store.specs.Column.{KeepsOthers}
 use Rattle.node_store.specs.Nodes.{IsDistinct}
 use Rattle.ord_tree.specs.Tree.{Tree, Leaf, Fork, nodes, root, Hangs, IsBalanced, stored_height, left_of, right_of}
-pub use Rattle.ord_tree.specs.Removal.{Holds}
+pub use Rattle.node_store.specs.Nodes.{Holds}
 use Rattle.ord_tree.specs.declared.tree.OrdTree.{OrdTree}
 use Rattle.ord_tree.specs.declared.tally.Tally.{Ghosts}
 
@@ -32,9 +32,9 @@ module _ {T : Type 0} {G : Ghosts T} where
   abbrev pub index_of : OrdTree T G → ℕ
   index_of i = i.index
 
-  -- an insertion needs no more memory
+  -- one node more can be counted
   abbrev pub HasRoom : OrdTree T G → Type 0
-  HasRoom i = Unit {0}
+  HasRoom i = i.len + 1 < 2 ^ 64
 
   -- the index is this tree
   pub record SpellsTree (cs : ℕ → Column) (i : OrdTree T G) (t : Tree) : Type 0 where

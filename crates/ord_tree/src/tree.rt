@@ -1,7 +1,9 @@
 //! An ordered index, and its changes.
-ghost use Rattle.std.specs.Prelude.{◌≡◌, ◌+◌, ◌^◌, ◌<◌, Some, [], length, IsOk, IsTrue};
+ghost use Rattle.std.specs.Prelude.{◌≡◌, ℕ, ◌<◌, List, Some, [], OnOk, OnErr, IsTrue};
 ghost use Rattle.node_store.specs.Store.{IsNodeOf, no_link};
+ghost use Rattle.node_store.specs.Column.{Column};
 ghost use Rattle.node_store.specs.Nodes.{Lacks};
+ghost use Rattle.node_store.specs.declared.Node.{Node};
 ghost use Rattle.node_store.specs.ByNode.{column_of, record_of, contents, same_node};
 ghost use Rattle.list_model.specs.Order.{IsInOrder};
 ghost use Rattle.list_model.specs.Walk.{without, placed};
@@ -20,9 +22,9 @@ use std::marker::PhantomData;
 #[derive(Drop)]
 pub struct OrdTree<T: Tally> {
     pub(crate) col: usize,
-    index: usize,
+    pub(crate) index: usize,
     pub(crate) root: Option<Node>,
-    len: u64,
+    pub(crate) len: u64,
     tally: PhantomData<T>,
     ghost col_exists: { col < 8 },
 }
@@ -47,12 +49,19 @@ impl<T: Tally> OrdTree<T> {
         }
     }
 
-    /// Makes room for one more node. A tree needs no memory for it, so this is always `Ok`. O(1).
+    /// Makes room for one more node. A tree takes no memory for it: only one of 2^64 - 1 nodes has no room. O(1).
     pub fn reserve_one<R>(&mut self, store: &NodeStore<R>) -> Result<(), AllocError>
-        ensures granted { IsOk result }
         ensures same { self.new ≡ self.old }
-        ensures room { HasRoom self.new }
+        ensures list { (cs : ℕ → Column) (xs : List Node) → Spells cs self.old xs → Spells cs self.new xs }
+        ensures spelled { (cs : ℕ → Column) → spelled cs self.new ≡ spelled cs self.old }
+        ensures col { col_of self.new ≡ col_of self.old }
+        ensures index { index_of self.new ≡ index_of self.old }
+        ensures room { OnOk result (HasRoom self.new) }
+        ensures full { OnErr result (¬ HasRoom self.old) }
     {
+        if self.len == u64::MAX {
+            return Err(AllocError);
+        }
         Ok(())
     }
 
@@ -65,7 +74,6 @@ impl<T: Tally> OrdTree<T> {
         requires key { IsTrue (E.has_key keys.now (index_of self.old)) }
         requires order { IsInOrder (order_at (record_of store.old) (E.order_of keys.now (index_of self.old))) (spelled (column_of store.old) self.old) }
         requires room { HasRoom self.old }
-        requires fits { length (spelled (column_of store.old) self.old) + 1 < 2 ^ 64 }
         ensures list { Spells (column_of store.new) self.new
             (placed (λ m. order_at (record_of store.old) (E.order_of keys.now (index_of self.old)) m n) n (spelled (column_of store.old) self.old)) }
         ensures col { col_of self.new ≡ col_of self.old }

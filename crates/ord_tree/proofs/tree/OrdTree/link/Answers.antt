@@ -12,4 +12,4 @@ pub returns-clause-list : goal.returns-clause-list
 returns-clause-list g c =
     let p = c.place_of-parent.ensures in
     let grafted = grafted_leaf _ _ _ _ _ _ _ c.args.n (the_tree _ _ c.requires.tree) p c.requires.new c.join.ensures.joined in
-    Spells-leaf _ _ _ _ _ _ _ _ _ c.args.n (the_tree _ _ c.requires.tree) p c.requires.new refl (subst (λ (k : ℕ). k + 1 < 2 ^ 64) (sym (the_tree _ _ c.requires.tree).len) c.requires.fits) (c.graft-self.ensures.tree p.path Leaf (Fork Leaf c.args.n Leaf) grafted p.turned)
+    Spells-leaf _ _ _ _ _ _ _ _ _ c.args.n (the_tree _ _ c.requires.tree) p c.requires.new refl c.requires.room (c.graft-self.ensures.tree p.path Leaf (Fork Leaf c.args.n Leaf) grafted p.turned)
