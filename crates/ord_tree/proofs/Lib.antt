@@ -11,3 +11,9 @@ pub mod Climbing
 pub mod Tallies
 pub mod Sides
 pub mod NodeWalks
+pub mod Mirror
+pub mod Nearing
+pub mod KeySides
+pub mod Sought
+pub mod Excepting
+pub mod NextTo

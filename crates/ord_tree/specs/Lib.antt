@@ -5,3 +5,6 @@ pub mod Cut
 pub mod Spelled
 pub mod Removal
 pub mod Side
+pub mod Mirror
+pub mod Seek
+pub mod Same

@@ -5,12 +5,12 @@
 #![tactic(auto)]
 
 mod removal;
+mod same;
 mod seek;
 mod steps;
 mod tally;
 mod tree;
 mod walk;
 
-pub use seek::Cut;
 pub use tally::{NoTally, Tally};
 pub use tree::OrdTree;
