@@ -1,0 +1,18 @@
+-- Indices in columns that follow one another.
+use Rattle.std.specs.Prelude.{◌≡◌, ℕ, zero, suc, List, [], ◌∷◌}
+use Rattle.node_store.specs.declared.Node.{Node}
+use Rattle.node_store.specs.Column.{Column}
+use Rattle.node_store.specs.Nodes.{Lacks}
+use Rattle.index_tests.specs.declared.index.Index.{Index}
+use Rattle.index_tests.specs.Either.{IsSoundIn, listed, col_in}
+
+-- each is sound, and the first has this column
+abbrev pub AreSound : (ℕ → Column) → ℕ → List Index → Type 0
+AreSound cs col [] = Unit {0}
+AreSound cs col (i ∷ is) = (col_in i ≡ col) × IsSoundIn cs i × AreSound cs (suc col) is
+
+-- those from a place on lack the node
+abbrev pub LackFrom : (ℕ → Column) → ℕ → List Index → Node → Type 0
+LackFrom cs k [] n = Unit {0}
+LackFrom cs zero (i ∷ is) n = Lacks (listed cs i) n × LackFrom cs zero is n
+LackFrom cs (suc k) (i ∷ is) n = LackFrom cs k is n

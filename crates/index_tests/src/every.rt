@@ -1,0 +1,102 @@
+//! Changes of one of several indices, and of each.
+ghost use Rattle.std.specs.Prelude.{◌≡◌, ◌+◌, ◌<◌, ◌≤◌, ◌^◌, Some};
+ghost use Rattle.node_store.specs.declared.Node.{Node};
+ghost use Rattle.node_store.specs.Column.{KeepsOthers};
+ghost use Rattle.node_store.specs.Store.{IsNodeOf};
+ghost use Rattle.node_store.specs.Nodes.{Holds};
+ghost use Rattle.node_store.specs.ByNode.{column_of, contents};
+ghost use Rattle.index_tests.specs.Either.{IsSoundIn, listed, col_in};
+ghost use Rattle.index_tests.specs.Every.{AreSound, LackFrom};
+
+use crate::index::Index;
+use node_store::{Node, NodeStore};
+use std::alloc::Global;
+
+/// The node of this number, where the index has it.
+pub(crate) fn node_numbered<R>(store: &NodeStore<R>, index: &Index, number: u64) -> Option<Node>
+    requires { IsSoundIn (column_of store.now) index.now }
+    ensures { (n : Node) → result ≡ Some n → Holds (listed (column_of store.now) index.now) n }
+{
+    let mut at = index.first(store);
+    for _ in 0..store.added() {
+        let n = at?;
+        if n.number() == number {
+            return Some(n);
+        }
+        at = index.next(store, n);
+    }
+    None
+}
+
+/// The numbers of the index's nodes, by a walk.
+pub(crate) fn numbers<R>(store: &NodeStore<R>, index: &Index, alloc: Global) -> Option<Vec<u64>>
+    requires { IsSoundIn (column_of store.now) index.now }
+{
+    let mut met = Vec::new(alloc);
+    let mut at = index.first(store);
+    for _ in 0..store.added() {
+        let Some(n) = at else {
+            return Some(met);
+        };
+        met.push(n.number()).ok()?;
+        at = index.next(store, n);
+    }
+    Some(met)
+}
+
+/// Those of each index.
+pub(crate) fn views<R>(
+    store: &NodeStore<R>,
+    indices: &[Index],
+    alloc: Global,
+) -> Option<Vec<Vec<u64>>>
+    requires { AreSound (column_of store.now) 0 indices.now }
+{
+    let mut all = Vec::new(alloc);
+    for index in indices {
+        all.push(numbers(store, index, alloc)?).ok()?;
+    }
+    Some(all)
+}
+
+/// Adds a node and puts it into each index, if there is room.
+pub(crate) fn add<R: Drop>(store: &mut NodeStore<R>, indices: &mut [Index], value: R)
+    requires { AreSound (column_of store.old) 0 indices.old }
+    ensures { AreSound (column_of store.new) 0 indices.new }
+{
+    if store.added() == u64::MAX {
+        return;
+    }
+    if let Ok(n) = store.add(value) {
+        put_into_each(store, indices, n);
+    }
+}
+
+fn put_into_each<R>(store: &mut NodeStore<R>, indices: &mut [Index], n: Node)
+    requires sound { AreSound (column_of store.old) 0 indices.old }
+    requires node { IsNodeOf store.old n }
+    requires new { LackFrom (column_of store.old) 0 indices.old n }
+    ensures { AreSound (column_of store.new) 0 indices.new }
+{
+    for place in 0..indices.len() {
+        indices[place].put(store, n);
+    }
+}
+
+/// Takes the node of this number out of the index at the place.
+pub(crate) fn unlink_from<R>(
+    store: &mut NodeStore<R>,
+    indices: &mut [Index],
+    place: usize,
+    number: u64,
+)
+    requires { AreSound (column_of store.old) 0 indices.old }
+    ensures { AreSound (column_of store.new) 0 indices.new }
+{
+    if place >= indices.len() {
+        return;
+    }
+    if let Some(n) = node_numbered(store, &indices[place], number) {
+        indices[place].unlink(store, n);
+    }
+}

@@ -1,0 +1,7 @@
+//! Tests of several indices over one store, each in a column of its own.
+#![tactic(auto)]
+
+mod every;
+mod index;
+#[cfg(test)]
+mod tests;
