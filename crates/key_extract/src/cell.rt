@@ -90,13 +90,12 @@ impl Eq for Text {
 }
 
 impl Hash for Text {
-    ghost use Rattle.std.specs.Hash.{str};
-    ghost use Rattle.std.specs.Cmp.Rules.{hashing};
-    ghost use Rattle.std.proofs.Common.{rules};
+    ghost use Rattle.std.specs.Hash.{str, same_Alike};
+    ghost use Rattle.std.specs.Cmp.Lexicographic.{bytes_decides};
 
     ghost hash_input = { str };
 
-    ghost respects_eq = { Prim.search (hashing, rules) };
+    ghost respects_eq = { (same_Alike str bytes_decides).fed };
 
     fn hash<H: Hasher>(&self, state: &mut H) {
         self.text.hash(state);
