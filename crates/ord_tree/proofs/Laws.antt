@@ -29,7 +29,7 @@ tree_below-is tally c p (Fork l n r) (suc k) h low =
     ap (λ (x : Tree). Fork x n (tree_below c (right_of c n) k)) a ∙ ap (λ (x : Tree). Fork l n x) b
 
 module _ {T : Type 0} {G : Ghosts T} where
-  tree_of-is : (cs : ℕ → Column) (i : OrdTree T G) (t : Tree) → SpellsTree cs i t → tree_of cs i ≡ t
+  pub tree_of-is : (cs : ℕ → Column) (i : OrdTree T G) (t : Tree) → SpellsTree cs i t → tree_of cs i ≡ t
   unfolding tree_of
   tree_of-is cs i t s =
       let c = cs i.col in

@@ -17,3 +17,6 @@ pub mod KeySides
 pub mod Sought
 pub mod Excepting
 pub mod NextTo
+pub mod Settling
+pub mod Ordered
+pub mod Ways

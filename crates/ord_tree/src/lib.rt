@@ -7,6 +7,7 @@
 mod removal;
 mod same;
 mod seek;
+mod settle;
 mod steps;
 mod tally;
 mod tree;
