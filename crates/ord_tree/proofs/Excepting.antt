@@ -1,20 +1,22 @@
 -- The descent to the first node of a key, but for one node, beside which its neighbour leads.
 use Rattle.std.proofs.Common.{◌≡◌, ◌≢◌, ℕ, ◌≤◌, ◌⊎◌, inl, inr, Bool, true, false, cond, not, ◌&&◌, List, [], ◌∷◌, ◌++◌, Option, Some, None, refl, sym, ap, ◌∙◌, subst, arith}
-use Rattle.std.specs.Prelude.{filter}
+use Rattle.std.specs.Prelude.{filter, find}
 use Rattle.std.specs.List.{AllByRecursion}
 use Rattle.std.specs.Ordering.{is_lt, is_eq, ordering_index}
 use Rattle.std.specs.declared.cmp.Ordering.{Ordering}
 use Rattle.std.specs.declared.cmp.Ordering.TheVariants.{Less, Equal, Greater}
-use Rattle.std.proofs.lemmas.Bool.{false≢true, false_from_ne_true}
+use Rattle.std.proofs.lemmas.Bool.{false≢true}
 use Rattle.std.proofs.lemmas.Option.{none-some}
 use Rattle.node_store.specs.declared.Node.{Node}
 use Rattle.node_store.specs.declared.Link.{Link}
 use Rattle.node_store.specs.Column.{Column}
-use Rattle.node_store.specs.Nodes.{Lacks, IsDistinct, last_or}
+use Rattle.node_store.specs.Nodes.{Lacks, Holds, IsDistinct, last_or}
 use Rattle.node_store.specs.ByNode.{same_node}
-use Rattle.node_store.proofs.ByNode.{same_node-refl, same_node-true, node_cases}
+use Rattle.node_store.proofs.ByNode.{same_node-refl, node_cases}
+use Rattle.node_store.proofs.Members.{same_node-false}
 use Rattle.list_model.specs.Order.{EachPair}
-use Rattle.ord_tree.specs.Same.{is_kept}
+use Rattle.list_model.proofs.Lists.{find_none}
+use Rattle.ord_tree.specs.Same.{is_kept, without_excepted, equal_but}
 use Rattle.ord_tree.specs.Tree.{Tree, nodes, root, IsAt}
 use Rattle.ord_tree.proofs.Removing.{is_leaf}
 use Rattle.ord_tree.proofs.Nearing.{All-parts, All-each, EachPair-parts, Nears, Opens, go_right, go_left, take_here, take_before}
@@ -24,7 +26,7 @@ use Rattle.ord_tree.proofs.KeySides.{Rises}
 
 kept_if : (n : Node) (except : Option Node) → except ≢ Some n → is_kept except n ≡ true
 kept_if n None ne = refl
-kept_if n (Some m) ne = ap not (false_from_ne_true (same_node n m) (λ e. ne (ap some_node (sym (same_node-true n m e)))))
+kept_if n (Some m) ne = ap not (same_node-false m n (λ e. ne (ap some_node e)))
   where
     some_node : Node → Option Node
     some_node x = Some x
@@ -59,6 +61,15 @@ All-kept_by keep P x xs false e k = (λ f. absurd (false≢true (sym e ∙ f)), 
 All-kept : (keep : Node → Bool) (P : Node → Type 0) (xs : List Node) → AllByRecursion P (filter keep xs) → AllByRecursion (λ y. keep y ≡ true → P y) xs
 All-kept keep P [] h = tt
 All-kept keep P (x ∷ xs) h = let r = All-kept_by keep P x xs (keep x) refl h in (r.0, All-kept keep P xs r.1)
+
+all_kept : (xs : List Node) → filter (is_kept None) xs ≡ xs
+all_kept [] = refl
+all_kept (x ∷ xs) = ap (λ (z : List Node). x ∷ z) (all_kept xs)
+
+-- the list without the excepted node is what is kept
+pub kept_list : (except : Option Node) (xs : List Node) → without_excepted except xs ≡ filter (is_kept except) xs
+kept_list None xs = sym (all_kept xs)
+kept_list (Some m) xs = refl
 
 -- two nodes of the list are not one, and rise where both are kept
 pub record Beside (keep : Node → Bool) (side : Node → Ordering) (x y : Node) : Type 0 where
@@ -202,3 +213,46 @@ module _ (tally : ℕ → ℕ → ℕ) (c : Column) (except : Option Node) (side
         | inl same ↦ no_guide tally c (is_kept except) side whole n link found o (not_kept n except same) (none_last (nodes o.left) (sym (is.excepted same o.left o.at_left) ∙ e))
         | inr apart ↦ absurd (none-some n (sym e ∙ is.itself apart))
       ]
+
+-- ---- what the answer says
+
+-- an answer is another node of the list that has the key
+pub record IsOther (except : Option Node) (side : Node → Ordering) (xs : List Node) (m : Node) : Type 0 where
+  pub held : Holds xs m
+  pub apart : except ≢ Some m
+  pub equal : side m ≡ Equal
+
+eq_is : (o : Ordering) → is_eq o ≡ true → o ≡ Equal
+eq_is Less e = cc
+eq_is Equal e = refl
+eq_is Greater e = cc
+
+both_parts : (b c : Bool) → (b && c) ≡ true → (b ≡ true) × (c ≡ true)
+both_parts true c e = (refl, e)
+both_parts false c e = cc
+
+-- what a search finds stands in the list and passes
+pub record IsFound (p : Node → Bool) (xs : List Node) (m : Node) : Type 0 where
+  pub held : Holds xs m
+  pub passes : p m ≡ true
+
+found_by : (p : Node → Bool) (x : Node) (xs : List Node) (m : Node) (b : Bool) → p x ≡ b → cond b (Some x) (find p xs) ≡ Some m → (find p xs ≡ Some m → IsFound p xs m) → IsFound p (x ∷ xs) m
+found_by p x xs m true e f rest = let s = same_some f in record { held = record { before = []; after = xs; is = ap (λ (z : Node). z ∷ xs) s }; passes = ap p (sym s) ∙ e }
+found_by p x xs m false e f rest = let r = rest f in record { held = record { before = x ∷ r.held.before; after = r.held.after; is = ap (λ (z : List Node). x ∷ z) r.held.is }; passes = r.passes }
+
+pub find_is : (p : Node → Bool) (xs : List Node) (m : Node) → find p xs ≡ Some m → IsFound p xs m
+find_is p [] m e = absurd (none-some m e)
+find_is p (x ∷ xs) m e = found_by p x xs m (p x) refl e (find_is p xs m)
+
+pub equal_but_is : (except : Option Node) (side : Node → Ordering) (xs : List Node) (m : Node) → equal_but except side xs ≡ Some m → IsOther except side xs m
+equal_but_is except side xs m e =
+    let f = find_is (λ n. is_kept except n && is_eq (side n)) xs m e in
+    let both = both_parts (is_kept except m) (is_eq (side m)) f.passes in
+    record { held = f.held; apart = λ k. false≢true (sym (not_kept m except k) ∙ both.0); equal = eq_is (side m) both.1 }
+
+-- with no answer, no other node of the list has the key
+pub equal_but_none : (except : Option Node) (side : Node → Ordering) (xs : List Node) → equal_but except side xs ≡ None → (m : Node) → Holds xs m → except ≢ Some m → side m ≢ Equal
+equal_but_none except side xs e m held apart equal =
+    let all = subst (λ (z : List Node). AllByRecursion (λ n. (is_kept except n && is_eq (side n)) ≡ false) z) held.is (find_none (λ n. is_kept except n && is_eq (side n)) xs e) in
+    let here = (All-parts (λ n. (is_kept except n && is_eq (side n)) ≡ false) held.before (m ∷ held.after) all).1.0 in
+    false≢true (sym here ∙ both_pass (is_kept except m) (is_eq (side m)) (kept_if m except apart) (ap is_eq equal))

@@ -1,13 +1,14 @@
-use Rattle.std.proofs.Common.{sym, ap, ◌∙◌}
+use Rattle.std.proofs.Common.{sym, ap, subst, ◌∙◌}
 use Rattle.std.specs.Ordering.{is_lt, is_eq}
 use Rattle.node_store.specs.ByNode.{record_of}
 use Rattle.node_store.proofs.ByNode.{node_of_column}
-use Rattle.ord_tree.specs.Same.{is_kept, without_excepted}
-use Rattle.ord_tree.specs.Spelled.{spelled}
+use Rattle.list_model.specs.Order.{EachPair}
+use Rattle.ord_tree.specs.Side.{side_of}
+use Rattle.ord_tree.specs.Same.{is_kept}
 use Rattle.ord_tree.proofs.Laws.{the_tree}
-use Rattle.ord_tree.proofs.KeySides.{Rises-from, cuts_at, side_of-is}
+use Rattle.ord_tree.proofs.KeySides.{Rises, Rises-from, cuts_at, side_of-is}
 use Rattle.ord_tree.proofs.Nearing.{Nears-start, Nears-node, Nears-end, Opens-from}
-use Rattle.ord_tree.proofs.Excepting.{each_beside, guides, unguided, guide_right, guide_take, guide_left}
+use Rattle.ord_tree.proofs.Excepting.{kept_list, each_beside, guides, unguided, guide_right, guide_take, guide_left}
 use Rattle.ord_tree.proofs.tree.OrdTree.same_as.Goals as goal
 
 pub loop-at-init : goal.loop-at-init
@@ -16,7 +17,7 @@ loop-at-init g c =
     let index = c.args.self.now.index in
     let compare = g.E.Extract.order_of c.args.keys.now index in
     let cuts = cuts_at (g.met.E.Extract.order_total c.args.keys.now index c.requires.key) c.args.record.now in
-    Nears-start g.T.Tally.of _ _ _ _ _ s.hangs s.root_is (each_beside (is_kept c.args.except) _ _ s.distinct (Rises-from (record_of c.args.store.now) compare (λ a. compare a c.args.record.now) _ cuts c.requires.order))
+    Nears-start g.T.Tally.of _ _ _ _ _ s.hangs s.root_is (each_beside (is_kept c.args.except) _ _ s.distinct (subst (EachPair (Rises (side_of (record_of c.args.store.now) (λ a. compare a c.args.record.now)))) (kept_list c.args.except _) (Rises-from (record_of c.args.store.now) compare (λ a. compare a c.args.record.now) _ cuts c.requires.order)))
 
 pub link-link-requires-clause-node : goal.link-link-requires-clause-node
 link-link-requires-clause-node g c = Nears-node g.T.Tally.of _ _ _ _ _ _ c.loop-at.invariant c.in-Some.n c.in-Some.is
