@@ -1,0 +1,7 @@
+pub mod Counted
+pub mod Descents
+pub mod Climbs
+pub mod Sides
+pub mod KeyRanks
+pub mod Laws
+pub mod Whole

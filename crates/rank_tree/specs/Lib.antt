@@ -1,0 +1,3 @@
+pub mod Subtrees
+pub mod Sides
+pub mod Spelled

@@ -1,0 +1,102 @@
+//! A ranked index and its changes: those of its tree.
+ghost use Rattle.std.specs.Prelude.{◌≡◌, ℕ, ◌<◌, List, Some, [], OnOk, OnErr, IsTrue};
+ghost use Rattle.node_store.specs.Store.{IsNodeOf, no_link};
+ghost use Rattle.node_store.specs.Column.{Column};
+ghost use Rattle.node_store.specs.Nodes.{Lacks};
+ghost use Rattle.node_store.specs.declared.Node.{Node};
+ghost use Rattle.node_store.specs.ByNode.{column_of, record_of, contents, same_node};
+ghost use Rattle.list_model.specs.Order.{IsInOrder};
+ghost use Rattle.list_model.specs.Walk.{without, placed, settled};
+ghost use Rattle.ord_tree.specs.Side.{order_at};
+
+use crate::sizes::Sizes;
+use key_extract::Extract;
+use node_store::{Node, NodeStore};
+use ord_tree::OrdTree;
+use std::alloc::AllocError;
+
+/// A balanced tree of nodes through one column of links, in the order of one index's keys, where the tag of each node
+/// is the size of its subtree.
+#[derive(Drop)]
+pub struct RankTree {
+    pub(crate) tree: OrdTree<Sizes>,
+}
+
+impl RankTree {
+    ghost use Rattle.rank_tree.specs.Spelled.{Spells, IsSound, Holds, KeepsOthers, HasRoom, spelled, col_of, index_of};
+
+    /// A tree of no nodes in column `col`, ordered by the keys of index number `index`. O(1).
+    pub fn new(col: usize, index: usize) -> RankTree
+        requires { col < 8 }
+        ensures col { col_of result ≡ col }
+        ensures index { index_of result ≡ index }
+        ensures empty { (cs : _) → Spells cs result [] }
+    {
+        RankTree {
+            tree: OrdTree::new(col, index),
+        }
+    }
+
+    /// Makes room for one more node. A tree takes no memory for it: only one of 2^64 - 1 nodes has no room. O(1).
+    pub fn reserve_one<R>(&mut self, store: &NodeStore<R>) -> Result<(), AllocError>
+        ensures same { self.new ≡ self.old }
+        ensures list { (cs : ℕ → Column) (xs : List Node) → Spells cs self.old xs → Spells cs self.new xs }
+        ensures spelled { (cs : ℕ → Column) → spelled cs self.new ≡ spelled cs self.old }
+        ensures col { col_of self.new ≡ col_of self.old }
+        ensures index { index_of self.new ≡ index_of self.old }
+        ensures room { OnOk result (HasRoom self.new) }
+        ensures full { OnErr result (¬ HasRoom self.old) }
+    {
+        self.tree.reserve_one(store)
+    }
+
+    /// Puts `n` after all whose key is at most its own. O(log n), comparisons included.
+    pub fn link<R, E: Extract<R>>(&mut self, store: &mut NodeStore<R>, keys: &E, n: Node)
+        requires tree { IsSound (column_of store.old) self.old }
+        requires node { IsNodeOf store.old n }
+        requires new { Lacks (spelled (column_of store.old) self.old) n }
+        requires key { IsTrue (E.has_key keys.now (index_of self.old)) }
+        requires order { IsInOrder (order_at (record_of store.old) (E.order_of keys.now (index_of self.old))) (spelled (column_of store.old) self.old) }
+        requires room { HasRoom self.old }
+        ensures list { Spells (column_of store.new) self.new
+            (placed (λ m. order_at (record_of store.old) (E.order_of keys.now (index_of self.old)) m n) n (spelled (column_of store.old) self.old)) }
+        ensures col { col_of self.new ≡ col_of self.old }
+        ensures index { index_of self.new ≡ index_of self.old }
+        ensures others { KeepsOthers (column_of store.old) (column_of store.new) (col_of self.old) }
+        ensures contents { contents store.new ≡ contents store.old }
+    {
+        self.tree.link(store, keys, n);
+    }
+
+    /// Takes `n` out, and empties its links. It reads no record, so the node's may have changed. O(log n).
+    pub fn unlink<R>(&mut self, store: &mut NodeStore<R>, n: Node)
+        requires tree { IsSound (column_of store.old) self.old }
+        requires held { Holds (spelled (column_of store.old) self.old) n }
+        ensures list { Spells (column_of store.new) self.new (without (same_node n) (spelled (column_of store.old) self.old)) }
+        ensures emptied { column_of store.new (col_of self.old) n ≡ Some no_link }
+        ensures room { HasRoom self.new }
+        ensures col { col_of self.new ≡ col_of self.old }
+        ensures index { index_of self.new ≡ index_of self.old }
+        ensures others { KeepsOthers (column_of store.old) (column_of store.new) (col_of self.old) }
+        ensures contents { contents store.new ≡ contents store.old }
+    {
+        self.tree.unlink(store, n);
+    }
+
+    /// Puts `n` in order, whose record may have changed: it stays where it fits between its two neighbours, and goes
+    /// after all whose key is at most its own otherwise. The others are in order. O(log n), comparisons included.
+    pub fn settle<R, E: Extract<R>>(&mut self, store: &mut NodeStore<R>, keys: &E, n: Node)
+        requires tree { IsSound (column_of store.old) self.old }
+        requires held { Holds (spelled (column_of store.old) self.old) n }
+        requires key { IsTrue (E.has_key keys.now (index_of self.old)) }
+        requires order { IsInOrder (order_at (record_of store.old) (E.order_of keys.now (index_of self.old))) (without (same_node n) (spelled (column_of store.old) self.old)) }
+        ensures list { Spells (column_of store.new) self.new
+            (settled (same_node n) (λ m. order_at (record_of store.old) (E.order_of keys.now (index_of self.old)) m n) n (spelled (column_of store.old) self.old)) }
+        ensures col { col_of self.new ≡ col_of self.old }
+        ensures index { index_of self.new ≡ index_of self.old }
+        ensures others { KeepsOthers (column_of store.old) (column_of store.new) (col_of self.old) }
+        ensures contents { contents store.new ≡ contents store.old }
+    {
+        self.tree.settle(store, keys, n);
+    }
+}
