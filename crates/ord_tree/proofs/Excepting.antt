@@ -11,14 +11,12 @@ use Rattle.node_store.specs.declared.Node.{Node}
 use Rattle.node_store.specs.declared.Link.{Link}
 use Rattle.node_store.specs.Column.{Column}
 use Rattle.node_store.specs.Nodes.{Lacks, Holds, IsDistinct, last_or}
-use Rattle.node_store.specs.ByNode.{same_node}
 use Rattle.node_store.proofs.ByNode.{same_node-refl, node_cases}
 use Rattle.node_store.proofs.Members.{same_node-false}
 use Rattle.list_model.specs.Order.{EachPair}
 use Rattle.list_model.proofs.Lists.{find_none}
 use Rattle.ord_tree.specs.Same.{is_kept, without_excepted, equal_but}
-use Rattle.ord_tree.specs.Tree.{Tree, nodes, root, IsAt}
-use Rattle.ord_tree.proofs.Removing.{is_leaf}
+use Rattle.ord_tree.specs.Tree.{Tree, nodes, IsAt}
 use Rattle.ord_tree.proofs.Nearing.{All-parts, All-each, EachPair-parts, Nears, Opens, go_right, go_left, take_here, take_before}
 use Rattle.ord_tree.proofs.KeySides.{Rises}
 

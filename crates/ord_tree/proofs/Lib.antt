@@ -8,7 +8,6 @@ pub mod Linking
 pub mod Removing
 pub mod Laws
 pub mod Climbing
-pub mod Tallies
 pub mod Sides
 pub mod NodeWalks
 pub mod Mirror

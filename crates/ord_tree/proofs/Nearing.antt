@@ -7,9 +7,8 @@ use Rattle.std.proofs.lemmas.List.Folds.{find-append}
 use Rattle.node_store.specs.declared.Node.{Node}
 use Rattle.node_store.specs.declared.Link.{Link}
 use Rattle.node_store.specs.Column.{Column}
-use Rattle.node_store.specs.Nodes.{last_or}
 use Rattle.list_model.specs.Order.{EachPair}
-use Rattle.ord_tree.specs.Tree.{Tree, Leaf, Fork, nodes, root, height, Hangs, IsAt, AreNodes, stored_height}
+use Rattle.ord_tree.specs.Tree.{Tree, Leaf, nodes, root, height, Hangs, IsAt, AreNodes, stored_height}
 use Rattle.ord_tree.proofs.Rotations.{IsAt-nodes, IsAt-height, Opened-from}
 use Rattle.ord_tree.proofs.Removing.{is_leaf}
 

@@ -1,5 +1,5 @@
 -- Insertion and settling leave a list of nodes in the order of their records.
-use Rattle.std.proofs.Common.{◌≡◌, ◌≢◌, false, List, [], ◌∷◌, ◌++◌, Option, sym, ap, ◌∙◌, subst}
+use Rattle.std.proofs.Common.{◌≡◌, ◌≢◌, List, [], ◌∷◌, Option, sym, ap, ◌∙◌, subst}
 use Rattle.std.specs.List.{AllByRecursion}
 use Rattle.std.specs.Option.{option_cmp}
 use Rattle.std.specs.Ordering.{is_gt}
@@ -17,6 +17,9 @@ use Rattle.list_model.proofs.Settled.{IsInOrder-settled}
 use Rattle.ord_tree.specs.Side.{order_at}
 use Rattle.ord_tree.proofs.NodeWalks.{apart_at, without_at}
 use Rattle.ord_tree.proofs.Sides.{order_at_total}
+
+pub IsInOrder_empty : (compare : Node → Node → Ordering) (xs : List Node) → xs ≡ [] → IsInOrder compare xs
+IsInOrder_empty compare xs e = subst (λ (z : List Node). IsInOrder compare z) (sym e) tt
 
 module _ {R : Type 0} (records : Node → Option R) (compare : R → R → Ordering) where
   -- a list without a node is in order as before

@@ -1,10 +1,10 @@
 -- How far the nodes of an index are from its root.
-use Rattle.std.proofs.Common.{◌≡◌, ℕ, ◌+◌, ◌*◌, ◌^◌, ◌<◌, ◌≤◌, List, length, sym, ap, ◌∙◌, subst, arith}
+use Rattle.std.proofs.Common.{◌≡◌, ℕ, ◌+◌, ◌*◌, ◌^◌, ◌<◌, ◌≤◌, List, length, sym, ap, subst, arith}
 use Rattle.node_store.specs.declared.Node.{Node}
 use Rattle.node_store.specs.Column.{Column}
 use Rattle.ord_tree.specs.declared.tally.Tally.{Ghosts}
 use Rattle.ord_tree.specs.declared.tree.OrdTree.{OrdTree}
-use Rattle.ord_tree.specs.Tree.{Tree, Fork, nodes, height}
+use Rattle.ord_tree.specs.Tree.{Tree, Fork, height}
 use Rattle.ord_tree.specs.Path.{Path, Top, LeftOf, RightOf, plug, steps_up}
 use Rattle.ord_tree.specs.Spelled.{Spells, tree_of}
 use Rattle.ord_tree.proofs.Heights.{height-bound}

@@ -11,6 +11,8 @@ mod seek;
 mod settle;
 mod steps;
 mod tally;
+#[cfg(test)]
+mod tests;
 mod tree;
 mod walk;
 

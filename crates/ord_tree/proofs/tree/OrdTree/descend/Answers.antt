@@ -3,7 +3,6 @@ use Rattle.node_store.specs.declared.Node.{Node}
 use Rattle.node_store.specs.Column.{Column}
 use Rattle.node_store.specs.ByNode.{column_of, record_of}
 use Rattle.node_store.proofs.ByNode.{node_of_column}
-use Rattle.ord_tree.specs.Side.{side_of}
 use Rattle.ord_tree.specs.Tree.{height, stored_height}
 use Rattle.ord_tree.specs.Spelled.{tree_of}
 use Rattle.ord_tree.proofs.Laws.{the_tree}

@@ -1,5 +1,5 @@
 use Rattle.ord_tree.proofs.Laws.{the_tree}
-use Rattle.std.proofs.Common.{refl, ℕ, ◌+◌, ◌<◌, ◌^◌, subst, sym}
+use Rattle.std.proofs.Common.{refl}
 use Rattle.ord_tree.specs.Tree.{Leaf, Fork}
 use Rattle.ord_tree.proofs.Linking.{grafted_leaf, grafted_side, Spells-leaf}
 use Rattle.ord_tree.proofs.tree.OrdTree.link.Goals as goal

@@ -1,9 +1,6 @@
-use Rattle.std.proofs.Common.{◌≡◌, List, Option, None, sym, ap, subst, ◌∙◌}
-use Rattle.node_store.specs.declared.Node.{Node}
-use Rattle.node_store.specs.Nodes.{IsDistinct, first_or}
-use Rattle.node_store.specs.ByNode.{column_of, same_node}
-use Rattle.list_model.specs.Walk.{next as the_next}
-use Rattle.ord_tree.specs.Spelled.{tree_of, spelled}
+use Rattle.std.proofs.Common.{sym, ◌∙◌}
+use Rattle.node_store.specs.ByNode.{column_of}
+use Rattle.ord_tree.specs.Spelled.{tree_of}
 use Rattle.ord_tree.proofs.Laws.{the_tree}
 use Rattle.ord_tree.proofs.NextTo.{next_is}
 use Rattle.ord_tree.proofs.Removing.{index_whole, whole_node, has_tree, next_of, next_answer}
