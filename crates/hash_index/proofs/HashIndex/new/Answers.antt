@@ -1,0 +1,9 @@
+use Rattle.std.proofs.Common.{refl, sym, subst, arith}
+use Rattle.std.specs.List.{AllByRecursion}
+use Rattle.std.proofs.Common.{None, ◌≡◌}
+use Rattle.hash_index.proofs.Spelling.{Spells_from, empty_hangs}
+use Rattle.hash_index.proofs.HashIndex.new.Goals as goal
+
+pub returns-clause-empty : goal.returns-clause-empty
+returns-clause-empty c = λ cs.
+    Spells_from cs _ _ (empty_hangs _ _ 0 _ (subst (λ z. AllByRecursion (λ o. o ≡ None) z) (sym c.new.ensures.items) tt)) tt refl (omega arith)

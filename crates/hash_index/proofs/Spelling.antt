@@ -1,0 +1,241 @@
+-- What an index spells, by its buckets.
+use Rattle.std.proofs.Common.{◌≡◌, ◌≢◌, ℕ, ◌+◌, ◌%◌, ◌<◌, ◌≤◌, List, [], ◌∷◌, ◌++◌, length, get_or, drop, Option, Some, None, refl, sym, ap, ◌∙◌, subst, arith, append_assoc, length-append}
+use Rattle.std.specs.List.{AllByRecursion}
+use Rattle.std.specs.Option.{option_map}
+use Rattle.std.specs.Vec.{vec_len}
+use Rattle.node_store.specs.declared.Node.{Node}
+use Rattle.node_store.specs.declared.Link.{Link}
+use Rattle.node_store.specs.Column.{Column, IsNode}
+use Rattle.node_store.specs.Nodes.{IsSameAt, IsDistinct, AllNodes, first_or, last_or}
+use Rattle.node_store.specs.ByNode.{same_node}
+use Rattle.node_store.proofs.NodeLists.{first_or-append}
+use Rattle.list_model.specs.Walk.{next}
+use Rattle.list_model.proofs.InOrder.{All-map}
+use Rattle.list_model.proofs.Kept.{All-split}
+use Rattle.seq_index.specs.Links.{Runs, chain_link}
+use Rattle.seq_index.proofs.Runs.{Runs-at, AreNodes-last, AreNodes-first}
+use Rattle.seq_index.proofs.Walks.{next_at}
+use Rattle.hash_index.specs.declared.HashIndex.{HashIndex}
+use Rattle.hash_index.specs.Chains.{untagged_link, untagged, tag_at, IsIn, AreChains, joined, first_head}
+use Rattle.hash_index.specs.Spelled.{Spells, IsSound, spelled, chains_of, Holds}
+use Rattle.hash_index.specs.Walks.{Leads, rest_of, HasHash}
+use Rattle.hash_index.proofs.Untagged.{tag_is, tagged_node}
+use Rattle.hash_index.proofs.OneBucket.{Hangs, Focus, IsElsewhere, focus, chains_are, chains_same, chains_nodes, heads_first, follow_leads, leads_runs}
+
+-- an index whose buckets hold these nodes spells them
+pub Spells_from : (cs : ℕ → Column) (i : HashIndex) (xs : List Node) → Hangs (cs i.col) (vec_len i.buckets) 0 i.buckets.items xs → IsDistinct xs → i.len ≡ length xs → i.len ≤ vec_len i.buckets → Spells cs i xs
+unfolding spelled
+Spells_from cs i xs h dist len load =
+    let fits : length (joined h.chains) ≤ i.len = omega (arith, len, ap length h.whole) in
+    let e : chains_of cs i ≡ h.chains = chains_are (cs i.col) (vec_len i.buckets) 0 i.len i.buckets.items h.chains fits h.are in
+    record {
+      is = sym (ap joined e ∙ h.whole);
+      chains = subst (λ z. AreChains (cs i.col) (vec_len i.buckets) 0 i.buckets.items z) (sym e) h.are;
+      distinct = dist;
+      len = len;
+      load = load;
+    }
+
+pub hangs_of : (cs : ℕ → Column) (i : HashIndex) (xs : List Node) → Spells cs i xs → Hangs (cs i.col) (vec_len i.buckets) 0 i.buckets.items xs
+unfolding spelled
+hangs_of cs i xs h = record { chains = chains_of cs i; are = h.chains; whole = sym h.is }
+
+pub hangs_focus : (c : Column) (count b : ℕ) (heads : List (Option Node)) (xs : List Node) → b < length heads → Hangs c count 0 heads xs → Focus c count 0 b b heads xs
+hangs_focus c count b heads xs lt h = subst (λ z. Focus c count 0 b b heads z) h.whole (focus c count b heads h.chains lt h.are)
+
+pub focus_of : (cs : ℕ → Column) (i : HashIndex) (xs : List Node) (b : ℕ) → b < vec_len i.buckets → Spells cs i xs → Focus (cs i.col) (vec_len i.buckets) 0 b b i.buckets.items xs
+focus_of cs i xs b lt h = hangs_focus (cs i.col) (vec_len i.buckets) b i.buckets.items xs (omega (arith, i.buckets.ok, lt)) (hangs_of cs i xs h)
+
+pub spelled_is : (cs : ℕ → Column) (i : HashIndex) (xs : List Node) → Spells cs i xs → spelled cs i ≡ xs
+spelled_is cs i xs h = sym h.is
+
+pub IsSound_from : (cs : ℕ → Column) (i : HashIndex) (xs : List Node) → Spells cs i xs → IsSound cs i
+IsSound_from cs i xs h = subst (λ (z : List Node). Spells cs i z) h.is h
+
+pub Spells_same : (cs ds : ℕ → Column) (i : HashIndex) (xs : List Node) → IsSameAt (cs i.col) (ds i.col) xs → Spells cs i xs → Spells ds i xs
+Spells_same cs ds i xs s h =
+    let k = hangs_of cs i xs h in
+    Spells_from ds i xs
+    (record { chains = k.chains; are = chains_same (cs i.col) (ds i.col) (vec_len i.buckets) 0 i.buckets.items k.chains (subst (λ z. IsSameAt (cs i.col) (ds i.col) z) (sym k.whole) s) k.are; whole = k.whole })
+    h.distinct h.len h.load
+
+pub Spells_nodes : (cs : ℕ → Column) (i : HashIndex) (xs : List Node) → Spells cs i xs → AllNodes (cs i.col) xs
+Spells_nodes cs i xs h =
+    let k = hangs_of cs i xs h in
+    subst (λ z. AllNodes (cs i.col) z) k.whole (chains_nodes (cs i.col) (vec_len i.buckets) 0 i.buckets.items k.chains k.are)
+
+-- an index of no nodes
+pub empty_hangs : (c : Column) (count k : ℕ) (heads : List (Option Node)) → AllByRecursion (λ o. o ≡ None) heads → Hangs c count k heads []
+empty_hangs c count k [] h = record { chains = []; are = tt; whole = refl }
+empty_hangs c count k (head ∷ heads) h =
+    let r = empty_hangs c count (k + 1) heads h.1 in
+    record { chains = [] ∷ r.chains; are = (record { first = h.0; runs = tt; members = tt }, r.are); whole = r.whole }
+
+pub empty_sound : (cs : ℕ → Column) (i : HashIndex) → AllByRecursion (λ o. o ≡ None) i.buckets.items → i.len ≡ 0 → IsSound cs i
+empty_sound cs i h e = IsSound_from cs i [] (Spells_from cs i [] (empty_hangs (cs i.col) (vec_len i.buckets) 0 i.buckets.items h) tt e (omega (arith, e)))
+
+-- ---- nodes of a list
+
+pub nodes_at : (c : Column) (xs : List Node) (n : Node) (ys : List Node) → AllNodes c (xs ++ n ∷ ys) → IsNode c n
+nodes_at c [] n ys h = h.0
+nodes_at c (x ∷ xs) n ys h = nodes_at c xs n ys h.1
+
+pub held_in : (P : Node → Type 0) (xs : List Node) (n : Node) → AllByRecursion P xs → Holds xs n → P n
+held_in P xs n all h = (All-split P h.before (n ∷ h.after) (subst (AllByRecursion P) h.is all)).1.0
+
+past_by : (x : Node) (zs ys : List Node) (n : Node) (before after : List Node) → x ∷ zs ≡ before ++ n ∷ after → (x ≡ n → ⊥) → (Holds zs n → Holds ys n) → Holds ys n
+past_by x zs ys n [] after is apart rest = absurd (apart cc)
+past_by x zs ys n (z ∷ before) after is apart rest = rest (record { before = before; after = after; is = cc })
+
+holds_past : (P : Node → Type 0) (xs ys : List Node) (n : Node) → AllByRecursion P xs → (P n → ⊥) → Holds (xs ++ ys) n → Holds ys n
+holds_past P [] ys n all apart h = h
+holds_past P (x ∷ xs) ys n all apart h =
+    past_by x (xs ++ ys) ys n h.before h.after h.is (λ e. apart (subst P e all.0)) (holds_past P xs ys n all.1 apart)
+
+front_by : (x : Node) (xs ys : List Node) (n : Node) (before after : List Node) → x ∷ (xs ++ ys) ≡ before ++ n ∷ after → (Holds (xs ++ ys) n → Holds xs n) → Holds (x ∷ xs) n
+front_by x xs ys n [] after is rest = let e : x ≡ n = cc in record { before = []; after = xs; is = ap (λ (z : Node). z ∷ xs) e }
+front_by x xs ys n (z ∷ before) after is rest =
+    let r = rest (record { before = before; after = after; is = cc }) in
+    record { before = x ∷ r.before; after = r.after; is = ap (λ (l : List Node). x ∷ l) r.is }
+
+holds_front : (P : Node → Type 0) (xs ys : List Node) (n : Node) → AllByRecursion P ys → (P n → ⊥) → Holds (xs ++ ys) n → Holds xs n
+holds_front P [] ys n all apart h = absurd (apart (held_in P ys n all h))
+holds_front P (x ∷ xs) ys n all apart h = front_by x xs ys n h.before h.after h.is (holds_front P xs ys n all apart)
+
+-- a node that stands neither before nor after a part of a list stands in it
+pub holds_middle : (P : Node → Type 0) (xs ys zs : List Node) (n : Node) → AllByRecursion P xs → AllByRecursion P zs → (P n → ⊥) → Holds (xs ++ (ys ++ zs)) n → Holds ys n
+holds_middle P xs ys zs n before after apart h = holds_front P ys zs n after apart (holds_past P xs (ys ++ zs) n before apart h)
+
+-- a node of the bucket stands in its chain
+pub held_chain : (c : Column) (count k j b : ℕ) (heads : List (Option Node)) (xs : List Node) (n : Node) (f : Focus c count k j b heads xs) → IsIn c count b n → Holds xs n → Holds f.chain n
+held_chain c count k j b heads xs n f is h =
+    holds_middle (IsElsewhere c count b) f.front f.chain f.back n f.before f.after (λ e. e is) (subst (λ z. Holds z n) f.whole h)
+
+pub is_in : (c : Column) (count : ℕ) (n : Node) (link : Link) → c n ≡ Some link → IsIn c count (link.tag % count) n
+is_in c count n link is = ap (option_map (λ hash. hash % count)) (tag_is c n link is)
+
+-- the list at a node of one bucket
+pub split_at : (xs front chain back ps : List Node) (n : Node) (qs : List Node) → xs ≡ front ++ (chain ++ back) → chain ≡ ps ++ n ∷ qs → xs ≡ (front ++ ps) ++ n ∷ (qs ++ back)
+split_at xs front chain back ps n qs whole is =
+    whole ∙ (ap (λ z. front ++ (z ++ back)) is ∙ (ap (λ z. front ++ z) (append_assoc ps (n ∷ qs) back) ∙ sym (append_assoc front ps (n ∷ (qs ++ back)))))
+
+pub held_node : (cs : ℕ → Column) (i : HashIndex) (xs : List Node) (n : Node) → Spells cs i xs → Holds xs n → IsNode (cs i.col) n
+held_node cs i xs n h k = nodes_at (cs i.col) k.before n k.after (subst (λ z. AllNodes (cs i.col) z) k.is (Spells_nodes cs i xs h))
+
+pub some_node : (cs : ℕ → Column) (i : HashIndex) (xs : List Node) (n : Node) → Spells cs i xs → Holds xs n → 0 < i.len
+some_node cs i xs n h k = omega (arith, h.len, ap length k.is, length-append k.before (n ∷ k.after))
+
+-- an index that has a node has a bucket
+pub some_bucket : (cs : ℕ → Column) (i : HashIndex) (xs : List Node) (n : Node) → Spells cs i xs → Holds xs n → 0 < vec_len i.buckets
+some_bucket cs i xs n h k = omega (arith, h.len, h.load, ap length k.is, length-append k.before (n ∷ k.after))
+
+pub first_spelled : (cs : ℕ → Column) (i : HashIndex) → IsSound cs i → first_head i.buckets.items ≡ first_or (spelled cs i) None
+first_spelled cs i h =
+    let k = hangs_of cs i (spelled cs i) h in
+    heads_first (cs i.col) (vec_len i.buckets) 0 i.buckets.items k.chains k.are ∙ ap (λ z. first_or z None) k.whole
+
+-- ---- walks
+
+abbrev prev_in : Option Link → Option Node
+prev_in None = None
+prev_in (Some l) = l.a
+
+abbrev next_in : Option Link → Option Node
+next_in None = None
+next_in (Some l) = l.b
+
+-- the links of a node of a chain
+pub record Neighbours (link : Link) (ps qs : List Node) : Type 0 where
+  pub a : link.a ≡ last_or ps None
+  pub b : link.b ≡ first_or qs None
+
+pub neighbours : (c : Column) (ps : List Node) (n : Node) (qs : List Node) (link : Link) → Runs (untagged c) None (ps ++ n ∷ qs) None → c n ≡ Some link → Neighbours link ps qs
+neighbours c ps n qs link runs is =
+    let e : Some (untagged_link link) ≡ Some (chain_link (last_or ps None) (first_or qs None)) = sym (ap (option_map untagged_link) is) ∙ Runs-at (untagged c) None ps n qs None runs in
+    record { a = ap prev_in e; b = ap next_in e }
+
+-- the nodes beside a node of a chain
+pub record HasNeighbours (c : Column) (link : Link) : Type 0 where
+  pub before : (m : Node) → link.a ≡ Some m → IsNode c m
+  pub after : (m : Node) → link.b ≡ Some m → IsNode c m
+
+pub has_neighbours : (cs : ℕ → Column) (i : HashIndex) (xs : List Node) (n : Node) (link : Link) → Spells cs i xs → Holds xs n → cs i.col n ≡ Some link → HasNeighbours (cs i.col) link
+has_neighbours cs i xs n link h k is =
+    let some = some_bucket cs i xs n h k in
+    let f = focus_of cs i xs (link.tag % vec_len i.buckets) (omega arith) h in
+    let held = held_chain (cs i.col) (vec_len i.buckets) 0 (link.tag % vec_len i.buckets) (link.tag % vec_len i.buckets) i.buckets.items xs n f (is_in (cs i.col) (vec_len i.buckets) n link is) k in
+    let runs = subst (λ z. Runs (untagged (cs i.col)) None z None) held.is f.here.runs in
+    let near = neighbours (cs i.col) held.before n held.after link runs is in
+    let past = subst (λ z. Runs (untagged (cs i.col)) None z None) (sym (append_assoc held.before (n ∷ []) held.after)) runs in
+    record {
+      before = λ m e. tagged_node (cs i.col) m (AreNodes-last (untagged (cs i.col)) None held.before (n ∷ held.after) None runs m (sym near.a ∙ e));
+      after = λ m e. tagged_node (cs i.col) m (AreNodes-first (untagged (cs i.col)) None (held.before ++ n ∷ []) held.after None past m (sym near.b ∙ e));
+    }
+
+beside_some : (qs : List Node) (o : Option Node) (m : Node) → first_or qs None ≡ Some m → first_or qs o ≡ Some m
+beside_some [] o m e = cc
+beside_some (q ∷ qs) o m e = e
+
+beside_none : (qs : List Node) (o : Option Node) → first_or qs None ≡ None → first_or qs o ≡ o
+beside_none [] o e = refl
+beside_none (q ∷ qs) o e = cc
+
+-- what comes after a node in a walk over all
+pub record After (count : ℕ) (heads : List (Option Node)) (link : Link) (ys : List Node) : Type 0 where
+  pub some : (m : Node) → link.b ≡ Some m → Some m ≡ first_or ys None
+  pub none : link.b ≡ None → first_head (drop (link.tag % count + 1) heads) ≡ first_or ys None
+
+pub after_node : (cs : ℕ → Column) (i : HashIndex) (xs : List Node) (n : Node) (ys : List Node) (link : Link) → link.tag % vec_len i.buckets < vec_len i.buckets → Spells cs i (xs ++ n ∷ ys) → cs i.col n ≡ Some link → After (vec_len i.buckets) i.buckets.items link ys
+after_node cs i xs n ys link lt h is =
+    let f = focus_of cs i (xs ++ n ∷ ys) (link.tag % vec_len i.buckets) lt h in
+    let held = held_chain (cs i.col) (vec_len i.buckets) 0 (link.tag % vec_len i.buckets) (link.tag % vec_len i.buckets) i.buckets.items (xs ++ n ∷ ys) n f (is_in (cs i.col) (vec_len i.buckets) n link is) (record { before = xs; after = ys; is = refl }) in
+    let near = neighbours (cs i.col) held.before n held.after link (subst (λ z. Runs (untagged (cs i.col)) None z None) held.is f.here.runs) is in
+    let split = split_at (xs ++ n ∷ ys) f.front f.chain f.back held.before n held.after f.whole held.is in
+    let e : first_or ys None ≡ first_or held.after (first_or f.back None) =
+    sym (next_at xs n ys h.distinct) ∙ (ap (λ z. next (same_node n) z) split ∙ (next_at (f.front ++ held.before) n (held.after ++ f.back) (subst IsDistinct split h.distinct) ∙ first_or-append held.after f.back None)) in
+    record {
+      some = λ m k. sym (e ∙ beside_some held.after (first_or f.back None) m (sym near.b ∙ k));
+      none = λ k. f.later ∙ sym (e ∙ beside_none held.after (first_or f.back None) (sym near.b ∙ k));
+    }
+
+-- ---- the chain of a hash
+
+rest_is : (cs : ℕ → Column) (i : HashIndex) (xs : List Node) (b : ℕ) (f : Focus (cs i.col) (vec_len i.buckets) 0 b b i.buckets.items xs) → i.len ≡ length xs → Leads (untagged (cs i.col)) (get_or i.buckets.items b None) f.chain × (rest_of cs i (get_or i.buckets.items b None) ≡ f.chain)
+rest_is cs i xs b f len =
+    let leads = subst (λ o. Leads (untagged (cs i.col)) o f.chain) (sym f.here.first) (leads_runs (cs i.col) None f.chain f.here.runs) in
+    let fits : length f.chain ≤ i.len = omega (arith, len, ap length f.whole, length-append f.front (f.chain ++ f.back), length-append f.chain f.back) in
+    (leads, follow_leads (untagged (cs i.col)) (get_or i.buckets.items b None) f.chain i.len fits leads)
+
+pub has_hash : (cs : ℕ → Column) (i : HashIndex) (hash : ℕ) (head : Option Node) → hash % vec_len i.buckets < vec_len i.buckets → head ≡ get_or i.buckets.items (hash % vec_len i.buckets) None → IsSound cs i → HasHash cs i hash head
+has_hash cs i hash head lt at h =
+    let count = vec_len i.buckets in
+    let f = focus_of cs i (spelled cs i) (hash % vec_len i.buckets) lt h in
+    let r = rest_is cs i (spelled cs i) (hash % vec_len i.buckets) f h.len in
+    subst (HasHash cs i hash) (sym at) (record {
+      front = f.front;
+      back = f.back;
+      whole = f.whole ∙ ap (λ z. f.front ++ (z ++ f.back)) (sym r.1);
+      ends = subst (λ z. Leads (untagged (cs i.col)) (get_or i.buckets.items (hash % vec_len i.buckets) None) z) (sym r.1) r.0;
+      before = All-map (IsElsewhere (cs i.col) count (hash % count)) (λ n. tag_at (cs i.col) n ≢ Some hash) (λ n e k. e (ap (option_map (λ z. z % count)) k)) f.front f.before;
+      after = All-map (IsElsewhere (cs i.col) count (hash % count)) (λ n. tag_at (cs i.col) n ≢ Some hash) (λ n e k. e (ap (option_map (λ z. z % count)) k)) f.back f.after;
+    })
+
+none_long : (xs : List Node) → length xs ≤ 0 → xs ≡ []
+none_long [] le = refl
+none_long (x ∷ xs) le = absurd (omega arith)
+
+pub no_nodes : (cs : ℕ → Column) (i : HashIndex) → IsSound cs i → i.len ≡ 0 → spelled cs i ≡ []
+no_nodes cs i h e = none_long (spelled cs i) (omega (arith, h.len, e))
+
+-- an index of no buckets has no node
+pub has_none : (cs : ℕ → Column) (i : HashIndex) (hash : ℕ) → vec_len i.buckets ≡ 0 → IsSound cs i → HasHash cs i hash None
+has_none cs i hash none h =
+    let rest : rest_of cs i None ≡ [] = follow_leads (untagged (cs i.col)) None [] i.len (omega arith) refl in
+    record {
+      front = [];
+      back = [];
+      whole = none_long (spelled cs i) (omega (arith, h.len, h.load, none)) ∙ ap (λ z. z ++ []) (sym rest);
+      ends = subst (λ z. Leads (untagged (cs i.col)) None z) (sym rest) refl;
+      before = tt;
+      after = tt;
+    }

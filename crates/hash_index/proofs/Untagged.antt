@@ -1,0 +1,52 @@
+-- Columns without their tags, and the tags alone.
+use Rattle.std.proofs.Common.{◌≡◌, ◌≢◌, ℕ, List, [], ◌∷◌, Option, Some, None, refl, ap}
+use Rattle.std.specs.Option.{option_map}
+use Rattle.node_store.specs.declared.Node.{Node}
+use Rattle.node_store.specs.declared.Link.{Link}
+use Rattle.node_store.specs.Column.{Column, IsPut, IsNode}
+use Rattle.node_store.specs.Nodes.{IsSameAt}
+use Rattle.seq_index.specs.Links.{SetsNext, SetsPrev}
+use Rattle.seq_index.proofs.Runs.{SetsNext-some, SetsPrev-some}
+use Rattle.hash_index.specs.Chains.{untagged_link, untagged, tag_at}
+
+abbrev tag_of : Link → ℕ
+tag_of l = l.tag
+
+-- what an option of links holds, where it is known without its tag
+some_untagged : (o : Option Link) (l : Link) → option_map untagged_link o ≡ Some l → (k : Link) × (o ≡ Some k)
+some_untagged None l e = absurd (cc)
+some_untagged (Some k) l e = (k, refl)
+
+pub tagged_node : (c : Column) (n : Node) → IsNode (untagged c) n → IsNode c n
+tagged_node c n h = let t = some_untagged (c n) h.block h.is in record { block = t.0; is = t.1 }
+
+pub untagged_node : (c : Column) (n : Node) → IsNode c n → IsNode (untagged c) n
+untagged_node c n h = record { block = untagged_link h.block; is = ap (option_map untagged_link) h.is }
+
+pub put_untagged : (c d : Column) (n : Node) (l : Link) → IsPut c d n l → IsPut (untagged c) (untagged d) n (untagged_link l)
+put_untagged c d n l put = record {
+  at = ap (option_map untagged_link) put.at;
+  others = λ m ne. ap (option_map untagged_link) (put.others m ne);
+  nodes = λ m h. untagged_node d m (put.nodes m (tagged_node c m h));
+}
+
+pub same_untagged : (c d : Column) (xs : List Node) → IsSameAt c d xs → IsSameAt (untagged c) (untagged d) xs
+same_untagged c d [] h = tt
+same_untagged c d (x ∷ xs) h = (ap (option_map untagged_link) h.0, same_untagged c d xs h.1)
+
+pub tag_put : (c d : Column) (n : Node) (l : Link) → IsPut c d n l → tag_at d n ≡ Some l.tag
+tag_put c d n l put = ap (option_map tag_of) put.at
+
+pub tag_other : (c d : Column) (n m : Node) (l : Link) → IsPut c d n l → m ≢ n → tag_at d m ≡ tag_at c m
+tag_other c d n m l put ne = ap (option_map tag_of) (put.others m ne)
+
+pub tag_is : (c : Column) (n : Node) (l : Link) → c n ≡ Some l → tag_at c n ≡ Some l.tag
+tag_is c n l is = ap (option_map tag_of) is
+
+pub next_untagged : (c d : Column) (m : Node) (link : Link) (next : Option Node) → c m ≡ Some link → IsPut c d m (record link { b = next }) → SetsNext (untagged c) (untagged d) (Some m) next
+next_untagged c d m link next is put =
+    SetsNext-some (untagged c) (untagged d) m (untagged_link link) next (ap (option_map untagged_link) is) (put_untagged c d m (record link { b = next }) put)
+
+pub prev_untagged : (c d : Column) (m : Node) (link : Link) (prev : Option Node) → c m ≡ Some link → IsPut c d m (record link { a = prev }) → SetsPrev (untagged c) (untagged d) (Some m) prev
+prev_untagged c d m link prev is put =
+    SetsPrev-some (untagged c) (untagged d) m (untagged_link link) prev (ap (option_map untagged_link) is) (put_untagged c d m (record link { a = prev }) put)

@@ -1,0 +1,57 @@
+-- Chains of nodes, one for each bucket.
+use Rattle.std.specs.Prelude.{◌≡◌, ◌≢◌, ℕ, ◌+◌, ◌%◌, List, [], ◌∷◌, ◌++◌, Option, Some, None}
+use Rattle.std.specs.List.{AllByRecursion}
+use Rattle.std.specs.Option.{option_map}
+use Rattle.node_store.specs.declared.Node.{Node}
+use Rattle.node_store.specs.declared.Link.{Link}
+use Rattle.node_store.specs.Column.{Column}
+use Rattle.node_store.specs.Nodes.{first_or}
+use Rattle.seq_index.specs.Links.{Runs}
+
+-- links that lead to and fro, and no more
+abbrev pub untagged_link : Link → Link
+untagged_link l = record l { tag = 0 }
+
+-- the same for those of a column
+abbrev pub untagged : Column → Column
+untagged c n = option_map untagged_link (c n)
+
+-- the hash that the column keeps of a node
+abbrev pub tag_at : Column → Node → Option ℕ
+tag_at c n = option_map (λ l. l.tag) (c n)
+
+-- the new column keeps the same hash of each node
+abbrev pub KeepsTags : Column → Column → Type 0
+KeepsTags c d = (n : Node) → tag_at d n ≡ tag_at c n
+
+-- the hash that the column keeps of the node leads to this one of so many buckets
+abbrev pub IsIn : Column → ℕ → ℕ → Node → Type 0
+IsIn c count b n = option_map (λ hash. hash % count) (tag_at c n) ≡ Some b
+
+-- the nodes of one bucket, linked to and fro, from the first of them
+pub record IsChain (c : Column) (count b : ℕ) (head : Option Node) (xs : List Node) : Type 0 where
+  pub first : head ≡ first_or xs None
+  pub runs : Runs (untagged c) None xs None
+  pub members : AllByRecursion (IsIn c count b) xs
+
+-- the chains of so many buckets, from this one on
+abbrev pub AreChains : Column → ℕ → ℕ → List (Option Node) → List (List Node) → Type 0
+AreChains c count b [] [] = Unit {0}
+AreChains c count b [] (xs ∷ xss) = ⊥
+AreChains c count b (head ∷ heads) [] = ⊥
+AreChains c count b (head ∷ heads) (xs ∷ xss) = IsChain c count b head xs × AreChains c count (b + 1) heads xss
+
+-- the chains in the order of their buckets
+abbrev pub joined : List (List Node) → List Node
+joined [] = []
+joined (xs ∷ xss) = xs ++ joined xss
+
+-- the first node of the first bucket that has one
+abbrev pub first_head : List (Option Node) → Option Node
+first_head [] = None
+first_head (None ∷ heads) = first_head heads
+first_head (Some n ∷ heads) = Some n
+
+-- no block changed but that of this node, if there is one
+abbrev pub KeepsOtherNodes : Column → Column → Option Node → Type 0
+KeepsOtherNodes c d at = (m : Node) → at ≢ Some m → d m ≡ c m

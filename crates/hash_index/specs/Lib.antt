@@ -1,0 +1,4 @@
+pub mod Chains
+pub mod Spelled
+pub mod Hashed
+pub mod Walks

@@ -1,0 +1,48 @@
+-- The nodes that a hashed index has, bucket by bucket.
+use Rattle.std.specs.Prelude.{◌≡◌, ℕ, ◌<◌, ◌≤◌, List, length, map}
+use Rattle.std.specs.Vec.{vec_len}
+use Rattle.node_store.specs.declared.Node.{Node}
+use Rattle.node_store.specs.Column.{Column}
+pub use Rattle.node_store.specs.Column.{KeepsOthers}
+use Rattle.node_store.specs.Nodes.{IsDistinct}
+use Rattle.hash_index.specs.declared.HashIndex.{HashIndex}
+pub use Rattle.seq_index.specs.Spelled.{Holds}
+use Rattle.seq_index.specs.Spelled.{follow}
+pub use Rattle.hash_index.specs.Chains.{KeepsTags}
+use Rattle.hash_index.specs.Chains.{AreChains, joined, untagged}
+
+-- the column that the index uses
+abbrev pub col_of : HashIndex → ℕ
+col_of i = i.col
+
+-- the index whose keys it hashes
+abbrev pub index_of : HashIndex → ℕ
+index_of i = i.index
+
+-- how many buckets it has
+abbrev pub buckets_of : HashIndex → ℕ
+buckets_of i = vec_len i.buckets
+
+-- the chain from each bucket's first node
+abbrev pub chains_of : (ℕ → Column) → HashIndex → List (List Node)
+chains_of cs i = map (λ head. follow (untagged (cs i.col)) head i.len) i.buckets.items
+
+-- the nodes of the chains, in the order of the buckets
+unfoldable pub spelled : (ℕ → Column) → HashIndex → List Node
+spelled cs i = joined (chains_of cs i)
+
+-- the index has these nodes, at most one a bucket on average, each in the bucket of the hash that the column keeps of it
+pub record Spells (cs : ℕ → Column) (i : HashIndex) (xs : List Node) : Type 0 where
+  pub is : xs ≡ spelled cs i
+  pub chains : AreChains (cs i.col) (vec_len i.buckets) 0 i.buckets.items (chains_of cs i)
+  pub distinct : IsDistinct xs
+  pub len : i.len ≡ length xs
+  pub load : i.len ≤ vec_len i.buckets
+
+-- the index is chains of distinct nodes
+abbrev pub IsSound : (ℕ → Column) → HashIndex → Type 0
+IsSound cs i = Spells cs i (spelled cs i)
+
+-- one more node needs no more buckets
+abbrev pub HasRoom : HashIndex → Type 0
+HasRoom i = i.len < vec_len i.buckets

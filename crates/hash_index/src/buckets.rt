@@ -1,0 +1,73 @@
+//! Buckets, and walks over all nodes.
+ghost use Rattle.std.specs.Prelude.{◌≡◌, ℕ, ◌+◌, ◌%◌, ◌<◌, ◌≤◌, List, ◌∷◌, ◌++◌, length, Some, None, vec_len, drop, slice_get};
+ghost use Rattle.node_store.specs.declared.Node.{Node};
+ghost use Rattle.node_store.specs.Column.{Column};
+ghost use Rattle.node_store.specs.Nodes.{first_or};
+ghost use Rattle.node_store.specs.ByNode.{column_of, same_node};
+ghost use Rattle.list_model.specs.Walk.{next as the_next};
+ghost use Rattle.hash_index.specs.Spelled.{Spells, IsSound, spelled, Holds};
+ghost use Rattle.hash_index.specs.Chains.{first_head};
+
+use crate::HashIndex;
+use node_store::{Link, Node, NodeStore};
+
+impl HashIndex {
+    /// How many nodes there are. O(1).
+    pub fn len<R>(&self, store: &NodeStore<R>) -> usize
+        requires { IsSound (column_of store.now) self.now }
+        ensures { result ≡ length (spelled (column_of store.now) self.now) }
+    {
+        self.len
+    }
+
+    /// The first node of a walk over all, in no stated order. O(buckets before it).
+    pub fn first<R>(&self, store: &NodeStore<R>) -> Option<Node>
+        requires { IsSound (column_of store.now) self.now }
+        ensures { result ≡ slice_get (spelled (column_of store.now) self.now) 0 }
+    {
+        self.first_from(0)
+    }
+
+    /// The node after `n` in a walk over all. O(empty buckets between them), and O(nodes) for the whole walk while
+    /// no node was taken out.
+    pub fn next<R>(&self, store: &NodeStore<R>, n: Node) -> Option<Node>
+        requires chain { IsSound (column_of store.now) self.now }
+        requires held { Holds (spelled (column_of store.now) self.now) n }
+        ensures { result ≡ the_next (same_node n) (spelled (column_of store.now) self.now) }
+    {
+        self.after(store.link(n, self.col))
+    }
+
+    // The node after the one that has this link.
+    pub(crate) fn after(&self, link: Link) -> Option<Node>
+        requires { 0 < vec_len self.now.buckets }
+        ensures { (cs : ℕ → Column) (xs : List Node) (n : Node) (ys : List Node) → Spells cs self.now (xs ++ n ∷ ys) → cs self.now.col n ≡ Some link → result ≡ first_or ys None }
+    {
+        match link.b {
+            Some(n) => Some(n),
+            None => self.first_from(self.bucket(link.tag) + 1),
+        }
+    }
+
+    // The first node of this bucket or a later one.
+    pub(crate) fn first_from(&self, bucket: usize) -> Option<Node>
+        requires { bucket ≤ vec_len self.now.buckets }
+        ensures { result ≡ first_head (drop bucket self.now.buckets.items) }
+    {
+        for head in &self.buckets[bucket..] {
+            if head.is_some() {
+                return *head;
+            }
+        }
+        None
+    }
+
+    // The bucket of a hash.
+    pub(crate) fn bucket(&self, hash: u64) -> usize
+        requires { 0 < vec_len self.now.buckets }
+        ensures is { result ≡ hash % vec_len self.now.buckets }
+        ensures within { result < vec_len self.now.buckets }
+    {
+        (hash % self.buckets.len() as u64) as usize
+    }
+}

@@ -1,0 +1,139 @@
+//! A hashed index: nodes in chains through one column of the store's links, one chain for each bucket.
+//!
+//! Each call takes the store. It reads and writes the links of its own column alone, so a node may
+//! stand in one index of each column at once.
+#![tactic(auto)]
+
+ghost use Rattle.std.specs.Prelude.{◌≡◌, ◌≢◌, ℕ, ◌+◌, ◌%◌, ◌<◌, ◌≤◌, List, [], ◌∷◌, ◌++◌, length, Option, Some, None, IsTrue, IsPermutation, vec_len};
+ghost use Rattle.node_store.specs.declared.Node.{Node};
+ghost use Rattle.node_store.specs.Column.{Column, IsNode};
+ghost use Rattle.node_store.specs.Store.{IsNodeOf};
+ghost use Rattle.node_store.specs.Nodes.{Lacks};
+ghost use Rattle.node_store.specs.ByNode.{column_of, record_of, contents, same_node};
+ghost use Rattle.list_model.specs.Walk.{without};
+
+mod buckets;
+mod chain;
+mod grow;
+mod search;
+mod settle;
+
+use chain::{first_beside, set_next, set_prev};
+use key_extract::Extract;
+use node_store::{Link, Node, NodeStore};
+use std::alloc::Global;
+
+/// Nodes in buckets by the hashes of their keys, at most one a bucket on average. The `tag` of a node's link is the
+/// hash that it was put in with.
+#[derive(Drop)]
+pub struct HashIndex {
+    alloc: Global,
+    col: usize,
+    index: usize,
+    buckets: Vec<Option<Node>>,
+    len: usize,
+    ghost col_exists: { col < 8 },
+}
+
+impl HashIndex {
+    ghost use Rattle.hash_index.specs.Spelled.{Spells, IsSound, spelled, col_of, index_of, buckets_of, HasRoom, KeepsOthers, KeepsTags, Holds};
+    ghost use Rattle.hash_index.specs.Hashed.{IsHashed, KeepsHash};
+    ghost use Rattle.hash_index.specs.Chains.{tag_at};
+
+    /// An index of no nodes in column `col`, for the keys of the container's index `index`. It has no buckets yet,
+    /// and allocates nothing. O(1).
+    pub fn new(alloc: Global, col: usize, index: usize) -> HashIndex
+        requires { col < 8 }
+        ensures col { col_of result ≡ col }
+        ensures index { index_of result ≡ index }
+        ensures empty { (cs : ℕ → Column) → Spells cs result [] }
+    {
+        HashIndex {
+            alloc,
+            col,
+            index,
+            buckets: Vec::new(alloc),
+            len: 0,
+        }
+    }
+
+    /// Puts `n` in, by the hash of its record's key, in room that was reserved. O(1).
+    pub fn link<R, E: Extract<R>>(&mut self, store: &mut NodeStore<R>, keys: &E, n: Node)
+        requires chain { IsSound (column_of store.old) self.old }
+        requires node { IsNodeOf store.old n }
+        requires new { Lacks (spelled (column_of store.old) self.old) n }
+        requires room { HasRoom self.old }
+        requires has_key { IsTrue (E.has_key keys.now (index_of self.old)) }
+        ensures chain { IsSound (column_of store.new) self.new }
+        ensures list { IsPermutation (n ∷ spelled (column_of store.old) self.old) (spelled (column_of store.new) self.new) }
+        ensures hashed { IsHashed (E.hash_of keys.now (index_of self.old)) store.old (col_of self.old) (spelled (column_of store.old) self.old)
+            → IsHashed (E.hash_of keys.now (index_of self.old)) store.new (col_of self.old) (spelled (column_of store.new) self.new) }
+        ensures buckets { buckets_of self.new ≡ buckets_of self.old }
+        ensures col { col_of self.new ≡ col_of self.old }
+        ensures index { index_of self.new ≡ index_of self.old }
+        ensures others { KeepsOthers (column_of store.old) (column_of store.new) (col_of self.old) }
+        ensures contents { contents store.new ≡ contents store.old }
+    {
+        let hash = keys.hash(self.index, store.get(n));
+        self.put(store, n, hash);
+    }
+
+    /// Takes `n` out. It reads no record, so the node's may have changed. It leaves room for one node. O(1).
+    pub fn unlink<R>(&mut self, store: &mut NodeStore<R>, n: Node)
+        requires chain { IsSound (column_of store.old) self.old }
+        requires held { Holds (spelled (column_of store.old) self.old) n }
+        ensures list { Spells (column_of store.new) self.new (without (same_node n) (spelled (column_of store.old) self.old)) }
+        ensures tags { KeepsTags (column_of store.old (col_of self.old)) (column_of store.new (col_of self.old)) }
+        ensures room { HasRoom self.new }
+        ensures buckets { buckets_of self.new ≡ buckets_of self.old }
+        ensures col { col_of self.new ≡ col_of self.old }
+        ensures index { index_of self.new ≡ index_of self.old }
+        ensures others { KeepsOthers (column_of store.old) (column_of store.new) (col_of self.old) }
+        ensures contents { contents store.new ≡ contents store.old }
+    {
+        let Link {
+            a: before,
+            b: after,
+            tag,
+            ..
+        } = store.link(n, self.col);
+        let bucket = self.bucket(tag);
+        set_next(store, self.col, before, after);
+        set_prev(store, self.col, after, before);
+        self.buckets[bucket] = first_beside(before, self.buckets[bucket], after);
+        self.len -= 1;
+    }
+
+    // Puts `n` first into the bucket of a hash.
+    pub(crate) fn put<R>(&mut self, store: &mut NodeStore<R>, n: Node, hash: u64)
+        requires chain { IsSound (column_of store.old) self.old }
+        requires node { IsNode (column_of store.old (col_of self.old)) n }
+        requires new { Lacks (spelled (column_of store.old) self.old) n }
+        requires room { HasRoom self.old }
+        ensures chain { IsSound (column_of store.new) self.new }
+        ensures list { IsPermutation (n ∷ spelled (column_of store.old) self.old) (spelled (column_of store.new) self.new) }
+        ensures tag { tag_at (column_of store.new (col_of self.old)) n ≡ Some hash }
+        ensures tags { (m : Node) → m ≢ n → tag_at (column_of store.new (col_of self.old)) m ≡ tag_at (column_of store.old (col_of self.old)) m }
+        ensures same { (m : Node) → m ≢ n → Lacks (spelled (column_of store.old) self.old) m → column_of store.new (col_of self.old) m ≡ column_of store.old (col_of self.old) m }
+        ensures len { self.new.len ≡ self.old.len + 1 }
+        ensures buckets { buckets_of self.new ≡ buckets_of self.old }
+        ensures col { col_of self.new ≡ col_of self.old }
+        ensures index { index_of self.new ≡ index_of self.old }
+        ensures others { KeepsOthers (column_of store.old) (column_of store.new) (col_of self.old) }
+        ensures contents { contents store.new ≡ contents store.old }
+    {
+        let bucket = self.bucket(hash);
+        let head = self.buckets[bucket];
+        let link = Link {
+            a: None,
+            b: head,
+            up: None,
+            tag: hash,
+            height: 0,
+        };
+        store.set_link(n, self.col, link);
+        set_prev(store, self.col, head, Some(n));
+        self.buckets[bucket] = Some(n);
+        self.len += 1;
+    }
+}

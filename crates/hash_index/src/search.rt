@@ -1,0 +1,177 @@
+//! Look-ups by a key.
+ghost use Rattle.std.specs.Prelude.{◌≡◌, ℕ, ◌<◌, IsTrue, false, not, ◌&&◌, List, length, slice_get, Option, Some, None};
+ghost use Rattle.std.specs.Option.{option_map_or};
+ghost use Rattle.std.specs.Ordering.{is_eq};
+ghost use Rattle.node_store.specs.declared.Node.{Node};
+ghost use Rattle.node_store.specs.Store.{IsNodeOf};
+ghost use Rattle.node_store.specs.ByNode.{column_of, record_of, same_node};
+ghost use Rattle.list_model.specs.Place.{count_equal, find_equal};
+ghost use Rattle.list_model.specs.Walk.{next as the_next};
+ghost use Rattle.seq_index.specs.Links.{AreNodesOf};
+ghost use Rattle.hash_index.specs.Spelled.{IsSound, spelled, col_of, index_of, Holds};
+ghost use Rattle.hash_index.specs.Hashed.{IsHashed, side_of, matches, others};
+ghost use Rattle.hash_index.specs.Walks.{rest_of, Ends, HasHash};
+ghost use Rattle.node_store.specs.Column.{Column};
+
+use crate::HashIndex;
+use key_extract::Extract;
+use node_store::{Node, NodeStore};
+use std::cmp::Ordering;
+
+// Whether the node is the excepted one.
+fn is_excepted<R>(store: &NodeStore<R>, except: Option<Node>, n: Node) -> bool
+    requires except { AreNodesOf store.now except }
+    requires node { IsNodeOf store.now n }
+    ensures { result ≡ option_map_or (λ m. same_node m n) except false }
+{
+    store.is_node(except, n)
+}
+
+impl HashIndex {
+    /// A node other than the excepted one whose record has the key of `r`. The excepted one's record may have changed.
+    /// Expected O(1).
+    pub fn same_as<R, E: Extract<R>>(
+        &self,
+        store: &NodeStore<R>,
+        keys: &E,
+        r: &R,
+        except: Option<Node>,
+    ) -> Option<Node>
+        requires chain { IsSound (column_of store.now) self.now }
+        requires has_key { IsTrue (E.has_key keys.now (index_of self.now)) }
+        requires hashed { IsHashed (E.hash_of keys.now (index_of self.now)) store.now (col_of self.now) (others except (spelled (column_of store.now) self.now)) }
+        requires except { AreNodesOf store.now except }
+        ensures { result ≡ find_equal (side_of (λ a. E.order_of keys.now (index_of self.now) a r.now) store.now) (others except (spelled (column_of store.now) self.now)) }
+    {
+        let mut at = self.head(keys.hash(self.index, r));
+        while let Some(n) = at {
+            if self.is_other(store, keys, r, except, n) {
+                return Some(n);
+            }
+            at = store.link(n, self.col).b;
+        }
+        None
+    }
+
+    /// A first node whose record has the whole key. Expected O(1).
+    pub fn first_of<R, E: Extract<R>>(
+        &self,
+        store: &NodeStore<R>,
+        keys: &E,
+        probe: &E::Probe,
+    ) -> Option<Node>
+        requires chain { IsSound (column_of store.now) self.now }
+        requires has_key { IsTrue (E.has_key keys.now (index_of self.now)) }
+        requires whole { IsTrue (E.is_whole keys.now (index_of self.now) probe.now) }
+        requires hashed { IsHashed (E.hash_of keys.now (index_of self.now)) store.now (col_of self.now) (spelled (column_of store.now) self.now) }
+        ensures { result ≡ slice_get (matches (side_of (λ a. E.probe_order_of keys.now (index_of self.now) a probe.now) store.now) (spelled (column_of store.now) self.now)) 0 }
+    {
+        let head = self.head(keys.hash_probe(self.index, probe));
+        self.match_from(store, keys, probe, head)
+    }
+
+    /// The node after `n` among those whose records have the whole key, each of which is answered once in a walk from
+    /// the first. Expected O(1).
+    pub fn next_of<R, E: Extract<R>>(
+        &self,
+        store: &NodeStore<R>,
+        keys: &E,
+        probe: &E::Probe,
+        n: Node,
+    ) -> Option<Node>
+        requires chain { IsSound (column_of store.now) self.now }
+        requires has_key { IsTrue (E.has_key keys.now (index_of self.now)) }
+        requires whole { IsTrue (E.is_whole keys.now (index_of self.now) probe.now) }
+        requires hashed { IsHashed (E.hash_of keys.now (index_of self.now)) store.now (col_of self.now) (spelled (column_of store.now) self.now) }
+        requires held { Holds (matches (side_of (λ a. E.probe_order_of keys.now (index_of self.now) a probe.now) store.now) (spelled (column_of store.now) self.now)) n }
+        ensures { result ≡ the_next (same_node n) (matches (side_of (λ a. E.probe_order_of keys.now (index_of self.now) a probe.now) store.now) (spelled (column_of store.now) self.now)) }
+    {
+        let next = store.link(n, self.col).b;
+        self.match_from(store, keys, probe, next)
+    }
+
+    /// How many nodes have records with the whole key. Expected O(1 + those nodes).
+    pub fn count<R, E: Extract<R>>(&self, store: &NodeStore<R>, keys: &E, probe: &E::Probe) -> u64
+        requires chain { IsSound (column_of store.now) self.now }
+        requires has_key { IsTrue (E.has_key keys.now (index_of self.now)) }
+        requires whole { IsTrue (E.is_whole keys.now (index_of self.now) probe.now) }
+        requires hashed { IsHashed (E.hash_of keys.now (index_of self.now)) store.now (col_of self.now) (spelled (column_of store.now) self.now) }
+        ensures { result ≡ count_equal (side_of (λ a. E.probe_order_of keys.now (index_of self.now) a probe.now) store.now) (spelled (column_of store.now) self.now) }
+    {
+        let mut count = 0;
+        let mut at = self.head(keys.hash_probe(self.index, probe));
+        while let Some(n) = at {
+            if self.has_key(store, keys, probe, n) {
+                count += 1;
+            }
+            at = store.link(n, self.col).b;
+        }
+        count
+    }
+
+    // The first node whose record has the whole key, of a chain from `at` on.
+    fn match_from<R, E: Extract<R>>(
+        &self,
+        store: &NodeStore<R>,
+        keys: &E,
+        probe: &E::Probe,
+        at: Option<Node>,
+    ) -> Option<Node>
+        requires ends { Ends (column_of store.now) self.now at }
+        requires has_key { IsTrue (E.has_key keys.now (index_of self.now)) }
+        requires whole { IsTrue (E.is_whole keys.now (index_of self.now) probe.now) }
+        ensures { result ≡ find_equal (side_of (λ a. E.probe_order_of keys.now (index_of self.now) a probe.now) store.now) (rest_of (column_of store.now) self.now at) }
+    {
+        let mut at = at;
+        while let Some(n) = at {
+            if self.has_key(store, keys, probe, n) {
+                return Some(n);
+            }
+            at = store.link(n, self.col).b;
+        }
+        None
+    }
+
+    // Whether the node is not the excepted one, and its record has the key of `r`.
+    fn is_other<R, E: Extract<R>>(
+        &self,
+        store: &NodeStore<R>,
+        keys: &E,
+        r: &R,
+        except: Option<Node>,
+        n: Node,
+    ) -> bool
+        requires node { IsNodeOf store.now n }
+        requires except { AreNodesOf store.now except }
+        requires has_key { IsTrue (E.has_key keys.now (index_of self.now)) }
+        ensures { result ≡ (not (option_map_or (λ m. same_node m n) except false) && is_eq (side_of (λ a. E.order_of keys.now (index_of self.now) a r.now) store.now n)) }
+    {
+        !is_excepted(store, except, n) && keys.same(self.index, store.get(n), r)
+    }
+
+    // Whether the node's record has the whole key.
+    fn has_key<R, E: Extract<R>>(
+        &self,
+        store: &NodeStore<R>,
+        keys: &E,
+        probe: &E::Probe,
+        n: Node,
+    ) -> bool
+        requires node { IsNodeOf store.now n }
+        requires has_key { IsTrue (E.has_key keys.now (index_of self.now)) }
+        requires whole { IsTrue (E.is_whole keys.now (index_of self.now) probe.now) }
+        ensures { result ≡ is_eq (side_of (λ a. E.probe_order_of keys.now (index_of self.now) a probe.now) store.now n) }
+    {
+        keys.order_probe(self.index, store.get(n), probe) == Ordering::Equal
+    }
+
+    // The first node of the bucket of a hash.
+    fn head(&self, hash: u64) -> Option<Node>
+        ensures { (cs : ℕ → Column) → IsSound cs self.now → HasHash cs self.now hash result }
+    {
+        if self.buckets.is_empty() {
+            return None;
+        }
+        self.buckets[self.bucket(hash)]
+    }
+}
