@@ -1,12 +1,10 @@
 -- How the nodes of a list in order stand to a key.
 use Rattle.std.proofs.Common.{◌≡◌, suc, ◌+◌, ◌≤◌, Bool, true, false, cond, not, List, [], ◌∷◌, Option, Some, refl, sym, ap, ◌∙◌, subst, arith}
 use Rattle.std.specs.Prelude.{find, count_by, slice_get}
-use Rattle.std.specs.Cmp.{IsTotalOrder}
 use Rattle.std.specs.Option.{option_map_or}
 use Rattle.std.specs.Ordering.{is_gt, ordering_index}
 use Rattle.std.specs.declared.cmp.Ordering.{Ordering}
-use Rattle.std.specs.declared.cmp.Ordering.TheVariants.{Less, Equal, Greater}
-use Rattle.std.proofs.lemmas.Cmp.{alike_right}
+use Rattle.std.specs.declared.cmp.Ordering.TheVariants.{Less}
 use Rattle.node_store.specs.declared.Node.{Node}
 use Rattle.list_model.specs.Order.{EachPair, IsInOrder, CutsInThreeRuns}
 use Rattle.list_model.proofs.Counts.{count_by-cons, count_by_none}
@@ -24,21 +22,6 @@ Rises-from records compare side xs cuts h = EachPair-each (λ x y. is_gt (order_
 
 pub side_of-is : {R : Type 0} (records : Node → Option R) (side : R → Ordering) (n : Node) (r : R) → records n ≡ Some r → side_of records side n ≡ side r
 side_of-is records side n r e = ap (λ (o : Option _). option_map_or side o Less) e
-
--- a record cuts the order that it stands in
-module _ {K : Type 0} {compare : K → K → Ordering} (total : IsTotalOrder compare) (k : K) where
-  cut_by : (x y : K) (o p q : Ordering) → compare x y ≡ o → compare y k ≡ p → compare x k ≡ q → is_gt o ≡ false → ordering_index q ≤ ordering_index p
-  cut_by x y o Greater Less a b c h = omega arith
-  cut_by x y o Greater Equal a b c h = omega arith
-  cut_by x y o Greater Greater a b c h = omega arith
-  cut_by x y Less Less q a b c h = let e : q ≡ Less = sym c ∙ total.trans x y k a b in subst (λ z. ordering_index z ≤ 0) (sym e) (omega arith)
-  cut_by x y Less Equal q a b c h = let e : q ≡ Less = sym c ∙ (sym (alike_right total y k x b) ∙ a) in subst (λ z. ordering_index z ≤ 1) (sym e) (omega arith)
-  cut_by x y Equal Less q a b c h = let e : q ≡ Less = sym c ∙ (total.congr x y k a ∙ b) in subst (λ z. ordering_index z ≤ 0) (sym e) (omega arith)
-  cut_by x y Equal Equal q a b c h = let e : q ≡ Equal = sym c ∙ (total.congr x y k a ∙ b) in subst (λ z. ordering_index z ≤ 1) (sym e) (omega arith)
-  cut_by x y Greater p q a b c h = cc
-
-  pub cuts_at : CutsInThreeRuns compare (λ x. compare x k)
-  cuts_at x y h = cut_by x y (compare x y) (compare y k) (compare x k) refl refl refl h
 
 by_first : (q : Node → Bool) (x : Node) (xs : List Node) (b : Bool) → q x ≡ b → EachPair (λ x y. q x ≡ false → q y ≡ false) (x ∷ xs) → slice_get xs (count_by q xs) ≡ find (λ y. not (q y)) xs → slice_get (x ∷ xs) (count_by q (x ∷ xs)) ≡ find (λ y. not (q y)) (x ∷ xs)
 by_first q x xs true e h rest =

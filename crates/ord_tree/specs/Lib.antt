@@ -8,3 +8,4 @@ pub mod Side
 pub mod Mirror
 pub mod Seek
 pub mod Same
+pub mod Laws

@@ -5,6 +5,8 @@ ghost use Rattle.list_model.specs.Order.{IsInOrder};
 ghost use Rattle.ord_tree.specs.Side.{order_at};
 ghost use Rattle.ord_tree.specs.Spelled.{IsSound, spelled, index_of};
 
+mod counts;
+
 use crate::{NoTally, OrdTree};
 use arrayvec::ArrayVec;
 use key_extract::{Cell, Extract, KeySpec, Part, Probe, Row, RowKeys};

@@ -5,8 +5,9 @@ use Rattle.node_store.proofs.ByNode.{node_of_column}
 use Rattle.list_model.specs.Order.{EachPair}
 use Rattle.ord_tree.specs.Side.{side_of}
 use Rattle.ord_tree.specs.Same.{is_kept}
+use Rattle.ord_tree.specs.Laws.{cuts_at}
 use Rattle.ord_tree.proofs.Laws.{the_tree}
-use Rattle.ord_tree.proofs.KeySides.{Rises, Rises-from, cuts_at, side_of-is}
+use Rattle.ord_tree.proofs.KeySides.{Rises, Rises-from, side_of-is}
 use Rattle.ord_tree.proofs.Nearing.{Nears-start, Nears-node, Nears-end, Opens-from}
 use Rattle.ord_tree.proofs.Excepting.{kept_list, each_beside, guides, unguided, guide_right, guide_take, guide_left}
 use Rattle.ord_tree.proofs.tree.OrdTree.same_as.Goals as goal
@@ -16,8 +17,8 @@ loop-at-init g c =
     let s = the_tree _ _ c.requires.tree in
     let index = c.args.self.now.index in
     let compare = g.E.Extract.order_of c.args.keys.now index in
-    let cuts = cuts_at (g.met.E.Extract.order_total c.args.keys.now index c.requires.key) c.args.record.now in
-    Nears-start g.T.Tally.of _ _ _ _ _ s.hangs s.root_is (each_beside (is_kept c.args.except) _ _ s.distinct (subst (EachPair (Rises (side_of (record_of c.args.store.now) (λ a. compare a c.args.record.now)))) (kept_list c.args.except _) (Rises-from (record_of c.args.store.now) compare (λ a. compare a c.args.record.now) _ cuts c.requires.order)))
+    let cuts = cuts_at (g.met.E.Extract.order_total c.args.keys.now index c.requires.key) c.args.row.now in
+    Nears-start g.T.Tally.of _ _ _ _ _ s.hangs s.root_is (each_beside (is_kept c.args.except) _ _ s.distinct (subst (EachPair (Rises (side_of (record_of c.args.store.now) (λ a. compare a c.args.row.now)))) (kept_list c.args.except _) (Rises-from (record_of c.args.store.now) compare (λ a. compare a c.args.row.now) _ cuts c.requires.order)))
 
 pub link-link-requires-clause-node : goal.link-link-requires-clause-node
 link-link-requires-clause-node g c = Nears-node g.T.Tally.of _ _ _ _ _ _ c.loop-at.invariant c.in-Some.n c.in-Some.is
@@ -34,21 +35,21 @@ pub loop-at-preserved-then-is_lt : goal.loop-at-preserved-then-is_lt
 loop-at-preserved-then-is_lt g c =
     let o = Opens-from g.T.Tally.of _ _ _ _ _ c.in-Some.n c.link-link.result _ c.loop-at.invariant c.in-Some.is c.link-link.ensures in
     let guided = guides g.T.Tally.of _ c.args.except _ _ c.in-Some.n c.link-link.result _ _ o (record { itself = c.guide_at.ensures.itself; excepted = c.guide_at.ensures.excepted }) c.in-Some-guide_at.guide c.in-Some-guide_at.is in
-    let is = side_of-is (record_of c.args.store.now) (λ a. g.E.Extract.order_of c.args.keys.now c.args.self.now.index a c.args.record.now) c.in-Some-guide_at.guide _ c.get.ensures ∙ sym c.order-order.ensures in
+    let is = side_of-is (record_of c.args.store.now) (λ a. g.E.Extract.order_of c.args.keys.now c.args.self.now.index a c.args.row.now) c.in-Some-guide_at.guide _ c.get.ensures ∙ sym c.order-order.ensures in
     guide_right g.T.Tally.of _ (is_kept c.args.except) _ _ c.in-Some.n c.link-link.result _ o c.in-Some-guide_at.guide guided (ap is_lt is ∙ sym c.is_lt.ensures ∙ c.if-is_lt.true)
 
 pub loop-at-preserved-then-is_eq : goal.loop-at-preserved-then-is_eq
 loop-at-preserved-then-is_eq g c =
     let o = Opens-from g.T.Tally.of _ _ _ _ _ c.in-Some.n c.link-link.result _ c.loop-at.invariant c.in-Some.is c.link-link.ensures in
     let guided = guides g.T.Tally.of _ c.args.except _ _ c.in-Some.n c.link-link.result _ _ o (record { itself = c.guide_at.ensures.itself; excepted = c.guide_at.ensures.excepted }) c.in-Some-guide_at.guide c.in-Some-guide_at.is in
-    let is = side_of-is (record_of c.args.store.now) (λ a. g.E.Extract.order_of c.args.keys.now c.args.self.now.index a c.args.record.now) c.in-Some-guide_at.guide _ c.get.ensures ∙ sym c.order-order.ensures in
+    let is = side_of-is (record_of c.args.store.now) (λ a. g.E.Extract.order_of c.args.keys.now c.args.self.now.index a c.args.row.now) c.in-Some-guide_at.guide _ c.get.ensures ∙ sym c.order-order.ensures in
     guide_take g.T.Tally.of _ (is_kept c.args.except) _ _ c.in-Some.n c.link-link.result _ o c.in-Some-guide_at.guide guided (ap is_eq is ∙ sym c.is_eq.ensures ∙ c.if-is_eq.true)
 
 pub loop-at-preserved : goal.loop-at-preserved
 loop-at-preserved g c =
     let o = Opens-from g.T.Tally.of _ _ _ _ _ c.in-Some.n c.link-link.result _ c.loop-at.invariant c.in-Some.is c.link-link.ensures in
     let guided = guides g.T.Tally.of _ c.args.except _ _ c.in-Some.n c.link-link.result _ _ o (record { itself = c.guide_at.ensures.itself; excepted = c.guide_at.ensures.excepted }) c.in-Some-guide_at.guide c.in-Some-guide_at.is in
-    let is = side_of-is (record_of c.args.store.now) (λ a. g.E.Extract.order_of c.args.keys.now c.args.self.now.index a c.args.record.now) c.in-Some-guide_at.guide _ c.get.ensures ∙ sym c.order-order.ensures in
+    let is = side_of-is (record_of c.args.store.now) (λ a. g.E.Extract.order_of c.args.keys.now c.args.self.now.index a c.args.row.now) c.in-Some-guide_at.guide _ c.get.ensures ∙ sym c.order-order.ensures in
     guide_left g.T.Tally.of _ (is_kept c.args.except) _ _ c.in-Some.n c.link-link.result _ o c.in-Some-guide_at.guide guided (ap is_lt is ∙ sym c.is_lt.ensures ∙ c.if-is_lt.false) (ap is_eq is ∙ sym c.is_eq.ensures ∙ c.if-is_eq.false)
 
 pub returns : goal.returns

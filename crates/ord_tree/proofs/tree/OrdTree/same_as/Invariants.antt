@@ -9,7 +9,7 @@ use Rattle.ord_tree.proofs.tree.OrdTree.same_as.Given as goal
 
 abbrev pub invariant-loop-at : goal.invariant-loop-at
 invariant-loop-at g l =
-    let side = side_of (record_of l.store) (λ a. g.E.Extract.order_of l.keys l.self.index a l.record) in
+    let side = side_of (record_of l.store) (λ a. g.E.Extract.order_of l.keys l.self.index a l.row) in
     Nears g.T.Tally.of (column_of l.store l.self.col) (Beside (is_kept l.except) side) (passes (is_kept l.except) side) (tree_of (column_of l.store) l.self) l.at l.found
 
 abbrev pub decreases-loop-at : goal.decreases-loop-at
