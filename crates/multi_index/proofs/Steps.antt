@@ -1,6 +1,6 @@
 -- One step of a walk over all lists.
-use Rattle.std.proofs.Common.{◌≡◌, ℕ, ◌+◌, ◌<◌, List, [], ◌∷◌, ◌++◌, length, get_or, drop, map, ap, sym, ◌∙◌, subst, arith, take, Vec, set, vec_len, vec_capacity, append_assoc, rules}
-use Rattle.std.specs.Prelude.{insert, Result, Ok, Err, IsOk, is_ok, if◌then◌else◌}
+use Rattle.std.proofs.Common.{◌≡◌, ℕ, ◌+◌, ◌<◌, ◌≤◌, ◌==◌, Bool, true, false, cond, Some, None, List, [], ◌∷◌, ◌++◌, length, get_or, drop, map, ap, sym, ◌∙◌, subst, arith, take, Vec, set, vec_len, vec_capacity, append_assoc, rules}
+use Rattle.std.specs.Prelude.{insert, Result, Ok, Err, IsOk, is_ok, IfSome, if◌then◌else◌}
 use Rattle.std.specs.List.{AllByRecursion}
 use Rattle.std.specs.declared.cmp.Ordering.{Ordering}
 use Rattle.std.proofs.lemmas.List.{map_push, length-map, map-set, get_or-map, set-get_or, drop_more, take_more_set, drop-set-lt, map_more}
@@ -76,3 +76,12 @@ empty_more vs ws v specs i d h pushed none so_far =
 -- the list that a vector read out of the lists keeps
 pub list_at_is : {Z : Type 0} (vs : List (Vec Handle Z)) (i : ℕ) (v : Vec Handle Z) (list : List Handle) → i < length vs → list ≡ v.items → v ≡ get_or vs i v → list ≡ list_at (lists_of vs) i
 list_at_is vs i v list h e read = e ∙ (ap (λ w. w.items) read ∙ sym (get_or-map (λ w. w.items) vs i v [] h))
+
+-- the place that is asked for is not past the end of the list that it is asked for in
+reaches_if : (b : Bool) (place : ℕ) (list : List Handle) → place ≤ length list → IfSome (cond b (Some place) None) (λ p. p ≤ length list)
+reaches_if true place list h = h
+reaches_if false place list h = tt
+
+pub reaches_here : (at : At) (index : ℕ) (list : List Handle) → IfSome at (λ asked. asked.1 ≤ length list) → IfSome (place_in at index) (λ place. place ≤ length list)
+reaches_here None index list h = tt
+reaches_here (Some at) index list h = reaches_if (at.0 == index) at.1 list h

@@ -1,10 +1,11 @@
 -- How a container lies in plain vectors.
-use Rattle.std.specs.Prelude.{◌≡◌, ℕ, ◌<◌, Bool, List, length, map, Some, slice_index_or, Vec, vec_len, vec_capacity}
+use Rattle.std.specs.Prelude.{◌≡◌, ℕ, ◌<◌, ◌≤◌, Bool, List, length, map, Some, IfSome, slice_index_or, Vec, vec_len, vec_capacity}
 use Rattle.std.specs.List.{AllByRecursion}
 use Rattle.std.specs.declared.cmp.Ordering.{Ordering}
 use Rattle.container_model.specs.declared.handle.Handle.{Handle}
 use Rattle.container_model.specs.declared.handle.Entry.{Entry}
 use Rattle.container_model.specs.State.{State, row_of, IsState}
+use Rattle.container_model.specs.Insert.{At}
 
 -- the lists that vectors of handles are
 abbrev pub lists_of : {Z : Type 0} → List (Vec Handle Z) → List (List Handle)
@@ -22,6 +23,10 @@ AllLieAtSlots entries lists = AllByRecursion (AllByRecursion (LiesAtSlot entries
 -- each list has room for one more
 abbrev pub AllHaveRoom : {Z : Type 0} → List (Vec Handle Z) → Type 0
 AllHaveRoom lists = AllByRecursion (λ v. vec_len v < vec_capacity v) lists
+
+-- the place that is asked for, where one is, is not past the end of a list
+abbrev pub AllReach : At → List (List Handle) → Type 0
+AllReach at lists = AllByRecursion (λ list. IfSome at (λ asked. asked.1 ≤ length list)) lists
 
 -- a container whose records lie at their slots
 pub record IsPlain {E R : Type 0} (has_key : E → ℕ → Bool) (order : E → ℕ → R → R → Ordering) (s : State E R) : Type 0 where

@@ -1,11 +1,13 @@
 //! The container.
-ghost use Rattle.std.specs.Prelude.{◌≡◌, ◌↔◌, ◌<◌, IsTrue, length, [], None, unwrap_or, Some, IfOk, IfErr, OnOk, OnErr};
+ghost use Rattle.std.specs.Prelude.{◌≡◌, ◌↔◌, ◌<◌, ◌≤◌, IsTrue, false, length, [], None, unwrap_or, Some, IfOk, IfErr, IfSome, OnOk, OnErr};
+ghost use Rattle.std.specs.List.{AllByRecursion};
+ghost use Rattle.multi_index.specs.Plain.{LiesAtSlot};
 ghost use Rattle.container_model.specs.State.{IsState, KeysMatch, empty, list_at, row_of, has_key_kind};
-ghost use Rattle.container_model.specs.Find.{found, is_live, kind_at};
-ghost use Rattle.container_model.specs.Insert.{insert_refusal, new_handle, with_inserted};
+ghost use Rattle.container_model.specs.Find.{counted, found, is_live, kind_at};
+ghost use Rattle.container_model.specs.Insert.{insert_at_refusal, insert_refusal, new_handle, with_inserted};
 
 use crate::enter::{empty_lists, enter_each, first_ban, reserve_one};
-use crate::search::first_equal;
+use crate::search::{count_equal, first_equal};
 use container_model::{Entry, Handle, Kind, Refused, Spec, Why};
 use key_extract::Extract;
 use std::alloc::{AllocError, Global};
@@ -97,27 +99,30 @@ impl<R: Drop, E: Extract<R> + Drop> MultiIndex<R, E> {
                 row: Some(row),
             });
         }
-        if reserve_one(&mut self.entries, &mut self.lists).is_err() {
+        self.put(None, row)
+    }
+
+    /// Puts a record in before the place of a sequence, and as `insert` does in the other indices; at the place `len` it
+    /// goes last. A refused one is handed back, and the container is unchanged: `Kind`, where the index is no sequence,
+    /// comes before `Place`, where the place is past the end, and that before what `insert` refuses. O(indices · records).
+    pub fn insert_at(&mut self, index: usize, place: u64, row: R) -> Result<Handle, Refused<R>>
+        requires { index < length self.old.specs }
+        ensures handle { IfOk result (λ handle. handle ≡ new_handle self.old) }
+        ensures allowed { OnOk result (insert_at_refusal E.order_of self.old index place row ≡ None) }
+        ensures ok { OnOk result (self.new ≡ with_inserted E.order_of self.old (Some (index, place)) row) }
+
+        // Memory is refused only where nothing else is.
+        ensures why { IfErr result (λ refused. refused.why ≡ unwrap_or (insert_at_refusal E.order_of self.old index place row) Why.Memory) }
+        ensures handed_back { IfErr result (λ refused. refused.row ≡ Some row) }
+        ensures unchanged { OnErr result (self.new ≡ self.old) }
+    {
+        if let Some(why) = self.insert_at_refusal(index, place, &row) {
             return Err(Refused {
-                why: Why::Memory,
+                why,
                 row: Some(row),
             });
         }
-        let handle = Handle {
-            slot: self.entries.len() as u32,
-            stamp: self.writes + 1,
-        };
-        enter_each(
-            &self.keys,
-            &self.specs,
-            &self.entries,
-            &mut self.lists,
-            &row,
-            handle,
-        );
-        let _ = self.entries.push(Entry { handle, row });
-        self.writes = handle.stamp;
-        Ok(handle)
+        self.put(Some((index, place)), row)
     }
 
     /// The record of a handle; a handle that names none is `Stale`. O(1).
@@ -133,19 +138,25 @@ impl<R: Drop, E: Extract<R> + Drop> MultiIndex<R, E> {
         }
     }
 
-    /// The first record of the index that has the key, if any does; a sequence has none, and answers `Kind`. O(records).
+    /// The first record of the index that has the key, if any does, and in a hashed index the one put in first of those that
+    /// have it; a sequence has none, and answers `Kind`. O(records).
     pub fn find(&self, index: usize, probe: &E::Probe) -> Result<Option<Handle>, Why>
         requires in_range { index < length self.now.specs }
         requires fits { IsTrue (has_key_kind (kind_at self.now index)) → IsTrue (E.does_fit self.now.keys index probe.now) }
         ensures { result ≡ found E.probe_order_of self.now index probe.now }
     {
-        match self.specs[index].kind {
-            Kind::Sequenced | Kind::Random => Err(Why::Kind),
-            Kind::Ordered | Kind::Ranked | Kind::Hashed => {
-                let list = &self.lists[index];
-                Ok(first_equal(&self.keys, index, &self.entries, list, probe))
-            }
-        }
+        let list = self.keyed_list(index)?;
+        Ok(first_equal(&self.keys, index, &self.entries, list, probe))
+    }
+
+    /// How many records of the index have the key; a sequence has none, and answers `Kind`. O(records).
+    pub fn count(&self, index: usize, probe: &E::Probe) -> Result<u64, Why>
+        requires in_range { index < length self.now.specs }
+        requires fits { IsTrue (has_key_kind (kind_at self.now index)) → IsTrue (E.does_fit self.now.keys index probe.now) }
+        ensures { result ≡ counted E.probe_order_of self.now index probe.now }
+    {
+        let list = self.keyed_list(index)?;
+        Ok(count_equal(&self.keys, index, &self.entries, list, probe) as u64)
     }
 
     /// The records of the index, in its order; a hashed one's in the order of insertion. O(records).
@@ -160,12 +171,77 @@ impl<R: Drop, E: Extract<R> + Drop> MultiIndex<R, E> {
             .map_err(|_| Why::Memory)
     }
 
+    // The records of an index that has keys.
+    fn keyed_list(&self, index: usize) -> Result<&[Handle], Why>
+        requires { index < length self.now.specs }
+        ensures keyed { OnOk result (IsTrue (has_key_kind (kind_at self.now index))) }
+        ensures has_key { OnOk result (IsTrue (E.has_key self.now.keys index)) }
+        ensures list { IfOk result (λ list. list.now ≡ list_at self.now.lists index) }
+        ensures found { IfOk result (λ list. AllByRecursion (LiesAtSlot self.now.entries) list.now) }
+        ensures kind { IfErr result (λ why. why ≡ Why.Kind) }
+        ensures keyless { OnErr result (has_key_kind (kind_at self.now index) ≡ false) }
+    {
+        match self.specs[index].kind {
+            Kind::Sequenced | Kind::Random => Err(Why::Kind),
+            Kind::Ordered | Kind::Ranked | Kind::Hashed => Ok(&self.lists[index]),
+        }
+    }
+
     // Whether the handle names a record.
     fn has(&self, handle: Handle) -> bool
         ensures { result ≡ is_live self.now handle }
     {
         let slot = handle.slot as usize;
         slot < self.entries.len() && handle == self.entries[slot].handle
+    }
+
+    // Puts a record in that nothing keeps out: where it is asked for, and elsewhere at its usual places.
+    fn put(&mut self, at: Option<(usize, u64)>, row: R) -> Result<Handle, Refused<R>>
+        requires allowed { insert_refusal E.order_of self.old row ≡ None }
+        requires within { IfSome at (λ at. at.1 ≤ length self.old.entries) }
+        ensures handle { IfOk result (λ handle. handle ≡ new_handle self.old) }
+        ensures ok { OnOk result (self.new ≡ with_inserted E.order_of self.old at row) }
+        ensures why { IfErr result (λ refused. refused.why ≡ Why.Memory) }
+        ensures handed_back { IfErr result (λ refused. refused.row ≡ Some row) }
+        ensures unchanged { OnErr result (self.new ≡ self.old) }
+    {
+        if reserve_one(&mut self.entries, &mut self.lists).is_err() {
+            return Err(Refused {
+                why: Why::Memory,
+                row: Some(row),
+            });
+        }
+        let handle = Handle {
+            slot: self.entries.len() as u32,
+            stamp: self.writes + 1,
+        };
+        enter_each(
+            &self.keys,
+            &self.specs,
+            &self.entries,
+            &mut self.lists,
+            at,
+            &row,
+            handle,
+        );
+        let _ = self.entries.push(Entry { handle, row });
+        self.writes = handle.stamp;
+        Ok(handle)
+    }
+
+    // Why a record may not go in before a place of an index, but for want of memory.
+    fn insert_at_refusal(&self, index: usize, place: u64, row: &R) -> Option<Why>
+        requires { index < length self.now.specs }
+        ensures { result ≡ insert_at_refusal E.order_of self.now index place row.now }
+    {
+        match self.specs[index].kind {
+            Kind::Ordered | Kind::Ranked | Kind::Hashed => Some(Why::Kind),
+            Kind::Sequenced | Kind::Random => if place > self.len() {
+                Some(Why::Place)
+            } else {
+                self.insert_refusal(row)
+            },
+        }
     }
 
     // Why a record may not go in, but for want of memory.
