@@ -8,6 +8,8 @@ mod places;
 mod ranks;
 mod reads;
 mod sizes;
+#[cfg(test)]
+mod tests;
 mod tree;
 
 pub use sizes::Sizes;

@@ -1,0 +1,140 @@
+//! A thousand ids: each place and its node are found by few links, also once every second id has gone.
+ghost use Rattle.std.specs.Prelude.{◌≡◌, ◌+◌, ◌<◌, ◌≤◌, IsTrue};
+ghost use Rattle.list_model.specs.Order.{IsInOrder};
+ghost use Rattle.node_store.specs.ByNode.{column_of, record_of};
+ghost use Rattle.ord_tree.specs.Side.{order_at};
+ghost use Rattle.rank_tree.specs.Spelled.{IsSound, spelled, index_of};
+
+use crate::RankTree;
+use arrayvec::ArrayVec;
+use key_extract::{Cell, Extract, KeySpec, Part, Row, RowKeys};
+use node_store::NodeStore;
+use std::alloc::Global;
+use std::test::Fail;
+
+// Adds the value and puts it into the tree.
+fn insert_new<R: Drop, E: Extract<R>>(
+    store: &mut NodeStore<R>,
+    tree: &mut RankTree,
+    keys: &E,
+    value: R,
+) -> Option<()>
+    requires key { IsTrue (E.has_key keys.now (index_of tree.old)) }
+    requires sound { IsSound (column_of store.old) tree.old }
+    requires order { IsInOrder (order_at (record_of store.old) (E.order_of keys.now (index_of tree.old))) (spelled (column_of store.old) tree.old) }
+    requires count { store.old.added < 1000 }
+    ensures index { index_of tree.new ≡ index_of tree.old }
+    ensures sound { IsSound (column_of store.new) tree.new }
+    ensures order { IsInOrder (order_at (record_of store.new) (E.order_of keys.now (index_of tree.new))) (spelled (column_of store.new) tree.new) }
+    ensures count { store.new.added ≤ store.old.added + 1 }
+{
+    let Ok(()) = tree.reserve_one(store) else {
+        return None;
+    };
+    let Ok(n) = store.add(value) else {
+        return None;
+    };
+    tree.link(store, keys, n);
+    Some(())
+}
+
+fn row_of(alloc: Global, id: i64) -> Option<Row> {
+    let mut cells = Vec::new(alloc);
+    cells.push(Cell::Int(id)).ok()?;
+    Some(Row::new(cells))
+}
+
+// Puts a thousand ids in. The one at place p when all are there is the (143 p % 1000)th put in.
+fn fill<E: Extract<Row>>(
+    alloc: Global,
+    store: &mut NodeStore<Row>,
+    tree: &mut RankTree,
+    keys: &E,
+) -> Option<()>
+    requires key { IsTrue (E.has_key keys.now (index_of tree.old)) }
+    requires sound { IsSound (column_of store.old) tree.old }
+    requires order { IsInOrder (order_at (record_of store.old) (E.order_of keys.now (index_of tree.old))) (spelled (column_of store.old) tree.old) }
+    requires count { store.old.added ≡ 0 }
+    ensures sound { IsSound (column_of store.new) tree.new }
+{
+    for k in 0..1000u16 {
+        let Some(row) = row_of(alloc, i64::from(k) * 7 % 1000) else {
+            return None;
+        };
+        let Some(()) = insert_new(store, tree, keys, row) else {
+            return None;
+        };
+    }
+    Some(())
+}
+
+// Takes the node after each of so many places out, as long as there is one.
+fn thin<R>(store: &mut NodeStore<R>, tree: &mut RankTree, places: u64)
+    requires sound { IsSound (column_of store.old) tree.old }
+    ensures sound { IsSound (column_of store.new) tree.new }
+{
+    for place in 0..places {
+        let Some(n) = tree.nth(store, place + 1) else {
+            return;
+        };
+        tree.unlink(store, n);
+    }
+}
+
+// The most links that a place or its node takes, where each place has its node.
+fn most_followed<R>(store: &NodeStore<R>, tree: &RankTree, places: u64, step: u64) -> Option<u64>
+    requires sound { IsSound (column_of store.now) tree.now }
+{
+    let mut most = 0;
+    for place in 0..places {
+        let (found, down) = tree.nth_counted(store, place);
+        let Some(n) = found else {
+            return None;
+        };
+        let (rank, up) = tree.rank_counted(store, n);
+        let expected = place.wrapping_mul(step).wrapping_mul(143) % 1000;
+        if n.number() != expected || rank != place {
+            return None;
+        }
+        most = most.max(down).max(up);
+    }
+    Some(most)
+}
+
+fn by_id() -> KeySpec {
+    let mut parts = ArrayVec::new();
+    parts.push(Part {
+        column: 0,
+        falling: false,
+    });
+    KeySpec::new(parts)
+}
+
+// The most links that are followed among a thousand ids, and among every second of them.
+fn most_among(alloc: Global) -> Option<(u64, u64)> {
+    let keys = RowKeys::new(alloc, &[Some(by_id())]).ok()?;
+    if !keys.has(0) {
+        return None;
+    }
+    let mut store = NodeStore::new(alloc);
+    let mut tree = RankTree::new(0, 0);
+    let Some(()) = fill(alloc, &mut store, &mut tree, &keys) else {
+        return None;
+    };
+    let Some(all) = most_followed(&store, &tree, 1000, 1) else {
+        return None;
+    };
+    thin(&mut store, &mut tree, 500);
+    let Some(half) = most_followed(&store, &tree, 500, 2) else {
+        return None;
+    };
+    Some((all, half))
+}
+
+#[test]
+fn places_of_a_thousand_ids_take_twenty_links(rt: HostRuntime) -> Result<(), Fail> {
+    let (all, half) = most_among(rt.alloc()).unwrap_or((0, 0));
+    assert!(rt; (9..=20).contains(&all), "{all}");
+    assert!(rt; (8..=18).contains(&half), "{half}");
+    Ok(())
+}
