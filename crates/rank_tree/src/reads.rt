@@ -147,22 +147,22 @@ impl RankTree {
         self.tree.upper_counted(store, keys, probe)
     }
 
-    /// The first node other than the excepted one whose record has the record's key.
+    /// The first node other than the excepted one whose record has the row's key.
     ///
     /// The excepted node may stand out of order: the descent goes by its neighbour. O(log n); it takes no memory.
     pub fn same_as<R, E: Extract<R>>(
         &self,
         store: &NodeStore<R>,
         keys: &E,
-        record: &R,
+        row: &R,
         except: Option<Node>,
     ) -> Option<Node>
         requires tree { IsSound (column_of store.now) self.now }
         requires key { IsTrue (E.has_key keys.now (index_of self.now)) }
         requires except { AreNodesOf store.now except }
         requires order { IsInOrder (order_at (record_of store.now) (E.order_of keys.now (index_of self.now))) (without_excepted except (spelled (column_of store.now) self.now)) }
-        ensures { result ≡ equal_but except (side_of (record_of store.now) (λ a. E.order_of keys.now (index_of self.now) a record.now)) (spelled (column_of store.now) self.now) }
+        ensures { result ≡ equal_but except (side_of (record_of store.now) (λ a. E.order_of keys.now (index_of self.now) a row.now)) (spelled (column_of store.now) self.now) }
     {
-        self.tree.same_as(store, keys, record, except)
+        self.tree.same_as(store, keys, row, except)
     }
 }
