@@ -6,7 +6,7 @@ use Rattle.container_model.specs.declared.handle.Handle.{Handle}
 use Rattle.table_cmd.specs.declared.fault.Fault.{Fault}
 use Rattle.table_cmd.specs.declared.fault.Fault.TheVariants.{Line, Json, Command, Table, Index, Kind, Row, Key, Handle as StaleHandle, Place, Order, Overflow, Full, Spent, Memory}
 use Rattle.table_cmd.specs.Buffer.{joined}
-use Rattle.table_cmd.specs.Answer.{HandleFits, handle_text, handle_or_null, answer_text, found, banned, fault}
+use Rattle.table_cmd.specs.Answer.{HandleFits, handle_text, handle_or_null, answer_text, found, counted, banned, fault}
 
 pub fault_is_short : (f : Fault) → length (answer_text (fault f)) ≤ 256
 fault_is_short Line = omega arith
@@ -57,6 +57,14 @@ found_is_short at h fits handle_fits =
     let a = number_is_short at fits in
     let b = handle_or_null_is_short h handle_fits in
     omega (arith, length-joined (decimal at) next, length-joined (handle_or_null h) last)
+
+pub counted_is_short : (at number : ℕ) → at < 2 ^ 64 → number < 2 ^ 64 → length (answer_text (counted at number)) ≤ 256
+counted_is_short at number fits number_fits =
+    let last = codes ",\"ok\":true}\n" ∷ [] in
+    let next = codes ",\"n\":" ∷ decimal number ∷ last in
+    let a = number_is_short at fits in
+    let b = number_is_short number number_fits in
+    omega (arith, length-joined (decimal at) next, length-joined (decimal number) last)
 
 pub banned_is_short : (at : ℕ) (index : List ℕ) (by : Handle) → at < 2 ^ 64 → length index ≤ 32 → HandleFits by → length (answer_text (banned at index by)) ≤ 256
 banned_is_short at index by fits name_fits handle_fits =

@@ -28,9 +28,10 @@ pub record Listed : Type 0 where
   pub handle : Handle
   pub row : List Named
 
--- what an answer line says: a record or nothing, a ban, records, a fault
+-- what an answer line says: a record or nothing, a number, a ban, records, a fault
 pub data Answer : Type 0 where
   found : ℕ → Option Handle → Answer
+  counted : ℕ → ℕ → Answer
   banned : ℕ → List ℕ → Handle → Answer
   listed : ℕ → List Listed → Answer
   fault : Fault → Answer
@@ -46,6 +47,7 @@ listed_of headings r = record { handle = r.handle; row = named headings r.row.no
 -- what a reply says
 abbrev pub answer : Reply → Answer
 answer (replies.Found at h) = found at h
+answer (replies.Counted at n) = counted at n
 answer (replies.Banned at index by) = banned at index.now by
 answer (replies.Listed at headings records) = listed at (map (listed_of headings.now) records.now)
 answer (replies.Fault f) = fault f
@@ -113,6 +115,7 @@ listed_texts later (l ∷ ls) = comma_if later ++ (listed_text l ++ listed_texts
 -- the line of an answer, with its newline
 abbrev pub answer_text : Answer → List ℕ
 answer_text (found at h) = joined (codes "{\"at\":" ∷ decimal at ∷ codes ",\"h\":" ∷ handle_or_null h ∷ codes ",\"ok\":true}\n" ∷ [])
+answer_text (counted at n) = joined (codes "{\"at\":" ∷ decimal at ∷ codes ",\"n\":" ∷ decimal n ∷ codes ",\"ok\":true}\n" ∷ [])
 answer_text (banned at index by) = joined (codes "{\"at\":" ∷ decimal at ∷ codes ",\"by\":\"" ∷ index ∷ codes "\",\"err\":\"banned\",\"h\":" ∷ handle_text by ∷ codes "}\n" ∷ [])
 answer_text (listed at ls) = joined (codes "{\"at\":" ∷ decimal at ∷ codes ",\"ok\":true,\"rs\":[" ∷ listed_texts false ls ∷ codes "}\n" ∷ [])
 answer_text (fault f) = joined (codes "{\"err\":\"" ∷ fault_name f ∷ codes "\"}\n" ∷ [])

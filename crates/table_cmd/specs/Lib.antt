@@ -1,3 +1,4 @@
+pub mod Command
 pub mod Meaning
 pub mod Buffer
 pub mod Answer

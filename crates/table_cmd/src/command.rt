@@ -1,6 +1,7 @@
 //! What a line asks for.
 
 ghost use Rattle.std.specs.Prelude.{◌≡◌};
+ghost use Rattle.table_cmd.specs.Command.{table_in};
 
 use key_extract::{Cell, Text};
 use std::marker::Model;
@@ -86,13 +87,58 @@ impl Key {
     }
 }
 
+/// Where an insertion goes at one index: before the record of a place.
+#[derive(Debug, Drop)]
+pub struct Position {
+    /// The name of the index.
+    pub index: Text,
+    /// The place, counted from 0 at the front. It may be past the last record.
+    pub place: u64,
+}
+
 /// A command on one table, with the names that the line gave: they may be those of no table, index or column.
 #[derive(Debug, Drop)]
 pub enum Command {
-    /// A new record with this row.
-    Insert { table: Text, row: Fields },
+    /// A new record with this row. With a position it goes there at that index, and without one last at each sequence.
+    Insert {
+        table: Text,
+        row: Fields,
+        position: Option<Position>,
+    },
     /// The first record at the index whose key is or begins with this one.
-    Find { table: Text, index: Text, key: Key },
+    Find {
+        table: Text,
+        index: Text,
+        key: Key,
+    },
+    /// How many records at the index have a key that is or begins with this one.
+    Count {
+        table: Text,
+        index: Text,
+        key: Key,
+    },
+    /// How many records there are.
+    Size {
+        table: Text,
+    },
     /// All records, in the order of the index.
-    List { table: Text, index: Text },
+    List {
+        table: Text,
+        index: Text,
+    },
+}
+
+impl Command {
+    /// The table's name. O(1).
+    pub fn table(&self) -> &str
+        ensures { result.now ≡ table_in self.now }
+    {
+        match self {
+            Command::Insert { table, .. }
+            | Command::Find { table, .. }
+            | Command::Count { table, .. }
+            | Command::Size { table }
+            | Command::List { table, .. } => table.as_str(),
+        }
+    }
 }

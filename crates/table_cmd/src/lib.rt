@@ -3,12 +3,13 @@
 
 mod command;
 mod fault;
+mod op;
 mod out;
 mod print;
 mod read;
 mod reply;
 
-pub use command::{Command, Field, Fields, Key, Value};
+pub use command::{Command, Field, Fields, Key, Position, Value};
 pub use container_model::Handle;
 pub use fault::{CommandFault, Fault};
 pub use key_extract::{Cell, Row, Text};

@@ -6,7 +6,7 @@ ghost use Rattle.json.specs.Print.{quoted, escape_byte};
 ghost use Rattle.std.specs.Char.{digit_char};
 ghost use Rattle.serde_json.specs.Written.{compact_text, comma_if};
 ghost use Rattle.table_cmd.specs.Buffer.{Adds, AddsWhole};
-ghost use Rattle.table_cmd.specs.Answer.{found, banned, fault, listed, answer_text, handle_text, handle_or_null, data_of, row_data, named, listed_of, listed_text, listed_texts, listed_front, record_front};
+ghost use Rattle.table_cmd.specs.Answer.{found, counted, banned, fault, listed, answer_text, handle_text, handle_or_null, data_of, row_data, named, listed_of, listed_text, listed_texts, listed_front, record_front};
 
 use crate::fault::Fault;
 use crate::out::{Out, OutOfRoom};
@@ -57,6 +57,18 @@ pub(crate) fn push_found(out: &mut Out, at: u64, handle: Option<Handle>) -> Resu
         Buffer::new().format(at),
         ",\"h\":",
         handle.as_str(),
+        ",\"ok\":true}\n",
+    ])
+}
+
+pub(crate) fn push_counted(out: &mut Out, at: u64, number: u64) -> Result<(), OutOfRoom>
+    ensures { AddsWhole result out.old out.new (answer_text (counted at number)) }
+{
+    out.try_push_all(&[
+        "{\"at\":",
+        Buffer::new().format(at),
+        ",\"n\":",
+        Buffer::new().format(number),
         ",\"ok\":true}\n",
     ])
 }

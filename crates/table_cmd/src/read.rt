@@ -1,13 +1,15 @@
 //! Reads a line as a command.
 
-ghost use Rattle.std.specs.Prelude.{◌≡◌, IfOk, option_map, map, bytes_eq};
+ghost use Rattle.std.specs.Prelude.{◌≡◌, IfOk, Some, option_map, map, bytes_eq, codes};
 ghost use Rattle.std.specs.List.{list_any};
-ghost use Rattle.serde_json.specs.Data.{object};
+ghost use Rattle.serde_json.specs.Find.{get};
 ghost use Rattle.serde_json.specs.View.{view, items_view, members_view};
-ghost use Rattle.table_cmd.specs.Meaning.{Gives, value_of, values_of, fields_of, has_only, text_at, insert_of, find_of, list_of, command_for, command_of, or_fault, meaning};
+ghost use Rattle.table_cmd.specs.Meaning.{Gives, value_of, values_of, fields_of, has_only, text_at, position_at, insert_of, search_of, list_of, shaped, command_of, or_fault, meaning};
+ghost use Rattle.table_cmd.specs.declared.op.Op.TheVariants as ops;
 
-use crate::command::{Command, Field, Fields, Key, Value};
+use crate::command::{Command, Field, Fields, Key, Position, Value};
 use crate::fault::CommandFault;
+use crate::op::Op;
 use key_extract::{Cell, Text};
 use serde_json::{Map, Value as Json};
 use std::alloc::{AllocError, Global};
@@ -87,6 +89,32 @@ fn text_at<'a>(value: &'a Json, name: &str) -> Option<&'a str>
     value.get(name).and_then(Json::as_str)
 }
 
+// Where an insertion is to go; `Err` where only one of index and place is given, or one is of another type.
+fn position_of(alloc: Global, value: &Json) -> Result<Option<Position>, CommandFault>
+    ensures { Gives result (or_fault (position_at (get (codes "i") (view value.now)) (get (codes "p") (view value.now)))) }
+{
+    match (value.get("i"), value.get("p")) {
+        (None, None) => Ok(None),
+        (Some(index), Some(place)) => position_at(alloc, index, place),
+        (None, Some(_)) | (Some(_), None) => Err(CommandFault::Command),
+    }
+}
+
+fn position_at(alloc: Global, index: &Json, place: &Json) -> Result<Option<Position>, CommandFault>
+    ensures { Gives result (or_fault (position_at (Some (view index.now)) (Some (view place.now)))) }
+{
+    let Some(index) = index.as_str() else {
+        return Err(CommandFault::Command);
+    };
+    let Some(place) = place.as_u64() else {
+        return Err(CommandFault::Command);
+    };
+    Ok(Some(Position {
+        index: Text::new(String::from_str(alloc, index)?),
+        place,
+    }))
+}
+
 #[tactic(auto, unfolding(crate::specs::Meaning::insert_of))]
 fn insert_of(alloc: Global, value: &Json) -> Result<Command, CommandFault>
     ensures { Gives result (or_fault (insert_of (view value.now))) }
@@ -97,15 +125,25 @@ fn insert_of(alloc: Global, value: &Json) -> Result<Command, CommandFault>
     let Some(row) = value.get("r").and_then(Json::as_object) else {
         return Err(CommandFault::Command);
     };
+    let position = position_of(alloc, value)?;
     Ok(Command::Insert {
         table: Text::new(String::from_str(alloc, table)?),
         row: row_of(alloc, row)?,
+        position,
     })
 }
 
-#[tactic(auto, unfolding(crate::specs::Meaning::find_of))]
-fn find_of(alloc: Global, value: &Json) -> Result<Command, CommandFault>
-    ensures { Gives result (or_fault (find_of (view value.now))) }
+// What a search names.
+#[derive(Drop)]
+pub(crate) struct Search {
+    pub(crate) table: Text,
+    pub(crate) index: Text,
+    pub(crate) key: Key,
+}
+
+#[tactic(auto, unfolding(crate::specs::Meaning::search_of))]
+fn search_of(alloc: Global, value: &Json) -> Result<Search, CommandFault>
+    ensures { Gives result (or_fault (search_of (view value.now))) }
 {
     let Some(table) = text_at(value, "t") else {
         return Err(CommandFault::Command);
@@ -116,10 +154,21 @@ fn find_of(alloc: Global, value: &Json) -> Result<Command, CommandFault>
     let Some(key) = value.get("k").and_then(Json::as_array) else {
         return Err(CommandFault::Command);
     };
-    Ok(Command::Find {
+    Ok(Search {
         table: Text::new(String::from_str(alloc, table)?),
         index: Text::new(String::from_str(alloc, index)?),
         key: key_of(alloc, key)?,
+    })
+}
+
+fn size_of(alloc: Global, value: &Json) -> Result<Command, CommandFault>
+    ensures { Gives result (or_fault (shaped ops.Size (view value.now))) }
+{
+    let Some(table) = text_at(value, "t") else {
+        return Err(CommandFault::Command);
+    };
+    Ok(Command::Size {
+        table: Text::new(String::from_str(alloc, table)?),
     })
 }
 
@@ -139,45 +188,37 @@ fn list_of(alloc: Global, value: &Json) -> Result<Command, CommandFault>
     })
 }
 
-#[tactic(auto, unfolding(crate::specs::Meaning::command_for))]
-fn command_for(
-    alloc: Global,
-    op: &str,
-    members: &Map<String, Json>,
-    value: &Json,
-) -> Result<Command, CommandFault>
-    requires { view value.now ≡ object (members_view members.now.entries) }
-    ensures { Gives result (or_fault (command_for op.now (members_view members.now.entries))) }
+// The command of an operation, by the names in its object.
+fn shaped(alloc: Global, op: Op, value: &Json) -> Result<Command, CommandFault>
+    ensures { Gives result (or_fault (shaped op (view value.now))) }
 {
-    if op == "insert" {
-        if !has_only(members, &["op", "t", "r"]) {
-            return Err(CommandFault::Command);
+    match op {
+        Op::Insert => insert_of(alloc, value),
+        Op::Find => {
+            let Search { table, index, key } = search_of(alloc, value)?;
+            Ok(Command::Find { table, index, key })
         }
-        insert_of(alloc, value)
-    } else if op == "find" {
-        if !has_only(members, &["op", "t", "i", "k"]) {
-            return Err(CommandFault::Command);
+        Op::Count => {
+            let Search { table, index, key } = search_of(alloc, value)?;
+            Ok(Command::Count { table, index, key })
         }
-        find_of(alloc, value)
-    } else if op == "list" {
-        if !has_only(members, &["op", "t", "i"]) {
-            return Err(CommandFault::Command);
-        }
-        list_of(alloc, value)
-    } else {
-        Err(CommandFault::Command)
+        Op::Size => size_of(alloc, value),
+        Op::List => list_of(alloc, value),
     }
 }
 
-#[tactic(auto, unfolding(crate::specs::Meaning::command_of))]
+#[tactic(auto, unfolding(crate::specs::Meaning::command_of, crate::specs::Meaning::command_for))]
 fn command_of(alloc: Global, value: &Json) -> Result<Command, CommandFault>
     ensures { Gives result (or_fault (command_of (view value.now))) }
 {
     let Json::Object(members) = value else {
         return Err(CommandFault::Command);
     };
-    let Some(op) = text_at(value, "op") else {
+    let Some(op) = text_at(value, "op").and_then(Op::of) else {
         return Err(CommandFault::Command);
     };
-    command_for(alloc, op, members, value)
+    if !has_only(members, op.names()) {
+        return Err(CommandFault::Command);
+    }
+    shaped(alloc, op, value)
 }

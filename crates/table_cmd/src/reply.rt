@@ -5,7 +5,7 @@ ghost use Rattle.table_cmd.specs.Answer.{answer, answer_text};
 
 use crate::fault::Fault;
 use crate::out::{Out, OutOfRoom};
-use crate::print::{push_banned, push_fault, push_found, push_listed};
+use crate::print::{push_banned, push_counted, push_fault, push_found, push_listed};
 use container_model::Handle;
 use key_extract::{Row, Text};
 
@@ -34,6 +34,11 @@ pub enum Reply<'a> {
     Found {
         at: u64,
         handle: Option<Handle>,
+    },
+    /// A number of records, or a place.
+    Counted {
+        at: u64,
+        number: u64,
     },
     /// A unique index has a record with the new key. The index's name is printed as it stands: it must need no escape.
     Banned {
@@ -69,6 +74,7 @@ fn push_reply(reply: &Reply, out: &mut Out) -> Result<(), OutOfRoom>
 {
     match *reply {
         Reply::Found { at, handle } => push_found(out, at, handle),
+        Reply::Counted { at, number } => push_counted(out, at, number),
         Reply::Banned { at, index, by } => push_banned(out, at, index, by),
         Reply::Listed {
             at,

@@ -12,7 +12,12 @@ fn value_text(alloc: Global, value: &Value) -> Result<String, AllocError> {
     }
 }
 
-fn insert_text(alloc: Global, table: &Text, row: &Fields) -> Result<String, AllocError> {
+fn insert_text(
+    alloc: Global,
+    table: &Text,
+    row: &Fields,
+    position: Option<&Position>,
+) -> Result<String, AllocError> {
     let mut text = format!(in alloc; "insert {}", table.as_str())?;
     for field in row.as_slice() {
         let value = value_text(alloc, &field.value)?;
@@ -21,11 +26,21 @@ fn insert_text(alloc: Global, table: &Text, row: &Fields) -> Result<String, Allo
         text.push_str("=")?;
         text.push_str(value.as_str())?;
     }
+    if let Some(position) = position {
+        let at = format!(in alloc; " at {} {}", position.index.as_str(), position.place)?;
+        text.push_str(at.as_str())?;
+    }
     Ok(text)
 }
 
-fn find_text(alloc: Global, table: &Text, index: &Text, key: &Key) -> Result<String, AllocError> {
-    let mut text = format!(in alloc; "find {} {}", table.as_str(), index.as_str())?;
+fn search_text(
+    alloc: Global,
+    op: &str,
+    table: &Text,
+    index: &Text,
+    key: &Key,
+) -> Result<String, AllocError> {
+    let mut text = format!(in alloc; "{op} {} {}", table.as_str(), index.as_str())?;
     for value in key.as_slice() {
         let value = value_text(alloc, value)?;
         text.push_str(" ")?;
@@ -37,8 +52,18 @@ fn find_text(alloc: Global, table: &Text, index: &Text, key: &Key) -> Result<Str
 // What a line is read as: a command in short, or the name of the fault.
 fn meaning_text(alloc: Global, line: &[u8]) -> Result<String, AllocError> {
     match read_command(alloc, line) {
-        Ok(Command::Insert { table, row }) => insert_text(alloc, &table, &row),
-        Ok(Command::Find { table, index, key }) => find_text(alloc, &table, &index, &key),
+        Ok(
+            Command::Insert {
+                table,
+                row,
+                position,
+            },
+        ) => insert_text(alloc, &table, &row, position.as_ref()),
+        Ok(Command::Find { table, index, key }) => search_text(alloc, "find", &table, &index, &key),
+        Ok(Command::Count { table, index, key }) => search_text(
+            alloc, "count", &table, &index, &key,
+        ),
+        Ok(Command::Size { table }) => format!(in alloc; "size {}", table.as_str()),
         Ok(Command::List { table, index }) => format!(in alloc;
             "list {} {}",
             table.as_str(),
@@ -63,6 +88,19 @@ fn lines_are_read(rt: HostRuntime) -> Result<(), Fail> {
             "{\"op\":\"insert\",\"t\":\"f\",\"r\":{\"id\":1,\"id\":2}}",
             "insert f id=2",
         ),
+        (
+            "{\"op\":\"insert\",\"t\":\"p\",\"r\":{\"id\":3},\"i\":\"q\",\"p\":0}",
+            "insert p id=3 at q 0",
+        ),
+        (
+            "{\"p\":18446744073709551615,\"i\":\"\",\"r\":{},\"t\":\"p\",\"op\":\"insert\"}",
+            "insert p at  18446744073709551615",
+        ),
+        (
+            "{\"op\":\"count\",\"t\":\"p\",\"i\":\"c\",\"k\":[\"a\",5]}",
+            "count p c 'a' 5",
+        ),
+        ("{\"op\":\"size\",\"t\":\"p\"}", "size p"),
         (
             "{\"op\":\"find\",\"t\":\"f\",\"i\":\"u\",\"k\":[1]}",
             "find f u 1",
@@ -114,6 +152,21 @@ fn other_shapes_are_no_commands(rt: HostRuntime) -> Result<(), Fail> {
         "{\"op\":\"insert\",\"t\":\"f\",\"r\":[]}",
         "{\"op\":\"insert\",\"t\":[\"f\"],\"r\":{}}",
         "{\"op\":\"insert\",\"t\":\"f\",\"r\":{},\"R\":{}}",
+        "{\"op\":\"insert\",\"t\":\"f\",\"r\":{},\"i\":\"q\"}",
+        "{\"op\":\"insert\",\"t\":\"f\",\"r\":{},\"p\":0}",
+        "{\"op\":\"insert\",\"t\":\"f\",\"r\":{},\"i\":1,\"p\":0}",
+        "{\"op\":\"insert\",\"t\":\"f\",\"r\":{},\"i\":null,\"p\":null}",
+        "{\"op\":\"insert\",\"t\":\"f\",\"r\":{},\"i\":\"q\",\"p\":\"0\"}",
+        "{\"op\":\"insert\",\"t\":\"f\",\"r\":{},\"i\":\"q\",\"p\":-1}",
+        "{\"op\":\"insert\",\"t\":\"f\",\"r\":{},\"i\":\"q\",\"p\":-0}",
+        "{\"op\":\"insert\",\"t\":\"f\",\"r\":{},\"i\":\"q\",\"p\":1.0}",
+        "{\"op\":\"insert\",\"t\":\"f\",\"r\":{},\"i\":\"q\",\"p\":18446744073709551616}",
+        "{\"op\":\"insert\",\"t\":\"f\",\"r\":{},\"i\":\"q\",\"p\":0,\"k\":[]}",
+        "{\"op\":\"count\",\"t\":\"f\",\"i\":\"u\"}",
+        "{\"op\":\"count\",\"t\":\"f\",\"i\":\"u\",\"k\":1}",
+        "{\"op\":\"size\"}",
+        "{\"op\":\"size\",\"t\":1}",
+        "{\"op\":\"size\",\"t\":\"f\",\"i\":\"u\"}",
     ] {
         let read = meaning_text(alloc, line.as_bytes())?;
         assert_eq!(rt; read.as_str(), "command", "{line}");
@@ -187,6 +240,17 @@ fn short_replies_are_printed(rt: HostRuntime) -> Result<(), Fail> {
                 handle: Some(last),
             },
             "{\"at\":18446744073709551615,\"h\":\"4294967295:18446744073709551615\",\"ok\":true}\n",
+        ),
+        (
+            Reply::Counted { at: 3, number: 2 },
+            "{\"at\":3,\"n\":2,\"ok\":true}\n",
+        ),
+        (
+            Reply::Counted {
+                at: u64::MAX,
+                number: u64::MAX,
+            },
+            "{\"at\":18446744073709551615,\"n\":18446744073709551615,\"ok\":true}\n",
         ),
         (
             Reply::Banned {

@@ -10,7 +10,7 @@ use Rattle.table_cmd.specs.Buffer.{joined}
 use Rattle.table_step.specs.Step.{TableState}
 use Rattle.table_engine.specs.Lines.{Unfinished, short, long, add, max_line}
 use Rattle.table_engine.specs.Tables.{AnswersLine}
-use Rattle.table_engine.specs.Run.{Machine, byte, end, Run, AnswersByte, AnswersEnd, bytes_of, line_of}
+use Rattle.table_engine.specs.Run.{Machine, end, Run, AnswersByte, AnswersEnd, bytes_of, line_of}
 use Rattle.table_engine.specs.Whole.{AnswersLines, as_line, lines_of}
 
 abbrev newline : ℕ → Bool

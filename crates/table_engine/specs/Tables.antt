@@ -9,7 +9,8 @@ use Rattle.table_cmd.specs.declared.fault.Fault.{Fault}
 use Rattle.table_cmd.specs.declared.fault.Fault.TheVariants as faults
 use Rattle.table_cmd.specs.Meaning.{meaning}
 use Rattle.table_cmd.specs.Answer.{Answer, fault, answer_text}
-use Rattle.table_step.specs.Step.{TableState, Step, step_of, table_in, memory_line}
+use Rattle.table_cmd.specs.Command.{table_in}
+use Rattle.table_step.specs.Step.{TableState, Step, step_of, memory_line}
 use Rattle.table_engine.specs.Lines.{Unfinished, short, long, is_blank}
 
 -- what a line is answered, and the tables after it

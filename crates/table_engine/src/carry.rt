@@ -3,7 +3,6 @@
 ghost use Rattle.std.specs.Prelude.{◌≡◌, ◌≤◌};
 ghost use Rattle.table_cmd.specs.Buffer.{Keeps};
 ghost use Rattle.table_cmd.specs.Meaning.{meaning};
-ghost use Rattle.table_step.specs.Step.{table_in};
 ghost use Rattle.table_engine.specs.Tables.{Replies, answer_to, carried, table_at};
 
 use std::alloc::Global;
@@ -36,23 +35,13 @@ fn carry_out(tables: &mut [Table], command: &Command, out: &mut Out)
     ensures answer { Replies out.old.bytes out.new.bytes tables.old tables.new (carried tables.old command.now) }
     ensures kept { Keeps out.old out.new }
 {
-    match table_at(tables, table_in(command)) {
+    match table_at(tables, command.table()) {
         Some(place) => {
             tables[place].step(command, out);
         }
         None => {
             refuse(Fault::Table, out);
         }
-    }
-}
-
-// The name of the table that a command is for.
-fn table_in(command: &Command) -> &str
-    ensures { result.now ≡ table_in command.now }
-{
-    match command {
-        Command::Insert { table, .. } | Command::Find { table, .. } | Command::List { table, .. } =>
-            table.as_str(),
     }
 }
 

@@ -3,7 +3,7 @@ use Rattle.std.specs.Prelude.{ℕ, ℤ, pos, List, [], ◌∷◌, map, Bool, tru
 use Rattle.std.specs.List.{list_any}
 use Rattle.toml.specs.Data.{Data, Items, no_items, item, Members, no_members, member, get_member, as_str, as_integer, as_bool, as_array, as_table}
 use Rattle.container_model.specs.declared.handle.Kind.{Kind}
-use Rattle.container_model.specs.declared.handle.Kind.TheVariants.{Sequenced, Ordered}
+use Rattle.container_model.specs.declared.handle.Kind.TheVariants as kinds
 use Rattle.table_schema.specs.declared.column.Column.{Column}
 use Rattle.table_schema.specs.declared.column.CellKind.{CellKind}
 use Rattle.table_schema.specs.declared.column.CellKind.TheVariants as cells
@@ -66,12 +66,15 @@ cell_of text =
     else (if bytes_eq text (codes "bool") then Some cells.Bool
     else None))
 
--- the kinds that are served; a text of another kind is, as yet, no kind
+-- the kind of index that a text names
 abbrev pub kind_of : List ℕ → Option Kind
 kind_of text =
-    if bytes_eq text (codes "sequenced") then Some Sequenced
-    else (if bytes_eq text (codes "ordered") then Some Ordered
-    else None)
+    if bytes_eq text (codes "sequenced") then Some kinds.Sequenced
+    else (if bytes_eq text (codes "random") then Some kinds.Random
+    else (if bytes_eq text (codes "ordered") then Some kinds.Ordered
+    else (if bytes_eq text (codes "ranked") then Some kinds.Ranked
+    else (if bytes_eq text (codes "hashed") then Some kinds.Hashed
+    else None))))
 
 -- a column: its name, and the type of its cells
 unfoldable pub column_of : Data → Option Column

@@ -15,11 +15,12 @@ use toml::Table;
 
 /// Reads a schema file: TOML with one key `table`, an array of tables. A table has a `name`, a `max`
 /// (1 to 4294967295, which it is where it is missing), its columns `column` and its indices `index`; a
-/// column a `name` and a `cell` (`int`, `text` or `bool`); an index a `name`, a `kind`, `unique` (false
-/// where it is missing) and a `key` of column names, each with `-` before it for a falling part.
+/// column a `name` and a `cell` (`int`, `text` or `bool`); an index a `name`, a `kind` (`sequenced`,
+/// `random`, `ordered`, `ranked` or `hashed`), `unique` (false where it is missing) and a `key` of column
+/// names, each with `-` before it for a falling part. Ordered, ranked and hashed indices have a key, and they
+/// alone may be unique; a hashed key has no falling part.
 ///
-/// The kinds `random`, `ranked` and `hashed` are not served yet, and are `SchemaFault::Shape`. O(length
-/// of the bytes) for what `toml` reads; names and keys are compared only within the limits.
+/// O(length of the bytes) for what `toml` reads; names and keys are compared only within the limits.
 #[tactic(auto, unfolding(crate::specs::Meaning::schema_of))]
 pub fn read_schema(alloc: Global, bytes: &[u8]) -> Result<Schema, SchemaFault>
     ensures { GivesSchema result (schema_of bytes.now) }
@@ -62,6 +63,3 @@ fn tested(alloc: Global, drafts: &[DraftTable]) -> Result<Schema, SchemaFault>
         None => Err(SchemaFault::Key),
     }
 }
-
-#[cfg(test)]
-mod tests;

@@ -231,14 +231,19 @@ fn cell_of(text: &str) -> Option<CellKind>
     }
 }
 
-// The kind of a text; the kinds that are not served yet are none.
 fn kind_of(text: &str) -> Option<Kind>
     ensures { result ≡ kind_of text.now }
 {
     if text == "sequenced" {
         Some(Kind::Sequenced)
+    } else if text == "random" {
+        Some(Kind::Random)
     } else if text == "ordered" {
         Some(Kind::Ordered)
+    } else if text == "ranked" {
+        Some(Kind::Ranked)
+    } else if text == "hashed" {
+        Some(Kind::Hashed)
     } else {
         None
     }

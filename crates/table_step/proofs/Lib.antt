@@ -1,5 +1,6 @@
 pub mod Declared
 pub mod Kept
+pub mod Keyed
 pub mod Rows
 pub mod Shown
 pub mod Sorting

@@ -6,19 +6,21 @@ use Rattle.container_model.specs.declared.handle.Handle.{Handle}
 use Rattle.container_model.specs.declared.handle.Spec.{Spec}
 use Rattle.container_model.specs.declared.refusal.Why.{Why}
 use Rattle.container_model.specs.declared.refusal.Why.TheVariants as whys
-use Rattle.container_model.specs.State.{State, empty, row_of, list_at, has_key_kind}
-use Rattle.container_model.specs.Find.{found as found_in}
-use Rattle.container_model.specs.Insert.{insert_refusal, new_handle, with_inserted}
+use Rattle.container_model.specs.State.{State, empty, row_of, list_at, has_key_kind, is_sequence_kind}
+use Rattle.container_model.specs.Find.{found as found_in, counted as counted_in}
+use Rattle.container_model.specs.Insert.{At, insert_refusal, insert_at_refusal, new_handle, with_inserted}
 use Rattle.key_extract.specs.declared.cell.Cell.{Cell}
 use Rattle.key_extract.specs.declared.key.Part.{Part}
 use Rattle.key_extract.specs.Keys.{parts_at, key_cmp, probe_cmp}
 use Rattle.table_cmd.specs.declared.command.Command.{Command}
 use Rattle.table_cmd.specs.declared.command.Command.TheVariants as commands
 use Rattle.table_cmd.specs.declared.command.Field.{Field}
+use Rattle.table_cmd.specs.declared.command.Position.{Position}
 use Rattle.table_cmd.specs.declared.command.Value.{Value}
 use Rattle.table_cmd.specs.declared.fault.Fault.{Fault}
 use Rattle.table_cmd.specs.declared.fault.Fault.TheVariants as faults
-use Rattle.table_cmd.specs.Answer.{Answer, found, banned, listed, fault, answer_text, Listed, named}
+use Rattle.table_cmd.specs.Command.{table_in}
+use Rattle.table_cmd.specs.Answer.{Answer, found, counted, banned, listed, fault, answer_text, Listed, named}
 use Rattle.table_cmd.specs.declared.reply.Heading.{Heading}
 use Rattle.table_schema.specs.declared.column.IndexSpec.{IndexSpec}
 use Rattle.table_schema.specs.Shape.{TableShape}
@@ -95,41 +97,73 @@ refusal_answer t whys.Full = fault faults.Full
 refusal_answer t whys.Spent = fault faults.Spent
 refusal_answer t whys.Memory = fault faults.Memory
 
--- a row put in, where the container does not refuse it
-abbrev pub insert_by : TableState → Cells → Option Why → Step
-insert_by t row None = record {
-  outcome = outcomes.Write;
-  answer = found (t.records.writes + 1) (Some (new_handle t.records));
-  table = record t { records = with_inserted row_order t.records None row };
-}
-insert_by t row (Some why) = record { outcome = outcomes.Refusal; answer = refusal_answer t why; table = t }
-
-unfoldable pub insert_row : TableState → Cells → Step
-insert_row t row = insert_by t row (insert_refusal row_order t.records row)
-
-unfoldable pub insert_step : TableState → List Field → Step
-insert_step t fields = option_map_or (insert_row t) (row_from t.shape.columns fields) (refused t faults.Row)
-
-abbrev pub found_by : TableState → Result (Option Handle) Why → Step
-found_by t (Ok h) = told t (found t.records.writes h)
-found_by t (Err why) = refused t faults.Kind
-
--- the record found by a search key
-unfoldable pub find_probe : TableState → ℕ → Cells → Step
-find_probe t place probe = found_by t (found_in probe_order t.records place probe)
-
--- a search by values of one index
-unfoldable pub find_in : TableState → ℕ → IndexSpec → List Value → Step
-find_in t place index values =
-    if has_key_kind index.kind
-    then option_map_or (find_probe t place) (probe_from t.shape.columns index values) (refused t faults.Key)
-    else refused t faults.Kind
-
 -- what is done at the index of a name
 abbrev pub at_index : TableState → List ℕ → (ℕ → IndexSpec → Step) → Step
 at_index t name step =
     option_map_or (λ place. option_map_or (step place) (slice_get t.shape.indices place) (refused t faults.Index))
     (index_at t.shape.indices name) (refused t faults.Index)
+
+-- why the container refuses a row: before a place of one index, or at its usual places
+abbrev pub refusal_at : TableState → At → Cells → Option Why
+refusal_at t None row = insert_refusal row_order t.records row
+refusal_at t (Some at) row = insert_at_refusal row_order t.records at.0 at.1 row
+
+-- a row put in, where the container does not refuse it
+abbrev pub insert_by : TableState → At → Cells → Option Why → Step
+insert_by t at row None = record {
+  outcome = outcomes.Write;
+  answer = found (t.records.writes + 1) (Some (new_handle t.records));
+  table = record t { records = with_inserted row_order t.records at row };
+}
+insert_by t at row (Some why) = record { outcome = outcomes.Refusal; answer = refusal_answer t why; table = t }
+
+unfoldable pub insert_row : TableState → At → Cells → Step
+insert_row t at row = insert_by t at row (refusal_at t at row)
+
+-- the row of these fields put in
+unfoldable pub insert_fields : TableState → At → List Field → Step
+insert_fields t at fields = option_map_or (insert_row t at) (row_from t.shape.columns fields) (refused t faults.Row)
+
+-- the row put in before a place of one index, which is to be a sequence
+unfoldable pub insert_before : TableState → List Field → ℕ → ℕ → IndexSpec → Step
+insert_before t fields before place index =
+    if is_sequence_kind index.kind then insert_fields t (Some (place, before)) fields else refused t faults.Kind
+
+-- an insertion: without a position the row goes last at each sequence
+abbrev pub insert_step : TableState → List Field → Option Position → Step
+insert_step t fields None = insert_fields t None fields
+insert_step t fields (Some position) = at_index t position.index (insert_before t fields position.place)
+
+-- what is done by the search key that values are at an index
+unfoldable pub by_key : TableState → List Value → (ℕ → Cells → Step) → ℕ → IndexSpec → Step
+by_key t values step place index =
+    if has_key_kind index.kind
+    then option_map_or (step place) (probe_from t.shape.columns index values) (refused t faults.Key)
+    else refused t faults.Kind
+
+-- and at the index of a name
+abbrev pub at_key : TableState → List ℕ → List Value → (ℕ → Cells → Step) → Step
+at_key t name values step = at_index t name (by_key t values step)
+
+-- the record found by a search key
+abbrev pub found_by : TableState → Result (Option Handle) Why → Step
+found_by t (Ok h) = told t (found t.records.writes h)
+found_by t (Err why) = refused t faults.Kind
+
+unfoldable pub find_probe : TableState → ℕ → Cells → Step
+find_probe t place probe = found_by t (found_in probe_order t.records place probe)
+
+-- the number of records that have a search key
+abbrev pub counted_by : TableState → Result ℕ Why → Step
+counted_by t (Ok n) = told t (counted t.records.writes n)
+counted_by t (Err why) = refused t faults.Kind
+
+unfoldable pub count_probe : TableState → ℕ → Cells → Step
+count_probe t place probe = counted_by t (counted_in probe_order t.records place probe)
+
+-- the number of all records
+abbrev pub size_step : TableState → Step
+size_step t = told t (counted t.records.writes (length t.records.entries))
 
 -- a record as an answer shows it
 abbrev pub listed_handle : TableState → Handle → Listed
@@ -139,16 +173,12 @@ listed_handle t h = record { handle = h; row = named (headings_of t.shape.column
 unfoldable pub list_in : TableState → ℕ → Step
 list_in t place = told t (listed t.records.writes (map (listed_handle t) (list_at t.records.lists place)))
 
--- the table that a command names
-abbrev pub table_in : Command → List ℕ
-table_in (commands.Insert table row) = table
-table_in (commands.Find table index key) = table
-table_in (commands.List table index) = table
-
 -- a command on the table that it names
 abbrev pub step_at : TableState → Command → Step
-step_at t (commands.Insert table row) = insert_step t row
-step_at t (commands.Find table index key) = at_index t index (λ place spec. find_in t place spec key)
+step_at t (commands.Insert table row position) = insert_step t row position
+step_at t (commands.Find table index key) = at_key t index key (find_probe t)
+step_at t (commands.Count table index key) = at_key t index key (count_probe t)
+step_at t (commands.Size table) = size_step t
 step_at t (commands.List table index) = at_index t index (λ place spec. list_in t place)
 
 -- what a command does to a table

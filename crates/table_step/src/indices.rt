@@ -2,7 +2,7 @@
 
 ghost use Rattle.std.specs.Prelude.{◌≡◌, ◌<◌, [], IfOk, IfSome, length, map, slice_get};
 ghost use Rattle.std.specs.Option.{option_map_or};
-ghost use Rattle.container_model.specs.State.{has_key_kind};
+ghost use Rattle.container_model.specs.State.{has_key_kind, is_sequence_kind};
 ghost use Rattle.table_schema.specs.Valid.{IsValidTable};
 ghost use Rattle.table_step.specs.Step.{spec_of, index_at};
 
@@ -44,6 +44,13 @@ pub(crate) fn has_key(kind: Kind) -> bool
         Kind::Ordered | Kind::Ranked | Kind::Hashed => true,
         Kind::Sequenced | Kind::Random => false,
     }
+}
+
+/// Whether an index of the kind is a sequence.
+pub(crate) fn is_sequence(kind: Kind) -> bool
+    ensures { result ≡ is_sequence_kind kind }
+{
+    !has_key(kind)
 }
 
 /// The place of the index of a name.

@@ -1,40 +1,73 @@
 //! Putting a row in.
 
-ghost use Rattle.std.specs.Prelude.{◌≡◌, ◌≤◌};
+ghost use Rattle.std.specs.Prelude.{◌≡◌, ◌≤◌, ◌<◌, None, IfErr, IfOk, IfSome, OnErr, OnOk, length, unwrap_or};
+ghost use Rattle.std.specs.Option.{option_copied};
+ghost use Rattle.container_model.specs.Insert.{new_handle, with_inserted};
 ghost use Rattle.container_model.specs.declared.refusal.Why.TheVariants as whys;
 ghost use Rattle.table_cmd.specs.Buffer.{Keeps};
-ghost use Rattle.table_step.specs.Step.{IsShort, Steps, TableState, insert_row, insert_step, refusal_answer};
+ghost use Rattle.table_step.specs.Step.{IsShort, Steps, TableState, insert_fields, insert_row, insert_step, refusal_answer, refusal_at, row_order};
 ghost use Rattle.table_step.specs.Told.{Answers, HasIndices, table_of};
 
-use crate::indices::index_name;
+use crate::indices::{index_at, index_name, is_sequence};
 use crate::outcome::Outcome;
 use crate::tell::{refuse, refuse_memory, tell_short};
 use crate::values::row_from;
-use container_model::Why;
+use container_model::{Handle, Why};
 use key_extract::{Row, RowKeys};
 use multi_index::MultiIndex;
 use std::alloc::Global;
-use table_cmd::{Fault, Field, Out, READY_ROOM, Reply};
+use table_cmd::{Fault, Field, Out, Position, READY_ROOM, Reply};
 use table_schema::TableSpec;
 
-/// Puts the row of the fields in. Memory is refused before anything is changed.
-#[tactic(auto, unfolding(crate::specs::Step::insert_step))]
+/// Puts the row of the fields in, before the position where there is one. Memory is refused before anything is changed.
+#[tactic(auto, unfolding(crate::specs::Step::insert_before))]
 pub(crate) fn insert(
     alloc: Global,
     spec: &TableSpec,
     records: &mut MultiIndex<Row, RowKeys>,
     fields: &[Field],
+    position: Option<&Position>,
     out: &mut Out,
 ) -> Outcome
     requires room { READY_ROOM ≤ out.old.room }
     requires indices { HasIndices spec.now records.old }
-    ensures answer { Steps result out.old.bytes out.new.bytes (table_of spec.now records.old) (table_of spec.now records.new) (insert_step (table_of spec.now records.old) fields.now) }
+    ensures answer { Steps result out.old.bytes out.new.bytes (table_of spec.now records.old) (table_of spec.now records.new) (insert_step (table_of spec.now records.old) fields.now (option_copied position.entry)) }
+    ensures short { IsShort result out.old.bytes out.new.bytes }
+    ensures kept { Keeps out.old out.new }
+    ensures indices { HasIndices spec.now records.new }
+{
+    let Some(position) = position else {
+        return insert_fields(alloc, spec, records, None, fields, out);
+    };
+    let Some(place) = index_at(spec.indices(), position.index.as_str()) else {
+        return refuse(Fault::Index, out);
+    };
+    if !is_sequence(spec.indices()[place].kind) {
+        return refuse(Fault::Kind, out);
+    }
+    let at = Some((place, position.place));
+    insert_fields(alloc, spec, records, at, fields, out)
+}
+
+#[tactic(auto, unfolding(crate::specs::Step::insert_fields))]
+fn insert_fields(
+    alloc: Global,
+    spec: &TableSpec,
+    records: &mut MultiIndex<Row, RowKeys>,
+    at: Option<(usize, u64)>,
+    fields: &[Field],
+    out: &mut Out,
+) -> Outcome
+    requires room { READY_ROOM ≤ out.old.room }
+    requires indices { HasIndices spec.now records.old }
+    requires within { IfSome at (λ at. at.0 < length spec.now.indices) }
+    ensures answer { Steps result out.old.bytes out.new.bytes (table_of spec.now records.old) (table_of spec.now records.new) (insert_fields (table_of spec.now records.old) at fields.now) }
     ensures short { IsShort result out.old.bytes out.new.bytes }
     ensures kept { Keeps out.old out.new }
     ensures indices { HasIndices spec.now records.new }
 {
     match row_from(alloc, spec.columns(), fields) {
-        Ok(Some(row)) => insert_row(spec, records, row, out),
+        Ok(Some(row)) => insert_row(spec, records, at, row, out),
         Ok(None) => refuse(Fault::Row, out),
         Err(_) => refuse_memory(out),
     }
@@ -44,17 +77,19 @@ pub(crate) fn insert(
 fn insert_row(
     spec: &TableSpec,
     records: &mut MultiIndex<Row, RowKeys>,
+    at: Option<(usize, u64)>,
     row: Row,
     out: &mut Out,
 ) -> Outcome
     requires room { READY_ROOM ≤ out.old.room }
     requires indices { HasIndices spec.now records.old }
-    ensures answer { Steps result out.old.bytes out.new.bytes (table_of spec.now records.old) (table_of spec.now records.new) (insert_row (table_of spec.now records.old) row) }
+    requires within { IfSome at (λ at. at.0 < length spec.now.indices) }
+    ensures answer { Steps result out.old.bytes out.new.bytes (table_of spec.now records.old) (table_of spec.now records.new) (insert_row (table_of spec.now records.old) at row) }
     ensures short { IsShort result out.old.bytes out.new.bytes }
     ensures kept { Keeps out.old out.new }
     ensures indices { HasIndices spec.now records.new }
 {
-    match records.insert(row) {
+    match put(spec, records, at, row) {
         Ok(handle) => {
             let found = Reply::Found {
                 at: handle.stamp,
@@ -63,8 +98,30 @@ fn insert_row(
             tell_short(&found, out);
             Outcome::Write
         }
-        Err(refused) => tell_refusal(spec, records.writes(), refused.why, out),
+        Err(why) => tell_refusal(spec, records.writes(), why, out),
     }
+}
+
+// The container's own insertion: before a place of one index, or at the usual places.
+fn put(
+    spec: &TableSpec,
+    records: &mut MultiIndex<Row, RowKeys>,
+    at: Option<(usize, u64)>,
+    row: Row,
+) -> Result<Handle, Why>
+    requires indices { HasIndices spec.now records.old }
+    requires within { IfSome at (λ at. at.0 < length spec.now.indices) }
+    ensures handle { IfOk result (λ handle. handle ≡ new_handle records.old) }
+    ensures allowed { OnOk result (refusal_at (table_of spec.now records.old) at row ≡ None) }
+    ensures ok { OnOk result (records.new ≡ with_inserted row_order records.old at row) }
+    ensures why { IfErr result (λ why. why ≡ unwrap_or (refusal_at (table_of spec.now records.old) at row) whys.Memory) }
+    ensures unchanged { OnErr result (records.new ≡ records.old) }
+{
+    let inserted = match at {
+        None => records.insert(row),
+        Some((place, before)) => records.insert_at(place, before, row),
+    };
+    inserted.map_err(|refused| refused.why)
 }
 
 // Tells why the container refused a row, at the write of this number.

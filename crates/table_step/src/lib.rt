@@ -1,12 +1,12 @@
 //! One table: its records under their indices, and what each command does to them.
 #![tactic(auto)]
 
-mod find;
 mod headings;
 mod indices;
 mod insert;
 mod list;
 mod outcome;
+mod search;
 mod table;
 mod tell;
 mod values;

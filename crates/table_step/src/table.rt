@@ -2,14 +2,14 @@
 
 ghost use Rattle.std.specs.Prelude.{◌≡◌, ◌≤◌, IfOk};
 ghost use Rattle.table_cmd.specs.Buffer.{Keeps};
-ghost use Rattle.table_step.specs.Step.{IsShort, Steps, new_table, step_of, table_in};
+ghost use Rattle.table_step.specs.Step.{IsShort, Steps, new_table, step_of};
 
-use crate::find::find;
 use crate::headings::headings_of;
 use crate::indices::{keys_of, specs_of};
 use crate::insert::insert;
 use crate::list::list;
 use crate::outcome::Outcome;
+use crate::search::{count, find, size};
 use crate::tell::refuse;
 use key_extract::{Row, RowKeys};
 use multi_index::MultiIndex;
@@ -76,15 +76,16 @@ impl Table {
         ensures kept { Keeps out.old out.new }
         ensures shape { self.new.shape ≡ self.old.shape }
     {
-        if table_in(command) != self.spec.name() {
+        if command.table() != self.spec.name() {
             return refuse(Fault::Table, out);
         }
         match command {
-            Command::Insert { row, .. } => insert(
+            Command::Insert { row, position, .. } => insert(
                 self.alloc,
                 &self.spec,
                 &mut self.records,
                 row.as_slice(),
+                position.as_ref(),
                 out,
             ),
             Command::Find { index, key, .. } => find(
@@ -95,6 +96,15 @@ impl Table {
                 key.as_slice(),
                 out,
             ),
+            Command::Count { index, key, .. } => count(
+                self.alloc,
+                &self.spec,
+                &self.records,
+                index.as_str(),
+                key.as_slice(),
+                out,
+            ),
+            Command::Size { .. } => size(&self.records, out),
             Command::List { index, .. } => list(
                 self.alloc,
                 &self.spec,
@@ -104,15 +114,5 @@ impl Table {
                 out,
             ),
         }
-    }
-}
-
-// The table that a command names.
-fn table_in(command: &Command) -> &str
-    ensures { result.now ≡ table_in command.now }
-{
-    match command {
-        Command::Insert { table, .. } | Command::Find { table, .. } | Command::List { table, .. } =>
-            table.as_str(),
     }
 }
