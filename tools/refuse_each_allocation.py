@@ -2,6 +2,7 @@
 
 python3 refuse_each_allocation.py PROGRAM REFUSING_MALLOC STORED_INPUT STORED_OUTPUT ROOM
 
+The stored run and some more lines go to the built-in table, and insertions, searches and lists to a table with eight indices.
 A run of lines ends in one of two ways: status 1 with the text `memory` and no answer, or status 0 with one answer to each
 line: the memory line, and then the line changed nothing, or what the plain machine answers. A run with wrong words or
 files ends with its own status and text, or with status 1 and `memory`.
@@ -11,7 +12,7 @@ import os
 import subprocess
 import sys
 
-from plain_machine import MEMORY, Machine, judge
+from plain_machine import BUILT_IN, MEMORY, Machine, judge
 
 MORE = b"""
 {"op":"insert","t":"f","r":{"id":7,"g":"\\u00e9\\n"}}
@@ -26,11 +27,31 @@ MORE = b"""
 {"op":"find","t":"f","i":"u","k":["x"]}
 """
 
-SCHEMA = b"""
+EIGHT = """
 [[table]]
-name = "f"
-column = [{name = "id", cell = "int"}, {name = "g", cell = "text"}]
-index = [{name = "q", kind = "sequenced"}, {name = "u", kind = "ordered", unique = true, key = ["id"]}]
+name = "p"
+column = [{name = "id", cell = "int"}, {name = "g", cell = "text"}, {name = "n", cell = "int"}]
+index = [
+  {name = "q", kind = "sequenced"},
+  {name = "v", kind = "random"},
+  {name = "u", kind = "ordered", unique = true, key = ["id"]},
+  {name = "r", kind = "ranked", key = ["n"]},
+  {name = "c", kind = "ordered", key = ["g", "-n"]},
+  {name = "h", kind = "hashed", key = ["g"]},
+  {name = "x", kind = "hashed", unique = true, key = ["g", "n"]},
+  {name = "w", kind = "sequenced"},
+]
+"""
+
+# Each record goes in a second time, so that one whose first insertion was refused is seen to succeed.
+INTO_EIGHT = b"".join(
+    b'{"op":"insert","t":"p","r":{"id":%d,"g":"%s","n":%d}%s}\n' % (it // 2, b"ab"[it % 4 // 2 :][:1], it // 4, b',"i":"v","p":0' if it % 3 else b"")
+    for it in range(10)
+) + b"".join(b'{"op":"list","t":"p","i":"%c"}\n' % it for it in b"qvurchxw") + b"""\
+{"op":"find","t":"p","i":"h","k":["b"]}
+{"op":"find","t":"p","i":"x","k":["a",1]}
+{"op":"count","t":"p","i":"c","k":["a"]}
+{"op":"size","t":"p"}
 """
 
 Outcome = collections.namedtuple("Outcome", "status said complained")
@@ -64,7 +85,7 @@ class Program:
 OUT_OF_MEMORY = Outcome(1, b"", b"memory\n")
 
 
-def judge_lines(text, outcome, was_refused):
+def judge_lines(text, outcome, was_refused, schema=BUILT_IN):
     """Returns what is wrong with the outcome of a run over the lines of the text, or None."""
     if was_refused and outcome == OUT_OF_MEMORY:
         return None
@@ -72,7 +93,7 @@ def judge_lines(text, outcome, was_refused):
         return f"status {outcome.status} with {outcome.complained[:200]!r} and {len(outcome.said)} bytes of answers"
     if not was_refused and MEMORY in outcome.said.split(b"\n"):
         return "a memory line where no allocation was refused"
-    return judge(text, outcome.said)
+    return judge(text, outcome.said, schema)
 
 
 def planted(text, outcome):
@@ -121,14 +142,14 @@ def self_test(text, program):
 
 def cases_of(path, library, room, text):
     """Yields the words and input of each sweep, with what judges an outcome."""
-    files = {"lines": text, "schema": SCHEMA, "broken": b"a = "}
+    files = {"lines": INTO_EIGHT, "schema": EIGHT.encode(), "broken": b"a = "}
     for name, content in files.items():
         with open(f"{room}/{name}", "wb") as file:
             file.write(content)
     program = lambda words, given=b"": Program(path, library, room, words, given)
-    lines = lambda outcome, was_refused: judge_lines(text, outcome, was_refused)
-    yield program([], text), lines
-    yield program(["run", "--schema", "schema", "--commands", "lines"]), lines
+    yield program([], text), lambda outcome, was_refused: judge_lines(text, outcome, was_refused)
+    into_eight = lambda outcome, was_refused: judge_lines(INTO_EIGHT, outcome, was_refused, EIGHT)
+    yield program(["run", "--schema", "schema", "--commands", "lines"]), into_eight
     for words in (["run", "--schema", "broken"], ["run", "--commands", "absent"], ["fly"], ["run", "--help"]):
         refuser = program(words)
         yield refuser, judge_fault(refuser.run(0)[0])
