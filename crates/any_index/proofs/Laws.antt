@@ -1,0 +1,233 @@
+-- The laws of an index's list, for the crates above.
+use Rattle.std.proofs.Common.{◌≡◌, ◌≢◌, ℕ, suc, ◌+◌, ◌<◌, Bool, true, cond, List, [], ◌∷◌, length, Option, refl, ap, sym, ◌∙◌, subst, arith}
+use Rattle.std.specs.Prelude.{IsPermutation}
+use Rattle.std.specs.List.{AllByRecursion}
+use Rattle.std.specs.Option.{option_map}
+use Rattle.std.specs.Ordering.{is_le, nat_cmp}
+use Rattle.std.specs.declared.cmp.Ordering.{Ordering}
+use Rattle.std.proofs.lemmas.Bool.Decides.{nat_tests}
+use Rattle.std.proofs.lemmas.List.Sorted.{IsPermutation-refl, IsPermutation-insert}
+use Rattle.container_model.specs.declared.handle.Kind.{Kind}
+use Rattle.container_model.specs.declared.handle.Kind.TheVariants as kind
+use Rattle.container_model.specs.State.{has_key_kind}
+use Rattle.list_model.specs.Order.{IsInOrder}
+use Rattle.list_model.specs.Place.{not_above}
+use Rattle.list_model.specs.Walk.{without, settled}
+use Rattle.list_model.proofs.Counts.{count_by-cons}
+use Rattle.list_model.proofs.Kept.{EachPair-filter}
+use Rattle.list_model.proofs.Moved.{IsPermutation-settled}
+use Rattle.node_store.specs.declared.Node.{Node}
+use Rattle.node_store.specs.declared.Link.{Link}
+use Rattle.node_store.specs.Column.{Column}
+use Rattle.node_store.specs.Nodes.{Lacks, Holds, IsDistinct}
+use Rattle.node_store.specs.Store.{Store, IsNodeOf, number_of}
+use Rattle.node_store.specs.ByNode.{column_of, record_of, contents, same_node, AddsNode, RemovesNode}
+use Rattle.node_store.proofs.ByNode.{same_node-refl, records_kept}
+use Rattle.node_store.proofs.Members.{IsDistinct_moved}
+use Rattle.seq_index.proofs.Laws as seq
+use Rattle.row_index.proofs.Laws as row
+use Rattle.ord_tree.specs.Side.{order_at}
+use Rattle.ord_tree.proofs.Laws as ord
+use Rattle.ord_tree.proofs.NodeWalks.{apart_at}
+use Rattle.ord_tree.proofs.Ordered.{IsInOrder_others}
+use Rattle.rank_tree.proofs.Laws as rank
+use Rattle.hash_index.specs.Chains.{tag_at}
+use Rattle.hash_index.specs.Hashed.{IsHashed}
+use Rattle.hash_index.specs.Spelled as buckets
+use Rattle.hash_index.proofs.Laws as hash
+use Rattle.any_index.specs.declared.index.AnyIndex.{AnyIndex}
+use Rattle.any_index.specs.declared.index.AnyIndex.TheVariants.{Sequenced, Random, Ordered, Ranked, Hashed}
+use Rattle.any_index.specs.Keyed.{HasItsKey, AreKeyed, IsKeyed, IsKeyedBut}
+use Rattle.any_index.specs.Lists.{entered, entry_place, settled_in}
+use Rattle.any_index.specs.Spelled.{IsSound, list_of, kind_of, col_of, index_of, by_number, number_cmp}
+use Rattle.any_index.proofs.ByNumber.{Lacks_moved, Holds_moved, moved_by_number, moved_back}
+
+-- ---- an index stays as it is where its column stays
+
+pub list_of_kept : (cs ds : ℕ → Column) (i : AnyIndex) → ds (col_of i) ≡ cs (col_of i) → list_of ds i ≡ list_of cs i
+list_of_kept cs ds (Sequenced i) e = seq.spelled_kept cs ds i e
+list_of_kept cs ds (Random i) e = row.spelled_kept cs ds i e
+list_of_kept cs ds (Ordered i) e = ord.spelled_kept cs ds i e
+list_of_kept cs ds (Ranked i) e = rank.spelled_kept cs ds i e
+list_of_kept cs ds (Hashed i) e = ap by_number (hash.spelled_kept cs ds i e)
+
+pub IsSound_kept : (cs ds : ℕ → Column) (i : AnyIndex) → ds (col_of i) ≡ cs (col_of i) → IsSound cs i → IsSound ds i
+IsSound_kept cs ds (Sequenced i) e h = seq.IsSound_kept cs ds i e h
+IsSound_kept cs ds (Random i) e h = row.IsSound_kept cs ds i e h
+IsSound_kept cs ds (Ordered i) e h = ord.IsSound_kept cs ds i e h
+IsSound_kept cs ds (Ranked i) e h = rank.IsSound_kept cs ds i e h
+IsSound_kept cs ds (Hashed i) e h = hash.IsSound_kept cs ds i e h
+
+-- its nodes are distinct
+pub list_distinct : (cs : ℕ → Column) (i : AnyIndex) → IsSound cs i → IsDistinct (list_of cs i)
+list_distinct cs (Sequenced i) h = seq.Spells_distinct cs i _ h
+list_distinct cs (Random i) h = row.Spells_distinct cs i _ h
+list_distinct cs (Ordered i) h = ord.Spells_distinct cs i _ h
+list_distinct cs (Ranked i) h = rank.Spells_distinct cs i _ h
+list_distinct cs (Hashed i) h = IsDistinct_moved (buckets.spelled cs i) (list_of cs (Hashed i)) (moved_by_number _) (hash.Spells_distinct cs i _ h)
+
+module _ {R : Type 0} where
+  -- and nodes of the store
+  pub node_held : (s : Store R) (i : AnyIndex) (n : Node) → IsSound (column_of s) i → Holds (list_of (column_of s) i) n → IsNodeOf s n
+  node_held s (Sequenced i) n h k = seq.node_held s i n h k
+  node_held s (Random i) n h k = row.node_held s i n h k
+  node_held s (Ordered i) n h k = ord.node_held s i n h k
+  node_held s (Ranked i) n h k = rank.node_held s i n h k
+  node_held s (Hashed i) n h k = hash.node_held s i n h (Holds_moved _ _ n (moved_back _) k)
+
+  -- ---- when nodes come and go in the store
+
+  pub list_of_added : (old new : Store R) (n : Node) (value : R) (i : AnyIndex) → AddsNode old new n value → IsSound (column_of old) i → list_of (column_of new) i ≡ list_of (column_of old) i
+  list_of_added old new n value (Sequenced i) a h = seq.spelled_added old new n value i a h
+  list_of_added old new n value (Random i) a h = row.spelled_added old new n value i a h
+  list_of_added old new n value (Ordered i) a h = ord.spelled_added old new n value i a h
+  list_of_added old new n value (Ranked i) a h = rank.spelled_added old new n value i a h
+  list_of_added old new n value (Hashed i) a h = ap by_number (hash.spelled_added old new n value i a h)
+
+  pub IsSound_added : (old new : Store R) (n : Node) (value : R) (i : AnyIndex) → AddsNode old new n value → IsSound (column_of old) i → IsSound (column_of new) i
+  IsSound_added old new n value (Sequenced i) a h = seq.IsSound_added old new n value i a h
+  IsSound_added old new n value (Random i) a h = row.IsSound_added old new n value i a h
+  IsSound_added old new n value (Ordered i) a h = ord.IsSound_added old new n value i a h
+  IsSound_added old new n value (Ranked i) a h = rank.IsSound_added old new n value i a h
+  IsSound_added old new n value (Hashed i) a h = hash.IsSound_added old new n value i a h
+
+  -- the new node is not in the list
+  pub Lacks_added : (old new : Store R) (n : Node) (value : R) (i : AnyIndex) → AddsNode old new n value → IsSound (column_of old) i → Lacks (list_of (column_of new) i) n
+  Lacks_added old new n value (Sequenced i) a h = seq.Lacks_spelled_added old new n value i a h
+  Lacks_added old new n value (Random i) a h = row.Lacks_spelled_added old new n value i a h
+  Lacks_added old new n value (Ordered i) a h = ord.Lacks_spelled_added old new n value i a h
+  Lacks_added old new n value (Ranked i) a h = rank.Lacks_spelled_added old new n value i a h
+  Lacks_added old new n value (Hashed i) a h = Lacks_moved _ _ n (moved_by_number _) (hash.Lacks_spelled_added old new n value i a h)
+
+  pub list_of_removed : (old new : Store R) (n : Node) (i : AnyIndex) → RemovesNode old new n → Lacks (list_of (column_of old) i) n → IsSound (column_of old) i → list_of (column_of new) i ≡ list_of (column_of old) i
+  list_of_removed old new n (Sequenced i) r lacks h = seq.spelled_removed old new n i r lacks h
+  list_of_removed old new n (Random i) r lacks h = row.spelled_removed old new n i r lacks h
+  list_of_removed old new n (Ordered i) r lacks h = ord.spelled_removed old new n i r lacks h
+  list_of_removed old new n (Ranked i) r lacks h = rank.spelled_removed old new n i r lacks h
+  list_of_removed old new n (Hashed i) r lacks h =
+      ap by_number (hash.spelled_is (column_of new) i _ (hash.Spells_removed old new n i _ r (Lacks_moved _ _ n (moved_back _) lacks) h))
+
+  pub IsSound_removed : (old new : Store R) (n : Node) (i : AnyIndex) → RemovesNode old new n → Lacks (list_of (column_of old) i) n → IsSound (column_of old) i → IsSound (column_of new) i
+  IsSound_removed old new n (Sequenced i) r lacks h = seq.IsSound_removed old new n i r lacks h
+  IsSound_removed old new n (Random i) r lacks h = row.IsSound_removed old new n i r lacks h
+  IsSound_removed old new n (Ordered i) r lacks h = ord.IsSound_removed old new n i r lacks h
+  IsSound_removed old new n (Ranked i) r lacks h = rank.IsSound_removed old new n i r lacks h
+  IsSound_removed old new n (Hashed i) r lacks h =
+      hash.IsSound_from (column_of new) i _ (hash.Spells_removed old new n i _ r (Lacks_moved _ _ n (moved_back _) lacks) h)
+
+-- ---- keys
+
+-- an index that has its key by its kind
+pub HasItsKey_from : (has_key : ℕ → Bool) (i : AnyIndex) → has_key (index_of i) ≡ has_key_kind (kind_of i) → HasItsKey has_key i
+HasItsKey_from has_key (Sequenced i) e = tt
+HasItsKey_from has_key (Random i) e = tt
+HasItsKey_from has_key (Ordered i) e = e
+HasItsKey_from has_key (Ranked i) e = e
+HasItsKey_from has_key (Hashed i) e = e
+
+module _ {R : Type 0} (order : ℕ → R → R → Ordering) (hash_of : ℕ → R → ℕ) where
+  -- what the keys of some nodes say stays where the column and the records of all nodes but one stay
+  pub AreKeyed_others : (old new : Store R) (i : AnyIndex) (n : Node) (xs : List Node) → ((m : Node) → m ≢ n → column_of new (col_of i) m ≡ column_of old (col_of i) m) → ((m : Node) → m ≢ n → record_of new m ≡ record_of old m) → Lacks xs n → AreKeyed order hash_of old i xs → AreKeyed order hash_of new i xs
+  AreKeyed_others old new (Sequenced i) n xs links records lacks h = tt
+  AreKeyed_others old new (Random i) n xs links records lacks h = tt
+  AreKeyed_others old new (Ordered i) n xs links records lacks h = IsInOrder_others (record_of old) (order (index_of (Ordered i))) (record_of new) n xs records lacks h
+  AreKeyed_others old new (Ranked i) n xs links records lacks h = IsInOrder_others (record_of old) (order (index_of (Ranked i))) (record_of new) n xs records lacks h
+  AreKeyed_others old new (Hashed i) n xs links records lacks h =
+      hash.IsHashed_others (hash_of (buckets.index_of i)) old new (buckets.col_of i) n xs (λ m ne. ap (option_map (λ (l : Link). l.tag)) (links m ne)) records lacks h
+
+  -- or where the column and all records stay
+  pub AreKeyed_kept : (old new : Store R) (i : AnyIndex) (xs : List Node) → column_of new (col_of i) ≡ column_of old (col_of i) → record_of new ≡ record_of old → AreKeyed order hash_of old i xs → AreKeyed order hash_of new i xs
+  AreKeyed_kept old new (Sequenced i) xs links records h = tt
+  AreKeyed_kept old new (Random i) xs links records h = tt
+  AreKeyed_kept old new (Ordered i) xs links records h = subst (λ (f : Node → Option R). IsInOrder (order_at f (order (index_of (Ordered i)))) xs) (sym records) h
+  AreKeyed_kept old new (Ranked i) xs links records h = subst (λ (f : Node → Option R). IsInOrder (order_at f (order (index_of (Ranked i)))) xs) (sym records) h
+  AreKeyed_kept old new (Hashed i) xs links records h = each xs h
+    where
+      each : (ys : List Node) → IsHashed (hash_of (buckets.index_of i)) old (buckets.col_of i) ys → IsHashed (hash_of (buckets.index_of i)) new (buckets.col_of i) ys
+      each [] k = tt
+      each (y ∷ ys) k =
+          (ap (λ (c : Column). tag_at c y) links ∙ (k.0 ∙ sym (ap (λ (f : Node → Option R). option_map (hash_of (buckets.index_of i)) (f y)) records)), each ys k.1)
+
+  -- some of the nodes are keyed where all are
+  pub AreKeyed_without : (s : Store R) (i : AnyIndex) (n : Node) (xs : List Node) → AreKeyed order hash_of s i xs → AreKeyed order hash_of s i (without (same_node n) xs)
+  AreKeyed_without s (Sequenced i) n xs h = tt
+  AreKeyed_without s (Random i) n xs h = tt
+  AreKeyed_without s (Ordered i) n xs h = EachPair-filter _ _ xs h
+  AreKeyed_without s (Ranked i) n xs h = EachPair-filter _ _ xs h
+  AreKeyed_without s (Hashed i) n xs h = hash.IsHashed_without (hash_of (buckets.index_of i)) s (buckets.col_of i) n xs h
+
+  pub IsKeyedBut_from : (s : Store R) (i : AnyIndex) (n : Node) → IsKeyed order hash_of s i → IsKeyedBut order hash_of s i n
+  IsKeyedBut_from s i n h = AreKeyed_without s i n (list_of (column_of s) i) h
+
+  -- an index whose column stays, while the contents of the store stay
+  pub IsKeyed_kept : (old new : Store R) (i : AnyIndex) → column_of new (col_of i) ≡ column_of old (col_of i) → contents new ≡ contents old → IsKeyed order hash_of old i → IsKeyed order hash_of new i
+  IsKeyed_kept old new i links same h =
+      subst (AreKeyed order hash_of new i) (sym (list_of_kept (column_of old) (column_of new) i links))
+      (AreKeyed_kept old new i (list_of (column_of old) i) links (records_kept old new same) h)
+
+  pub IsKeyedBut_kept : (old new : Store R) (i : AnyIndex) (n : Node) → column_of new (col_of i) ≡ column_of old (col_of i) → contents new ≡ contents old → IsKeyedBut order hash_of old i n → IsKeyedBut order hash_of new i n
+  IsKeyedBut_kept old new i n links same h =
+      subst (λ z. AreKeyed order hash_of new i (without (same_node n) z)) (sym (list_of_kept (column_of old) (column_of new) i links))
+      (AreKeyed_kept old new i (without (same_node n) (list_of (column_of old) i)) links (records_kept old new same) h)
+
+  -- when a node comes that is in no index yet, or goes that is in none
+  pub IsKeyed_added : (old new : Store R) (n : Node) (value : R) (i : AnyIndex) → AddsNode old new n value → IsSound (column_of old) i → IsKeyed order hash_of old i → IsKeyed order hash_of new i
+  IsKeyed_added old new n value i a sound h =
+      let e = list_of_added old new n value i a sound in
+      let lacks = subst (λ z. Lacks z n) e (Lacks_added old new n value i a sound) in
+      subst (AreKeyed order hash_of new i) (sym e)
+      (AreKeyed_others old new i n (list_of (column_of old) i) (λ m ne. (a.columns (col_of i)).others m ne) a.records.others lacks h)
+
+  pub IsKeyed_removed : (old new : Store R) (n : Node) (i : AnyIndex) → RemovesNode old new n → Lacks (list_of (column_of old) i) n → IsSound (column_of old) i → IsKeyed order hash_of old i → IsKeyed order hash_of new i
+  IsKeyed_removed old new n i r lacks sound h =
+      subst (AreKeyed order hash_of new i) (sym (list_of_removed old new n i r lacks sound))
+      (AreKeyed_others old new i n (list_of (column_of old) i) (λ m ne. (r.columns (col_of i)).others m ne) r.records.others lacks h)
+
+  -- when the record of one node changes, the index is keyed but for that node
+  pub IsKeyedBut_rewritten : (old new : Store R) (n : Node) (i : AnyIndex) → column_of new (col_of i) ≡ column_of old (col_of i) → ((m : Node) → m ≢ n → record_of new m ≡ record_of old m) → IsKeyedBut order hash_of old i n → IsKeyedBut order hash_of new i n
+  IsKeyedBut_rewritten old new n i links records h =
+      let xs = list_of (column_of old) i in
+      subst (λ z. AreKeyed order hash_of new i (without (same_node n) z)) (sym (list_of_kept (column_of old) (column_of new) i links))
+      (AreKeyed_others old new i n (without (same_node n) xs) (λ m ne. ap (λ (c : Column). c m) links) records (hash.Lacks_without xs n) h)
+
+  -- and once all records are as they were, as keyed as it was
+  pub IsKeyed_restored : (old new : Store R) (i : AnyIndex) → column_of new (col_of i) ≡ column_of old (col_of i) → record_of new ≡ record_of old → IsKeyed order hash_of old i → IsKeyed order hash_of new i
+  IsKeyed_restored old new i links records h =
+      subst (AreKeyed order hash_of new i) (sym (list_of_kept (column_of old) (column_of new) i links))
+      (AreKeyed_kept old new i (list_of (column_of old) i) links records h)
+
+-- ---- the nodes of the lists that changes leave
+
+pub Lacks_left : (xs : List Node) (n : Node) → Lacks (without (same_node n) xs) n
+Lacks_left = hash.Lacks_without
+
+pub entered_moved : (k : Kind) (compare : Node → Node → Ordering) (at : Option ℕ) (n : Node) (xs : List Node) → IsPermutation (n ∷ xs) (entered k compare at n xs)
+entered_moved k compare at n xs = IsPermutation-insert xs (entry_place k compare at n xs) n
+
+pub Holds_entered : (k : Kind) (compare : Node → Node → Ordering) (at : Option ℕ) (n : Node) (xs : List Node) → Holds (entered k compare at n xs) n
+Holds_entered k compare at n xs = Holds_moved (n ∷ xs) _ n (entered_moved k compare at n xs) (record { before = []; after = xs; is = refl })
+
+settled_moved : (compare : Node → Node → Ordering) (n : Node) (xs : List Node) → Holds xs n → IsDistinct xs → IsPermutation xs (settled (same_node n) (λ m. compare m n) n xs)
+settled_moved compare n xs h distinct =
+    let a = apart_at h.before n h.after (subst IsDistinct h.is distinct) in
+    subst (λ (z : List Node). IsPermutation z (settled (same_node n) (λ m. compare m n) n z)) (sym h.is)
+    (IsPermutation-settled (same_node n) h.before n h.after a.before (same_node-refl n) a.after (λ m. compare m n))
+
+pub settled_in_moved : (k : Kind) (compare : Node → Node → Ordering) (n : Node) (xs : List Node) → Holds xs n → IsDistinct xs → IsPermutation xs (settled_in k compare n xs)
+settled_in_moved kind.Sequenced compare n xs h distinct = IsPermutation-refl xs
+settled_in_moved kind.Random compare n xs h distinct = IsPermutation-refl xs
+settled_in_moved kind.Ordered compare n xs h distinct = settled_moved compare n xs h distinct
+settled_in_moved kind.Ranked compare n xs h distinct = settled_moved compare n xs h distinct
+settled_in_moved kind.Hashed compare n xs h distinct = IsPermutation-refl xs
+
+-- in a hashed index a node that was added after all others goes last
+pub entered_last : (compare : Node → Node → Ordering) (at : Option ℕ) (n : Node) (xs : List Node) → AllByRecursion (λ m. number_of m < number_of n) xs → entry_place kind.Hashed compare at n xs ≡ length xs
+entered_last compare at n [] h = refl
+entered_last compare at n (x ∷ xs) h =
+    let first : is_le (number_cmp x n) ≡ true = lower (number_of x) (number_of n) h.0 in
+    let e : not_above (λ m. number_cmp m n) (x ∷ xs) ≡ suc (not_above (λ m. number_cmp m n) xs) =
+    count_by-cons (λ m. is_le (number_cmp m n)) x xs ∙ (ap (λ b. cond b 1 0 + not_above (λ m. number_cmp m n) xs) first ∙ omega arith) in
+    e ∙ ap (λ k. suc k) (entered_last compare at n xs h.1)
+  where
+    lower : (a b : ℕ) → a < b → is_le (nat_cmp a b) ≡ true
+    lower a b lt = grind (arith, nat_tests)

@@ -1,0 +1,92 @@
+use Rattle.std.proofs.Common.{◌∙◌}
+use Rattle.node_store.specs.ByNode.{column_of, record_of}
+use Rattle.node_store.proofs.ByNode.{records_kept}
+use Rattle.ord_tree.specs.Spelled as trees
+use Rattle.rank_tree.specs.Spelled as ranked
+use Rattle.hash_index.specs.Spelled as buckets
+use Rattle.seq_index.proofs.Laws as seq
+use Rattle.row_index.proofs.Laws as row
+use Rattle.ord_tree.proofs.Laws as ord
+use Rattle.rank_tree.proofs.Laws as rank
+use Rattle.ord_tree.proofs.Ordered.{IsInOrder_placed}
+use Rattle.ord_tree.proofs.Settling.{IsInOrder_same}
+use Rattle.any_index.proofs.ByNumber.{Lacks_moved, moved_by_number, moved_back}
+use Rattle.any_index.proofs.Hashed.{list_entered, hashed_at}
+use Rattle.hash_index.proofs.Laws.{IsHashed_moved}
+use Rattle.any_index.proofs.Places.{insert_last}
+use Rattle.any_index.proofs.index.AnyIndex.enter.Goals as goal
+
+pub link-requires-in-Hashed-clause-new : goal.link-requires-in-Hashed-clause-new
+link-requires-in-Hashed-clause-new g c =
+    let new = rw c.in-Hashed.is at c.requires.new in
+    Lacks_moved _ _ c.args.n (moved_back _) new
+
+pub returns-in-Some-clause-sound : goal.returns-in-Some-clause-sound
+returns-in-Some-clause-sound g c = seq.IsSound_from _ _ _ c.insert_at.ensures.list
+
+pub returns-in-Some-clause-list : goal.returns-in-Some-clause-list
+returns-in-Some-clause-list g c = rw (c.in-Sequenced.is, c.in-Some.is) (seq.spelled_is _ _ _ c.insert_at.ensures.list)
+
+pub returns-in-None-clause-sound : goal.returns-in-None-clause-sound
+returns-in-None-clause-sound g c = seq.IsSound_from _ _ _ c.push.ensures.list
+
+pub returns-in-None-clause-list : goal.returns-in-None-clause-list
+returns-in-None-clause-list g c = rw (c.in-Sequenced.is, c.in-None.is) (seq.spelled_is _ _ _ c.push.ensures.list ∙ insert_last _ c.args.n)
+
+pub returns-in-Some-at-clause-sound : goal.returns-in-Some-at-clause-sound
+returns-in-Some-at-clause-sound g c = row.IsSound_from _ _ _ c.insert_at-in-Some-at.ensures.list
+
+pub returns-in-Some-at-clause-list : goal.returns-in-Some-at-clause-list
+returns-in-Some-at-clause-list g c = rw (c.in-Random.is, c.in-Some-at.is) (row.spelled_is _ _ _ c.insert_at-in-Some-at.ensures.list)
+
+pub returns-in-None-at-clause-sound : goal.returns-in-None-at-clause-sound
+returns-in-None-at-clause-sound g c = row.IsSound_from _ _ _ c.push-in-None-at.ensures.list
+
+pub returns-in-None-at-clause-list : goal.returns-in-None-at-clause-list
+returns-in-None-at-clause-list g c = rw (c.in-Random.is, c.in-None-at.is) (row.spelled_is _ _ _ c.push-in-None-at.ensures.list ∙ insert_last _ c.args.n)
+
+pub returns-in-Ordered-clause-sound : goal.returns-in-Ordered-clause-sound
+returns-in-Ordered-clause-sound g c = ord.IsSound_from _ _ _ c.link.ensures.list
+
+pub returns-in-Ordered-clause-list : goal.returns-in-Ordered-clause-list
+returns-in-Ordered-clause-list g c = rw c.in-Ordered.is (ord.spelled_is _ _ _ c.link.ensures.list)
+
+pub returns-in-Ordered-clause-keyed : goal.returns-in-Ordered-clause-keyed
+returns-in-Ordered-clause-keyed g c =
+    let key = rw c.in-Ordered.is at c.requires.key in
+    let keyed = rw c.in-Ordered.is at c.requires.keyed in
+    let compare = g.E.Extract.order_of c.args.keys.now in
+    let index = trees.index_of c.in-Ordered.tree in
+    let xs = trees.spelled (column_of c.args.store.now) c.in-Ordered.tree in
+    let total = g.met.E.Extract.order_total c.args.keys.now index key in
+    IsInOrder_same _ _ compare _ _ _ _ (records_kept c.args.store.now _ c.link.ensures.contents) c.link.ensures.index (ord.spelled_is _ _ _ c.link.ensures.list)
+    (IsInOrder_placed (record_of c.args.store.now) (compare index) total c.args.n xs keyed)
+
+pub returns-in-Ranked-clause-sound : goal.returns-in-Ranked-clause-sound
+returns-in-Ranked-clause-sound g c = rank.IsSound_from _ _ _ c.link-in-Ranked.ensures.list
+
+pub returns-in-Ranked-clause-list : goal.returns-in-Ranked-clause-list
+returns-in-Ranked-clause-list g c = rw c.in-Ranked.is (rank.spelled_is _ _ _ c.link-in-Ranked.ensures.list)
+
+pub returns-in-Ranked-clause-keyed : goal.returns-in-Ranked-clause-keyed
+returns-in-Ranked-clause-keyed g c =
+    let key = rw c.in-Ranked.is at c.requires.key in
+    let keyed = rw c.in-Ranked.is at c.requires.keyed in
+    let compare = g.E.Extract.order_of c.args.keys.now in
+    let index = ranked.index_of c.in-Ranked.tree in
+    let xs = ranked.spelled (column_of c.args.store.now) c.in-Ranked.tree in
+    let total = g.met.E.Extract.order_total c.args.keys.now index key in
+    IsInOrder_same _ _ compare _ _ _ _ (records_kept c.args.store.now _ c.link-in-Ranked.ensures.contents) c.link-in-Ranked.ensures.index (rank.spelled_is _ _ _ c.link-in-Ranked.ensures.list)
+    (IsInOrder_placed (record_of c.args.store.now) (compare index) total c.args.n xs keyed)
+
+pub returns-in-Hashed-clause-list : goal.returns-in-Hashed-clause-list
+returns-in-Hashed-clause-list g c = rw c.in-Hashed.is (list_entered c.link-in-Hashed.new.store c.link-in-Hashed.new.self c.args.n _ c.link-in-Hashed.ensures.chain c.link-in-Hashed.ensures.list)
+
+pub returns-in-Hashed-clause-keyed : goal.returns-in-Hashed-clause-keyed
+returns-in-Hashed-clause-keyed g c =
+    let keyed = rw c.in-Hashed.is at c.requires.keyed in
+    let hash = g.E.Extract.hash_of c.args.keys.now in
+    let index = buckets.index_of c.in-Hashed.buckets in
+    let col = buckets.col_of c.in-Hashed.buckets in
+    hashed_at hash c.link-in-Hashed.new.store _ index _ col _ _ c.link-in-Hashed.ensures.index c.link-in-Hashed.ensures.col (moved_by_number _)
+    (c.link-in-Hashed.ensures.hashed (IsHashed_moved (hash index) c.args.store.now col _ _ (moved_back _) keyed))

@@ -1,0 +1,9 @@
+use Rattle.hash_index.specs.Spelled as buckets
+use Rattle.hash_index.proofs.Laws.{IsHashed_moved}
+use Rattle.any_index.proofs.ByNumber.{moved_back}
+use Rattle.any_index.proofs.index.AnyIndex.find.Goals as goal
+
+pub first_added-requires-clause-hashed : goal.first_added-requires-clause-hashed
+first_added-requires-clause-hashed g c =
+    let keyed = rw c.in-Hashed.is at c.requires.keyed in
+    IsHashed_moved (g.E.Extract.hash_of c.args.keys.now (buckets.index_of c.in-Hashed.buckets)) c.args.store.now (buckets.col_of c.in-Hashed.buckets) _ _ (moved_back _) keyed

@@ -1,0 +1,63 @@
+use Rattle.std.proofs.Common.{ap, ◌∙◌}
+use Rattle.node_store.proofs.ByNode.{records_kept}
+use Rattle.seq_index.proofs.Laws as seq
+use Rattle.row_index.proofs.Laws as row
+use Rattle.ord_tree.proofs.Laws as ord
+use Rattle.rank_tree.proofs.Laws as rank
+use Rattle.hash_index.proofs.Laws as hash
+use Rattle.ord_tree.proofs.Settling.{IsInOrder_same}
+use Rattle.any_index.specs.Spelled.{by_number}
+use Rattle.any_index.proofs.ByNumber.{Holds_moved, moved_back}
+use Rattle.any_index.proofs.Hashed.{list_left, keeps_hashed_list}
+use Rattle.any_index.proofs.index.AnyIndex.leave.Goals as goal
+
+pub unlink-requires-in-Hashed-clause-held : goal.unlink-requires-in-Hashed-clause-held
+unlink-requires-in-Hashed-clause-held g c =
+    let held = rw c.in-Hashed.is at c.requires.held in
+    Holds_moved _ _ c.args.n (moved_back _) held
+
+pub returns-in-Sequenced-clause-sound : goal.returns-in-Sequenced-clause-sound
+returns-in-Sequenced-clause-sound g c = seq.IsSound_from _ _ _ c.unlink.ensures.list
+
+pub returns-in-Sequenced-clause-list : goal.returns-in-Sequenced-clause-list
+returns-in-Sequenced-clause-list g c = rw c.in-Sequenced.is (seq.spelled_is _ _ _ c.unlink.ensures.list)
+
+pub returns-in-Random-clause-sound : goal.returns-in-Random-clause-sound
+returns-in-Random-clause-sound g c = row.IsSound_from _ _ _ c.unlink-in-Random.ensures.list
+
+pub returns-in-Random-clause-list : goal.returns-in-Random-clause-list
+returns-in-Random-clause-list g c = rw c.in-Random.is (row.spelled_is _ _ _ c.unlink-in-Random.ensures.list)
+
+pub returns-in-Ordered-clause-sound : goal.returns-in-Ordered-clause-sound
+returns-in-Ordered-clause-sound g c = ord.IsSound_from _ _ _ c.unlink-in-Ordered.ensures.list
+
+pub returns-in-Ordered-clause-list : goal.returns-in-Ordered-clause-list
+returns-in-Ordered-clause-list g c = rw c.in-Ordered.is (ord.spelled_is _ _ _ c.unlink-in-Ordered.ensures.list)
+
+pub returns-in-Ordered-clause-keyed : goal.returns-in-Ordered-clause-keyed
+returns-in-Ordered-clause-keyed g c = λ order hash_of h.
+    let keyed = rw c.in-Ordered.is at h in
+    IsInOrder_same _ _ order _ _ _ _ (records_kept c.args.store.now _ c.unlink-in-Ordered.ensures.contents) c.unlink-in-Ordered.ensures.index (ord.spelled_is _ _ _ c.unlink-in-Ordered.ensures.list) keyed
+
+pub returns-in-Ranked-clause-sound : goal.returns-in-Ranked-clause-sound
+returns-in-Ranked-clause-sound g c = rank.IsSound_from _ _ _ c.unlink-in-Ranked.ensures.list
+
+pub returns-in-Ranked-clause-list : goal.returns-in-Ranked-clause-list
+returns-in-Ranked-clause-list g c = rw c.in-Ranked.is (rank.spelled_is _ _ _ c.unlink-in-Ranked.ensures.list)
+
+pub returns-in-Ranked-clause-keyed : goal.returns-in-Ranked-clause-keyed
+returns-in-Ranked-clause-keyed g c = λ order hash_of h.
+    let keyed = rw c.in-Ranked.is at h in
+    IsInOrder_same _ _ order _ _ _ _ (records_kept c.args.store.now _ c.unlink-in-Ranked.ensures.contents) c.unlink-in-Ranked.ensures.index (rank.spelled_is _ _ _ c.unlink-in-Ranked.ensures.list) keyed
+
+pub returns-in-Hashed-clause-list : goal.returns-in-Hashed-clause-list
+returns-in-Hashed-clause-list g c =
+    let sound = rw c.in-Hashed.is at c.requires.sound in
+    rw c.in-Hashed.is (ap by_number (hash.spelled_is _ _ _ c.unlink-in-Hashed.ensures.list) ∙ list_left c.args.store.now c.in-Hashed.buckets c.args.n sound)
+
+pub returns-in-Hashed-clause-keyed : goal.returns-in-Hashed-clause-keyed
+returns-in-Hashed-clause-keyed g c = λ order hash_of h.
+    let sound = rw c.in-Hashed.is at c.requires.sound in
+    let keyed = rw c.in-Hashed.is at h in
+    keeps_hashed_list hash_of c.args.store.now c.unlink-in-Hashed.new.store c.in-Hashed.buckets c.unlink-in-Hashed.new.self _ _ c.unlink-in-Hashed.ensures.index c.unlink-in-Hashed.ensures.col c.unlink-in-Hashed.ensures.tags c.unlink-in-Hashed.ensures.contents
+    (ap by_number (hash.spelled_is _ _ _ c.unlink-in-Hashed.ensures.list) ∙ list_left c.args.store.now c.in-Hashed.buckets c.args.n sound) keyed

@@ -1,0 +1,12 @@
+use Rattle.any_index.proofs.Hashed.{list_moved, keeps_hashed}
+use Rattle.any_index.proofs.index.AnyIndex.reserve_one.Goals as goal
+
+pub returns-in-Hashed-clause-list : goal.returns-in-Hashed-clause-list
+returns-in-Hashed-clause-list g c =
+    let sound = rw c.in-Hashed.is at c.requires in
+    rw c.in-Hashed.is (list_moved c.args.store.now c.in-Hashed.buckets _ sound c.reserve_one-in-Hashed.ensures.list)
+
+pub returns-in-Hashed-clause-keyed : goal.returns-in-Hashed-clause-keyed
+returns-in-Hashed-clause-keyed g c = λ order hash_of h.
+    let keyed = rw c.in-Hashed.is at h in
+    keeps_hashed hash_of c.args.store.now c.reserve_one-in-Hashed.new.store c.in-Hashed.buckets c.reserve_one-in-Hashed.new.self c.reserve_one-in-Hashed.ensures.index c.reserve_one-in-Hashed.ensures.col c.reserve_one-in-Hashed.ensures.tags c.reserve_one-in-Hashed.ensures.contents c.reserve_one-in-Hashed.ensures.list keyed

@@ -1,0 +1,70 @@
+use Rattle.node_store.specs.ByNode.{column_of, record_of}
+use Rattle.node_store.proofs.ByNode.{records_kept}
+use Rattle.ord_tree.specs.Spelled as trees
+use Rattle.rank_tree.specs.Spelled as ranked
+use Rattle.hash_index.specs.Spelled as buckets
+use Rattle.ord_tree.proofs.Laws as ord
+use Rattle.rank_tree.proofs.Laws as rank
+use Rattle.hash_index.proofs.Laws.{IsHashed_moved}
+use Rattle.ord_tree.proofs.Ordered.{IsInOrder_settled}
+use Rattle.ord_tree.proofs.Settling.{IsInOrder_same}
+use Rattle.any_index.proofs.ByNumber.{Holds_moved, moved_by_number, moved_back, without_moved}
+use Rattle.any_index.proofs.Hashed.{list_moved, hashed_at}
+use Rattle.any_index.proofs.index.AnyIndex.settle.Goals as goal
+
+pub settle-requires-in-Hashed-clause-held : goal.settle-requires-in-Hashed-clause-held
+settle-requires-in-Hashed-clause-held g c =
+    let held = rw c.in-Hashed.is at c.requires.held in
+    Holds_moved _ _ c.args.n (moved_back _) held
+
+pub returns-in-Ordered-clause-sound : goal.returns-in-Ordered-clause-sound
+returns-in-Ordered-clause-sound g c = ord.IsSound_from _ _ _ c.settle.ensures.list
+
+pub returns-in-Ordered-clause-list : goal.returns-in-Ordered-clause-list
+returns-in-Ordered-clause-list g c = rw c.in-Ordered.is (ord.spelled_is _ _ _ c.settle.ensures.list)
+
+pub returns-in-Ordered-clause-keyed : goal.returns-in-Ordered-clause-keyed
+returns-in-Ordered-clause-keyed g c =
+    let key = rw c.in-Ordered.is at c.requires.key in
+    let keyed = rw c.in-Ordered.is at c.requires.keyed in
+    let sound = rw c.in-Ordered.is at c.requires.sound in
+    let held = rw c.in-Ordered.is at c.requires.held in
+    let compare = g.E.Extract.order_of c.args.keys.now in
+    let index = trees.index_of c.in-Ordered.tree in
+    let xs = trees.spelled (column_of c.args.store.now) c.in-Ordered.tree in
+    let total = g.met.E.Extract.order_total c.args.keys.now index key in
+    IsInOrder_same _ _ compare _ _ _ _ (records_kept c.args.store.now _ c.settle.ensures.contents) c.settle.ensures.index (ord.spelled_is _ _ _ c.settle.ensures.list)
+    (IsInOrder_settled (record_of c.args.store.now) (compare index) total c.args.n xs held (ord.Spells_distinct _ _ _ sound) keyed)
+
+pub returns-in-Ranked-clause-sound : goal.returns-in-Ranked-clause-sound
+returns-in-Ranked-clause-sound g c = rank.IsSound_from _ _ _ c.settle-in-Ranked.ensures.list
+
+pub returns-in-Ranked-clause-list : goal.returns-in-Ranked-clause-list
+returns-in-Ranked-clause-list g c = rw c.in-Ranked.is (rank.spelled_is _ _ _ c.settle-in-Ranked.ensures.list)
+
+pub returns-in-Ranked-clause-keyed : goal.returns-in-Ranked-clause-keyed
+returns-in-Ranked-clause-keyed g c =
+    let key = rw c.in-Ranked.is at c.requires.key in
+    let keyed = rw c.in-Ranked.is at c.requires.keyed in
+    let sound = rw c.in-Ranked.is at c.requires.sound in
+    let held = rw c.in-Ranked.is at c.requires.held in
+    let compare = g.E.Extract.order_of c.args.keys.now in
+    let index = ranked.index_of c.in-Ranked.tree in
+    let xs = ranked.spelled (column_of c.args.store.now) c.in-Ranked.tree in
+    let total = g.met.E.Extract.order_total c.args.keys.now index key in
+    IsInOrder_same _ _ compare _ _ _ _ (records_kept c.args.store.now _ c.settle-in-Ranked.ensures.contents) c.settle-in-Ranked.ensures.index (rank.spelled_is _ _ _ c.settle-in-Ranked.ensures.list)
+    (IsInOrder_settled (record_of c.args.store.now) (compare index) total c.args.n xs held (rank.Spells_distinct _ _ _ sound) keyed)
+
+pub returns-in-Hashed-clause-list : goal.returns-in-Hashed-clause-list
+returns-in-Hashed-clause-list g c =
+    let sound = rw c.in-Hashed.is at c.requires.sound in
+    rw c.in-Hashed.is (list_moved c.args.store.now c.in-Hashed.buckets _ sound c.settle-in-Hashed.ensures.list)
+
+pub returns-in-Hashed-clause-keyed : goal.returns-in-Hashed-clause-keyed
+returns-in-Hashed-clause-keyed g c =
+    let keyed = rw c.in-Hashed.is at c.requires.keyed in
+    let hash = g.E.Extract.hash_of c.args.keys.now in
+    let index = buckets.index_of c.in-Hashed.buckets in
+    let col = buckets.col_of c.in-Hashed.buckets in
+    hashed_at hash c.settle-in-Hashed.new.store _ index _ col _ _ c.settle-in-Hashed.ensures.index c.settle-in-Hashed.ensures.col (moved_by_number _)
+    (c.settle-in-Hashed.ensures.hashed (IsHashed_moved (hash index) c.args.store.now col _ _ (without_moved _ _ c.args.n (moved_back _)) keyed))

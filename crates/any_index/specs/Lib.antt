@@ -1,0 +1,4 @@
+pub mod Spelled
+pub mod Lists
+pub mod Keyed
+pub mod Earliest

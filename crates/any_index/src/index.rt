@@ -1,0 +1,171 @@
+//! An index, and its changes.
+ghost use Rattle.std.specs.Prelude.{◌≡◌, ℕ, ◌<◌, ◌≤◌, Some, [], length, OnOk, OnErr};
+ghost use Rattle.std.specs.declared.cmp.Ordering.{Ordering};
+ghost use Rattle.list_model.specs.Walk.{without};
+ghost use Rattle.node_store.specs.Column.{Column};
+ghost use Rattle.node_store.specs.Nodes.{Lacks};
+ghost use Rattle.node_store.specs.Store.{IsNodeOf};
+ghost use Rattle.node_store.specs.ByNode.{column_of, record_of, contents, same_node};
+ghost use Rattle.ord_tree.specs.Side.{order_at};
+ghost use Rattle.any_index.specs.Lists.{entered, settled_in};
+
+use container_model::Kind;
+use hash_index::HashIndex;
+use key_extract::Extract;
+use node_store::{Node, NodeStore};
+use ord_tree::{NoTally, OrdTree};
+use rank_tree::RankTree;
+use row_index::RowIndex;
+use seq_index::SeqIndex;
+use std::alloc::{AllocError, Global};
+
+/// An index of one kind, through one column of links.
+#[derive(Drop)]
+pub enum AnyIndex {
+    /// A sequence of one's own.
+    Sequenced(SeqIndex),
+    /// A sequence whose places can be counted.
+    Random(RowIndex),
+    /// In the order of a key.
+    Ordered(OrdTree<NoTally>),
+    /// In the order of a key, with ranks.
+    Ranked(RankTree),
+    /// Searched by a whole key.
+    Hashed(HashIndex),
+}
+
+impl AnyIndex {
+    ghost use Rattle.any_index.specs.Spelled.{IsSound, HasRoom, Holds, KeepsOthers, list_of, kind_of, col_of, index_of};
+    ghost use Rattle.any_index.specs.Keyed.{HasItsKey, IsKeyed, IsKeyedBut};
+
+    /// An index of no nodes in column `column`, by the keys of that number. It allocates nothing. O(1).
+    pub fn new(alloc: Global, kind: Kind, column: usize) -> AnyIndex
+        requires { column < 8 }
+        ensures kind { kind_of result ≡ kind }
+        ensures col { col_of result ≡ column }
+        ensures index { index_of result ≡ column }
+        ensures sound { (cs : ℕ → Column) → IsSound cs result }
+        ensures empty { (cs : ℕ → Column) → list_of cs result ≡ [] }
+    {
+        match kind {
+            Kind::Sequenced => AnyIndex::Sequenced(SeqIndex::new(column)),
+            Kind::Random => AnyIndex::Random(RowIndex::new(alloc, column)),
+            Kind::Ordered => AnyIndex::Ordered(OrdTree::new(column, column)),
+            Kind::Ranked => AnyIndex::Ranked(RankTree::new(column, column)),
+            Kind::Hashed => AnyIndex::Hashed(HashIndex::new(alloc, column, column)),
+        }
+    }
+
+    /// Makes room for one more node. Where memory is refused, everything is as before. O(1) on average over many
+    /// insertions.
+    pub fn reserve_one<R>(&mut self, store: &mut NodeStore<R>) -> Result<(), AllocError>
+        requires { IsSound (column_of store.old) self.old }
+        ensures sound { IsSound (column_of store.new) self.new }
+        ensures list { list_of (column_of store.new) self.new ≡ list_of (column_of store.old) self.old }
+        ensures room { OnOk result (HasRoom self.new) }
+        ensures full { OnErr result (¬ HasRoom self.old) }
+        ensures keyed { (order : ℕ → R → R → Ordering) (hash_of : ℕ → R → ℕ) → IsKeyed order hash_of store.old self.old → IsKeyed order hash_of store.new self.new }
+        ensures kind { kind_of self.new ≡ kind_of self.old }
+        ensures col { col_of self.new ≡ col_of self.old }
+        ensures index { index_of self.new ≡ index_of self.old }
+        ensures others { KeepsOthers (column_of store.old) (column_of store.new) (col_of self.old) }
+        ensures contents { contents store.new ≡ contents store.old }
+    {
+        match self {
+            AnyIndex::Sequenced(sequence) => sequence.reserve_one(store),
+            AnyIndex::Random(row) => row.reserve_one(store),
+            AnyIndex::Ordered(tree) => tree.reserve_one(store),
+            AnyIndex::Ranked(tree) => tree.reserve_one(store),
+            AnyIndex::Hashed(buckets) => buckets.reserve_one(store),
+        }
+    }
+
+    /// Puts `n` in, in room that was reserved: by its key, or in a sequence before the node at the place `at`, or last
+    /// where there is none. O(log n) in a tree, O(1) in buckets and at the end of a sequence.
+    pub fn enter<R, E: Extract<R>>(
+        &mut self,
+        store: &mut NodeStore<R>,
+        keys: &E,
+        n: Node,
+        at: Option<u64>,
+    )
+        requires sound { IsSound (column_of store.old) self.old }
+        requires node { IsNodeOf store.old n }
+        requires new { Lacks (list_of (column_of store.old) self.old) n }
+        requires room { HasRoom self.old }
+        requires place { (p : ℕ) → at ≡ Some p → p ≤ length (list_of (column_of store.old) self.old) }
+        requires key { HasItsKey (E.has_key keys.now) self.old }
+        requires keyed { IsKeyed (E.order_of keys.now) (E.hash_of keys.now) store.old self.old }
+        ensures sound { IsSound (column_of store.new) self.new }
+        ensures list { list_of (column_of store.new) self.new ≡ entered (kind_of self.old) (order_at (record_of store.old) (E.order_of keys.now (index_of self.old))) at n (list_of (column_of store.old) self.old) }
+        ensures keyed { IsKeyed (E.order_of keys.now) (E.hash_of keys.now) store.new self.new }
+        ensures kind { kind_of self.new ≡ kind_of self.old }
+        ensures col { col_of self.new ≡ col_of self.old }
+        ensures index { index_of self.new ≡ index_of self.old }
+        ensures others { KeepsOthers (column_of store.old) (column_of store.new) (col_of self.old) }
+        ensures contents { contents store.new ≡ contents store.old }
+    {
+        match self {
+            AnyIndex::Sequenced(sequence) => match at {
+                Some(place) => sequence.insert_at(store, place, n),
+                None => sequence.push(store, n),
+            },
+            AnyIndex::Random(row) => match at {
+                Some(place) => row.insert_at(store, place, n),
+                None => row.push(store, n),
+            },
+            AnyIndex::Ordered(tree) => tree.link(store, keys, n),
+            AnyIndex::Ranked(tree) => tree.link(store, keys, n),
+            AnyIndex::Hashed(buckets) => buckets.link(store, keys, n),
+        }
+    }
+
+    /// Takes `n` out. It reads no record, so the node's may have changed. It takes no memory, and leaves room for one
+    /// node. O(log n) in a tree, O(1) in buckets and in a chain, O(the nodes behind it) in a row.
+    pub fn leave<R>(&mut self, store: &mut NodeStore<R>, n: Node)
+        requires sound { IsSound (column_of store.old) self.old }
+        requires held { Holds (list_of (column_of store.old) self.old) n }
+        ensures sound { IsSound (column_of store.new) self.new }
+        ensures list { list_of (column_of store.new) self.new ≡ without (same_node n) (list_of (column_of store.old) self.old) }
+        ensures room { HasRoom self.new }
+        ensures keyed { (order : ℕ → R → R → Ordering) (hash_of : ℕ → R → ℕ) → IsKeyedBut order hash_of store.old self.old n → IsKeyed order hash_of store.new self.new }
+        ensures kind { kind_of self.new ≡ kind_of self.old }
+        ensures col { col_of self.new ≡ col_of self.old }
+        ensures index { index_of self.new ≡ index_of self.old }
+        ensures others { KeepsOthers (column_of store.old) (column_of store.new) (col_of self.old) }
+        ensures contents { contents store.new ≡ contents store.old }
+    {
+        match self {
+            AnyIndex::Sequenced(sequence) => sequence.unlink(store, n),
+            AnyIndex::Random(row) => row.unlink(store, n),
+            AnyIndex::Ordered(tree) => tree.unlink(store, n),
+            AnyIndex::Ranked(tree) => tree.unlink(store, n),
+            AnyIndex::Hashed(buckets) => buckets.unlink(store, n),
+        }
+    }
+
+    /// Puts `n` where its key puts it after its record has changed: in a tree it stays where it fits between its two
+    /// neighbours, and goes after all whose key is at most its own otherwise. A sequence stays as it is. It takes no
+    /// memory. O(log n) in a tree, O(1) otherwise.
+    pub fn settle<R, E: Extract<R>>(&mut self, store: &mut NodeStore<R>, keys: &E, n: Node)
+        requires sound { IsSound (column_of store.old) self.old }
+        requires held { Holds (list_of (column_of store.old) self.old) n }
+        requires key { HasItsKey (E.has_key keys.now) self.old }
+        requires keyed { IsKeyedBut (E.order_of keys.now) (E.hash_of keys.now) store.old self.old n }
+        ensures sound { IsSound (column_of store.new) self.new }
+        ensures list { list_of (column_of store.new) self.new ≡ settled_in (kind_of self.old) (order_at (record_of store.old) (E.order_of keys.now (index_of self.old))) n (list_of (column_of store.old) self.old) }
+        ensures keyed { IsKeyed (E.order_of keys.now) (E.hash_of keys.now) store.new self.new }
+        ensures kind { kind_of self.new ≡ kind_of self.old }
+        ensures col { col_of self.new ≡ col_of self.old }
+        ensures index { index_of self.new ≡ index_of self.old }
+        ensures others { KeepsOthers (column_of store.old) (column_of store.new) (col_of self.old) }
+        ensures contents { contents store.new ≡ contents store.old }
+    {
+        match self {
+            AnyIndex::Sequenced(_) | AnyIndex::Random(_) => {}
+            AnyIndex::Ordered(tree) => tree.settle(store, keys, n),
+            AnyIndex::Ranked(tree) => tree.settle(store, keys, n),
+            AnyIndex::Hashed(buckets) => buckets.settle(store, keys, n),
+        }
+    }
+}

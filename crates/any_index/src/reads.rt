@@ -1,0 +1,101 @@
+//! Walks and places of an index that has an order.
+ghost use Rattle.std.specs.Prelude.{◌≡◌, IsTrue, not, slice_get};
+ghost use Rattle.container_model.specs.State.{has_places_kind, is_hashed_kind};
+ghost use Rattle.list_model.specs.Walk.{place_of as the_place, next as the_next, prev as the_prev, last as the_last};
+ghost use Rattle.node_store.specs.ByNode.{column_of, same_node};
+ghost use Rattle.any_index.specs.Spelled.{IsSound, Holds, list_of, kind_of};
+
+use crate::AnyIndex;
+use node_store::{Node, NodeStore};
+
+impl AnyIndex {
+    /// The first node. O(log n) in a tree, O(1) in a sequence. A hashed index has no such call.
+    pub fn first<R>(&self, store: &NodeStore<R>) -> Option<Node>
+        requires sound { IsSound (column_of store.now) self.now }
+        requires kind { IsTrue (not (is_hashed_kind (kind_of self.now))) }
+        ensures { result ≡ slice_get (list_of (column_of store.now) self.now) 0 }
+    {
+        match self {
+            AnyIndex::Sequenced(sequence) => sequence.first(store),
+            AnyIndex::Random(row) => row.first(store),
+            AnyIndex::Ordered(tree) => tree.first(store),
+            AnyIndex::Ranked(tree) => tree.first(store),
+            AnyIndex::Hashed(_) => unreachable!(),
+        }
+    }
+
+    /// The last node. O(log n) in a tree, O(1) in a sequence. A hashed index has no such call.
+    pub fn last<R>(&self, store: &NodeStore<R>) -> Option<Node>
+        requires sound { IsSound (column_of store.now) self.now }
+        requires kind { IsTrue (not (is_hashed_kind (kind_of self.now))) }
+        ensures { result ≡ the_last (list_of (column_of store.now) self.now) }
+    {
+        match self {
+            AnyIndex::Sequenced(sequence) => sequence.last(store),
+            AnyIndex::Random(row) => row.last(store),
+            AnyIndex::Ordered(tree) => tree.last(store),
+            AnyIndex::Ranked(tree) => tree.last(store),
+            AnyIndex::Hashed(_) => unreachable!(),
+        }
+    }
+
+    /// The node after `n`, or `None` at the end. O(log n) in a tree, and O(1) on average over a whole walk; O(1) in a
+    /// sequence. A hashed index has no such call.
+    pub fn next<R>(&self, store: &NodeStore<R>, n: Node) -> Option<Node>
+        requires sound { IsSound (column_of store.now) self.now }
+        requires held { Holds (list_of (column_of store.now) self.now) n }
+        requires kind { IsTrue (not (is_hashed_kind (kind_of self.now))) }
+        ensures { result ≡ the_next (same_node n) (list_of (column_of store.now) self.now) }
+    {
+        match self {
+            AnyIndex::Sequenced(sequence) => sequence.next(store, n),
+            AnyIndex::Random(row) => row.next(store, n),
+            AnyIndex::Ordered(tree) => tree.next(store, n),
+            AnyIndex::Ranked(tree) => tree.next(store, n),
+            AnyIndex::Hashed(_) => unreachable!(),
+        }
+    }
+
+    /// The node before `n`, or `None` at the front. The costs are those of `next`. A hashed index has no such call.
+    pub fn prev<R>(&self, store: &NodeStore<R>, n: Node) -> Option<Node>
+        requires sound { IsSound (column_of store.now) self.now }
+        requires held { Holds (list_of (column_of store.now) self.now) n }
+        requires kind { IsTrue (not (is_hashed_kind (kind_of self.now))) }
+        ensures { result ≡ the_prev (same_node n) (list_of (column_of store.now) self.now) }
+    {
+        match self {
+            AnyIndex::Sequenced(sequence) => sequence.prev(store, n),
+            AnyIndex::Random(row) => row.prev(store, n),
+            AnyIndex::Ordered(tree) => tree.prev(store, n),
+            AnyIndex::Ranked(tree) => tree.prev(store, n),
+            AnyIndex::Hashed(_) => unreachable!(),
+        }
+    }
+
+    /// The node at a place, counted from 0, or `None` past the end: of a row in O(1), of a ranked tree in O(log n).
+    pub fn nth<R>(&self, store: &NodeStore<R>, place: u64) -> Option<Node>
+        requires sound { IsSound (column_of store.now) self.now }
+        requires kind { IsTrue (has_places_kind (kind_of self.now)) }
+        ensures { result ≡ slice_get (list_of (column_of store.now) self.now) place }
+    {
+        match self {
+            AnyIndex::Random(row) => row.nth(store, place),
+            AnyIndex::Ranked(tree) => tree.nth(store, place),
+            AnyIndex::Sequenced(_) | AnyIndex::Ordered(_) | AnyIndex::Hashed(_) => unreachable!(),
+        }
+    }
+
+    /// The place of `n`, counted from 0: in a row in O(1), in a ranked tree in O(log n). It reads no record.
+    pub fn place_of<R>(&self, store: &NodeStore<R>, n: Node) -> u64
+        requires sound { IsSound (column_of store.now) self.now }
+        requires held { Holds (list_of (column_of store.now) self.now) n }
+        requires kind { IsTrue (has_places_kind (kind_of self.now)) }
+        ensures { result ≡ the_place (same_node n) (list_of (column_of store.now) self.now) }
+    {
+        match self {
+            AnyIndex::Random(row) => row.place_of(store, n),
+            AnyIndex::Ranked(tree) => tree.rank(store, n),
+            AnyIndex::Sequenced(_) | AnyIndex::Ordered(_) | AnyIndex::Hashed(_) => unreachable!(),
+        }
+    }
+}

@@ -1,0 +1,258 @@
+//! Look-ups by a key.
+ghost use Rattle.std.specs.Prelude.{◌≡◌, IsTrue};
+ghost use Rattle.std.specs.declared.cmp.Ordering.{Ordering};
+ghost use Rattle.list_model.specs.Order.{IsInOrder};
+ghost use Rattle.hash_index.specs.Hashed.{IsHashed};
+ghost use Rattle.hash_index.specs.Spelled as hash;
+ghost use Rattle.ord_tree.specs.Spelled as ord;
+ghost use Rattle.container_model.specs.State.{has_key_kind, is_ranked_kind, is_sorted_kind};
+ghost use Rattle.list_model.specs.Place.{below, not_above, count_equal, find_equal, lower as the_lower, upper as the_upper, find_rank as the_rank};
+ghost use Rattle.node_store.specs.ByNode.{column_of, record_of};
+ghost use Rattle.ord_tree.specs.Same.{AreNodesOf, equal_but};
+ghost use Rattle.ord_tree.specs.Side.{side_of, order_at};
+ghost use Rattle.any_index.specs.Spelled.{IsSound, list_of, kind_of, index_of, by_number};
+ghost use Rattle.any_index.specs.Earliest.{earlier as the_earlier};
+ghost use Rattle.any_index.specs.Keyed.{HasItsKey, Accepts, IsKeyed, IsKeyedExcept, HasOneOfEachKey};
+
+use crate::AnyIndex;
+use hash_index::HashIndex;
+use key_extract::Extract;
+use node_store::{Node, NodeStore};
+use ord_tree::{NoTally, OrdTree};
+
+impl AnyIndex {
+    /// The first node that has the key: of a hashed index, the one that was added first. O(log n) in a tree, expected
+    /// O(1 + the nodes that have the key) in buckets. A sequence has no such call.
+    pub fn find<R, E: Extract<R>>(
+        &self,
+        store: &NodeStore<R>,
+        keys: &E,
+        probe: &E::Probe,
+    ) -> Option<Node>
+        requires sound { IsSound (column_of store.now) self.now }
+        requires key { HasItsKey (E.has_key keys.now) self.now }
+        requires fits { Accepts (λ j. E.does_fit keys.now j probe.now) (λ j. E.is_whole keys.now j probe.now) self.now }
+        requires keyed { IsKeyed (E.order_of keys.now) (E.hash_of keys.now) store.now self.now }
+        ensures { result ≡ find_equal (side_of (record_of store.now) (λ a. E.probe_order_of keys.now (index_of self.now) a probe.now)) (list_of (column_of store.now) self.now) }
+    {
+        match self {
+            AnyIndex::Ordered(tree) => tree.find(store, keys, probe),
+            AnyIndex::Ranked(tree) => tree.find(store, keys, probe),
+            AnyIndex::Hashed(buckets) => first_added(buckets, store, keys, probe),
+            AnyIndex::Sequenced(_) | AnyIndex::Random(_) => unreachable!(),
+        }
+    }
+
+    /// How many nodes have the key: in O(log n) comparisons and that many steps in a tree without ranks, in O(log n)
+    /// in a ranked one, and in expected O(1 + those nodes) in buckets. A sequence has no such call.
+    pub fn count<R, E: Extract<R>>(&self, store: &NodeStore<R>, keys: &E, probe: &E::Probe) -> u64
+        requires sound { IsSound (column_of store.now) self.now }
+        requires key { HasItsKey (E.has_key keys.now) self.now }
+        requires fits { Accepts (λ j. E.does_fit keys.now j probe.now) (λ j. E.is_whole keys.now j probe.now) self.now }
+        requires keyed { IsKeyed (E.order_of keys.now) (E.hash_of keys.now) store.now self.now }
+        ensures { result ≡ count_equal (side_of (record_of store.now) (λ a. E.probe_order_of keys.now (index_of self.now) a probe.now)) (list_of (column_of store.now) self.now) }
+    {
+        match self {
+            AnyIndex::Ordered(tree) => run_length(tree, store, keys, probe),
+            AnyIndex::Ranked(tree) => {
+                tree.upper_rank(store, keys, probe) - tree.lower_rank(store, keys, probe)
+            }
+            AnyIndex::Hashed(buckets) => buckets.count(store, keys, probe),
+            AnyIndex::Sequenced(_) | AnyIndex::Random(_) => unreachable!(),
+        }
+    }
+
+    /// The first node that does not come before the key. O(log n). Only a tree has such a call.
+    pub fn lower<R, E: Extract<R>>(
+        &self,
+        store: &NodeStore<R>,
+        keys: &E,
+        probe: &E::Probe,
+    ) -> Option<Node>
+        requires sound { IsSound (column_of store.now) self.now }
+        requires kind { IsTrue (is_sorted_kind (kind_of self.now)) }
+        requires key { HasItsKey (E.has_key keys.now) self.now }
+        requires fits { IsTrue (E.does_fit keys.now (index_of self.now) probe.now) }
+        requires keyed { IsKeyed (E.order_of keys.now) (E.hash_of keys.now) store.now self.now }
+        ensures { result ≡ the_lower (side_of (record_of store.now) (λ a. E.probe_order_of keys.now (index_of self.now) a probe.now)) (list_of (column_of store.now) self.now) }
+    {
+        match self {
+            AnyIndex::Ordered(tree) => tree.lower(store, keys, probe),
+            AnyIndex::Ranked(tree) => tree.lower(store, keys, probe),
+            AnyIndex::Sequenced(_) | AnyIndex::Random(_) | AnyIndex::Hashed(_) => unreachable!(),
+        }
+    }
+
+    /// The first node that comes after the key. O(log n). Only a tree has such a call.
+    pub fn upper<R, E: Extract<R>>(
+        &self,
+        store: &NodeStore<R>,
+        keys: &E,
+        probe: &E::Probe,
+    ) -> Option<Node>
+        requires sound { IsSound (column_of store.now) self.now }
+        requires kind { IsTrue (is_sorted_kind (kind_of self.now)) }
+        requires key { HasItsKey (E.has_key keys.now) self.now }
+        requires fits { IsTrue (E.does_fit keys.now (index_of self.now) probe.now) }
+        requires keyed { IsKeyed (E.order_of keys.now) (E.hash_of keys.now) store.now self.now }
+        ensures { result ≡ the_upper (side_of (record_of store.now) (λ a. E.probe_order_of keys.now (index_of self.now) a probe.now)) (list_of (column_of store.now) self.now) }
+    {
+        match self {
+            AnyIndex::Ordered(tree) => tree.upper(store, keys, probe),
+            AnyIndex::Ranked(tree) => tree.upper(store, keys, probe),
+            AnyIndex::Sequenced(_) | AnyIndex::Random(_) | AnyIndex::Hashed(_) => unreachable!(),
+        }
+    }
+
+    /// The rank of the first node that has the key, or the length. O(log n). Only a ranked tree has such a call.
+    pub fn find_rank<R, E: Extract<R>>(
+        &self,
+        store: &NodeStore<R>,
+        keys: &E,
+        probe: &E::Probe,
+    ) -> u64
+        requires sound { IsSound (column_of store.now) self.now }
+        requires kind { IsTrue (is_ranked_kind (kind_of self.now)) }
+        requires key { HasItsKey (E.has_key keys.now) self.now }
+        requires fits { IsTrue (E.does_fit keys.now (index_of self.now) probe.now) }
+        requires keyed { IsKeyed (E.order_of keys.now) (E.hash_of keys.now) store.now self.now }
+        ensures { result ≡ the_rank (side_of (record_of store.now) (λ a. E.probe_order_of keys.now (index_of self.now) a probe.now)) (list_of (column_of store.now) self.now) }
+    {
+        match self {
+            AnyIndex::Ranked(tree) => tree.find_rank(store, keys, probe),
+            AnyIndex::Sequenced(_)
+            | AnyIndex::Random(_)
+            | AnyIndex::Ordered(_)
+            | AnyIndex::Hashed(_) => unreachable!(),
+        }
+    }
+
+    /// How many nodes come before the key. O(log n). Only a ranked tree has such a call.
+    pub fn lower_rank<R, E: Extract<R>>(
+        &self,
+        store: &NodeStore<R>,
+        keys: &E,
+        probe: &E::Probe,
+    ) -> u64
+        requires sound { IsSound (column_of store.now) self.now }
+        requires kind { IsTrue (is_ranked_kind (kind_of self.now)) }
+        requires key { HasItsKey (E.has_key keys.now) self.now }
+        requires fits { IsTrue (E.does_fit keys.now (index_of self.now) probe.now) }
+        requires keyed { IsKeyed (E.order_of keys.now) (E.hash_of keys.now) store.now self.now }
+        ensures { result ≡ below (side_of (record_of store.now) (λ a. E.probe_order_of keys.now (index_of self.now) a probe.now)) (list_of (column_of store.now) self.now) }
+    {
+        match self {
+            AnyIndex::Ranked(tree) => tree.lower_rank(store, keys, probe),
+            AnyIndex::Sequenced(_)
+            | AnyIndex::Random(_)
+            | AnyIndex::Ordered(_)
+            | AnyIndex::Hashed(_) => unreachable!(),
+        }
+    }
+
+    /// How many nodes do not come after the key. O(log n). Only a ranked tree has such a call.
+    pub fn upper_rank<R, E: Extract<R>>(
+        &self,
+        store: &NodeStore<R>,
+        keys: &E,
+        probe: &E::Probe,
+    ) -> u64
+        requires sound { IsSound (column_of store.now) self.now }
+        requires kind { IsTrue (is_ranked_kind (kind_of self.now)) }
+        requires key { HasItsKey (E.has_key keys.now) self.now }
+        requires fits { IsTrue (E.does_fit keys.now (index_of self.now) probe.now) }
+        requires keyed { IsKeyed (E.order_of keys.now) (E.hash_of keys.now) store.now self.now }
+        ensures { result ≡ not_above (side_of (record_of store.now) (λ a. E.probe_order_of keys.now (index_of self.now) a probe.now)) (list_of (column_of store.now) self.now) }
+    {
+        match self {
+            AnyIndex::Ranked(tree) => tree.upper_rank(store, keys, probe),
+            AnyIndex::Sequenced(_)
+            | AnyIndex::Random(_)
+            | AnyIndex::Ordered(_)
+            | AnyIndex::Hashed(_) => unreachable!(),
+        }
+    }
+
+    /// The first node other than the excepted one whose record has the record's key. The excepted node's record may
+    /// have changed. O(log n) in a tree, expected O(1) in buckets; it takes no memory. A sequence has no such call.
+    pub fn same_as<R, E: Extract<R>>(
+        &self,
+        store: &NodeStore<R>,
+        keys: &E,
+        r: &R,
+        except: Option<Node>,
+    ) -> Option<Node>
+        requires sound { IsSound (column_of store.now) self.now }
+        requires kind { IsTrue (has_key_kind (kind_of self.now)) }
+        requires key { HasItsKey (E.has_key keys.now) self.now }
+        requires except { AreNodesOf store.now except }
+        requires keyed { IsKeyedExcept (E.order_of keys.now) (E.hash_of keys.now) store.now self.now except }
+        requires unique { HasOneOfEachKey (E.order_of keys.now) store.now self.now except }
+        ensures { result ≡ equal_but except (side_of (record_of store.now) (λ a. E.order_of keys.now (index_of self.now) a r.now)) (list_of (column_of store.now) self.now) }
+    {
+        match self {
+            AnyIndex::Ordered(tree) => tree.same_as(store, keys, r, except),
+            AnyIndex::Ranked(tree) => tree.same_as(store, keys, r, except),
+            AnyIndex::Hashed(buckets) => buckets.same_as(store, keys, r, except),
+            AnyIndex::Sequenced(_) | AnyIndex::Random(_) => unreachable!(),
+        }
+    }
+}
+
+// How many nodes of a tree have the key: the steps from the first that does not come before it to the first after it.
+fn run_length<R, E: Extract<R>>(
+    tree: &OrdTree<NoTally>,
+    store: &NodeStore<R>,
+    keys: &E,
+    probe: &E::Probe,
+) -> u64
+    requires sound { ord.IsSound (column_of store.now) tree.now }
+    requires key { IsTrue (E.has_key keys.now (ord.index_of tree.now)) }
+    requires fits { IsTrue (E.does_fit keys.now (ord.index_of tree.now) probe.now) }
+    requires order { IsInOrder (order_at (record_of store.now) (E.order_of keys.now (ord.index_of tree.now))) (ord.spelled (column_of store.now) tree.now) }
+    ensures { result ≡ count_equal (side_of (record_of store.now) (λ a. E.probe_order_of keys.now (ord.index_of tree.now) a probe.now)) (ord.spelled (column_of store.now) tree.now) }
+{
+    let end = tree.upper(store, keys, probe);
+    let mut at = tree.lower(store, keys, probe);
+    let mut count = 0;
+    while let Some(n) = at {
+        if store.is_node(end, n) {
+            return count;
+        }
+        count += 1;
+        at = tree.next(store, n);
+    }
+    count
+}
+
+// The node that was added first of those that have the whole key.
+fn first_added<R, E: Extract<R>>(
+    buckets: &HashIndex,
+    store: &NodeStore<R>,
+    keys: &E,
+    probe: &E::Probe,
+) -> Option<Node>
+    requires sound { hash.IsSound (column_of store.now) buckets.now }
+    requires key { IsTrue (E.has_key keys.now (hash.index_of buckets.now)) }
+    requires whole { IsTrue (E.is_whole keys.now (hash.index_of buckets.now) probe.now) }
+    requires hashed { IsHashed (E.hash_of keys.now (hash.index_of buckets.now)) store.now (hash.col_of buckets.now) (hash.spelled (column_of store.now) buckets.now) }
+    ensures { result ≡ find_equal (side_of (record_of store.now) (λ a. E.probe_order_of keys.now (hash.index_of buckets.now) a probe.now)) (by_number (hash.spelled (column_of store.now) buckets.now)) }
+{
+    let mut first = None;
+    let mut at = buckets.first_of(store, keys, probe);
+    while let Some(n) = at {
+        first = Some(earlier(first, n));
+        at = buckets.next_of(store, keys, probe, n);
+    }
+    first
+}
+
+// The one of two nodes that was added first.
+fn earlier(first: Option<Node>, n: Node) -> Node
+    ensures { result ≡ the_earlier first n }
+{
+    match first {
+        Some(m) if m.number() <= n.number() => m,
+        _ => n,
+    }
+}
