@@ -3,13 +3,15 @@ use Rattle.std.specs.Prelude.{◌≡◌, ℕ, zero, suc, List, [], ◌∷◌}
 use Rattle.node_store.specs.declared.Node.{Node}
 use Rattle.node_store.specs.Column.{Column}
 use Rattle.node_store.specs.Nodes.{Lacks}
+use Rattle.node_store.specs.Store.{Store}
+use Rattle.index_tests.specs.declared.keys.Keyed.{Keyed}
 use Rattle.index_tests.specs.declared.index.Index.{Index}
-use Rattle.index_tests.specs.Either.{IsSoundIn, listed, col_in}
+use Rattle.index_tests.specs.Kinds.{IsSoundIn, listed, col_in}
 
 -- each is sound, and the first has this column
-abbrev pub AreSound : (ℕ → Column) → ℕ → List Index → Type 0
-AreSound cs col [] = Unit {0}
-AreSound cs col (i ∷ is) = (col_in i ≡ col) × IsSoundIn cs i × AreSound cs (suc col) is
+abbrev pub AreSound : {T : Type 0} → Store (Keyed T) → ℕ → List Index → Type 0
+AreSound s col [] = Unit {0}
+AreSound s col (i ∷ is) = (col_in i ≡ col) × IsSoundIn s i × AreSound s (suc col) is
 
 -- those from a place on lack the node
 abbrev pub LackFrom : (ℕ → Column) → ℕ → List Index → Node → Type 0

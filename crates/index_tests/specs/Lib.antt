@@ -1,2 +1,3 @@
-pub mod Either
+pub mod Keys
+pub mod Kinds
 pub mod Every

@@ -5,16 +5,21 @@ ghost use Rattle.node_store.specs.Column.{KeepsOthers};
 ghost use Rattle.node_store.specs.Store.{IsNodeOf};
 ghost use Rattle.node_store.specs.Nodes.{Holds};
 ghost use Rattle.node_store.specs.ByNode.{column_of, contents};
-ghost use Rattle.index_tests.specs.Either.{IsSoundIn, listed, col_in};
+ghost use Rattle.index_tests.specs.Kinds.{IsSoundIn, listed, col_in};
 ghost use Rattle.index_tests.specs.Every.{AreSound, LackFrom};
 
 use crate::index::Index;
+use crate::keys::Keyed;
 use node_store::{Node, NodeStore};
 use std::alloc::Global;
 
 /// The node of this number, where the index has it.
-pub(crate) fn node_numbered<R>(store: &NodeStore<R>, index: &Index, number: u64) -> Option<Node>
-    requires { IsSoundIn (column_of store.now) index.now }
+pub(crate) fn node_numbered<T>(
+    store: &NodeStore<Keyed<T>>,
+    index: &Index,
+    number: u64,
+) -> Option<Node>
+    requires { IsSoundIn store.now index.now }
     ensures { (n : Node) → result ≡ Some n → Holds (listed (column_of store.now) index.now) n }
 {
     let mut at = index.first(store);
@@ -28,9 +33,9 @@ pub(crate) fn node_numbered<R>(store: &NodeStore<R>, index: &Index, number: u64)
     None
 }
 
-/// The numbers of the index's nodes, by a walk.
-pub(crate) fn numbers<R>(store: &NodeStore<R>, index: &Index, alloc: Global) -> Option<Vec<u64>>
-    requires { IsSoundIn (column_of store.now) index.now }
+// The numbers of the index's nodes, by a walk.
+fn numbers<T>(store: &NodeStore<Keyed<T>>, index: &Index, alloc: Global) -> Option<Vec<u64>>
+    requires { IsSoundIn store.now index.now }
 {
     let mut met = Vec::new(alloc);
     let mut at = index.first(store);
@@ -44,25 +49,36 @@ pub(crate) fn numbers<R>(store: &NodeStore<R>, index: &Index, alloc: Global) -> 
     Some(met)
 }
 
-/// Those of each index.
-pub(crate) fn views<R>(
-    store: &NodeStore<R>,
+// The same, sorted where the walk has no stated order.
+fn view<T>(store: &NodeStore<Keyed<T>>, index: &Index, alloc: Global) -> Option<Vec<u64>>
+    requires { IsSoundIn store.now index.now }
+{
+    let mut met = numbers(store, index, alloc)?;
+    if index.is_unordered() {
+        met.sort().ok()?;
+    }
+    Some(met)
+}
+
+/// The numbers of the nodes of each index.
+pub(crate) fn views<T>(
+    store: &NodeStore<Keyed<T>>,
     indices: &[Index],
     alloc: Global,
 ) -> Option<Vec<Vec<u64>>>
-    requires { AreSound (column_of store.now) 0 indices.now }
+    requires { AreSound store.now 0 indices.now }
 {
     let mut all = Vec::new(alloc);
     for index in indices {
-        all.push(numbers(store, index, alloc)?).ok()?;
+        all.push(view(store, index, alloc)?).ok()?;
     }
     Some(all)
 }
 
 /// Adds a node and puts it into each index, if there is room.
-pub(crate) fn add<R: Drop>(store: &mut NodeStore<R>, indices: &mut [Index], value: R)
-    requires { AreSound (column_of store.old) 0 indices.old }
-    ensures { AreSound (column_of store.new) 0 indices.new }
+pub(crate) fn add<T: Drop>(store: &mut NodeStore<Keyed<T>>, indices: &mut [Index], value: Keyed<T>)
+    requires { AreSound store.old 0 indices.old }
+    ensures { AreSound store.new 0 indices.new }
 {
     if store.added() == u64::MAX {
         return;
@@ -72,11 +88,11 @@ pub(crate) fn add<R: Drop>(store: &mut NodeStore<R>, indices: &mut [Index], valu
     }
 }
 
-fn put_into_each<R>(store: &mut NodeStore<R>, indices: &mut [Index], n: Node)
-    requires sound { AreSound (column_of store.old) 0 indices.old }
+fn put_into_each<T>(store: &mut NodeStore<Keyed<T>>, indices: &mut [Index], n: Node)
+    requires sound { AreSound store.old 0 indices.old }
     requires node { IsNodeOf store.old n }
     requires new { LackFrom (column_of store.old) 0 indices.old n }
-    ensures { AreSound (column_of store.new) 0 indices.new }
+    ensures { AreSound store.new 0 indices.new }
 {
     for place in 0..indices.len() {
         indices[place].put(store, n);
@@ -84,14 +100,14 @@ fn put_into_each<R>(store: &mut NodeStore<R>, indices: &mut [Index], n: Node)
 }
 
 /// Takes the node of this number out of the index at the place.
-pub(crate) fn unlink_from<R>(
-    store: &mut NodeStore<R>,
+pub(crate) fn unlink_from<T>(
+    store: &mut NodeStore<Keyed<T>>,
     indices: &mut [Index],
     place: usize,
     number: u64,
 )
-    requires { AreSound (column_of store.old) 0 indices.old }
-    ensures { AreSound (column_of store.new) 0 indices.new }
+    requires { AreSound store.old 0 indices.old }
+    ensures { AreSound store.new 0 indices.new }
 {
     if place >= indices.len() {
         return;

@@ -3,5 +3,7 @@
 
 mod every;
 mod index;
+mod keys;
+mod put;
 #[cfg(test)]
 mod tests;

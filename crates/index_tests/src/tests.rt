@@ -1,12 +1,15 @@
-//! One node in six columns at once, and records of nodes that no index has.
-ghost use Rattle.std.specs.Prelude.{ℕ};
-ghost use Rattle.node_store.specs.Column.{Column};
-ghost use Rattle.node_store.specs.ByNode.{column_of};
+//! One node in six columns at once, and in eight, and records of nodes that no index has.
+ghost use Rattle.node_store.specs.Store.{Store};
 ghost use Rattle.index_tests.specs.Every.{AreSound};
+ghost use Rattle.index_tests.specs.declared.keys.Keyed.{Keyed};
 
 use crate::every::{add, unlink_from, views};
 use crate::index::Index;
+use crate::keys::Keyed;
+use hash_index::HashIndex;
 use node_store::NodeStore;
+use ord_tree::OrdTree;
+use rank_tree::RankTree;
 use row_index::RowIndex;
 use seq_index::SeqIndex;
 use std::alloc::Global;
@@ -15,7 +18,7 @@ use std::test::Fail;
 
 // Four sequences and two rows, in the first six columns.
 fn six_indices(alloc: Global) -> [Index; 6]
-    ensures { (cs : ℕ → Column) → AreSound cs 0 result }
+    ensures { (s : Store (Keyed (Unit {0}))) → AreSound s 0 result }
 {
     [
         Index::Chain(SeqIndex::new(0)),
@@ -24,6 +27,22 @@ fn six_indices(alloc: Global) -> [Index; 6]
         Index::Chain(SeqIndex::new(3)),
         Index::Row(RowIndex::new(alloc, 4)),
         Index::Row(RowIndex::new(alloc, 5)),
+    ]
+}
+
+// Two sequences, two rows, two trees and two hashed indices, in all eight columns.
+fn eight_indices(alloc: Global) -> [Index; 8]
+    ensures { (s : Store (Keyed (Unit {0}))) → AreSound s 0 result }
+{
+    [
+        Index::Chain(SeqIndex::new(0)),
+        Index::Chain(SeqIndex::new(1)),
+        Index::Row(RowIndex::new(alloc, 2)),
+        Index::Row(RowIndex::new(alloc, 3)),
+        Index::Ordered(OrdTree::new(4, 0)),
+        Index::Ranked(RankTree::new(5, 1)),
+        Index::Hashed(HashIndex::new(alloc, 6, 2)),
+        Index::Hashed(HashIndex::new(alloc, 7, 3)),
     ]
 }
 
@@ -58,27 +77,40 @@ fn only_lost(
     Some(before.len() == after.len())
 }
 
-// What the six lists are once the node 2 of five was taken out of each in turn, if each time the five others stayed.
-fn taken_from_each(alloc: Global) -> Option<Vec<Vec<u64>>> {
+// What the lists are once the node 2 of five was taken out of each in turn, if each time the others stayed. The keys
+// of the five are 0, 3, 1, 4 and 2.
+fn taken_from_each(indices: &mut [Index], alloc: Global) -> Option<Vec<Vec<u64>>>
+    requires { (s : Store (Keyed (Unit {0}))) → AreSound s 0 indices.old }
+{
     let mut store = NodeStore::new(alloc);
-    let mut indices = six_indices(alloc);
     for name in 0..5u64 {
-        add(&mut store, &mut indices, name);
+        let key = name * 3 % 5;
+        add(&mut store, indices, Keyed { key, rest: () });
     }
-    for place in 0..6usize {
-        let before = views(&store, &indices, alloc)?;
-        unlink_from(&mut store, &mut indices, place, 2);
-        let after = views(&store, &indices, alloc)?;
+    for place in 0..indices.len() {
+        let before = views(&store, indices, alloc)?;
+        unlink_from(&mut store, indices, place, 2);
+        let after = views(&store, indices, alloc)?;
         if !only_lost(&before, &after, place, 2, alloc)? {
             return None;
         }
     }
-    views(&store, &indices, alloc)
+    views(&store, indices, alloc)
+}
+
+fn taken_from_six(alloc: Global) -> Option<Vec<Vec<u64>>> {
+    let mut indices = six_indices(alloc);
+    taken_from_each(&mut indices, alloc)
+}
+
+fn taken_from_eight(alloc: Global) -> Option<Vec<Vec<u64>>> {
+    let mut indices = eight_indices(alloc);
+    taken_from_each(&mut indices, alloc)
 }
 
 #[test]
-fn other_columns_stay_as_they_were(rt: HostRuntime) -> Result<(), Fail> {
-    let Some(lists) = taken_from_each(rt.alloc()) else {
+fn six_columns_stay_as_they_were(rt: HostRuntime) -> Result<(), Fail> {
+    let Some(lists) = taken_from_six(rt.alloc()) else {
         panic!(rt; "a list changed that was not to")
     };
     assert_eq!(rt; lists.len(), 6);
@@ -93,12 +125,24 @@ fn other_columns_stay_as_they_were(rt: HostRuntime) -> Result<(), Fail> {
     Ok(())
 }
 
-// A record that tells when it is dropped.
-#[derive(Drop)]
-struct Counted<'a> {
-    drops: Dropped<'a>,
+#[test]
+fn eight_columns_stay_as_they_were(rt: HostRuntime) -> Result<(), Fail> {
+    let Some(lists) = taken_from_eight(rt.alloc()) else {
+        panic!(rt; "a list changed that was not to")
+    };
+    assert_eq!(rt; lists.len(), 8);
+    for (place, list) in lists.iter().enumerate() {
+        let wanted = match place {
+            2 | 3 => [4, 3, 1, 0],
+            4 | 5 => [0, 4, 1, 3],
+            _ => [0, 1, 3, 4],
+        };
+        assert!(rt; list.as_slice() == wanted.as_slice());
+    }
+    Ok(())
 }
 
+// Tells when it is dropped.
 struct Dropped<'a> {
     name: u64,
     count: &'a Cell<u64>,
@@ -118,8 +162,8 @@ fn drop_half_linked(count: &Cell<u64>, names: &Cell<u64>, alloc: Global) -> Opti
     let mut store = NodeStore::new(alloc);
     let mut indices = [Index::Chain(SeqIndex::new(0))];
     for name in 0..100u64 {
-        let drops = Dropped { name, count, names };
-        add(&mut store, &mut indices, Counted { drops });
+        let rest = Dropped { name, count, names };
+        add(&mut store, &mut indices, Keyed { key: name, rest });
     }
     for half in 0..50u64 {
         unlink_from(&mut store, &mut indices, 0, 2 * half);

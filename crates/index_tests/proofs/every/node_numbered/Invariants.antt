@@ -2,7 +2,7 @@ use Rattle.std.proofs.Common.{◌≡◌, Some}
 use Rattle.node_store.specs.declared.Node.{Node}
 use Rattle.node_store.specs.Nodes.{Holds}
 use Rattle.node_store.specs.ByNode.{column_of}
-use Rattle.index_tests.specs.Either.{listed}
+use Rattle.index_tests.specs.Kinds.{listed}
 use Rattle.index_tests.proofs.every.node_numbered.Given as goal
 
 abbrev pub invariant-loop : goal.invariant-loop

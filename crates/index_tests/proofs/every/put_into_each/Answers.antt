@@ -11,7 +11,7 @@ put-requires-clause-new g c = lacks_at _ c.loop-place.indices c.args.n c.loop-pl
 
 pub loop-place-preserved : goal.loop-place-preserved
 loop-place-preserved g c = record {
-  sound = sound_changed _ _ c.loop-place.indices c.loop-place.place c.index-indices-place.result c.put.new.self (omega arith) c.loop-place.invariant.sound c.put.ensures.col c.put.ensures.sound c.put.ensures.others;
+  sound = sound_changed _ _ c.put.ensures.contents c.loop-place.indices c.loop-place.place c.index-indices-place.result c.put.new.self (omega arith) c.loop-place.invariant.sound c.put.ensures.col c.put.ensures.sound c.put.ensures.others;
   node = IsNodeOf_kept c.loop-place.store c.put.new.store c.args.n c.put.ensures.contents c.loop-place.invariant.node;
-  new = lacks_changed _ _ c.loop-place.indices c.args.n c.loop-place.place c.index-indices-place.result c.put.new.self (omega arith) c.loop-place.invariant.sound c.put.ensures.others c.loop-place.invariant.new;
+  new = lacks_changed _ _ c.put.ensures.contents c.loop-place.indices c.args.n c.loop-place.place c.index-indices-place.result c.put.new.self (omega arith) c.loop-place.invariant.sound c.put.ensures.others c.loop-place.invariant.new;
 }

@@ -5,7 +5,7 @@ use Rattle.index_tests.proofs.every.put_into_each.Given as goal
 
 abbrev pub invariant-loop-place : goal.invariant-loop-place
 invariant-loop-place g l = record {
-  sound : AreSound (column_of l.store) 0 l.indices;
+  sound : AreSound l.store 0 l.indices;
   node : IsNodeOf l.store l.n;
   new : LackFrom (column_of l.store) l.place l.indices l.n;
 }

@@ -9,4 +9,4 @@ pub unlink-requires-clause-sound : goal.unlink-requires-clause-sound
 unlink-requires-clause-sound g c = (sound_at _ 0 c.args.indices.now c.args.place _ (omega arith) c.requires).sound
 
 pub returns-in-Some : goal.returns-in-Some
-returns-in-Some g c = sound_changed _ _ c.args.indices.now c.args.place c.index-indices-place-in-Some.result c.unlink.new.self (omega arith) c.requires c.unlink.ensures.col c.unlink.ensures.sound c.unlink.ensures.others
+returns-in-Some g c = sound_changed _ _ c.unlink.ensures.contents c.args.indices.now c.args.place c.index-indices-place-in-Some.result c.unlink.new.self (omega arith) c.requires c.unlink.ensures.col c.unlink.ensures.sound c.unlink.ensures.others

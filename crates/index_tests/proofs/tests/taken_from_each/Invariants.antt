@@ -1,9 +1,8 @@
-use Rattle.node_store.specs.ByNode.{column_of}
 use Rattle.index_tests.specs.Every.{AreSound}
 use Rattle.index_tests.proofs.tests.taken_from_each.Given as goal
 
 abbrev pub invariant-loop-name : goal.invariant-loop-name
-invariant-loop-name l = AreSound (column_of l.store) 0 l.indices
+invariant-loop-name l = AreSound l.store 0 l.indices
 
 abbrev pub invariant-loop-place : goal.invariant-loop-place
-invariant-loop-place l = AreSound (column_of l.store) 0 l.indices
+invariant-loop-place l = AreSound l.store 0 l.indices
