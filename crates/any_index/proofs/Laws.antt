@@ -1,6 +1,6 @@
 -- The laws of an index's list, for the crates above.
-use Rattle.std.proofs.Common.{◌≡◌, ◌≢◌, ℕ, suc, ◌+◌, ◌<◌, Bool, true, cond, List, [], ◌∷◌, length, Option, refl, ap, sym, ◌∙◌, subst, arith}
-use Rattle.std.specs.Prelude.{IsPermutation}
+use Rattle.std.proofs.Common.{◌≡◌, ◌≢◌, ℕ, suc, ◌+◌, ◌<◌, Bool, true, cond, List, [], ◌∷◌, length, Option, refl, ap, sym, ◌∙◌, subst, arith, false, Some}
+use Rattle.std.specs.Prelude.{IsPermutation, find}
 use Rattle.std.specs.List.{AllByRecursion}
 use Rattle.std.specs.Option.{option_map}
 use Rattle.std.specs.Ordering.{is_le, nat_cmp}
@@ -28,6 +28,7 @@ use Rattle.seq_index.proofs.Laws as seq
 use Rattle.row_index.proofs.Laws as row
 use Rattle.ord_tree.specs.Side.{order_at}
 use Rattle.ord_tree.proofs.Laws as ord
+pub use Rattle.ord_tree.proofs.Laws.{Holds_at, within_at, Holds_first, Holds_last, Holds_next, Holds_prev}
 use Rattle.ord_tree.proofs.NodeWalks.{apart_at}
 use Rattle.ord_tree.proofs.Ordered.{IsInOrder_others}
 use Rattle.rank_tree.proofs.Laws as rank
@@ -231,3 +232,13 @@ entered_last compare at n (x ∷ xs) h =
   where
     lower : (a b : ℕ) → a < b → is_le (nat_cmp a b) ≡ true
     lower a b lt = grind (arith, nat_tests)
+
+-- ---- nodes that look-ups answer stand in the list
+
+found_by : (b : Bool) (x n : Node) (xs : List Node) (rest : Option Node) → (rest ≡ Some n → Holds xs n) → cond b (Some x) rest ≡ Some n → Holds (x ∷ xs) n
+found_by true x n xs rest f e = let k : x ≡ n = cc in record { before = []; after = xs; is = ap (λ (z : Node). z ∷ xs) k }
+found_by false x n xs rest f e = let h = f e in record { before = x ∷ h.before; after = h.after; is = ap (λ (l : List Node). x ∷ l) h.is }
+
+pub Holds_found : (p : Node → Bool) (xs : List Node) (n : Node) → find p xs ≡ Some n → Holds xs n
+Holds_found p [] n e = cc
+Holds_found p (x ∷ xs) n e = found_by (p x) x n xs (find p xs) (Holds_found p xs n) e

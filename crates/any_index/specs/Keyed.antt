@@ -7,8 +7,8 @@ use Rattle.list_model.specs.Walk.{without}
 use Rattle.node_store.specs.declared.Node.{Node}
 use Rattle.node_store.specs.Store.{Store}
 use Rattle.node_store.specs.ByNode.{column_of, record_of, same_node}
-use Rattle.ord_tree.specs.Side.{order_at}
-use Rattle.ord_tree.specs.Same.{without_excepted}
+use Rattle.any_index.specs.Side.{order_at}
+use Rattle.any_index.specs.Side.{without_excepted}
 use Rattle.hash_index.specs.Hashed.{IsHashed}
 use Rattle.hash_index.specs.Spelled as hash
 use Rattle.any_index.specs.declared.index.AnyIndex.{AnyIndex}

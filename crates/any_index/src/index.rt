@@ -6,7 +6,7 @@ ghost use Rattle.node_store.specs.Column.{Column};
 ghost use Rattle.node_store.specs.Nodes.{Lacks};
 ghost use Rattle.node_store.specs.Store.{IsNodeOf};
 ghost use Rattle.node_store.specs.ByNode.{column_of, record_of, contents, same_node};
-ghost use Rattle.ord_tree.specs.Side.{order_at};
+ghost use Rattle.any_index.specs.Side.{order_at};
 ghost use Rattle.any_index.specs.Lists.{entered, settled_in};
 
 use container_model::Kind;
