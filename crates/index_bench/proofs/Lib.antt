@@ -1,0 +1,4 @@
+pub mod Walks
+pub mod Rewritten
+pub mod Trees
+pub mod KeyedBuckets
