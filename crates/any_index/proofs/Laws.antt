@@ -1,6 +1,6 @@
 -- The laws of an index's list, for the crates above.
 use Rattle.std.proofs.Common.{◌≡◌, ◌≢◌, ℕ, suc, ◌+◌, ◌<◌, Bool, true, cond, List, [], ◌∷◌, length, Option, refl, ap, sym, ◌∙◌, subst, arith, false, Some}
-use Rattle.std.specs.Prelude.{IsPermutation, find}
+use Rattle.std.specs.Prelude.{IsPermutation, IsTrue, find}
 use Rattle.std.specs.List.{AllByRecursion}
 use Rattle.std.specs.Option.{option_map}
 use Rattle.std.specs.Ordering.{is_le, nat_cmp}
@@ -9,7 +9,7 @@ use Rattle.std.proofs.lemmas.Bool.Decides.{nat_tests}
 use Rattle.std.proofs.lemmas.List.Sorted.{IsPermutation-refl, IsPermutation-insert}
 use Rattle.container_model.specs.declared.handle.Kind.{Kind}
 use Rattle.container_model.specs.declared.handle.Kind.TheVariants as kind
-use Rattle.container_model.specs.State.{has_key_kind}
+use Rattle.container_model.specs.State.{has_key_kind, is_hashed_kind}
 use Rattle.list_model.specs.Order.{IsInOrder}
 use Rattle.list_model.specs.Place.{not_above}
 use Rattle.list_model.specs.Walk.{without, settled}
@@ -38,7 +38,7 @@ use Rattle.hash_index.specs.Spelled as buckets
 use Rattle.hash_index.proofs.Laws as hash
 use Rattle.any_index.specs.declared.index.AnyIndex.{AnyIndex}
 use Rattle.any_index.specs.declared.index.AnyIndex.TheVariants.{Sequenced, Random, Ordered, Ranked, Hashed}
-use Rattle.any_index.specs.Keyed.{HasItsKey, AreKeyed, IsKeyed, IsKeyedBut}
+use Rattle.any_index.specs.Keyed.{HasItsKey, Accepts, AreKeyed, IsKeyed, IsKeyedBut}
 use Rattle.any_index.specs.Lists.{entered, entry_place, settled_in}
 use Rattle.any_index.specs.Spelled.{IsSound, list_of, kind_of, col_of, index_of, by_number, number_cmp}
 use Rattle.any_index.proofs.ByNumber.{Lacks_moved, Holds_moved, moved_by_number, moved_back}
@@ -125,6 +125,14 @@ HasItsKey_from has_key (Random i) e = tt
 HasItsKey_from has_key (Ordered i) e = e
 HasItsKey_from has_key (Ranked i) e = e
 HasItsKey_from has_key (Hashed i) e = e
+
+-- a search key that fits, and is whole where the index is hashed, is one of an index with a key
+pub Accepts_from : (does_fit is_whole : ℕ → Bool) (i : AnyIndex) → IsTrue (has_key_kind (kind_of i)) → IsTrue (does_fit (index_of i)) → (IsTrue (is_hashed_kind (kind_of i)) → IsTrue (is_whole (index_of i))) → Accepts does_fit is_whole i
+Accepts_from does_fit is_whole (Sequenced i) kind fits whole = cc
+Accepts_from does_fit is_whole (Random i) kind fits whole = cc
+Accepts_from does_fit is_whole (Ordered i) kind fits whole = fits
+Accepts_from does_fit is_whole (Ranked i) kind fits whole = fits
+Accepts_from does_fit is_whole (Hashed i) kind fits whole = whole refl
 
 module _ {R : Type 0} (order : ℕ → R → R → Ordering) (hash_of : ℕ → R → ℕ) where
   -- what the keys of some nodes say stays where the column and the records of all nodes but one stay

@@ -8,5 +8,7 @@ mod index;
 mod order;
 mod reads;
 mod seek;
+#[cfg(test)]
+mod tests;
 
 pub use index::AnyIndex;
