@@ -1,5 +1,5 @@
 -- The laws of an index's list, for the crates above.
-use Rattle.std.proofs.Common.{◌≡◌, ◌≢◌, ℕ, suc, ◌+◌, ◌<◌, Bool, true, cond, List, [], ◌∷◌, length, Option, refl, ap, sym, ◌∙◌, subst, arith, false, Some}
+use Rattle.std.proofs.Common.{◌≡◌, ◌≢◌, ℕ, suc, ◌+◌, ◌<◌, Bool, true, cond, List, [], ◌∷◌, length, Option, refl, ap, sym, ◌∙◌, subst, arith, false, Some, ◌≤◌, nat_lt}
 use Rattle.std.specs.Prelude.{IsPermutation, IsTrue, find}
 use Rattle.std.specs.List.{AllByRecursion}
 use Rattle.std.specs.Option.{option_map}
@@ -14,16 +14,17 @@ use Rattle.list_model.specs.Order.{IsInOrder}
 use Rattle.list_model.specs.Place.{not_above}
 use Rattle.list_model.specs.Walk.{without, settled}
 use Rattle.list_model.proofs.Counts.{count_by-cons}
+use Rattle.list_model.proofs.InOrder.{All-map}
 use Rattle.list_model.proofs.Kept.{EachPair-filter}
 use Rattle.list_model.proofs.Moved.{IsPermutation-settled}
 use Rattle.node_store.specs.declared.Node.{Node}
 use Rattle.node_store.specs.declared.Link.{Link}
 use Rattle.node_store.specs.Column.{Column}
 use Rattle.node_store.specs.Nodes.{Lacks, Holds, IsDistinct}
-use Rattle.node_store.specs.Store.{Store, IsNodeOf, number_of}
+use Rattle.node_store.specs.Store.{Store, IsNodeOf, number_of, IsStore}
 use Rattle.node_store.specs.ByNode.{column_of, record_of, contents, same_node, AddsNode, RemovesNode}
 use Rattle.node_store.proofs.ByNode.{same_node-refl, records_kept}
-use Rattle.node_store.proofs.Members.{IsDistinct_moved}
+use Rattle.node_store.proofs.Members.{IsDistinct_moved, each_held}
 use Rattle.seq_index.proofs.Laws as seq
 use Rattle.row_index.proofs.Laws as row
 use Rattle.ord_tree.specs.Side.{order_at}
@@ -240,6 +241,19 @@ entered_last compare at n (x ∷ xs) h =
   where
     lower : (a b : ℕ) → a < b → is_le (nat_cmp a b) ≡ true
     lower a b lt = grind (arith, nat_tests)
+
+module _ {R : Type 0} (s : Store R) (sound : IsStore s) where
+  below_by : (m : Node) (b : Bool) → nat_lt (number_of m) s.added ≡ b → IsNodeOf s m → number_of m < s.added
+  below_by m true e of = grind (arith, nat_tests)
+  below_by m false e of =
+      let le : s.added ≤ number_of m = grind (arith, nat_tests) in
+      let bad = sym of ∙ sound.bounded (number_of m) le in cc
+
+  -- the number of each node of an index is below that of the next node to be added
+  pub all_older : (i : AnyIndex) → IsSound (column_of s) i → AllByRecursion (λ m. number_of m < s.added) (list_of (column_of s) i)
+  all_older i h =
+      All-map (Holds (list_of (column_of s) i)) (λ m. number_of m < s.added)
+      (λ m k. below_by m (nat_lt (number_of m) s.added) refl (node_held s i m h k)) (list_of (column_of s) i) (each_held (list_of (column_of s) i))
 
 -- ---- nodes that look-ups answer stand in the list
 
