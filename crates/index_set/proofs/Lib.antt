@@ -1,0 +1,9 @@
+pub mod Each
+pub mod Frame
+pub mod Walk
+pub mod Banning
+pub mod Placing
+pub mod ByKind
+pub mod Coming
+pub mod Refilled
+pub mod Reading

@@ -1,0 +1,66 @@
+-- What a call at one index of a set reads.
+use Rattle.std.proofs.Common.{◌≡◌, ℕ, ◌<◌, Bool, List, length, get_or, Option, sym, ap, ◌∙◌, subst, false}
+use Rattle.std.specs.Prelude.{IsTrue}
+use Rattle.std.specs.Option.{option_map_or}
+use Rattle.std.specs.declared.cmp.Ordering.{Ordering}
+use Rattle.list_model.proofs.Lists.{slice_get_at}
+use Rattle.node_store.specs.declared.Node.{Node}
+use Rattle.node_store.specs.ByNode.{column_of, record_of}
+use Rattle.container_model.specs.declared.handle.Spec.{Spec}
+use Rattle.container_model.specs.declared.handle.Kind.TheVariants.{Sequenced}
+use Rattle.container_model.specs.State.{has_key_kind, is_sorted_kind, is_hashed_kind}
+use Rattle.any_index.specs.declared.index.AnyIndex.{AnyIndex}
+use Rattle.any_index.specs.Spelled as any
+use Rattle.any_index.specs.Side.{side_of}
+use Rattle.any_index.specs.Keyed as keyed
+use Rattle.index_set.specs.declared.set.IndexSet.{IndexSet}
+use Rattle.index_set.specs.Set.{IsSound, IsKeyed, list_of, kind_at, probe_side}
+use Rattle.index_set.proofs.Each.{each_listed}
+use Rattle.index_set.proofs.Frame.{key_here}
+use Rattle.index_set.proofs.ByKind.{Accepts_from}
+
+-- a spec, where there has to be one
+abbrev pub some_spec : Spec
+some_spec = record { kind = Sequenced; unique = false }
+
+module _ {R E : Type 0} {has_key : E → ℕ → Bool} (s : IndexSet R E) (sound : IsSound has_key s) (k : ℕ) (lt : k < length s.specs.items) (i : AnyIndex) (e : i ≡ get_or s.indices.items k i) where
+  pub sound_here : any.IsSound (column_of s.store) i
+  sound_here = subst (λ (z : AnyIndex). any.IsSound (column_of s.store) z) (sym e) (sound.placed.each k some_spec i lt).sound
+
+  pub kind_here : any.kind_of i ≡ kind_at s k
+  kind_here =
+      ap any.kind_of e ∙ ((sound.placed.each k some_spec i lt).kind
+      ∙ ap (λ (o : Option Spec). option_map_or (λ (d : Spec). d.kind) o Sequenced) (sym (slice_get_at s.specs.items k some_spec lt)))
+
+  pub number_here : any.index_of i ≡ k
+  number_here = ap any.index_of e ∙ (sound.placed.each k some_spec i lt).number
+
+  pub list_here : any.list_of (column_of s.store) i ≡ list_of s k
+  list_here = ap (any.list_of (column_of s.store)) e ∙ each_listed (any.list_of (column_of s.store)) s.specs.items s.indices.items sound.placed.one_each k some_spec i lt
+
+  pub is_kind : (p : _ → Bool) → IsTrue (p (kind_at s k)) → IsTrue (p (any.kind_of i))
+  is_kind p h = subst (λ z. IsTrue (p z)) (sym kind_here) h
+
+  pub its_key : keyed.HasItsKey (has_key s.keys) i
+  its_key = subst (λ (z : AnyIndex). keyed.HasItsKey (has_key s.keys) z) (sym e) (key_here (has_key s.keys) (column_of s.store) s.specs.items s.indices.items k some_spec i lt sound.keys sound.placed)
+
+  pub keyed_here : (order : E → ℕ → R → R → Ordering) (hash_of : E → ℕ → R → ℕ) → IsKeyed order hash_of s → keyed.IsKeyed (order s.keys) (hash_of s.keys) s.store i
+  keyed_here order hash_of h = subst (λ (z : AnyIndex). keyed.IsKeyed (order s.keys) (hash_of s.keys) s.store z) (sym e) (h.each k some_spec i lt)
+
+  pub fits_here : (p : ℕ → Bool) → IsTrue (p k) → IsTrue (p (any.index_of i))
+  fits_here p h = subst (λ z. IsTrue (p z)) (sym number_here) h
+
+  pub accepts_here : (does_fit is_whole : ℕ → Bool) → IsTrue (has_key_kind (kind_at s k)) → (IsTrue (is_sorted_kind (kind_at s k)) → IsTrue (does_fit k)) → (IsTrue (is_hashed_kind (kind_at s k)) → IsTrue (is_whole k)) → keyed.Accepts does_fit is_whole i
+  accepts_here does_fit is_whole key fits whole =
+      Accepts_from does_fit is_whole i (is_kind has_key_kind key)
+      (λ h. fits_here does_fit (fits (subst (λ z. IsTrue (is_sorted_kind z)) kind_here h)))
+      (λ h. fits_here is_whole (whole (subst (λ z. IsTrue (is_hashed_kind z)) kind_here h)))
+
+  -- what the index answers, in the words of the set
+  pub read_here : {A : Type 0} (f : List Node → A) (answer : A) → answer ≡ f (any.list_of (column_of s.store) i) → answer ≡ f (list_of s k)
+  read_here f answer h = h ∙ ap f list_here
+
+  pub sought_here : {A P : Type 0} (f : (Node → Ordering) → List Node → A) (order : E → ℕ → R → P → Ordering) (probe : P) (answer : A) →
+      answer ≡ f (side_of (record_of s.store) (λ a. order s.keys (any.index_of i) a probe)) (any.list_of (column_of s.store) i) → answer ≡ f (probe_side order s k probe) (list_of s k)
+  sought_here f order probe answer h =
+      h ∙ (λ z. f (side_of (record_of s.store) (λ a. order s.keys (number_here z) a probe)) (list_here z))

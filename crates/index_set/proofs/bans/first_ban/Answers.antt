@@ -1,0 +1,48 @@
+use Rattle.std.proofs.Common.{◌∙◌, ap, sym, subst}
+use Rattle.std.specs.Prelude.{IsTrue}
+use Rattle.node_store.specs.ByNode.{column_of, record_of}
+use Rattle.container_model.specs.State.{has_key_kind}
+use Rattle.any_index.specs.Spelled.{kind_of}
+use Rattle.any_index.specs.Keyed.{HasItsKey, IsKeyedExcept, HasOneOfEachKey}
+use Rattle.index_set.proofs.Frame.{key_here}
+use Rattle.index_set.proofs.Reading.{some_spec}
+use Rattle.index_set.proofs.Banning.{same_at, ban_here, ban_later, ban_not_here}
+use Rattle.index_set.proofs.bans.first_ban.Goals as goal
+use Rattle.index_set.proofs.bans.first_ban.Goals.{then-specs-index+in_default, else-specs-index}
+
+pub same_as-requires-clause-kind : goal.same_as-requires-clause-kind
+same_as-requires-clause-kind g c =
+    subst (λ z. IsTrue (has_key_kind z)) (sym (ap kind_of c.index-indices-index.is ∙ (c.requires.placed.each c.loop-index.index some_spec c.index-indices-index.result c.loop-index-test.true).kind))
+    (c.requires.keys.unique c.loop-index.index some_spec c.loop-index-test.true c.if-specs-index.true)
+
+pub same_as-requires-clause-key : goal.same_as-requires-clause-key
+same_as-requires-clause-key g c =
+    subst (λ i. HasItsKey (g.E.Extract.has_key c.args.keys.now) i) (sym c.index-indices-index.is)
+    (key_here (g.E.Extract.has_key c.args.keys.now) (column_of c.args.store.now) c.args.specs.now c.args.indices.now c.loop-index.index some_spec c.index-indices-index.result c.loop-index-test.true c.requires.keys c.requires.placed)
+
+pub same_as-requires-clause-keyed : goal.same_as-requires-clause-keyed
+same_as-requires-clause-keyed g c =
+    subst (λ i. IsKeyedExcept (g.E.Extract.order_of c.args.keys.now) (g.E.Extract.hash_of c.args.keys.now) c.args.store.now i c.args.except) (sym c.index-indices-index.is)
+    (c.requires.keyed.each c.loop-index.index some_spec c.index-indices-index.result c.loop-index-test.true)
+
+pub same_as-requires-clause-unique : goal.same_as-requires-clause-unique
+same_as-requires-clause-unique g c =
+    subst (λ i. HasOneOfEachKey (g.E.Extract.order_of c.args.keys.now) c.args.store.now i c.args.except) (sym c.index-indices-index.is)
+    (c.requires.unique.each c.loop-index.index some_spec c.index-indices-index.result c.loop-index-test.true c.if-specs-index.true)
+
+pub returns-in-Some : goal.returns-in-Some
+returns-in-Some g c =
+    let answer = same_at (g.E.Extract.order_of c.args.keys.now) (record_of c.args.store.now) (column_of c.args.store.now) c.args.specs.now c.args.indices.now c.args.except c.args.r.now c.requires.placed c.loop-index.index some_spec c.index-indices-index.result c.loop-index-test.true c.index-indices-index.is c.same_as.result c.same_as.ensures in
+    sym (ban_here (g.E.Extract.order_of c.args.keys.now) (record_of c.args.store.now) (column_of c.args.store.now) c.args.specs.now c.args.indices.now c.args.except c.args.r.now c.loop-index.index some_spec c.in-Some.by c.loop-index-test.true c.if-specs-index.true (sym answer ∙ c.in-Some.is))
+    ∙ c.loop-index.invariant
+
+pub loop-index-preserved : goal.loop-index-preserved
+loop-index-preserved g c = elim c.if-specs-index.branch [
+  | then-specs-index+in_default w ↦
+      let answer = same_at (g.E.Extract.order_of c.args.keys.now) (record_of c.args.store.now) (column_of c.args.store.now) c.args.specs.now c.args.indices.now c.args.except c.args.r.now c.requires.placed c.loop-index.index some_spec w.index-indices-index.result c.loop-index-test.true w.index-indices-index.is w.same_as.result w.same_as.ensures in
+      sym (ban_later (g.E.Extract.order_of c.args.keys.now) (record_of c.args.store.now) (column_of c.args.store.now) c.args.specs.now c.args.indices.now c.args.except c.args.r.now c.loop-index.index some_spec c.loop-index-test.true (sym answer ∙ w.in_default.is))
+      ∙ c.loop-index.invariant
+  | else-specs-index w ↦
+      sym (ban_not_here (g.E.Extract.order_of c.args.keys.now) (record_of c.args.store.now) (column_of c.args.store.now) c.args.specs.now c.args.indices.now c.args.except c.args.r.now c.loop-index.index some_spec c.loop-index-test.true w.if-specs-index.false)
+      ∙ c.loop-index.invariant
+]

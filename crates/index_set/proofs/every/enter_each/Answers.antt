@@ -1,0 +1,64 @@
+use Rattle.std.proofs.Common.{◌∙◌, sym, subst, length, ◌≤◌, arith, false}
+use Rattle.std.proofs.lemmas.List.{length-map}
+use Rattle.node_store.specs.Nodes.{Lacks}
+use Rattle.node_store.specs.ByNode.{column_of}
+use Rattle.node_store.proofs.ByNode.{IsNodeOf_kept}
+use Rattle.container_model.specs.declared.handle.Kind.TheVariants.{Sequenced}
+use Rattle.any_index.specs.Spelled.{list_of}
+use Rattle.index_set.proofs.Each.{all_listed}
+use Rattle.index_set.proofs.Frame.{key_here, steps_of}
+use Rattle.index_set.proofs.Walk.{walk_start, walk_here, walk_step, walk_end, keyed_start, keyed_here, keyed_step, keyed_end, room_from_step, asked_here, entered_here}
+use Rattle.index_set.proofs.every.enter_each.Goals as goal
+
+pub loop-index-init : goal.loop-index-init
+loop-index-init g c = record {
+  walk = walk_start _ c.args.store.now c.args.specs.now c.args.indices.now c.requires.placed;
+  keyed = keyed_start (g.E.Extract.order_of c.args.keys.now) (g.E.Extract.hash_of c.args.keys.now) (λ xs. xs) c.args.specs.now c.args.store.now c.args.indices.now c.requires.keyed.each;
+  room = λ j d e lt _. c.requires.room.each j d e lt;
+}
+
+pub enter-requires-clause-sound : goal.enter-requires-clause-sound
+enter-requires-clause-sound g c = (c.loop-index.invariant.walk.placed.each c.loop-index.index (record { kind = Sequenced; unique = false }) _ c.loop-index-test.true).sound
+
+pub enter-requires-clause-node : goal.enter-requires-clause-node
+enter-requires-clause-node g c = IsNodeOf_kept c.args.store.now c.loop-index.store c.args.n c.loop-index.invariant.walk.contents c.requires.node
+
+pub enter-requires-clause-new : goal.enter-requires-clause-new
+enter-requires-clause-new g c =
+    subst (λ z. Lacks z c.args.n) (sym (walk_here _ _ _ _ _ _ _ _ c.loop-index-test.true c.loop-index.invariant.walk))
+    (all_listed (λ xs. Lacks xs c.args.n) c.args.specs.now _ (length-map c.args.indices.now (list_of (column_of c.args.store.now)) ∙ c.requires.placed.one_each) c.requires.new c.loop-index.index c.loop-index-test.true)
+
+pub enter-requires-clause-room : goal.enter-requires-clause-room
+enter-requires-clause-room g c = c.loop-index.invariant.room c.loop-index.index (record { kind = Sequenced; unique = false }) _ c.loop-index-test.true (omega arith)
+
+pub enter-requires-clause-place : goal.enter-requires-clause-place
+enter-requires-clause-place g c p e =
+    subst (λ z. p ≤ length z) (sym (walk_here _ _ _ _ _ _ _ _ c.loop-index-test.true c.loop-index.invariant.walk))
+    (c.requires.place c.loop-index.index p (asked_here c.args.at c.loop-index.index p (sym c.place_in.ensures ∙ e)))
+
+pub enter-requires-clause-key : goal.enter-requires-clause-key
+enter-requires-clause-key g c =
+    key_here (g.E.Extract.has_key c.args.keys.now) (column_of c.loop-index.store) c.args.specs.now c.loop-index.indices c.loop-index.index (record { kind = Sequenced; unique = false }) _ c.loop-index-test.true c.requires.keys c.loop-index.invariant.walk.placed
+
+pub enter-requires-clause-keyed : goal.enter-requires-clause-keyed
+enter-requires-clause-keyed g c = keyed_here (g.E.Extract.order_of c.args.keys.now) (g.E.Extract.hash_of c.args.keys.now) (λ xs. xs) c.args.specs.now c.loop-index.store c.loop-index.indices c.loop-index.index _ c.loop-index-test.true c.loop-index.invariant.keyed
+
+pub loop-index-preserved : goal.loop-index-preserved
+loop-index-preserved g c =
+    let new = c.enter.ensures in
+    let step = steps_of new.sound new.kind new.col new.index new.others in
+    let walk = c.loop-index.invariant.walk in
+    let lt = c.loop-index-test.true in
+    record {
+      walk =
+          walk_step _ c.args.store.now c.args.specs.now c.args.indices.now c.loop-index.index c.loop-index.store c.enter.new.store c.loop-index.indices _ c.enter.new.self lt walk step new.contents
+          (entered_here (g.E.Extract.order_of c.args.keys.now) c.args.store.now c.args.specs.now c.args.indices.now c.args.n c.args.at c.loop-index.index c.loop-index.store _ c.loop-index.indices _ c.enter.new.self _ lt walk c.place_in.ensures new.list);
+      keyed = keyed_step (g.E.Extract.order_of c.args.keys.now) (g.E.Extract.hash_of c.args.keys.now) (λ xs. xs) c.args.specs.now c.loop-index.index c.loop-index.store c.enter.new.store c.loop-index.indices _ c.enter.new.self lt walk.placed step new.contents new.keyed c.loop-index.invariant.keyed;
+      room = room_from_step c.args.specs.now c.loop-index.indices c.loop-index.index c.enter.new.self walk.placed.one_each lt c.loop-index.invariant.room;
+    }
+
+pub returns-clause-lists : goal.returns-clause-lists
+returns-clause-lists g c = walk_end _ c.args.store.now c.args.specs.now c.args.indices.now c.loop-index.index c.loop-index.store c.loop-index.indices (omega arith) c.requires.placed.one_each c.loop-index.invariant.walk
+
+pub returns-clause-keyed : goal.returns-clause-keyed
+returns-clause-keyed g c = record { each = keyed_end (g.E.Extract.order_of c.args.keys.now) (g.E.Extract.hash_of c.args.keys.now) (λ xs. xs) c.args.specs.now c.loop-index.store c.loop-index.indices c.loop-index.index (omega arith) c.loop-index.invariant.keyed }

@@ -1,0 +1,22 @@
+use Rattle.std.proofs.Common.{ap, ◌∙◌, subst, length, map, []}
+use Rattle.node_store.specs.ByNode.{column_of}
+use Rattle.index_set.specs.Indices.{ArePlaced}
+use Rattle.index_set.proofs.Coming.{keyed_empty}
+use Rattle.index_set.proofs.set.IndexSet.new.Goals as goal
+
+pub returns-clause-sound : goal.returns-clause-sound
+returns-clause-sound g c = record {
+  some = c.requires.some;
+  few = c.requires.few;
+  keys = c.requires.keys;
+  placed = subst (λ ds. ArePlaced (column_of c.new.result) ds c.in_ok-indices.indices.items) c.deref.ensures.value (c.in_ok-indices.ensures.placed (column_of c.new.result));
+}
+
+pub returns-clause-keyed : goal.returns-clause-keyed
+returns-clause-keyed g c =
+    keyed_empty (g.E.Extract.order_of c.args.keys) (g.E.Extract.hash_of c.args.keys) c.new.result c.args.specs.items c.in_ok-indices.indices.items
+    ((c.in_ok-indices.ensures.placed (column_of c.new.result)).one_each ∙ ap length c.deref.ensures.value)
+    (c.in_ok-indices.ensures.empty (column_of c.new.result) ∙ ap (map (λ _. [])) c.deref.ensures.value)
+
+pub returns-clause-lists : goal.returns-clause-lists
+returns-clause-lists g c = c.in_ok-indices.ensures.empty (column_of c.new.result) ∙ ap (map (λ _. [])) c.deref.ensures.value

@@ -1,0 +1,20 @@
+use Rattle.index_set.proofs.Coming.{placed_removed, lists_removed, keyed_removed}
+use Rattle.index_set.proofs.set.IndexSet.remove.Goals as goal
+
+pub returns-clause-sound : goal.returns-clause-sound
+returns-clause-sound g c =
+    let old = c.requires.sound in
+    record {
+      some = old.some;
+      few = old.few;
+      keys = old.keys;
+      placed = placed_removed c.args.self.now.store c.remove.new.self c.args.n c.args.self.now.specs.items c.args.self.now.indices.items c.remove.ensures.removed old.placed c.requires.loose;
+    }
+
+pub returns-clause-lists : goal.returns-clause-lists
+returns-clause-lists g c = lists_removed c.args.self.now.store c.remove.new.self c.args.n c.args.self.now.specs.items c.args.self.now.indices.items c.remove.ensures.removed c.requires.sound.placed c.requires.loose
+
+pub returns-clause-keyed : goal.returns-clause-keyed
+returns-clause-keyed g c =
+    keyed_removed c.args.self.now.store c.remove.new.self c.args.n c.args.self.now.specs.items c.args.self.now.indices.items c.remove.ensures.removed c.requires.sound.placed c.requires.loose
+    (g.E.Extract.order_of c.args.self.now.keys) (g.E.Extract.hash_of c.args.self.now.keys)

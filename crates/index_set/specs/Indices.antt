@@ -1,0 +1,58 @@
+-- The indices of a set, each in the column of its number.
+use Rattle.std.specs.Prelude.{◌≡◌, ℕ, List, length, map, Option, IsTrue}
+use Rattle.std.specs.List.{AllByRecursion}
+use Rattle.std.specs.declared.cmp.Ordering.{Ordering}
+use Rattle.node_store.specs.declared.Node.{Node}
+use Rattle.node_store.specs.Column.{Column}
+use Rattle.node_store.specs.Nodes.{Lacks, Holds}
+use Rattle.node_store.specs.Store.{Store}
+use Rattle.container_model.specs.declared.handle.Spec.{Spec}
+use Rattle.any_index.specs.declared.index.AnyIndex.{AnyIndex}
+use Rattle.any_index.specs.Spelled.{IsSound, HasRoom, list_of, kind_of, col_of, index_of}
+use Rattle.any_index.specs.Keyed.{IsKeyed, IsKeyedBut, IsKeyedExcept, HasOneOfEachKey}
+use Rattle.index_set.specs.Each.{EachOf}
+
+-- the index is sound and of the kind that it is to be; its column and the number of its key are its own number
+pub record IsPlaced (cs : ℕ → Column) (j : ℕ) (spec : Spec) (i : AnyIndex) : Type 0 where
+  pub sound : IsSound cs i
+  pub kind : kind_of i ≡ spec.kind
+  pub col : col_of i ≡ j
+  pub number : index_of i ≡ j
+
+-- so is each, and there is one for each that is to be
+pub record ArePlaced (cs : ℕ → Column) (specs : List Spec) (indices : List AnyIndex) : Type 0 where
+  pub one_each : length indices ≡ length specs
+  pub each : EachOf (IsPlaced cs) specs indices
+
+-- their lists
+abbrev pub lists_in : (ℕ → Column) → List AnyIndex → List (List Node)
+lists_in cs indices = map (list_of cs) indices
+
+-- each has room for one more node
+pub record HaveRoom (specs : List Spec) (indices : List AnyIndex) : Type 0 where
+  pub each : EachOf (λ _ _ i. HasRoom i) specs indices
+
+-- no list has the node
+abbrev pub LackIt : List (List Node) → Node → Type 0
+LackIt lists n = AllByRecursion (λ xs. Lacks xs n) lists
+
+-- each list has the node
+abbrev pub HoldIt : List (List Node) → Node → Type 0
+HoldIt lists n = AllByRecursion (λ xs. Holds xs n) lists
+
+module _ {R : Type 0} (order : ℕ → R → R → Ordering) (hash_of : ℕ → R → ℕ) (s : Store R) (specs : List Spec) (indices : List AnyIndex) where
+  -- each index has its nodes where their records' keys put them
+  pub record AreKeyed : Type 0 where
+    pub each : EachOf (λ _ _ i. IsKeyed order hash_of s i) specs indices
+
+  -- all but one node, whose record may have changed
+  pub record AreKeyedBut (n : Node) : Type 0 where
+    pub each : EachOf (λ _ _ i. IsKeyedBut order hash_of s i n) specs indices
+
+  -- all but the excepted node
+  pub record AreKeyedExcept (except : Option Node) : Type 0 where
+    pub each : EachOf (λ _ _ i. IsKeyedExcept order hash_of s i except) specs indices
+
+-- at each unique index no two nodes but the excepted one have one key
+pub record AreUniqueExcept {R : Type 0} (order : ℕ → R → R → Ordering) (s : Store R) (specs : List Spec) (indices : List AnyIndex) (except : Option Node) : Type 0 where
+  pub each : EachOf (λ _ spec i. IsTrue spec.unique → HasOneOfEachKey order s i except) specs indices

@@ -1,0 +1,4 @@
+pub mod Each
+pub mod Indices
+pub mod Lists
+pub mod Set

@@ -1,0 +1,26 @@
+-- What changes of all indices make of their lists, and what bans a record.
+use Rattle.std.specs.Prelude.{ℕ, ◌+◌, cond, List, [], ◌∷◌, slice_index_or, Option, Some, None}
+use Rattle.std.specs.Option.{option_map_or}
+use Rattle.std.specs.declared.cmp.Ordering.{Ordering}
+use Rattle.node_store.specs.declared.Node.{Node}
+use Rattle.container_model.specs.declared.handle.Spec.{Spec}
+use Rattle.container_model.specs.Insert.{At, place_in}
+use Rattle.any_index.specs.Side.{side_of, order_at, equal_but}
+use Rattle.any_index.specs.Lists.{entered, settled_in}
+
+module _ {R : Type 0} (order : ℕ → R → R → Ordering) (records : Node → Option R) where
+  -- the list of one index with a new node at its place
+  abbrev pub entered_at : At → Node → ℕ → Spec → List Node → List Node
+  entered_at at n index spec xs = entered spec.kind (order_at records (order index)) (place_in at index) n xs
+
+  -- the list of one index in which a node settles whose record has changed
+  abbrev pub settled_at : Node → ℕ → Spec → List Node → List Node
+  settled_at n index spec xs = settled_in spec.kind (order_at records (order index)) n xs
+
+  -- the first unique index from this one on in which a node other than the excepted one has the record's key, with that node
+  abbrev pub ban_from : List (List Node) → Option Node → R → ℕ → List Spec → Option (ℕ × Node)
+  ban_from lists except row index [] = None
+  ban_from lists except row index (spec ∷ specs) =
+      option_map_or (λ by. Some (index, by))
+      (cond spec.unique (equal_but except (side_of records (λ a. order index a row)) (slice_index_or lists index [])) None)
+      (ban_from lists except row (index + 1) specs)

@@ -1,0 +1,83 @@
+-- A set of records as the lists of its indices.
+use Rattle.std.specs.Prelude.{◌≡◌, ℕ, ◌≤◌, Bool, List, length, slice_get, Option}
+use Rattle.std.specs.Option.{option_map_or}
+use Rattle.std.specs.declared.cmp.Ordering.{Ordering}
+use Rattle.node_store.specs.declared.Node.{Node}
+use Rattle.node_store.specs.Store.{Store}
+use Rattle.node_store.specs.ByNode as store
+use Rattle.container_model.specs.declared.handle.Spec.{Spec}
+use Rattle.container_model.specs.declared.handle.Kind.{Kind}
+use Rattle.container_model.specs.declared.handle.Kind.TheVariants.{Sequenced}
+use Rattle.container_model.specs.State.{KeysMatch}
+use Rattle.any_index.specs.Side.{side_of}
+use Rattle.index_set.specs.declared.set.IndexSet.{IndexSet}
+use Rattle.index_set.specs.Each as each
+use Rattle.index_set.specs.Indices as every
+
+module _ {R E : Type 0} where
+  -- its records, and which nodes have them
+  abbrev pub store_of : IndexSet R E → Store R
+  store_of s = s.store
+
+  abbrev pub keys_of : IndexSet R E → E
+  keys_of s = s.keys
+
+  -- what each index is to be
+  abbrev pub specs_of : IndexSet R E → List Spec
+  specs_of s = s.specs.items
+
+  -- all but the indices
+  abbrev pub contents : IndexSet R E → store.Contents R
+  contents s = store.contents s.store
+
+  -- the record of each node
+  abbrev pub record_of : IndexSet R E → Node → Option R
+  record_of s = store.record_of s.store
+
+  -- the list of each index, in the order of their numbers
+  abbrev pub lists_of : IndexSet R E → List (List Node)
+  lists_of s = every.lists_in (store.column_of s.store) s.indices.items
+
+  -- that of one index
+  abbrev pub list_of : IndexSet R E → ℕ → List Node
+  list_of s index = each.list_at (lists_of s) index
+
+  -- the kind of one index
+  abbrev pub kind_at : IndexSet R E → ℕ → Kind
+  kind_at s index = option_map_or (λ (spec : Spec). spec.kind) (slice_get s.specs.items index) Sequenced
+
+  -- how the record of a node stands to a search key of one index
+  abbrev pub probe_side : {P : Type 0} → (E → ℕ → R → P → Ordering) → IndexSet R E → ℕ → P → Node → Ordering
+  probe_side order s index probe = side_of (store.record_of s.store) (λ a. order s.keys index a probe)
+
+  -- each index has room for one more node
+  abbrev pub HasRoom : IndexSet R E → Type 0
+  HasRoom s = every.HaveRoom s.specs.items s.indices.items
+
+  -- what holds of every set: one to eight indices, of which those that compare records, and they alone, have a key
+  pub record IsSound (has_key : E → ℕ → Bool) (s : IndexSet R E) : Type 0 where
+    pub some : 1 ≤ length s.specs.items
+    pub few : length s.specs.items ≤ 8
+    pub keys : KeysMatch (has_key s.keys) s.specs.items
+    pub placed : every.ArePlaced (store.column_of s.store) s.specs.items s.indices.items
+
+  -- each index has its nodes where their records' keys put them
+  abbrev pub IsKeyed : (E → ℕ → R → R → Ordering) → (E → ℕ → R → ℕ) → IndexSet R E → Type 0
+  IsKeyed order hash_of s = every.AreKeyed (order s.keys) (hash_of s.keys) s.store s.specs.items s.indices.items
+
+  -- all but one node, whose record may have changed
+  abbrev pub IsKeyedBut : (E → ℕ → R → R → Ordering) → (E → ℕ → R → ℕ) → IndexSet R E → Node → Type 0
+  IsKeyedBut order hash_of s n = every.AreKeyedBut (order s.keys) (hash_of s.keys) s.store s.specs.items s.indices.items n
+
+  -- all but the excepted node
+  abbrev pub IsKeyedExcept : (E → ℕ → R → R → Ordering) → (E → ℕ → R → ℕ) → IndexSet R E → Option Node → Type 0
+  IsKeyedExcept order hash_of s except = every.AreKeyedExcept (order s.keys) (hash_of s.keys) s.store s.specs.items s.indices.items except
+
+  -- at each unique index no two nodes but the excepted one have one key
+  abbrev pub IsUniqueExcept : (E → ℕ → R → R → Ordering) → IndexSet R E → Option Node → Type 0
+  IsUniqueExcept order s except = every.AreUniqueExcept (order s.keys) s.store s.specs.items s.indices.items except
+
+  -- nothing but the nodes, their records and the indices may have changed
+  pub record IsOfSame (old new : IndexSet R E) : Type 0 where
+    pub keys : new.keys ≡ old.keys
+    pub specs : new.specs.items ≡ old.specs.items

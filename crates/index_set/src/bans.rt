@@ -1,0 +1,38 @@
+//! What bans a record.
+ghost use Rattle.std.specs.Prelude.{◌≡◌, Option};
+ghost use Rattle.node_store.specs.ByNode.{column_of, record_of};
+ghost use Rattle.container_model.specs.State.{KeysMatch};
+ghost use Rattle.any_index.specs.Side.{AreNodesOf};
+ghost use Rattle.index_set.specs.Indices.{ArePlaced, lists_in, AreKeyedExcept, AreUniqueExcept};
+ghost use Rattle.index_set.specs.Lists.{ban_from};
+
+use any_index::AnyIndex;
+use container_model::Spec;
+use key_extract::Extract;
+use node_store::{Node, NodeStore};
+
+// The first unique index in which a node other than the excepted one has the record's key, with that node.
+pub(crate) fn first_ban<R, E: Extract<R>>(
+    store: &NodeStore<R>,
+    keys: &E,
+    specs: &[Spec],
+    indices: &[AnyIndex],
+    r: &R,
+    except: Option<Node>,
+) -> Option<(usize, Node)>
+    requires placed { ArePlaced (column_of store.now) specs.now indices.now }
+    requires keys { KeysMatch (E.has_key keys.now) specs.now }
+    requires except { AreNodesOf store.now except }
+    requires keyed { AreKeyedExcept (E.order_of keys.now) (E.hash_of keys.now) store.now specs.now indices.now except }
+    requires unique { AreUniqueExcept (E.order_of keys.now) store.now specs.now indices.now except }
+    ensures { result ≡ ban_from (E.order_of keys.now) (record_of store.now) (lists_in (column_of store.now) indices.now) except r.now 0 specs.now }
+{
+    for index in 0..specs.len() {
+        if specs[index].unique {
+            if let Some(by) = indices[index].same_as(store, keys, r, except) {
+                return Some((index, by));
+            }
+        }
+    }
+    None
+}

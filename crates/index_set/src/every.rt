@@ -1,0 +1,133 @@
+//! Changes of all indices, one after the other.
+ghost use Rattle.std.specs.Prelude.{◌≡◌, ℕ, ◌≤◌, ◌<◌, Some, OnOk, OnErr, IfOk, [], map, length};
+ghost use Rattle.std.specs.declared.cmp.Ordering.{Ordering};
+ghost use Rattle.list_model.specs.Walk.{without};
+ghost use Rattle.node_store.specs.Column.{Column};
+ghost use Rattle.node_store.specs.Store.{IsNodeOf};
+ghost use Rattle.node_store.specs.ByNode.{column_of, record_of, contents, same_node};
+ghost use Rattle.container_model.specs.State.{KeysMatch};
+ghost use Rattle.container_model.specs.Insert.{place_in};
+ghost use Rattle.index_set.specs.Each.{changed_from, list_at};
+ghost use Rattle.index_set.specs.Indices.{ArePlaced, lists_in, HaveRoom, LackIt, HoldIt, AreKeyed, AreKeyedBut};
+ghost use Rattle.index_set.specs.Lists.{entered_at, settled_at};
+
+use any_index::AnyIndex;
+use container_model::Spec;
+use key_extract::Extract;
+use node_store::{Node, NodeStore};
+use std::alloc::{AllocError, Global};
+
+// An index for each that is to be, without nodes.
+pub(crate) fn empty_indices(alloc: Global, specs: &[Spec]) -> Result<Vec<AnyIndex>, AllocError>
+    requires { length specs.now ≤ 8 }
+    ensures placed { IfOk result (λ made. (cs : ℕ → Column) → ArePlaced cs specs.now made.items) }
+    ensures empty { IfOk result (λ made. (cs : ℕ → Column) → lists_in cs made.items ≡ map (λ _. []) specs.now) }
+{
+    let mut indices = Vec::with_capacity(alloc, specs.len())?;
+    for index in 0..specs.len() {
+        indices.push(AnyIndex::new(alloc, specs[index].kind, index))?;
+    }
+    Ok(indices)
+}
+
+// Makes room for one more node in each index.
+pub(crate) fn reserve_each<R>(
+    store: &mut NodeStore<R>,
+    specs: &[Spec],
+    indices: &mut [AnyIndex],
+) -> Result<(), AllocError>
+    requires { ArePlaced (column_of store.old) specs.now indices.old }
+    ensures placed { ArePlaced (column_of store.new) specs.now indices.new }
+    ensures lists { lists_in (column_of store.new) indices.new ≡ lists_in (column_of store.old) indices.old }
+    ensures room { OnOk result (HaveRoom specs.now indices.new) }
+    ensures full { OnErr result (¬ HaveRoom specs.now indices.old) }
+    ensures keyed { (order : ℕ → R → R → Ordering) (hash_of : ℕ → R → ℕ) →
+        AreKeyed order hash_of store.old specs.now indices.old → AreKeyed order hash_of store.new specs.now indices.new }
+    ensures contents { contents store.new ≡ contents store.old }
+{
+    for index in 0..specs.len() {
+        indices[index].reserve_one(store)?;
+    }
+    Ok(())
+}
+
+// The place that was asked for in this index.
+fn place_in(at: Option<(usize, u64)>, index: usize) -> Option<u64>
+    ensures { result ≡ place_in at index }
+{
+    match at {
+        Some((asked, place)) if asked == index => Some(place),
+        _ => None,
+    }
+}
+
+// Puts a node into each index, all of which have room for it.
+pub(crate) fn enter_each<R, E: Extract<R>>(
+    store: &mut NodeStore<R>,
+    keys: &E,
+    specs: &[Spec],
+    indices: &mut [AnyIndex],
+    n: Node,
+    at: Option<(usize, u64)>,
+)
+    requires placed { ArePlaced (column_of store.old) specs.now indices.old }
+    requires keys { KeysMatch (E.has_key keys.now) specs.now }
+    requires node { IsNodeOf store.old n }
+    requires new { LackIt (lists_in (column_of store.old) indices.old) n }
+    requires room { HaveRoom specs.now indices.old }
+    requires place { (j p : ℕ) → at ≡ Some (j, p) → p ≤ length (list_at (lists_in (column_of store.old) indices.old) j) }
+    requires keyed { AreKeyed (E.order_of keys.now) (E.hash_of keys.now) store.old specs.now indices.old }
+    ensures placed { ArePlaced (column_of store.new) specs.now indices.new }
+    ensures lists { lists_in (column_of store.new) indices.new
+        ≡ changed_from (entered_at (E.order_of keys.now) (record_of store.old) at n) 0 specs.now (lists_in (column_of store.old) indices.old) }
+    ensures keyed { AreKeyed (E.order_of keys.now) (E.hash_of keys.now) store.new specs.now indices.new }
+    ensures contents { contents store.new ≡ contents store.old }
+{
+    for index in 0..specs.len() {
+        indices[index].enter(store, keys, n, place_in(at, index));
+    }
+}
+
+// Takes a node out of each index.
+pub(crate) fn leave_each<R>(
+    store: &mut NodeStore<R>,
+    specs: &[Spec],
+    indices: &mut [AnyIndex],
+    n: Node,
+)
+    requires placed { ArePlaced (column_of store.old) specs.now indices.old }
+    requires held { HoldIt (lists_in (column_of store.old) indices.old) n }
+    ensures placed { ArePlaced (column_of store.new) specs.now indices.new }
+    ensures lists { lists_in (column_of store.new) indices.new ≡ map (without (same_node n)) (lists_in (column_of store.old) indices.old) }
+    ensures room { HaveRoom specs.now indices.new }
+    ensures keyed { (order : ℕ → R → R → Ordering) (hash_of : ℕ → R → ℕ) →
+        AreKeyedBut order hash_of store.old specs.now indices.old n → AreKeyed order hash_of store.new specs.now indices.new }
+    ensures contents { contents store.new ≡ contents store.old }
+{
+    for index in 0..specs.len() {
+        indices[index].leave(store, n);
+    }
+}
+
+// Puts a node in order in each index, whose record may have changed.
+pub(crate) fn settle_each<R, E: Extract<R>>(
+    store: &mut NodeStore<R>,
+    keys: &E,
+    specs: &[Spec],
+    indices: &mut [AnyIndex],
+    n: Node,
+)
+    requires placed { ArePlaced (column_of store.old) specs.now indices.old }
+    requires keys { KeysMatch (E.has_key keys.now) specs.now }
+    requires held { HoldIt (lists_in (column_of store.old) indices.old) n }
+    requires keyed { AreKeyedBut (E.order_of keys.now) (E.hash_of keys.now) store.old specs.now indices.old n }
+    ensures placed { ArePlaced (column_of store.new) specs.now indices.new }
+    ensures lists { lists_in (column_of store.new) indices.new
+        ≡ changed_from (settled_at (E.order_of keys.now) (record_of store.old) n) 0 specs.now (lists_in (column_of store.old) indices.old) }
+    ensures keyed { AreKeyed (E.order_of keys.now) (E.hash_of keys.now) store.new specs.now indices.new }
+    ensures contents { contents store.new ≡ contents store.old }
+{
+    for index in 0..specs.len() {
+        indices[index].settle(store, keys, n);
+    }
+}

@@ -1,0 +1,12 @@
+//! Records under several indices at once, over one store of nodes.
+//!
+//! Each node that was added may stand in every index or in none: it is added, entered into all indices, taken out of
+//! all, and removed. A look-up or a walk goes by the number of an index.
+#![tactic(auto)]
+
+mod bans;
+mod every;
+mod reads;
+mod set;
+
+pub use set::IndexSet;

@@ -1,0 +1,213 @@
+//! The set, its records, and changes of all indices.
+ghost use Rattle.std.specs.Prelude.{◌≡◌, ◌+◌, ◌≤◌, ◌<◌, ◌^◌, ℕ, [], map, length, Some, IfOk, IfErr, OnOk, OnErr};
+ghost use Rattle.list_model.specs.Walk.{without};
+ghost use Rattle.node_store.specs.Store.{IsNodeOf, number_of, len_of, empty_store};
+ghost use Rattle.node_store.specs.ByNode.{AddsNode, RemovesNode, same_node};
+ghost use Rattle.container_model.specs.State.{KeysMatch};
+ghost use Rattle.any_index.specs.Side.{AreNodesOf};
+ghost use Rattle.index_set.specs.Each.{changed_from};
+ghost use Rattle.index_set.specs.Indices.{LackIt, HoldIt};
+ghost use Rattle.index_set.specs.Lists.{entered_at, settled_at, ban_from};
+
+use crate::bans::first_ban;
+use crate::every::{empty_indices, enter_each, leave_each, reserve_each, settle_each};
+use any_index::AnyIndex;
+use container_model::Spec;
+use key_extract::Extract;
+use node_store::{NoRoom, Node, NodeStore};
+use std::alloc::{AllocError, Global};
+
+/// Records under one to eight indices, each of which may have any of its nodes.
+#[derive(Drop)]
+pub struct IndexSet<R, E> {
+    pub(crate) store: NodeStore<R>,
+    pub(crate) keys: E,
+    pub(crate) specs: Vec<Spec>,
+    pub(crate) indices: Vec<AnyIndex>,
+}
+
+impl<R: Drop, E: Extract<R> + Drop> IndexSet<R, E> {
+    ghost use Rattle.index_set.specs.Set.{store_of, keys_of, specs_of, lists_of, IsSound, IsKeyed};
+
+    /// A set without records. Index number j of `specs` is asked for by key number j. O(indices).
+    pub fn new(alloc: Global, specs: Vec<Spec>, keys: E) -> Result<IndexSet<R, E>, AllocError>
+        requires some { 1 ≤ length specs.items }
+        requires few { length specs.items ≤ 8 }
+        requires keys { KeysMatch (E.has_key keys) specs.items }
+        ensures sound { IfOk result (λ made. IsSound E.has_key made) }
+        ensures keyed { IfOk result (λ made. IsKeyed E.order_of E.hash_of made) }
+        ensures lists { IfOk result (λ made. lists_of made ≡ map (λ _. []) specs.items) }
+        ensures empty { IfOk result (λ made. store_of made ≡ empty_store) }
+        ensures keys { IfOk result (λ made. keys_of made ≡ keys) }
+        ensures specs { IfOk result (λ made. specs_of made ≡ specs.items) }
+    {
+        let indices = empty_indices(alloc, &specs)?;
+        Ok(IndexSet {
+            store: NodeStore::new(alloc),
+            keys,
+            specs,
+            indices,
+        })
+    }
+}
+
+impl<R: Drop, E: Extract<R>> IndexSet<R, E> {
+    ghost use Rattle.index_set.specs.Set.{store_of, record_of, lists_of, IsSound, IsKeyed, IsOfSame};
+
+    /// Adds a record, which is in no index yet. Where there is no memory for it, it is handed back. O(1).
+    pub fn add(&mut self, value: R) -> Result<Node, NoRoom<R>>
+        requires sound { IsSound E.has_key self.old }
+        requires count { (store_of self.old).added + 1 < 2 ^ 64 }
+        ensures sound { IsSound E.has_key self.new }
+        ensures same { IsOfSame self.old self.new }
+        ensures lists { lists_of self.new ≡ lists_of self.old }
+        ensures number { IfOk result (λ n. number_of n ≡ (store_of self.old).added) }
+        ensures count { OnOk result ((store_of self.new).added ≡ (store_of self.old).added + 1) }
+        ensures added { IfOk result (λ n. AddsNode (store_of self.old) (store_of self.new) n value) }
+        ensures len { OnOk result (len_of (store_of self.new) ≡ len_of (store_of self.old) + 1) }
+        ensures loose { IfOk result (λ n. LackIt (lists_of self.new) n) }
+        ensures keyed { IsKeyed E.order_of E.hash_of self.old → IsKeyed E.order_of E.hash_of self.new }
+        ensures unchanged { OnErr result (self.new ≡ self.old) }
+        ensures returned { IfErr result (λ e. e.value ≡ value) }
+    {
+        self.store.add(value)
+    }
+
+    /// Removes a node that is in no index, and returns its record. O(1).
+    pub fn remove(&mut self, n: Node) -> R
+        requires sound { IsSound E.has_key self.old }
+        requires node { IsNodeOf (store_of self.old) n }
+        requires loose { LackIt (lists_of self.old) n }
+        ensures sound { IsSound E.has_key self.new }
+        ensures same { IsOfSame self.old self.new }
+        ensures lists { lists_of self.new ≡ lists_of self.old }
+        ensures value { record_of self.old n ≡ Some result }
+        ensures removed { RemovesNode (store_of self.old) (store_of self.new) n }
+        ensures count { (store_of self.new).added ≡ (store_of self.old).added }
+        ensures len { len_of (store_of self.new) + 1 ≡ len_of (store_of self.old) }
+        ensures keyed { IsKeyed E.order_of E.hash_of self.old → IsKeyed E.order_of E.hash_of self.new }
+    {
+        self.store.remove(n)
+    }
+}
+
+impl<R, E: Extract<R>> IndexSet<R, E> {
+    ghost use Rattle.index_set.specs.Set.{store_of, keys_of, specs_of, contents, record_of, lists_of, list_of, HasRoom, IsSound, IsKeyed, IsKeyedBut, IsKeyedExcept, IsUniqueExcept, IsOfSame};
+
+    /// How many records there are, in indices or not. O(1).
+    pub fn len(&self) -> usize
+        ensures { result ≡ len_of (store_of self.now) }
+    {
+        self.store.len()
+    }
+
+    /// How many records were added so far, whether or not they were removed since. O(1).
+    pub fn added(&self) -> u64
+        ensures { result ≡ (store_of self.now).added }
+    {
+        self.store.added()
+    }
+
+    /// The node's record. O(1).
+    pub fn get(&self, n: Node) -> &R
+        requires { IsNodeOf (store_of self.now) n }
+        ensures { record_of self.now n ≡ Some result.now }
+    {
+        self.store.get(n)
+    }
+
+    /// Makes room for one more node in each index. Where memory is refused, the lists are as before. O(indices) on
+    /// average over many insertions.
+    pub fn reserve_one(&mut self) -> Result<(), AllocError>
+        requires { IsSound E.has_key self.old }
+        ensures sound { IsSound E.has_key self.new }
+        ensures same { IsOfSame self.old self.new }
+        ensures lists { lists_of self.new ≡ lists_of self.old }
+        ensures contents { contents self.new ≡ contents self.old }
+        ensures room { OnOk result (HasRoom self.new) }
+        ensures full { OnErr result (¬ HasRoom self.old) }
+        ensures keyed { IsKeyed E.order_of E.hash_of self.old → IsKeyed E.order_of E.hash_of self.new }
+    {
+        reserve_each(&mut self.store, &self.specs, &mut self.indices)
+    }
+
+    /// Puts a node that is in no index into each, in room that was reserved: by its key, or in a sequence last. With
+    /// `at` an index and a place in it: in that sequence before the node at the place. O(log n) for each index.
+    pub fn enter(&mut self, n: Node, at: Option<(usize, u64)>)
+        requires sound { IsSound E.has_key self.old }
+        requires node { IsNodeOf (store_of self.old) n }
+        requires loose { LackIt (lists_of self.old) n }
+        requires room { HasRoom self.old }
+        requires place { (j p : ℕ) → at ≡ Some (j, p) → p ≤ length (list_of self.old j) }
+        requires keyed { IsKeyed E.order_of E.hash_of self.old }
+        ensures sound { IsSound E.has_key self.new }
+        ensures same { IsOfSame self.old self.new }
+        ensures lists { lists_of self.new ≡ changed_from (entered_at (E.order_of (keys_of self.old)) (record_of self.old) at n) 0 (specs_of self.old) (lists_of self.old) }
+        ensures keyed { IsKeyed E.order_of E.hash_of self.new }
+        ensures contents { contents self.new ≡ contents self.old }
+    {
+        enter_each(
+            &mut self.store,
+            &self.keys,
+            &self.specs,
+            &mut self.indices,
+            n,
+            at,
+        );
+    }
+
+    /// Takes a node out of each index. It reads no record, so the node's may have changed. It takes no memory, and
+    /// leaves room for one node. O(log n) for each index, but O(the nodes behind it) in one with places.
+    pub fn leave(&mut self, n: Node)
+        requires sound { IsSound E.has_key self.old }
+        requires held { HoldIt (lists_of self.old) n }
+        ensures sound { IsSound E.has_key self.new }
+        ensures same { IsOfSame self.old self.new }
+        ensures lists { lists_of self.new ≡ map (without (same_node n)) (lists_of self.old) }
+        ensures room { HasRoom self.new }
+        ensures keyed { IsKeyedBut E.order_of E.hash_of self.old n → IsKeyed E.order_of E.hash_of self.new }
+        ensures contents { contents self.new ≡ contents self.old }
+    {
+        leave_each(&mut self.store, &self.specs, &mut self.indices, n);
+    }
+
+    /// Puts a node, whose record may have changed, where its keys put it in each index. Sequences stay as they are. It
+    /// takes no memory. O(log n) for each index.
+    pub fn settle(&mut self, n: Node)
+        requires sound { IsSound E.has_key self.old }
+        requires held { HoldIt (lists_of self.old) n }
+        requires keyed { IsKeyedBut E.order_of E.hash_of self.old n }
+        ensures sound { IsSound E.has_key self.new }
+        ensures same { IsOfSame self.old self.new }
+        ensures lists { lists_of self.new ≡ changed_from (settled_at (E.order_of (keys_of self.old)) (record_of self.old) n) 0 (specs_of self.old) (lists_of self.old) }
+        ensures keyed { IsKeyed E.order_of E.hash_of self.new }
+        ensures contents { contents self.new ≡ contents self.old }
+    {
+        settle_each(
+            &mut self.store,
+            &self.keys,
+            &self.specs,
+            &mut self.indices,
+            n,
+        );
+    }
+
+    /// The first unique index in which a node other than the excepted one has the record's key, with that node. The
+    /// excepted node's record may have changed. It takes no memory. O(log n) for each index.
+    pub fn bans(&self, r: &R, except: Option<Node>) -> Option<(usize, Node)>
+        requires sound { IsSound E.has_key self.now }
+        requires except { AreNodesOf (store_of self.now) except }
+        requires keyed { IsKeyedExcept E.order_of E.hash_of self.now except }
+        requires unique { IsUniqueExcept E.order_of self.now except }
+        ensures { result ≡ ban_from (E.order_of (keys_of self.now)) (record_of self.now) (lists_of self.now) except r.now 0 (specs_of self.now) }
+    {
+        first_ban(
+            &self.store,
+            &self.keys,
+            &self.specs,
+            &self.indices,
+            r,
+            except,
+        )
+    }
+}
