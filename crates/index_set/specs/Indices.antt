@@ -1,5 +1,5 @@
 -- The indices of a set, each in the column of its number.
-use Rattle.std.specs.Prelude.{◌≡◌, ℕ, List, length, map, Option, IsTrue}
+use Rattle.std.specs.Prelude.{◌≡◌, ℕ, List, length, map, Option}
 use Rattle.std.specs.List.{AllByRecursion}
 use Rattle.std.specs.declared.cmp.Ordering.{Ordering}
 use Rattle.node_store.specs.declared.Node.{Node}
@@ -9,7 +9,7 @@ use Rattle.node_store.specs.Store.{Store}
 use Rattle.container_model.specs.declared.handle.Spec.{Spec}
 use Rattle.any_index.specs.declared.index.AnyIndex.{AnyIndex}
 use Rattle.any_index.specs.Spelled.{IsSound, HasRoom, list_of, kind_of, col_of, index_of}
-use Rattle.any_index.specs.Keyed.{IsKeyed, IsKeyedBut, IsKeyedExcept, HasOneOfEachKey}
+use Rattle.any_index.specs.Keyed.{IsKeyed, IsKeyedBut, IsKeyedExcept}
 use Rattle.index_set.specs.Each.{EachOf}
 
 -- the index is sound and of the kind that it is to be; its column and the number of its key are its own number
@@ -52,7 +52,3 @@ module _ {R : Type 0} (order : ℕ → R → R → Ordering) (hash_of : ℕ → 
   -- all but the excepted node
   pub record AreKeyedExcept (except : Option Node) : Type 0 where
     pub each : EachOf (λ _ _ i. IsKeyedExcept order hash_of s i except) specs indices
-
--- at each unique index no two nodes but the excepted one have one key
-pub record AreUniqueExcept {R : Type 0} (order : ℕ → R → R → Ordering) (s : Store R) (specs : List Spec) (indices : List AnyIndex) (except : Option Node) : Type 0 where
-  pub each : EachOf (λ _ spec i. IsTrue spec.unique → HasOneOfEachKey order s i except) specs indices

@@ -1,11 +1,13 @@
--- What changes of all indices make of their lists, and what bans a record.
-use Rattle.std.specs.Prelude.{ℕ, ◌+◌, cond, List, [], ◌∷◌, slice_index_or, Option, Some, None}
+-- What changes of all indices make of their lists, what bans a record, and lists without two records of one key.
+use Rattle.std.specs.Prelude.{◌≡◌, ℕ, ◌+◌, false, cond, List, [], ◌∷◌, slice_index_or, Option, Some, None, IsTrue}
 use Rattle.std.specs.Option.{option_map_or}
+use Rattle.std.specs.Ordering.{is_eq}
 use Rattle.std.specs.declared.cmp.Ordering.{Ordering}
+use Rattle.list_model.specs.Order.{EachPair}
 use Rattle.node_store.specs.declared.Node.{Node}
 use Rattle.container_model.specs.declared.handle.Spec.{Spec}
 use Rattle.container_model.specs.Insert.{At, place_in}
-use Rattle.any_index.specs.Side.{side_of, order_at, equal_but}
+use Rattle.any_index.specs.Side.{side_of, order_at, without_excepted, equal_but}
 use Rattle.any_index.specs.Lists.{entered, settled_in}
 
 module _ {R : Type 0} (order : ℕ → R → R → Ordering) (records : Node → Option R) where
@@ -24,3 +26,10 @@ module _ {R : Type 0} (order : ℕ → R → R → Ordering) (records : Node →
       option_map_or (λ by. Some (index, by))
       (cond spec.unique (equal_but except (side_of records (λ a. order index a row)) (slice_index_or lists index [])) None)
       (ban_from lists except row (index + 1) specs)
+
+  -- in the list of each unique index from this one on no two nodes but the excepted one have one key
+  abbrev pub AreUniqueFrom : Option Node → ℕ → List Spec → List (List Node) → Type 0
+  AreUniqueFrom except index [] lists = Unit {0}
+  AreUniqueFrom except index (spec ∷ specs) [] = Unit {0}
+  AreUniqueFrom except index (spec ∷ specs) (list ∷ lists) =
+      (IsTrue spec.unique → EachPair (λ m n. is_eq (order_at records (order index) m n) ≡ false) (without_excepted except list)) × AreUniqueFrom except (index + 1) specs lists

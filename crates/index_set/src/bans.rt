@@ -3,8 +3,8 @@ ghost use Rattle.std.specs.Prelude.{◌≡◌, Option};
 ghost use Rattle.node_store.specs.ByNode.{column_of, record_of};
 ghost use Rattle.container_model.specs.State.{KeysMatch};
 ghost use Rattle.any_index.specs.Side.{AreNodesOf};
-ghost use Rattle.index_set.specs.Indices.{ArePlaced, lists_in, AreKeyedExcept, AreUniqueExcept};
-ghost use Rattle.index_set.specs.Lists.{ban_from};
+ghost use Rattle.index_set.specs.Indices.{ArePlaced, lists_in, AreKeyedExcept};
+ghost use Rattle.index_set.specs.Lists.{ban_from, AreUniqueFrom};
 
 use any_index::AnyIndex;
 use container_model::Spec;
@@ -24,7 +24,7 @@ pub(crate) fn first_ban<R, E: Extract<R>>(
     requires keys { KeysMatch (E.has_key keys.now) specs.now }
     requires except { AreNodesOf store.now except }
     requires keyed { AreKeyedExcept (E.order_of keys.now) (E.hash_of keys.now) store.now specs.now indices.now except }
-    requires unique { AreUniqueExcept (E.order_of keys.now) store.now specs.now indices.now except }
+    requires unique { AreUniqueFrom (E.order_of keys.now) (record_of store.now) except 0 specs.now (lists_in (column_of store.now) indices.now) }
     ensures { result ≡ ban_from (E.order_of keys.now) (record_of store.now) (lists_in (column_of store.now) indices.now) except r.now 0 specs.now }
 {
     for index in 0..specs.len() {

@@ -8,5 +8,7 @@ mod bans;
 mod every;
 mod reads;
 mod set;
+#[cfg(test)]
+mod tests;
 
 pub use set::IndexSet;

@@ -52,7 +52,7 @@ impl<R: Drop, E: Extract<R> + Drop> IndexSet<R, E> {
 }
 
 impl<R: Drop, E: Extract<R>> IndexSet<R, E> {
-    ghost use Rattle.index_set.specs.Set.{store_of, record_of, lists_of, IsSound, IsKeyed, IsOfSame};
+    ghost use Rattle.index_set.specs.Set.{store_of, record_of, lists_of, HasRoom, IsSound, IsKeyed, IsOfSame};
 
     /// Adds a record, which is in no index yet. Where there is no memory for it, it is handed back. O(1).
     pub fn add(&mut self, value: R) -> Result<Node, NoRoom<R>>
@@ -67,6 +67,7 @@ impl<R: Drop, E: Extract<R>> IndexSet<R, E> {
         ensures len { OnOk result (len_of (store_of self.new) ≡ len_of (store_of self.old) + 1) }
         ensures loose { IfOk result (λ n. LackIt (lists_of self.new) n) }
         ensures keyed { IsKeyed E.order_of E.hash_of self.old → IsKeyed E.order_of E.hash_of self.new }
+        ensures room { HasRoom self.old → HasRoom self.new }
         ensures unchanged { OnErr result (self.new ≡ self.old) }
         ensures returned { IfErr result (λ e. e.value ≡ value) }
     {
@@ -86,6 +87,7 @@ impl<R: Drop, E: Extract<R>> IndexSet<R, E> {
         ensures count { (store_of self.new).added ≡ (store_of self.old).added }
         ensures len { len_of (store_of self.new) + 1 ≡ len_of (store_of self.old) }
         ensures keyed { IsKeyed E.order_of E.hash_of self.old → IsKeyed E.order_of E.hash_of self.new }
+        ensures room { HasRoom self.old → HasRoom self.new }
     {
         self.store.remove(n)
     }
@@ -106,6 +108,20 @@ impl<R, E: Extract<R>> IndexSet<R, E> {
         ensures { result ≡ (store_of self.now).added }
     {
         self.store.added()
+    }
+
+    /// What each index is to be, in the order of their numbers. O(1).
+    pub fn specs(&self) -> &[Spec]
+        ensures { result.now ≡ specs_of self.now }
+    {
+        self.specs.as_slice()
+    }
+
+    /// The keys of the indices. O(1).
+    pub fn keys(&self) -> &E
+        ensures { result.now ≡ keys_of self.now }
+    {
+        &self.keys
     }
 
     /// The node's record. O(1).

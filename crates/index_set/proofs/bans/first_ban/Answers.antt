@@ -6,6 +6,7 @@ use Rattle.any_index.specs.Spelled.{kind_of}
 use Rattle.any_index.specs.Keyed.{HasItsKey, IsKeyedExcept, HasOneOfEachKey}
 use Rattle.index_set.proofs.Frame.{key_here}
 use Rattle.index_set.proofs.Reading.{some_spec}
+use Rattle.index_set.proofs.Uniques.{unique_here}
 use Rattle.index_set.proofs.Banning.{same_at, ban_here, ban_later, ban_not_here}
 use Rattle.index_set.proofs.bans.first_ban.Goals as goal
 use Rattle.index_set.proofs.bans.first_ban.Goals.{then-specs-index+in_default, else-specs-index}
@@ -28,7 +29,7 @@ same_as-requires-clause-keyed g c =
 pub same_as-requires-clause-unique : goal.same_as-requires-clause-unique
 same_as-requires-clause-unique g c =
     subst (λ i. HasOneOfEachKey (g.E.Extract.order_of c.args.keys.now) c.args.store.now i c.args.except) (sym c.index-indices-index.is)
-    (c.requires.unique.each c.loop-index.index some_spec c.index-indices-index.result c.loop-index-test.true c.if-specs-index.true)
+    (unique_here (g.E.Extract.order_of c.args.keys.now) c.args.store.now c.args.specs.now c.args.indices.now c.args.except c.requires.placed c.requires.unique c.loop-index.index some_spec c.index-indices-index.result c.loop-index-test.true c.if-specs-index.true)
 
 pub returns-in-Some : goal.returns-in-Some
 returns-in-Some g c =

@@ -1,7 +1,9 @@
-use Rattle.std.proofs.Common.{ap, ◌∙◌, subst, length, map, []}
+use Rattle.std.proofs.Common.{ap, sym, ◌∙◌, subst, length, map, []}
+use Rattle.node_store.specs.Store.{IsStore}
 use Rattle.node_store.specs.ByNode.{column_of}
 use Rattle.index_set.specs.Indices.{ArePlaced}
 use Rattle.index_set.proofs.Coming.{keyed_empty}
+use Rattle.index_set.proofs.Stores.{IsStore_empty}
 use Rattle.index_set.proofs.set.IndexSet.new.Goals as goal
 
 pub returns-clause-sound : goal.returns-clause-sound
@@ -10,6 +12,7 @@ returns-clause-sound g c = record {
   few = c.requires.few;
   keys = c.requires.keys;
   placed = subst (λ ds. ArePlaced (column_of c.new.result) ds c.in_ok-indices.indices.items) c.deref.ensures.value (c.in_ok-indices.ensures.placed (column_of c.new.result));
+  nodes = subst IsStore (sym c.new.ensures) IsStore_empty;
 }
 
 pub returns-clause-keyed : goal.returns-clause-keyed

@@ -1,7 +1,19 @@
 use Rattle.std.proofs.Common.{rules, ◌≡◌, ◌∙◌, ap, sym, subst, length}
 use Rattle.index_set.specs.Indices.{AreKeyed}
 use Rattle.index_set.proofs.Refilled.{refilled}
+use Rattle.index_set.proofs.Stores.{IsStore_kept}
 use Rattle.index_set.proofs.set.IndexSet.reserve_one.Goals as goal
+
+pub returns-clause-sound : goal.returns-clause-sound
+returns-clause-sound g c =
+    let old = c.requires in
+    record {
+      some = old.some;
+      few = old.few;
+      keys = old.keys;
+      placed = search rules;
+      nodes = IsStore_kept c.args.self.now.store c.reserve_each.new.store c.reserve_each.ensures.contents old.nodes;
+    }
 
 pub returns-clause-keyed : goal.returns-clause-keyed
 returns-clause-keyed g c h =
