@@ -1,7 +1,8 @@
 //! The set, its records, and changes of all indices.
 ghost use Rattle.std.specs.Prelude.{◌≡◌, ◌+◌, ◌≤◌, ◌<◌, ◌^◌, ℕ, [], map, length, Some, IfOk, IfErr, OnOk, OnErr};
 ghost use Rattle.list_model.specs.Walk.{without};
-ghost use Rattle.node_store.specs.Store.{IsNodeOf, number_of, len_of, empty_store};
+ghost use Rattle.node_store.specs.Store.{IsNodeOf, nodes, number_of, len_of, empty_store};
+ghost use Rattle.node_store.specs.Age.{last_below};
 ghost use Rattle.node_store.specs.ByNode.{AddsNode, RemovesNode, same_node};
 ghost use Rattle.container_model.specs.State.{KeysMatch};
 ghost use Rattle.any_index.specs.Side.{AreNodesOf};
@@ -122,6 +123,21 @@ impl<R, E: Extract<R>> IndexSet<R, E> {
         ensures { result.now ≡ keys_of self.now }
     {
         &self.keys
+    }
+
+    /// The node that was added last, of those that are there. O(1).
+    pub fn newest(&self) -> Option<Node>
+        ensures { result ≡ last_below (nodes (store_of self.now)) (store_of self.now).added }
+    {
+        self.store.newest()
+    }
+
+    /// The node that was added last before `n`, of those that are there. O(1).
+    pub fn older(&self, n: Node) -> Option<Node>
+        requires { IsNodeOf (store_of self.now) n }
+        ensures { result ≡ last_below (nodes (store_of self.now)) (number_of n) }
+    {
+        self.store.older(n)
     }
 
     /// The node's record. O(1).

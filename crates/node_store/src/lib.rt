@@ -7,7 +7,8 @@
 
 ghost use Rattle.std.specs.Prelude.{◌≡◌, ◌+◌, ◌<◌, ◌^◌, IfOk, IfErr, OnOk, OnErr, Some, IsTrue, ◌↔◌};
 ghost use Rattle.std.specs.Borrow.{sem};
-ghost use Rattle.node_store.specs.Store.{number_of, no_link, IsNodeOf, IsStore, len_of, empty_store};
+ghost use Rattle.node_store.specs.Store.{number_of, no_link, nodes, IsNodeOf, IsStore, len_of, empty_store};
+ghost use Rattle.node_store.specs.Age.{last_below};
 ghost use Rattle.node_store.specs.Column.{IsNode, IsPut, KeepsOthers};
 ghost use Rattle.node_store.specs.ByNode.{column_of, record_of, contents, AddsNode, RemovesNode};
 ghost use Rattle.node_store.specs.Chain.{HasBlock, with_next, with_prev, first_without};
@@ -186,6 +187,21 @@ impl<R> NodeStore<R> {
         ensures sound { IsStore self.now }
     {
         self.added
+    }
+
+    /// The node that was added last, of those that are there.
+    pub fn newest(&self) -> Option<Node>
+        ensures { result ≡ last_below (nodes self.now) self.now.added }
+    {
+        self.first
+    }
+
+    /// The node that was added last before `n`, of those that are there.
+    pub fn older(&self, n: Node) -> Option<Node>
+        requires { IsNodeOf self.now n }
+        ensures { result ≡ last_below (nodes self.now) (number_of n) }
+    {
+        self.heap.get(n.number, n.place).next
     }
 
     /// The node's record.

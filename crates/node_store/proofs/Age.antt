@@ -1,0 +1,229 @@
+-- Laws of what a map by number has in the order of the numbers, and of the nodes of a store in the order of their adds.
+use Rattle.std.proofs.Common.{◌≡◌, ◌≢◌, ℕ, zero, suc, ◌+◌, ◌-◌, ◌<◌, ◌≤◌, Bool, cond, is_some, List, [], ◌∷◌, ◌++◌, length, Option, Some, None, refl, sym, ap, ◌∙◌, ⊎_elim, arith, nat_cmp}
+use Rattle.std.specs.Prelude.{map as each, filter, not}
+use Rattle.std.specs.List.{All, last_or}
+use Rattle.std.specs.Option.{option_map, option_or, option_map_or}
+use Rattle.std.specs.Cmp.{nat_cmp_total}
+use Rattle.std.specs.FinMap as map
+use Rattle.std.proofs.lemmas.Bool.{cases_eq}
+use Rattle.std.proofs.lemmas.Option.{same_Some}
+use Rattle.std.proofs.lemmas.List.{append-nil, length-append, length-map, map-append}
+use Rattle.std.proofs.lemmas.List.Elements.{All-append, All-from_recursion, filter-append}
+use Rattle.node_store.specs.declared.Node.{Node}
+use Rattle.node_store.specs.Store.{Entry, Store, IsStore, IsNodeOf, nodes, number_of, len_of, empty_store, with_record}
+use Rattle.node_store.specs.ByNode.{contents, same_node, AddsNode, RemovesNode}
+use Rattle.node_store.specs.Age.{last_below, all_below, nodes_of}
+use Rattle.node_store.proofs.Keyed.{same_map, remove_same, remove_other}
+use Rattle.node_store.proofs.StoreLemmas.{nodes_with_record, added_with_record, len_positive}
+use Rattle.node_store.proofs.ByNode.{same_node-refl, nodes_kept, added_kept}
+use Rattle.node_store.proofs.Members.{same_node-false}
+
+module _ {A : Type 0} where
+  -- what stands at j is the last below k
+  pub record IsLast (f : ℕ → Option A) (k j : ℕ) (x : A) : Type 0 where
+    pub at : f j ≡ Some x
+    pub below : j < k
+    pub last : (i : ℕ) → j < i → i < k → f i ≡ None
+
+  -- ---- what they depend on
+
+  pub last_below-same : (f g : ℕ → Option A) (k : ℕ) → ((i : ℕ) → i < k → g i ≡ f i) → last_below g k ≡ last_below f k
+  last_below-same f g zero same = refl
+  last_below-same f g (suc k) same = (λ i. option_or (same k (omega arith) i) (last_below-same f g k (λ j less. same j (omega arith)) i))
+
+  pub all_below-same : (f g : ℕ → Option A) (k : ℕ) → ((i : ℕ) → i < k → g i ≡ f i) → all_below g k ≡ all_below f k
+  all_below-same f g zero same = refl
+  all_below-same f g (suc k) same = (λ i. all_below-same f g k (λ j less. same j (omega arith)) i ++ option_map_or (λ x. x ∷ []) (same k (omega arith) i) [])
+
+  -- ---- the last one, and all before it
+
+  pub last_below-none : (f : ℕ → Option A) (k : ℕ) → ((i : ℕ) → i < k → f i ≡ None) → last_below f k ≡ None
+  last_below-none f zero none = refl
+  last_below-none f (suc k) none = ap (λ o. option_or o (last_below f k)) (none k (omega arith)) ∙ last_below-none f k (λ i less. none i (omega arith))
+
+  pub last_below-is : (f : ℕ → Option A) (k j : ℕ) (x : A) → IsLast f k j x → last_below f k ≡ Some x
+  last_below-is f zero j x is = let below = is.below in absurd (omega arith)
+  last_below-is f (suc k) j x is =
+      let below = is.below in
+      ⊎_elim
+      (λ (e : k ≡ j). ap (λ o. option_or o (last_below f k)) (ap f e ∙ is.at))
+      (λ (ne : k ≢ j). ap (λ o. option_or o (last_below f k)) (is.last k (omega arith) (omega arith))
+      ∙ last_below-is f k j x (record { at = is.at; below = omega arith; last = λ i more less. is.last i more (omega arith) }))
+      (cases_eq k j)
+
+  -- where it stands
+  pub IsLast-found : (f : ℕ → Option A) (k : ℕ) (x : A) → last_below f k ≡ Some x → (j : ℕ) × IsLast f k j x
+  IsLast-found f zero x e = absurd (cc)
+  IsLast-found f (suc k) x e =
+      elim (f k) as (λ o. f k ≡ o → (j : ℕ) × IsLast f (suc k) j x) [
+        | Some y ↦ λ p.
+            let same : y ≡ x = same_Some y x (sym (ap (λ o. option_or o (last_below f k)) p) ∙ e) in
+            (k, record { at = p ∙ ap Some same; below = omega arith; last = λ i more less. absurd (omega arith) })
+        | None ↦ λ p.
+            let r = IsLast-found f k x (sym (ap (λ o. option_or o (last_below f k)) p) ∙ e) in
+            let below = r.1.below in (
+              r.0,
+              record {
+                at = r.1.at;
+                below = omega arith;
+                last = λ i more less. ⊎_elim (λ (z : i ≡ k). ap f z ∙ p) (λ (z : i ≢ k). r.1.last i more (omega arith)) (cases_eq i k);
+              },
+            )
+      ] refl
+
+  pub none_found : (f : ℕ → Option A) (k : ℕ) → last_below f k ≡ None → (i : ℕ) → i < k → f i ≡ None
+  none_found f zero e i less = absurd (omega arith)
+  none_found f (suc k) e i less =
+      elim (f k) as (λ o. f k ≡ o → f i ≡ None) [
+        | Some y ↦ λ p. absurd (let bad = sym (ap (λ o. option_or o (last_below f k)) p) ∙ e in cc)
+        | None ↦ λ p. ⊎_elim (λ (z : i ≡ k). ap f z ∙ p) (λ (z : i ≢ k). none_found f k (sym (ap (λ o. option_or o (last_below f k)) p) ∙ e) i (omega arith)) (cases_eq i k)
+      ] refl
+
+  pub all_below-none : (f : ℕ → Option A) (k : ℕ) → ((i : ℕ) → i < k → f i ≡ None) → all_below f k ≡ []
+  all_below-none f zero none = refl
+  all_below-none f (suc k) none = (λ i. all_below-none f k (λ j less. none j (omega arith)) i ++ option_map_or (λ x. x ∷ []) (none k (omega arith) i) [])
+
+  pub all_below-last : (f : ℕ → Option A) (k j : ℕ) (x : A) → IsLast f k j x → all_below f k ≡ all_below f j ++ x ∷ []
+  all_below-last f zero j x is = let below = is.below in absurd (omega arith)
+  all_below-last f (suc k) j x is =
+      let below = is.below in
+      ⊎_elim
+      (λ (e : k ≡ j). ap (λ o. all_below f k ++ option_map_or (λ y. y ∷ []) o []) (ap f e ∙ is.at) ∙ ap (λ i. all_below f i ++ x ∷ []) e)
+      (λ (ne : k ≢ j). ap (λ o. all_below f k ++ option_map_or (λ y. y ∷ []) o []) (is.last k (omega arith) (omega arith))
+      ∙ append-nil (all_below f k)
+      ∙ all_below-last f k j x (record { at = is.at; below = omega arith; last = λ i more less. is.last i more (omega arith) }))
+      (cases_eq k j)
+
+  last_or-append : (xs : List A) (x : A) (o : Option A) → last_or o (xs ++ x ∷ []) ≡ Some x
+  last_or-append [] x o = refl
+  last_or-append (y ∷ xs) x o = last_or-append xs x (Some y)
+
+  -- the last below is the last of all
+  pub last_below-last : (f : ℕ → Option A) (k : ℕ) → last_below f k ≡ last_or None (all_below f k)
+  last_below-last f zero = refl
+  last_below-last f (suc k) =
+      elim (f k) as (λ o. option_or o (last_below f k) ≡ last_or None (all_below f k ++ option_map_or (λ x. x ∷ []) o [])) [
+        | None ↦ last_below-last f k ∙ ap (last_or None) (sym (append-nil (all_below f k)))
+        | Some x ↦ sym (last_or-append (all_below f k) x None)
+      ]
+
+  pub all_below-empty : (f : ℕ → Option A) (k : ℕ) → last_below f k ≡ None → all_below f k ≡ []
+  all_below-empty f k e = all_below-none f k (none_found f k e)
+
+  -- all that stands below has P, where each that stands has it
+  pub all_below-each : (P : A → Type 0) (f : ℕ → Option A) (k : ℕ) → ((i : ℕ) (x : A) → i < k → f i ≡ Some x → P x) → All P (all_below f k)
+  all_below-each P f zero h = All-from_recursion P [] tt
+  all_below-each P f (suc k) h =
+      All-append P (all_below f k) (option_map_or (λ x. x ∷ []) (f k) []) (all_below-each P f k (λ i x less. h i x (omega arith)))
+      (elim (f k) as (λ o. f k ≡ o → All P (option_map_or (λ x. x ∷ []) o [])) [
+        | None ↦ λ p. All-from_recursion P [] tt
+        | Some x ↦ λ p. All-from_recursion P (x ∷ []) (h k x (omega arith) p, tt)
+      ] refl)
+
+  pub all_below-map : {B : Type 0} (g : A → B) (f : ℕ → Option A) (k : ℕ) → all_below (λ i. option_map g (f i)) k ≡ each g (all_below f k)
+  all_below-map g f zero = refl
+  all_below-map g f (suc k) =
+      ap (λ xs. xs ++ option_map_or (λ x. x ∷ []) (option_map g (f k)) []) (all_below-map g f k)
+      ∙ (elim (f k) as (λ o. each g (all_below f k) ++ option_map_or (λ x. x ∷ []) (option_map g o) [] ≡ each g (all_below f k ++ option_map_or (λ x. x ∷ []) o [])) [
+        | None ↦ append-nil (each g (all_below f k)) ∙ sym (ap (each g) (append-nil (all_below f k)))
+        | Some x ↦ sym (map-append g (all_below f k) (x ∷ []))
+      ])
+
+-- ---- the nodes of a store
+
+pub nodes_of-empty : (R : Type 0) → nodes_of {R = R} empty_store ≡ []
+nodes_of-empty R = refl
+
+module _ {R : Type 0} where
+  -- the node that was added last before k
+  pub record IsLastNode (s : Store R) (k : ℕ) (m : Node) : Type 0 where
+    pub node : IsNodeOf s m
+    pub below : number_of m < k
+    pub before : all_below (nodes s) k ≡ all_below (nodes s) (number_of m) ++ m ∷ []
+
+  pub last_node : (s : Store R) (k : ℕ) (m : Node) → IsStore s → last_below (nodes s) k ≡ Some m → IsLastNode s k m
+  last_node s k m store e =
+      let r = IsLast-found (nodes s) k m e in
+      let number : number_of m ≡ r.0 = store.numbered r.0 m r.1.at in
+      let below = r.1.below in
+      record {
+        node = ap (nodes s) number ∙ r.1.at;
+        below = omega arith;
+        before = all_below-last (nodes s) k r.0 m r.1 ∙ ap (λ j. all_below (nodes s) j ++ m ∷ []) (sym number);
+      }
+
+  -- all that stands up to a node is what stands below its number, and it
+  pub up_to_node : (s : Store R) (n : Node) → IsNodeOf s n → all_below (nodes s) (number_of n + 1) ≡ all_below (nodes s) (number_of n) ++ n ∷ []
+  up_to_node s n is = all_below-last (nodes s) (number_of n + 1) (number_of n) n (record { at = is; below = omega arith; last = λ i more less. absurd (omega arith) })
+
+  pub all_nodes_of : (s : Store R) → IsStore s → All (IsNodeOf s) (nodes_of s)
+  all_nodes_of s store = all_below-each (IsNodeOf s) (nodes s) s.added (λ i n less e. ap (nodes s) (store.numbered i n e) ∙ e)
+
+  pub nodes_of-kept : (old new : Store R) → contents new ≡ contents old → nodes_of new ≡ nodes_of old
+  nodes_of-kept old new same = (λ i. all_below (nodes_kept old new same i) (added_kept old new same i))
+
+  pub nodes_of-added : (old new : Store R) (n : Node) (value : R) → number_of n ≡ old.added → new.added ≡ old.added + 1 → AddsNode old new n value → nodes_of new ≡ nodes_of old ++ n ∷ []
+  nodes_of-added old new n value number count adds =
+      ap (all_below (nodes new)) (count ∙ ap (λ k. k + 1) (sym number))
+      ∙ up_to_node new n adds.nodes.changed
+      ∙ ap (λ xs. xs ++ n ∷ []) (all_below-same (nodes old) (nodes new) (number_of n) (λ i less. adds.nodes.others i (λ q. absurd (omega arith))) ∙ ap (all_below (nodes old)) number)
+
+  below_removed : (old new : Store R) (n : Node) → IsStore old → IsNodeOf old n → RemovesNode old new n → (k : ℕ) → all_below (nodes new) k ≡ filter (λ m. not (same_node n m)) (all_below (nodes old) k)
+  below_removed old new n store is removes zero = refl
+  below_removed old new n store is removes (suc k) =
+      let keep : Node → Bool = λ m. not (same_node n m) in
+      let to_filter : filter keep (all_below (nodes old) (suc k)) ≡ filter keep (all_below (nodes old) k) ++ filter keep (option_map_or (λ x. x ∷ []) (nodes old k) []) =
+      filter-append keep (all_below (nodes old) k) (option_map_or (λ x. x ∷ []) (nodes old k) []) in
+      let one : option_map_or (λ x. x ∷ []) (nodes new k) [] ≡ filter keep (option_map_or (λ x. x ∷ []) (nodes old k) []) =
+      ⊎_elim
+      (λ (z : k ≡ number_of n). ap (λ o. option_map_or (λ x. x ∷ []) o []) (ap (nodes new) z ∙ removes.nodes.changed)
+      ∙ sym (ap (λ o. filter keep (option_map_or (λ x. x ∷ []) o [])) (ap (nodes old) z ∙ is) ∙ ap (λ b. cond (not b) (n ∷ []) []) (same_node-refl n)))
+      (λ (z : k ≢ number_of n). ap (λ o. option_map_or (λ x. x ∷ []) o []) (removes.nodes.others k z)
+      ∙ (elim (nodes old k) as (λ o. nodes old k ≡ o → option_map_or (λ x. x ∷ []) o [] ≡ filter keep (option_map_or (λ x. x ∷ []) o [])) [
+        | None ↦ λ p. refl
+        | Some m ↦ λ p.
+            let apart : n ≢ m = λ q. z (sym (store.numbered k m p) ∙ ap number_of (sym q)) in
+            sym (ap (λ b. cond (not b) (m ∷ []) []) (same_node-false n m apart))
+      ] refl))
+      (cases_eq k (number_of n)) in
+      (λ i. below_removed old new n store is removes k i ++ one i) ∙ sym to_filter
+
+  pub nodes_of-removed : (old new : Store R) (n : Node) → IsStore old → IsNodeOf old n → new.added ≡ old.added → RemovesNode old new n → nodes_of new ≡ filter (λ m. not (same_node n m)) (nodes_of old)
+  nodes_of-removed old new n store is count removes = ap (all_below (nodes new)) count ∙ below_removed old new n store is removes old.added
+
+  pub nodes_of-with_record : (s : Store R) (n : Node) (r : R) → nodes_of (with_record s n r) ≡ nodes_of s
+  nodes_of-with_record s n r = (λ i. all_below (nodes_with_record s n r i) (added_with_record s n r i))
+
+-- ---- how many there are
+
+entries_below : {X : Type 0} (k : ℕ) (m : map.FinMap nat_cmp X) → ((i : ℕ) → k ≤ i → map.get m i ≡ None) → length (all_below (map.get m) k) ≡ map.len m
+entries_below {X} zero m bound =
+    let empty : m ≡ map.empty = same_map m map.empty (λ q. bound q (omega arith) ∙ sym (map.get-empty nat_cmp q)) in
+    sym (ap map.len empty ∙ map.len-empty nat_cmp X)
+entries_below {X} (suc k) m bound =
+    elim (map.get m k) as (λ o. map.get m k ≡ o → length (all_below (map.get m) (suc k)) ≡ map.len m) [
+      | None ↦ λ p.
+          ap (λ o. length (all_below (map.get m) k ++ option_map_or (λ x. x ∷ []) o [])) p
+          ∙ ap length (append-nil (all_below (map.get m) k))
+          ∙ entries_below k m (λ i le. ⊎_elim (λ (z : i ≡ k). ap (map.get m) z ∙ p) (λ (z : i ≢ k). bound i (omega arith)) (cases_eq i k))
+      | Some e ↦ λ p.
+          let rest = map.remove m k in
+          let less : length (all_below (map.get rest) k) ≡ map.len rest = entries_below k rest (λ i le. ⊎_elim (λ (z : i ≡ k). remove_same m k i z) (λ (z : i ≢ k). remove_other m k i z ∙ bound i (omega arith)) (cases_eq i k)) in
+          let same = ap length (all_below-same (map.get m) (map.get rest) k (λ i below. remove_other m k i (λ z. absurd (omega arith)))) in
+          let more = ap (λ o. length (all_below (map.get m) k ++ option_map_or (λ x. x ∷ []) o [])) p ∙ length-append (all_below (map.get m) k) (e ∷ []) in
+          let gone : map.len rest ≡ map.len m - 1 = map.len-remove nat_cmp_total m k ∙ ap (λ o. cond (is_some o) (map.len m - 1) (map.len m)) p in
+          let some = len_positive m k e p in
+          omega arith
+    ] refl
+
+module _ {R : Type 0} where
+  pub length-nodes_of : (s : Store R) → IsStore s → length (nodes_of s) ≡ len_of s
+  unfolding nodes
+  length-nodes_of s store =
+      ap length (all_below-map (λ (e : Entry R). e.node) (map.get s.nodes) s.added)
+      ∙ length-map (all_below (map.get s.nodes) s.added) (λ (e : Entry R). e.node)
+      ∙ entries_below s.added s.nodes (λ i le. no_entry (map.get s.nodes i) (store.bounded i le))
+    where
+      no_entry : (o : Option (Entry R)) → option_map (λ (e : Entry R). e.node) o ≡ None → o ≡ None
+      no_entry None p = refl
+      no_entry (Some e) p = absurd (cc)
