@@ -1,18 +1,16 @@
 -- Where the indices of a set have their nodes by keys, and that no two have one key, for the crates above.
-use Rattle.std.proofs.Common.{◌≡◌, ℕ, ◌+◌, List, [], ◌∷◌, map, get_or, Option, Some, None, refl, sym, subst}
+use Rattle.std.proofs.Common.{◌≡◌, ℕ, ◌+◌, List, [], ◌∷◌, map, get_or, Option, Some, None, sym, subst}
 use Rattle.std.specs.declared.cmp.Ordering.{Ordering}
 use Rattle.list_model.specs.Walk.{without}
 use Rattle.node_store.specs.declared.Node.{Node}
 use Rattle.node_store.specs.ByNode.{same_node}
 use Rattle.node_store.proofs.ByNode.{records_kept}
 use Rattle.container_model.specs.declared.handle.Spec.{Spec}
-use Rattle.container_model.specs.State.{State}
-use Rattle.container_model.specs.Find as find
 use Rattle.any_index.proofs.Laws as any
 use Rattle.index_set.specs.declared.set.IndexSet.{IndexSet}
 use Rattle.index_set.specs.Indices.{LackIt}
 use Rattle.index_set.specs.Lists.{AreUniqueFrom}
-use Rattle.index_set.specs.Set.{keys_of, specs_of, lists_of, record_of, contents, kind_at, IsKeyed, IsKeyedBut, IsKeyedExcept, IsUniqueExcept, IsOfSame}
+use Rattle.index_set.specs.Set.{keys_of, specs_of, lists_of, record_of, contents, IsKeyed, IsKeyedBut, IsKeyedExcept, IsUniqueExcept, IsOfSame}
 
 module _ {R E : Type 0} (order : E → ℕ → R → R → Ordering) (hash_of : E → ℕ → R → ℕ) (s : IndexSet R E) where
   -- what is keyed is so but for any node
@@ -44,6 +42,3 @@ module _ {R E : Type 0} (order : E → ℕ → R → R → Ordering) (old new : 
 pub lacks_left : (lists : List (List Node)) (n : Node) → LackIt (map (without (same_node n)) lists) n
 lacks_left [] n = tt
 lacks_left (list ∷ lists) n = (any.Lacks_left list n, lacks_left lists n)
-
-same_kind : {R E F S : Type 0} (s : IndexSet R E) (t : State F S) (j : ℕ) → find.kind_at (record t { specs = specs_of s }) j ≡ kind_at s j
-same_kind s t j = refl

@@ -1,5 +1,5 @@
 -- A store stays one where a node comes or goes, and where all but links stays.
-use Rattle.std.proofs.Common.{◌≡◌, ℕ, ◌+◌, ◌≤◌, None, Some, Option, Result, Ok, Err, refl, sym, ap, ◌∙◌, subst, arith, ⊎_elim}
+use Rattle.std.proofs.Common.{◌≡◌, ℕ, ◌+◌, None, Option, Result, Ok, Err, sym, ap, ◌∙◌, subst, arith, ⊎_elim}
 use Rattle.std.specs.Prelude.{IfOk, OnOk, OnErr}
 use Rattle.std.specs.Option.{option_map}
 use Rattle.std.specs.Ordering.{nat_cmp}
@@ -10,15 +10,15 @@ use Rattle.node_store.specs.Store.{Store, Entry, IsStore, number_of, nodes, empt
 use Rattle.node_store.specs.ByNode.{contents, AddsNode, RemovesNode}
 use Rattle.node_store.proofs.ByNode.{nodes_kept, added_kept}
 
-module _ {R : Type 0} where
-  no_node : (k : ℕ) → nodes (empty_store {R = R}) k ≡ None
-  unfolding nodes
-  no_node k = ap (option_map (λ (e : Entry R). e.node)) (map.get-empty nat_cmp k)
+no_node : (R : Type 0) (k : ℕ) → nodes (empty_store {R = R}) k ≡ None
+unfolding nodes
+no_node R k = ap (option_map (λ (e : Entry R). e.node)) (map.get-empty nat_cmp k)
 
+module _ {R : Type 0} where
   pub IsStore_empty : IsStore (empty_store {R = R})
   IsStore_empty = record {
-    numbered = λ k n at. let bad = sym at ∙ no_node k in cc;
-    bounded = λ k le. no_node k;
+    numbered = λ k n at. let bad = sym at ∙ no_node R k in cc;
+    bounded = λ k le. no_node R k;
   }
 
   pub IsStore_kept : (old new : Store R) → contents new ≡ contents old → IsStore old → IsStore new

@@ -1,5 +1,6 @@
 use Rattle.std.proofs.Common.{rules, ◌≡◌, ◌∙◌, ap, sym, subst, length}
-use Rattle.index_set.specs.Indices.{AreKeyed, AreKeyedBut}
+use Rattle.node_store.specs.ByNode.{column_of}
+use Rattle.index_set.specs.Indices.{ArePlaced, AreKeyed, AreKeyedBut}
 use Rattle.index_set.proofs.Refilled.{refilled}
 use Rattle.index_set.proofs.Stores.{IsStore_kept}
 use Rattle.index_set.proofs.set.IndexSet.leave.Goals as goal
@@ -7,11 +8,15 @@ use Rattle.index_set.proofs.set.IndexSet.leave.Goals as goal
 pub returns-clause-sound : goal.returns-clause-sound
 returns-clause-sound g c =
     let old = c.requires.sound in
+    let placed = subst (λ ds. ArePlaced (column_of c.leave_each.new.store) ds c.leave_each.new.indices) c.deref.ensures.value c.leave_each.ensures.placed in
+    let same : length c.leave_each.new.indices ≡ length c.args.self.now.indices.items =
+    c.leave_each.ensures.placed.one_each ∙ (ap length c.deref.ensures.value ∙ sym c.requires.sound.placed.one_each) in
+    let held : c.args.self.now.indices.len ≡ length c.args.self.now.indices.items = search rules in
     record {
       some = old.some;
       few = old.few;
       keys = old.keys;
-      placed = search rules;
+      placed = subst (λ z. ArePlaced (column_of c.leave_each.new.store) c.args.self.now.specs.items z) (sym (refilled c.args.self.now.indices.len c.args.self.now.indices.items c.leave_each.new.indices held same)) placed;
       nodes = IsStore_kept c.args.self.now.store c.leave_each.new.store c.leave_each.ensures.contents old.nodes;
     }
 
