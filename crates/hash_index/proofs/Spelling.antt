@@ -1,5 +1,5 @@
 -- What an index spells, by its buckets.
-use Rattle.std.proofs.Common.{◌≡◌, ◌≢◌, ℕ, ◌+◌, ◌%◌, ◌<◌, ◌≤◌, List, [], ◌∷◌, ◌++◌, length, get_or, drop, Option, Some, None, refl, sym, ap, ◌∙◌, subst, arith, append_assoc, length-append}
+use Rattle.std.proofs.Common.{◌≡◌, ◌≢◌, ℕ, ◌+◌, ◌%◌, ◌<◌, ◌≤◌, List, [], ◌∷◌, ◌++◌, length, map, get_or, drop, Option, Some, None, refl, sym, ap, ◌∙◌, subst, arith, append_assoc, length-append}
 use Rattle.std.specs.List.{AllByRecursion}
 use Rattle.std.specs.Option.{option_map}
 use Rattle.std.specs.Vec.{vec_len}
@@ -18,7 +18,7 @@ use Rattle.seq_index.proofs.Walks.{next_at}
 use Rattle.hash_index.specs.declared.HashIndex.{HashIndex}
 use Rattle.hash_index.specs.Chains.{untagged_link, untagged, tag_at, IsIn, AreChains, joined, first_head}
 use Rattle.hash_index.specs.Spelled.{Spells, IsSound, spelled, chains_of, Holds}
-use Rattle.hash_index.specs.Walks.{Leads, rest_of, HasHash}
+use Rattle.hash_index.specs.Walks.{Leads, rest_of, Ends, HasHash}
 use Rattle.hash_index.proofs.Untagged.{tag_is, tagged_node}
 use Rattle.hash_index.proofs.OneBucket.{Hangs, Focus, IsElsewhere, focus, chains_are, chains_same, chains_nodes, heads_first, follow_leads, leads_runs}
 
@@ -226,6 +226,12 @@ none_long (x ∷ xs) le = absurd (omega arith)
 
 pub no_nodes : (cs : ℕ → Column) (i : HashIndex) → IsSound cs i → i.len ≡ 0 → spelled cs i ≡ []
 no_nodes cs i h e = none_long (spelled cs i) (omega (arith, h.len, e))
+
+-- each chain ends
+pub chains_end : (cs : ℕ → Column) (i : HashIndex) (k : ℕ) (heads : List (Option Node)) → AreChains (cs i.col) (vec_len i.buckets) k heads (map (rest_of cs i) heads) → AllByRecursion (Ends cs i) heads
+chains_end cs i k [] h = tt
+chains_end cs i k (head ∷ heads) h =
+    (subst (λ o. Leads (untagged (cs i.col)) o (rest_of cs i head)) (sym h.0.first) (leads_runs (cs i.col) None (rest_of cs i head) h.0.runs), chains_end cs i (k + 1) heads h.1)
 
 -- an index of no buckets has no node
 pub has_none : (cs : ℕ → Column) (i : HashIndex) (hash : ℕ) → vec_len i.buckets ≡ 0 → IsSound cs i → HasHash cs i hash None

@@ -1,5 +1,5 @@
 -- Chains of nodes, one for each bucket.
-use Rattle.std.specs.Prelude.{◌≡◌, ◌≢◌, ℕ, ◌+◌, ◌%◌, List, [], ◌∷◌, ◌++◌, Option, Some, None}
+use Rattle.std.specs.Prelude.{◌≡◌, ◌≢◌, ℕ, ◌+◌, ◌%◌, List, [], ◌∷◌, ◌++◌, length, map, fold, max, Option, Some, None}
 use Rattle.std.specs.List.{AllByRecursion}
 use Rattle.std.specs.Option.{option_map}
 use Rattle.node_store.specs.declared.Node.{Node}
@@ -45,6 +45,10 @@ AreChains c count b (head ∷ heads) (xs ∷ xss) = IsChain c count b head xs ×
 abbrev pub joined : List (List Node) → List Node
 joined [] = []
 joined (xs ∷ xss) = xs ++ joined xss
+
+-- the length of the longest of the chains
+abbrev pub longest : List (List Node) → ℕ
+longest xss = fold max 0 (map length xss)
 
 -- the first node of the first bucket that has one
 abbrev pub first_head : List (Option Node) → Option Node

@@ -1,5 +1,5 @@
 -- The nodes that a hashed index has, bucket by bucket.
-use Rattle.std.specs.Prelude.{◌≡◌, ℕ, ◌<◌, ◌≤◌, List, length, map}
+use Rattle.std.specs.Prelude.{◌≡◌, ℕ, ◌*◌, ◌<◌, ◌≤◌, List, length, map, max, if◌then◌else◌, nat_lt}
 use Rattle.std.specs.Vec.{vec_len}
 use Rattle.node_store.specs.declared.Node.{Node}
 use Rattle.node_store.specs.Column.{Column}
@@ -22,6 +22,10 @@ index_of i = i.index
 -- how many buckets it has
 abbrev pub buckets_of : HashIndex → ℕ
 buckets_of i = vec_len i.buckets
+
+-- how many buckets have room for one node more: as many as there are, or twice as many where there are no more than nodes
+abbrev pub grown : ℕ → ℕ → ℕ
+grown nodes buckets = if nat_lt nodes buckets then buckets else max (buckets * 2) 8
 
 -- the chain from each bucket's first node
 abbrev pub chains_of : (ℕ → Column) → HashIndex → List (List Node)

@@ -5,8 +5,9 @@ ghost use Rattle.node_store.specs.Column.{Column};
 ghost use Rattle.node_store.specs.Nodes.{first_or};
 ghost use Rattle.node_store.specs.ByNode.{column_of, same_node};
 ghost use Rattle.list_model.specs.Walk.{next as the_next};
-ghost use Rattle.hash_index.specs.Spelled.{Spells, IsSound, spelled, Holds};
-ghost use Rattle.hash_index.specs.Chains.{first_head};
+ghost use Rattle.hash_index.specs.Spelled.{Spells, IsSound, spelled, chains_of, buckets_of, Holds};
+ghost use Rattle.hash_index.specs.Chains.{first_head, longest};
+ghost use Rattle.hash_index.specs.Walks.{rest_of, Ends};
 
 use crate::HashIndex;
 use node_store::{Link, Node, NodeStore};
@@ -18,6 +19,40 @@ impl HashIndex {
         ensures { result ≡ length (spelled (column_of store.now) self.now) }
     {
         self.len
+    }
+
+    /// How many buckets there are, no fewer than nodes. O(1).
+    pub fn buckets(&self) -> usize
+        ensures { result ≡ buckets_of self.now }
+    {
+        self.buckets.len()
+    }
+
+    /// How many nodes the fullest bucket has. O(buckets + nodes).
+    pub fn longest_chain<R>(&self, store: &NodeStore<R>) -> usize
+        requires { IsSound (column_of store.now) self.now }
+        ensures { result ≡ longest (chains_of (column_of store.now) self.now) }
+    {
+        let mut longest = 0;
+        for head in &self.buckets {
+            longest = self.chain_length(store, *head).max(longest);
+        }
+        longest
+    }
+
+    // How many nodes a chain has from `at` on.
+    fn chain_length<R>(&self, store: &NodeStore<R>, at: Option<Node>) -> usize
+        requires chain { IsSound (column_of store.now) self.now }
+        requires ends { Ends (column_of store.now) self.now at }
+        ensures { result ≡ length (rest_of (column_of store.now) self.now at) }
+    {
+        let mut length = 0;
+        let mut at = at;
+        while let Some(n) = at {
+            length += 1;
+            at = store.link(n, self.col).b;
+        }
+        length
     }
 
     /// The first node of a walk over all, in no stated order. O(buckets before it).

@@ -1,8 +1,8 @@
 //! Growth of the buckets.
-ghost use Rattle.std.specs.Prelude.{◌≡◌, ◌<◌, None, IfOk, OnOk, OnErr, IsPermutation, vec_len};
+ghost use Rattle.std.specs.Prelude.{◌≡◌, ◌<◌, None, IfOk, OnOk, OnErr, IsPermutation, length, vec_len};
 ghost use Rattle.std.specs.List.{AllByRecursion};
 ghost use Rattle.node_store.specs.ByNode.{column_of, contents};
-ghost use Rattle.hash_index.specs.Spelled.{IsSound, spelled, col_of, index_of, HasRoom, KeepsOthers, KeepsTags};
+ghost use Rattle.hash_index.specs.Spelled.{IsSound, spelled, col_of, index_of, buckets_of, grown, HasRoom, KeepsOthers, KeepsTags};
 
 use crate::HashIndex;
 use node_store::{Node, NodeStore};
@@ -30,6 +30,7 @@ impl HashIndex {
         ensures tags { KeepsTags (column_of store.old (col_of self.old)) (column_of store.new (col_of self.old)) }
         ensures room { OnOk result (HasRoom self.new) }
         ensures full { OnErr result (¬ HasRoom self.old) }
+        ensures buckets { OnOk result (buckets_of self.new ≡ grown (length (spelled (column_of store.old) self.old)) (buckets_of self.old)) }
         ensures unchanged { OnErr result (self.new ≡ self.old) }
         ensures store_unchanged { OnErr result (store.new ≡ store.old) }
         ensures col { col_of self.new ≡ col_of self.old }
@@ -64,6 +65,7 @@ impl HashIndex {
         ensures list { IsPermutation (spelled (column_of store.old) self.old) (spelled (column_of store.new) self.new) }
         ensures tags { KeepsTags (column_of store.old (col_of self.old)) (column_of store.new (col_of self.old)) }
         ensures room { HasRoom self.new }
+        ensures buckets { buckets_of self.new ≡ buckets_of fresh }
         ensures col { col_of self.new ≡ col_of self.old }
         ensures index { index_of self.new ≡ index_of self.old }
         ensures others { KeepsOthers (column_of store.old) (column_of store.new) (col_of self.old) }

@@ -48,6 +48,7 @@ impl HashIndex {
         requires { col < 8 }
         ensures col { col_of result ≡ col }
         ensures index { index_of result ≡ index }
+        ensures buckets { buckets_of result ≡ 0 }
         ensures empty { (cs : ℕ → Column) → Spells cs result [] }
     {
         HashIndex {

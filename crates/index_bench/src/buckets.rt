@@ -47,8 +47,26 @@ pub(crate) fn times<R: Runtime>(
         let start = Instant::now(rt)?;
         let met = each(*call, &mut store, &mut index, from, to);
         report.line(rt, start, name, count, to.saturating_sub(from), met)?;
+        if let Call::Link = call {
+            fullness(report, &store, &index, count)?;
+        }
     }
     Ok(())
+}
+
+// How many buckets there are, and how many nodes the fullest one has.
+fn fullness(
+    report: &mut Report,
+    store: &NodeStore<u64>,
+    index: &HashIndex,
+    count: u64,
+) -> io::Result<()>
+    requires { IsKeyed store.now index.now }
+{
+    let buckets = index.buckets() as u64;
+    report.number("hash_index: size of the table", "buckets", count, buckets)?;
+    let longest = index.longest_chain(store) as u64;
+    report.number("hash_index: longest chain", "nodes", count, longest)
 }
 
 // Makes the call at the words of these numbers. Answers the sum of the numbers of the nodes that were met.

@@ -2,7 +2,8 @@
 //! indices takes, beside those of std's maps: `rt run -- times` in this folder.
 //!
 //! A line has the call, the size, the least time of several rounds, and its growth since the size before. Where a line
-//! names several calls, the time is that of all; lines for the first ones alone stand beside it.
+//! names several calls, the time is that of all; lines for the first ones alone stand beside it. The buckets of the
+//! hashed index and its longest chain stand between its calls.
 #![tactic(auto)]
 
 ghost use Rattle.std.specs.Prelude.{◌<◌};

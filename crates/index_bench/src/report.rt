@@ -1,20 +1,21 @@
-//! Lines of times.
+//! Lines of times and of other numbers.
 
 use std::alloc::Global;
 use std::io;
 use std::rt::Runtime;
 use std::time::Instant;
 
-// What one call took at the last size, and at the one before.
+// What one call took at the last size, and at the one before, or another number in some unit.
 #[derive(Drop)]
 struct Line {
     name: &'static str,
+    unit: &'static str,
     count: u64,
-    nanos: u64,
+    value: u64,
     before: Option<u64>,
 }
 
-/// The calls that were timed so far.
+/// The calls that were timed so far, and other numbers.
 #[derive(Drop)]
 pub(crate) struct Report {
     lines: Vec<Line>,
@@ -43,22 +44,34 @@ impl Report {
         let spent = start.elapsed(rt)?.as_nanos().min(u64::MAX as u128);
         let nanos = spent as u64 / calls.max(1);
         self.met = self.met.wrapping_add(met);
+        self.number(name, "ns", count, nanos)
+    }
+
+    /// Keeps a number at a size of `count`, where it was not less at that size already.
+    pub(crate) fn number(
+        &mut self,
+        name: &'static str,
+        unit: &'static str,
+        count: u64,
+        value: u64,
+    ) -> io::Result<()> {
         for line in &mut self.lines {
             if line.name == name {
-                line.renew(count, nanos);
+                line.renew(count, value);
                 return Ok(());
             }
         }
         self.lines.push(Line {
             name,
+            unit,
             count,
-            nanos,
+            value,
             before: None,
         })?;
         Ok(())
     }
 
-    /// Prints the calls that were timed at this size.
+    /// Prints the lines of this size.
     pub(crate) fn print<R: Runtime>(&self, rt: &R, count: u64) -> io::Result<()> {
         for line in &self.lines {
             if line.count == count {
@@ -75,29 +88,30 @@ impl Report {
 }
 
 impl Line {
-    fn renew(&mut self, count: u64, nanos: u64) {
+    fn renew(&mut self, count: u64, value: u64) {
         if self.count == count {
-            self.nanos = self.nanos.min(nanos);
+            self.value = self.value.min(value);
         } else {
-            self.before = Some(self.nanos);
+            self.before = Some(self.value);
             self.count = count;
-            self.nanos = nanos;
+            self.value = value;
         }
     }
 
     fn print<R: Runtime>(&self, rt: &R) -> io::Result<()> {
         let Line {
             name,
+            unit,
             count,
-            nanos,
+            value,
             ..
         } = self;
         match self.before {
-            None => println!(rt; "{name:<44}{count:>9}{nanos:>12} ns"),
+            None => println!(rt; "{name:<44}{count:>9}{value:>12} {unit}"),
             Some(before) => {
-                let tenths = nanos.saturating_mul(10) / before.max(1);
+                let tenths = value.saturating_mul(10) / before.max(1);
                 let (whole, tenth) = (tenths / 10, tenths % 10);
-                println!(rt; "{name:<44}{count:>9}{nanos:>12} ns   x {whole}.{tenth}")
+                println!(rt; "{name:<44}{count:>9}{value:>12} {unit}   x {whole}.{tenth}")
             }
         }
     }

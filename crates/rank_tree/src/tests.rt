@@ -1,5 +1,5 @@
 //! A thousand ids: each place and its node are found by few links, also once every second id has gone.
-ghost use Rattle.std.specs.Prelude.{◌≡◌, ◌+◌, ◌<◌, ◌≤◌, IsTrue};
+ghost use Rattle.std.specs.Prelude.{◌≡◌, ◌+◌, ◌<◌, ◌≤◌, IsTrue, IfSome};
 ghost use Rattle.list_model.specs.Order.{IsInOrder};
 ghost use Rattle.node_store.specs.ByNode.{column_of, record_of};
 ghost use Rattle.ord_tree.specs.Side.{order_at};
@@ -44,21 +44,25 @@ fn row_of(alloc: Global, id: i64) -> Option<Row> {
     Some(Row::new(cells))
 }
 
-// Puts a thousand ids in. The one at place p when all are there is the (143 p % 1000)th put in.
+// Puts in so many ids.
 fn fill<E: Extract<Row>>(
     alloc: Global,
     store: &mut NodeStore<Row>,
     tree: &mut RankTree,
     keys: &E,
+    ids: u16,
+    step: u16,
 ) -> Option<()>
     requires key { IsTrue (E.has_key keys.now (index_of tree.old)) }
     requires sound { IsSound (column_of store.old) tree.old }
     requires order { IsInOrder (order_at (record_of store.old) (E.order_of keys.now (index_of tree.old))) (spelled (column_of store.old) tree.old) }
     requires count { store.old.added ≡ 0 }
+    requires few { ids ≤ 1000 }
     ensures sound { IsSound (column_of store.new) tree.new }
 {
-    for k in 0..1000u16 {
-        let Some(row) = row_of(alloc, i64::from(k) * 7 % 1000) else {
+    for k in 0..ids {
+        let id = u32::from(k).wrapping_mul(u32::from(step)) % 1000;
+        let Some(row) = row_of(alloc, i64::from(id)) else {
             return None;
         };
         let Some(()) = insert_new(store, tree, keys, row) else {
@@ -81,7 +85,8 @@ fn thin<R>(store: &mut NodeStore<R>, tree: &mut RankTree, places: u64)
     }
 }
 
-// The most links that a place or its node takes, where each place has its node.
+// The most links that a place or its node takes, where each place has its node: the one at place p was put in as the
+// (143 p % 1000)th, with steps of 7.
 fn most_followed<R>(store: &NodeStore<R>, tree: &RankTree, places: u64, step: u64) -> Option<u64>
     requires sound { IsSound (column_of store.now) tree.now }
 {
@@ -110,17 +115,26 @@ fn by_id() -> KeySpec {
     KeySpec::new(parts)
 }
 
-// The most links that are followed among a thousand ids, and among every second of them.
-fn most_among(alloc: Global) -> Option<(u64, u64)> {
+// A tree of so many ids, the multiples of the step but for thousands.
+fn filled(alloc: Global, ids: u16, step: u16) -> Option<(NodeStore<Row>, RankTree)>
+    requires few { ids ≤ 1000 }
+    ensures sound { IfSome result (λ made. IsSound (column_of made.0) made.1) }
+{
     let keys = RowKeys::new(alloc, &[Some(by_id())]).ok()?;
     if !keys.has(0) {
         return None;
     }
     let mut store = NodeStore::new(alloc);
     let mut tree = RankTree::new(0, 0);
-    let Some(()) = fill(alloc, &mut store, &mut tree, &keys) else {
+    let Some(()) = fill(alloc, &mut store, &mut tree, &keys, ids, step) else {
         return None;
     };
+    Some((store, tree))
+}
+
+// The most links that are followed among a thousand ids, and among every second of them.
+fn most_among(alloc: Global) -> Option<(u64, u64)> {
+    let (mut store, mut tree) = filled(alloc, 1000, 7)?;
     let Some(all) = most_followed(&store, &tree, 1000, 1) else {
         return None;
     };
@@ -129,6 +143,36 @@ fn most_among(alloc: Global) -> Option<(u64, u64)> {
         return None;
     };
     Some((all, half))
+}
+
+// Whether each place of a tree of nine full levels, and its node, takes as many links as the node has above it.
+fn counts_each_link<R>(store: &NodeStore<R>, tree: &RankTree) -> Option<bool>
+    requires sound { IsSound (column_of store.now) tree.now }
+{
+    for place in 0..511u64 {
+        let (found, down) = tree.nth_counted(store, place);
+        let Some(n) = found else {
+            return None;
+        };
+        let (_, up) = tree.rank_counted(store, n);
+        let above = 8u64.saturating_sub(u64::from((place + 1).trailing_zeros()));
+        if down != above || up != above {
+            return Some(false);
+        }
+    }
+    Some(true)
+}
+
+// The same where the ids rise, as they make each level full before the next.
+fn counts_rising(alloc: Global) -> Option<bool> {
+    let (store, tree) = filled(alloc, 511, 1)?;
+    counts_each_link(&store, &tree)
+}
+
+#[test]
+fn the_links_that_are_followed_are_counted(rt: HostRuntime) -> Result<(), Fail> {
+    assert!(rt; counts_rising(rt.alloc()) == Some(true));
+    Ok(())
 }
 
 #[test]

@@ -4,7 +4,7 @@ use Rattle.list_model.specs.Order.{IsInOrder}
 use Rattle.node_store.specs.declared.Node.{Node}
 use Rattle.node_store.specs.ByNode.{column_of}
 use Rattle.rank_tree.proofs.Laws.{spelled_is, IsSound_from}
-use Rattle.rank_tree.proofs.tests.most_among.Goals as goal
+use Rattle.rank_tree.proofs.tests.filled.Goals as goal
 
 none_in_order : (compare : Node → Node → Ordering) (xs : List Node) → xs ≡ [] → IsInOrder compare xs
 none_in_order compare xs e = subst (λ (z : List Node). IsInOrder compare z) (sym e) tt
