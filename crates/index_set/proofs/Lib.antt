@@ -7,7 +7,4 @@ pub mod ByKind
 pub mod Coming
 pub mod Refilled
 pub mod Reading
-pub mod Stores
-pub mod Uniques
-pub mod Members
-pub mod Keys
+pub mod Moving
