@@ -2,4 +2,3 @@ pub mod Each
 pub mod Indices
 pub mod Lists
 pub mod Set
-pub mod Lends

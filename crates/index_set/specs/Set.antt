@@ -3,8 +3,7 @@ use Rattle.std.specs.Prelude.{◌≡◌, ℕ, ◌≤◌, Bool, List, length, sli
 use Rattle.std.specs.Option.{option_map_or}
 use Rattle.std.specs.declared.cmp.Ordering.{Ordering}
 use Rattle.node_store.specs.declared.Node.{Node}
-use Rattle.node_store.specs.Store.{Store}
-use Rattle.node_store.specs.Store as records
+use Rattle.node_store.specs.Store.{Store, IsStore}
 use Rattle.node_store.specs.ByNode as store
 use Rattle.container_model.specs.declared.handle.Spec.{Spec}
 use Rattle.container_model.specs.declared.handle.Kind.{Kind}
@@ -14,6 +13,7 @@ use Rattle.any_index.specs.Side.{side_of}
 use Rattle.index_set.specs.declared.set.IndexSet.{IndexSet}
 use Rattle.index_set.specs.Each as each
 use Rattle.index_set.specs.Indices as every
+use Rattle.index_set.specs.Lists.{AreUniqueFrom}
 
 module _ {R E : Type 0} where
   -- its records, and which nodes have them
@@ -55,12 +55,14 @@ module _ {R E : Type 0} where
   abbrev pub HasRoom : IndexSet R E → Type 0
   HasRoom s = every.HaveRoom s.specs.items s.indices.items
 
-  -- what holds of every set: one to eight indices, of which those that compare records, and they alone, have a key
+  -- what holds of every set: one to eight indices, of which those that compare records, and they alone, have a key, over a
+  -- store of numbered nodes
   pub record IsSound (has_key : E → ℕ → Bool) (s : IndexSet R E) : Type 0 where
     pub some : 1 ≤ length s.specs.items
     pub few : length s.specs.items ≤ 8
     pub keys : KeysMatch (has_key s.keys) s.specs.items
     pub placed : every.ArePlaced (store.column_of s.store) s.specs.items s.indices.items
+    pub nodes : IsStore s.store
 
   -- each index has its nodes where their records' keys put them
   abbrev pub IsKeyed : (E → ℕ → R → R → Ordering) → (E → ℕ → R → ℕ) → IndexSet R E → Type 0
@@ -76,11 +78,7 @@ module _ {R E : Type 0} where
 
   -- at each unique index no two nodes but the excepted one have one key
   abbrev pub IsUniqueExcept : (E → ℕ → R → R → Ordering) → IndexSet R E → Option Node → Type 0
-  IsUniqueExcept order s except = every.AreUniqueExcept (order s.keys) s.store s.specs.items s.indices.items except
-
-  -- the set once the record of n has been written through `get_mut`
-  abbrev pub with_record : IndexSet R E → Node → R → IndexSet R E
-  with_record s n r = record s { store = records.with_record s.store n r }
+  IsUniqueExcept order s except = AreUniqueFrom (order s.keys) (record_of s) except 0 (specs_of s) (lists_of s)
 
   -- nothing but the nodes, their records and the indices may have changed
   pub record IsOfSame (old new : IndexSet R E) : Type 0 where

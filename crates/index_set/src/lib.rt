@@ -6,8 +6,9 @@
 
 mod bans;
 mod every;
-mod order;
 mod reads;
 mod set;
+#[cfg(test)]
+mod tests;
 
 pub use set::IndexSet;

@@ -1,6 +1,5 @@
 //! The set, its records, and changes of all indices.
 ghost use Rattle.std.specs.Prelude.{◌≡◌, ◌+◌, ◌≤◌, ◌<◌, ◌^◌, ℕ, [], map, length, Some, IfOk, IfErr, OnOk, OnErr};
-ghost use Rattle.std.specs.Borrow.{sem};
 ghost use Rattle.list_model.specs.Walk.{without};
 ghost use Rattle.node_store.specs.Store.{IsNodeOf, nodes, number_of, len_of, empty_store};
 ghost use Rattle.node_store.specs.Age.{last_below};
@@ -54,7 +53,7 @@ impl<R: Drop, E: Extract<R> + Drop> IndexSet<R, E> {
 }
 
 impl<R: Drop, E: Extract<R>> IndexSet<R, E> {
-    ghost use Rattle.index_set.specs.Set.{store_of, record_of, lists_of, IsSound, IsKeyed, IsOfSame};
+    ghost use Rattle.index_set.specs.Set.{store_of, record_of, lists_of, HasRoom, IsSound, IsKeyed, IsOfSame};
 
     /// Adds a record, which is in no index yet. Where there is no memory for it, it is handed back. O(1).
     pub fn add(&mut self, value: R) -> Result<Node, NoRoom<R>>
@@ -69,6 +68,7 @@ impl<R: Drop, E: Extract<R>> IndexSet<R, E> {
         ensures len { OnOk result (len_of (store_of self.new) ≡ len_of (store_of self.old) + 1) }
         ensures loose { IfOk result (λ n. LackIt (lists_of self.new) n) }
         ensures keyed { IsKeyed E.order_of E.hash_of self.old → IsKeyed E.order_of E.hash_of self.new }
+        ensures room { HasRoom self.old → HasRoom self.new }
         ensures unchanged { OnErr result (self.new ≡ self.old) }
         ensures returned { IfErr result (λ e. e.value ≡ value) }
     {
@@ -88,13 +88,13 @@ impl<R: Drop, E: Extract<R>> IndexSet<R, E> {
         ensures count { (store_of self.new).added ≡ (store_of self.old).added }
         ensures len { len_of (store_of self.new) + 1 ≡ len_of (store_of self.old) }
         ensures keyed { IsKeyed E.order_of E.hash_of self.old → IsKeyed E.order_of E.hash_of self.new }
+        ensures room { HasRoom self.old → HasRoom self.new }
     {
         self.store.remove(n)
     }
 }
 
 impl<R, E: Extract<R>> IndexSet<R, E> {
-    ghost use Rattle.index_set.specs.Lends.{lends_record};
     ghost use Rattle.index_set.specs.Set.{store_of, keys_of, specs_of, contents, record_of, lists_of, list_of, HasRoom, IsSound, IsKeyed, IsKeyedBut, IsKeyedExcept, IsUniqueExcept, IsOfSame};
 
     /// How many records there are, in indices or not. O(1).
@@ -109,6 +109,20 @@ impl<R, E: Extract<R>> IndexSet<R, E> {
         ensures { result ≡ (store_of self.now).added }
     {
         self.store.added()
+    }
+
+    /// What each index is to be, in the order of their numbers. O(1).
+    pub fn specs(&self) -> &[Spec]
+        ensures { result.now ≡ specs_of self.now }
+    {
+        self.specs.as_slice()
+    }
+
+    /// The keys of the indices. O(1).
+    pub fn keys(&self) -> &E
+        ensures { result.now ≡ keys_of self.now }
+    {
+        &self.keys
     }
 
     /// The node that was added last, of those that are there. O(1).
@@ -132,16 +146,6 @@ impl<R, E: Extract<R>> IndexSet<R, E> {
         ensures { record_of self.now n ≡ Some result.now }
     {
         self.store.get(n)
-    }
-
-    /// The node's record for writing. Each index stays as it is, so `settle` has to follow where a key may have changed.
-    /// O(1).
-    pub fn get_mut(&mut self, n: Node) -> &mut R
-        requires { IsNodeOf (store_of self.old) n }
-        ensures* writes_back { sem 𝓛 (lends_record R.row E.row self.entry n result) }
-        ensures value { record_of self.old n ≡ Some result.now }
-    {
-        self.store.get_mut(n)
     }
 
     /// Makes room for one more node in each index. Where memory is refused, the lists are as before. O(indices) on
