@@ -1,4 +1,14 @@
+pub mod Ages
+pub mod Bans
+pub mod Contents
+pub mod Entered
+pub mod FreeSlots
+pub mod Indices
 pub mod Inserted
-pub mod PlainKept
-pub mod Slots
-pub mod Steps
+pub mod Joined
+pub mod LeadsTo
+pub mod Made
+pub mod Reading
+pub mod Sides
+pub mod Uniques
+pub mod Walks

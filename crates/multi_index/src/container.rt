@@ -1,43 +1,44 @@
 //! The container.
-ghost use Rattle.std.specs.Prelude.{◌≡◌, ◌↔◌, ◌<◌, ◌≤◌, IsTrue, false, length, [], None, unwrap_or, Some, IfOk, IfErr, IfSome, OnOk, OnErr};
-ghost use Rattle.std.specs.List.{AllByRecursion};
-ghost use Rattle.multi_index.specs.Plain.{LiesAtSlot};
-ghost use Rattle.container_model.specs.State.{IsState, KeysMatch, empty, list_at, row_of, has_key_kind};
-ghost use Rattle.container_model.specs.Find.{counted, found, is_live, kind_at};
+ghost use Rattle.std.specs.Prelude.{◌≡◌, ◌↔◌, ◌<◌, ◌≤◌, ◌^◌, ◌-◌, ◌==◌, IsTrue, false, length, [], None, unwrap_or, Some, IfOk, IfErr, IfSome, OnOk, OnErr};
+ghost use Rattle.container_model.specs.State.{IsState, KeysMatch, empty, list_at, row_of, has_key_kind, is_hashed_kind};
+ghost use Rattle.container_model.specs.Find.{counted, found, kind_at};
 ghost use Rattle.container_model.specs.Insert.{insert_at_refusal, insert_refusal, new_handle, with_inserted};
 
-use crate::enter::{empty_lists, enter_each, first_ban, reserve_one};
-use crate::search::{count_equal, first_equal};
+use crate::by_row::ByRow;
+use crate::linked::{first_ban, handle_at, node_at, put_in};
+use crate::walk::{by_age, in_order};
 use container_model::{Entry, Handle, Kind, Refused, Spec, Why};
+use index_set::IndexSet;
 use key_extract::Extract;
+use node_store::Node;
+use slot_table::SlotTable;
 use std::alloc::{AllocError, Global};
 use std::marker::Model;
 
 /// Records under several indices, each of which keeps all of them in an order of its own.
 #[derive(Drop)]
 pub struct MultiIndex<R: Drop, E: Extract<R> + Drop> {
-    keys: E,
-    specs: Vec<Spec>,
+    set: IndexSet<Entry<R>, ByRow<E>>,
+    slots: SlotTable<Node>,
+    alloc: Global,
     max: u32,
     writes: u64,
-    entries: Vec<Entry<R>>,
-    lists: Vec<Vec<Handle>>,
 }
 
 impl<R: Drop, E: Extract<R> + Drop> Model for MultiIndex<R, E> {
     ghost use Rattle.container_model.specs.State.{State};
-    ghost use Rattle.multi_index.specs.Plain.{lists_of, IsPlain};
+    ghost use Rattle.multi_index.specs.Seen.{seen, IsContainer};
 
     ghost Value = { State E R };
 
-    ghost view = { λ c. record { keys = c.keys; specs = c.specs.items; max = c.max; writes = c.writes; entries = c.entries.items; lists = lists_of c.lists.items } };
+    ghost view = { λ c. seen c.set c.max c.writes };
 
-    ghost invariant = { λ c. IsPlain E.has_key E.order_of (record { keys = c.keys; specs = c.specs.items; max = c.max; writes = c.writes; entries = c.entries.items; lists = lists_of c.lists.items }) };
+    ghost invariant = { λ c. IsContainer E.has_key E.order_of E.hash_of c.set c.slots.items c.max c.writes };
 }
 
 impl<R: Drop, E: Extract<R> + Drop> MultiIndex<R, E> {
-    /// A container without records, for at most `max`, whose last write has the number `first_write`. Each index of `specs`
-    /// that compares records has a key in `keys`, no other has one or is unique. O(indices).
+    /// A container without records, for at most `max`, whose last write has the number `first_write`, under one to eight
+    /// indices. Each index of `specs` that compares records has a key in `keys`, no other has one or is unique. O(indices).
     pub fn new(
         alloc: Global,
         specs: Vec<Spec>,
@@ -45,17 +46,17 @@ impl<R: Drop, E: Extract<R> + Drop> MultiIndex<R, E> {
         max: u32,
         first_write: u64,
     ) -> Result<Self, AllocError>
-        requires { KeysMatch (E.has_key keys) specs.items }
+        requires some { 1 ≤ length specs.items }
+        requires few { length specs.items ≤ 8 }
+        requires keys { KeysMatch (E.has_key keys) specs.items }
         ensures { IfOk result (λ made. made ≡ empty keys specs.items max first_write) }
     {
-        let lists = empty_lists(alloc, &specs)?;
         Ok(MultiIndex {
-            keys,
-            specs,
+            set: IndexSet::new(alloc, specs, ByRow { keys })?,
+            slots: SlotTable::new(alloc),
+            alloc,
             max,
             writes: first_write,
-            entries: Vec::new(alloc),
-            lists,
         })
     }
 
@@ -63,14 +64,14 @@ impl<R: Drop, E: Extract<R> + Drop> MultiIndex<R, E> {
     pub fn len(&self) -> u64
         ensures { result ≡ length self.now.entries }
     {
-        self.entries.len() as u64
+        self.set.len() as u64
     }
 
     /// Whether there is no record. O(1).
     pub fn is_empty(&self) -> bool
         ensures { IsTrue result ↔ (self.now.entries ≡ []) }
     {
-        self.entries.is_empty()
+        self.set.len() == 0
     }
 
     /// The number of the last accepted write; refused ones are not counted. O(1).
@@ -82,7 +83,7 @@ impl<R: Drop, E: Extract<R> + Drop> MultiIndex<R, E> {
     }
 
     /// Puts a record in: after its equals in the indices that are in order, and last in the others. A refused one is handed
-    /// back, and the container is unchanged: a ban comes before `Full`, and `Full` before `Spent`. O(indices · records).
+    /// back, and the container is unchanged: a ban comes before `Full`, and `Full` before `Spent`. O(log n) for each index.
     pub fn insert(&mut self, row: R) -> Result<Handle, Refused<R>>
         ensures handle { IfOk result (λ handle. handle ≡ new_handle self.old) }
         ensures allowed { OnOk result (insert_refusal E.order_of self.old row ≡ None) }
@@ -93,18 +94,20 @@ impl<R: Drop, E: Extract<R> + Drop> MultiIndex<R, E> {
         ensures handed_back { IfErr result (λ refused. refused.row ≡ Some row) }
         ensures unchanged { OnErr result (self.new ≡ self.old) }
     {
-        if let Some(why) = self.insert_refusal(&row) {
+        let entry = self.entry(row);
+        if let Some(why) = self.insert_refusal(&entry) {
             return Err(Refused {
                 why,
-                row: Some(row),
+                row: Some(entry.row),
             });
         }
-        self.put(None, row)
+        self.put(None, entry)
     }
 
     /// Puts a record in before the place of a sequence, and as `insert` does in the other indices; at the place `len` it
     /// goes last. A refused one is handed back, and the container is unchanged: `Kind`, where the index is no sequence,
-    /// comes before `Place`, where the place is past the end, and that before what `insert` refuses. O(indices · records).
+    /// comes before `Place`, where the place is past the end, and that before what `insert` refuses. O(log n) for each index,
+    /// but O(n) in the sequence.
     pub fn insert_at(&mut self, index: usize, place: u64, row: R) -> Result<Handle, Refused<R>>
         requires { index < length self.old.specs }
         ensures handle { IfOk result (λ handle. handle ≡ new_handle self.old) }
@@ -116,13 +119,14 @@ impl<R: Drop, E: Extract<R> + Drop> MultiIndex<R, E> {
         ensures handed_back { IfErr result (λ refused. refused.row ≡ Some row) }
         ensures unchanged { OnErr result (self.new ≡ self.old) }
     {
-        if let Some(why) = self.insert_at_refusal(index, place, &row) {
+        let entry = self.entry(row);
+        if let Some(why) = self.insert_at_refusal(index, place, &entry) {
             return Err(Refused {
                 why,
-                row: Some(row),
+                row: Some(entry.row),
             });
         }
-        self.put(Some((index, place)), row)
+        self.put(Some((index, place)), entry)
     }
 
     /// The record of a handle; a handle that names none is `Stale`. O(1).
@@ -131,32 +135,43 @@ impl<R: Drop, E: Extract<R> + Drop> MultiIndex<R, E> {
         ensures none { OnErr result (row_of self.now.entries handle ≡ None) }
         ensures why { IfErr result (λ why. why ≡ Why.Stale) }
     {
-        if self.has(handle) {
-            Ok(&self.entries[handle.slot as usize].row)
-        } else {
-            Err(Why::Stale)
+        match node_at(&self.set, &self.slots, handle) {
+            Some(node) => Ok(&self.set.get(node).row),
+            None => Err(Why::Stale),
         }
     }
 
     /// The first record of the index that has the key, if any does, and in a hashed index the one put in first of those that
-    /// have it; a sequence has none, and answers `Kind`. O(records).
+    /// have it; a sequence has none, and answers `Kind`. O(log n), expected O(1 + the records that have the key) in a hashed
+    /// index.
     pub fn find(&self, index: usize, probe: &E::Probe) -> Result<Option<Handle>, Why>
         requires in_range { index < length self.now.specs }
         requires fits { IsTrue (has_key_kind (kind_at self.now index)) → IsTrue (E.does_fit self.now.keys index probe.now) }
+        requires whole { IsTrue (is_hashed_kind (kind_at self.now index)) → IsTrue (E.is_whole self.now.keys index probe.now) }
         ensures { result ≡ found E.probe_order_of self.now index probe.now }
     {
-        let list = self.keyed_list(index)?;
-        Ok(first_equal(&self.keys, index, &self.entries, list, probe))
+        if !self.has_key(index) {
+            return Err(Why::Kind);
+        }
+        match self.set.find(index, probe) {
+            Some(node) => Ok(Some(handle_at(&self.set, node))),
+            None => Ok(None),
+        }
     }
 
-    /// How many records of the index have the key; a sequence has none, and answers `Kind`. O(records).
+    /// How many records of the index have the key; a sequence has none, and answers `Kind`. In O(log n) comparisons and that
+    /// many steps in an ordered index, O(log n) in a ranked one, expected O(1 + those records) in a hashed one.
     pub fn count(&self, index: usize, probe: &E::Probe) -> Result<u64, Why>
         requires in_range { index < length self.now.specs }
         requires fits { IsTrue (has_key_kind (kind_at self.now index)) → IsTrue (E.does_fit self.now.keys index probe.now) }
+        requires whole { IsTrue (is_hashed_kind (kind_at self.now index)) → IsTrue (E.is_whole self.now.keys index probe.now) }
         ensures { result ≡ counted E.probe_order_of self.now index probe.now }
     {
-        let list = self.keyed_list(index)?;
-        Ok(count_equal(&self.keys, index, &self.entries, list, probe) as u64)
+        if self.has_key(index) {
+            Ok(self.set.count(index, probe))
+        } else {
+            Err(Why::Kind)
+        }
     }
 
     /// The records of the index, in its order; a hashed one's in the order of insertion. O(records).
@@ -165,97 +180,89 @@ impl<R: Drop, E: Extract<R> + Drop> MultiIndex<R, E> {
         ensures ok { IfOk result (λ handles. handles.items ≡ list_at self.now.lists index) }
         ensures memory_only { IfErr result (λ why. why ≡ Why.Memory) }
     {
-        let records = &self.lists[index];
-        records
-            .to_vec(*records.allocator())
-            .map_err(|_| Why::Memory)
+        if self.is_hashed(index) {
+            return by_age(self.alloc, &self.set).map_err(|_| Why::Memory);
+        }
+        in_order(self.alloc, &self.set, index).map_err(|_| Why::Memory)
     }
 
-    // The records of an index that has keys.
-    fn keyed_list(&self, index: usize) -> Result<&[Handle], Why>
+    // Whether the index is searched by whole keys alone.
+    fn is_hashed(&self, index: usize) -> bool
         requires { index < length self.now.specs }
-        ensures keyed { OnOk result (IsTrue (has_key_kind (kind_at self.now index))) }
-        ensures has_key { OnOk result (IsTrue (E.has_key self.now.keys index)) }
-        ensures list { IfOk result (λ list. list.now ≡ list_at self.now.lists index) }
-        ensures found { IfOk result (λ list. AllByRecursion (LiesAtSlot self.now.entries) list.now) }
-        ensures kind { IfErr result (λ why. why ≡ Why.Kind) }
-        ensures keyless { OnErr result (has_key_kind (kind_at self.now index) ≡ false) }
+        ensures { result ≡ is_hashed_kind (kind_at self.now index) }
     {
-        match self.specs[index].kind {
-            Kind::Sequenced | Kind::Random => Err(Why::Kind),
-            Kind::Ordered | Kind::Ranked | Kind::Hashed => Ok(&self.lists[index]),
+        match self.set.specs()[index].kind {
+            Kind::Hashed => true,
+            Kind::Sequenced | Kind::Random | Kind::Ordered | Kind::Ranked => false,
         }
     }
 
-    // Whether the handle names a record.
-    fn has(&self, handle: Handle) -> bool
-        ensures { result ≡ is_live self.now handle }
+    // Whether the index has a key.
+    fn has_key(&self, index: usize) -> bool
+        requires { index < length self.now.specs }
+        ensures { result ≡ has_key_kind (kind_at self.now index) }
     {
-        let slot = handle.slot as usize;
-        slot < self.entries.len() && handle == self.entries[slot].handle
+        match self.set.specs()[index].kind {
+            Kind::Sequenced | Kind::Random => false,
+            Kind::Ordered | Kind::Ranked | Kind::Hashed => true,
+        }
+    }
+
+    // The record with the handle that it gets where it may go in.
+    fn entry(&self, row: R) -> Entry<R>
+        ensures row { result.row ≡ row }
+        ensures handle { (self.now.writes == 2 ^ 64 - 1) ≡ false → result.handle ≡ new_handle self.now }
+    {
+        let handle = Handle {
+            slot: self.slots.least_free() as u32,
+            stamp: self.writes.wrapping_add(1),
+        };
+        Entry { handle, row }
     }
 
     // Puts a record in that nothing keeps out: where it is asked for, and elsewhere at its usual places.
-    fn put(&mut self, at: Option<(usize, u64)>, row: R) -> Result<Handle, Refused<R>>
-        requires allowed { insert_refusal E.order_of self.old row ≡ None }
-        requires within { IfSome at (λ at. at.1 ≤ length self.old.entries) }
+    fn put(&mut self, at: Option<(usize, u64)>, entry: Entry<R>) -> Result<Handle, Refused<R>>
+        requires allowed { insert_refusal E.order_of self.old entry.row ≡ None }
+        requires handle { entry.handle ≡ new_handle self.old }
+        requires within { IfSome at (λ at. (at.0 < length self.old.specs) × (at.1 ≤ length self.old.entries)) }
         ensures handle { IfOk result (λ handle. handle ≡ new_handle self.old) }
-        ensures ok { OnOk result (self.new ≡ with_inserted E.order_of self.old at row) }
+        ensures ok { OnOk result (self.new ≡ with_inserted E.order_of self.old at entry.row) }
         ensures why { IfErr result (λ refused. refused.why ≡ Why.Memory) }
-        ensures handed_back { IfErr result (λ refused. refused.row ≡ Some row) }
+        ensures handed_back { IfErr result (λ refused. refused.row ≡ Some entry.row) }
         ensures unchanged { OnErr result (self.new ≡ self.old) }
     {
-        if reserve_one(&mut self.entries, &mut self.lists).is_err() {
-            return Err(Refused {
+        let handle = entry.handle;
+        match put_in(&mut self.set, &mut self.slots, at, entry) {
+            Ok(_) => {
+                self.writes = handle.stamp;
+                Ok(handle)
+            }
+            Err(refused) => Err(Refused {
                 why: Why::Memory,
-                row: Some(row),
-            });
+                row: Some(refused.value.row),
+            }),
         }
-        let handle = Handle {
-            slot: self.entries.len() as u32,
-            stamp: self.writes + 1,
-        };
-        enter_each(
-            &self.keys,
-            &self.specs,
-            &self.entries,
-            &mut self.lists,
-            at,
-            &row,
-            handle,
-        );
-        let _ = self.entries.push(Entry { handle, row });
-        self.writes = handle.stamp;
-        Ok(handle)
     }
 
     // Why a record may not go in before a place of an index, but for want of memory.
-    fn insert_at_refusal(&self, index: usize, place: u64, row: &R) -> Option<Why>
+    fn insert_at_refusal(&self, index: usize, place: u64, entry: &Entry<R>) -> Option<Why>
         requires { index < length self.now.specs }
-        ensures { result ≡ insert_at_refusal E.order_of self.now index place row.now }
+        ensures { result ≡ insert_at_refusal E.order_of self.now index place entry.now.row }
     {
-        match self.specs[index].kind {
-            Kind::Ordered | Kind::Ranked | Kind::Hashed => Some(Why::Kind),
-            Kind::Sequenced | Kind::Random => if place > self.len() {
-                Some(Why::Place)
-            } else {
-                self.insert_refusal(row)
-            },
+        if self.has_key(index) {
+            return Some(Why::Kind);
         }
+        if place > self.len() {
+            return Some(Why::Place);
+        }
+        self.insert_refusal(entry)
     }
 
     // Why a record may not go in, but for want of memory.
-    fn insert_refusal(&self, row: &R) -> Option<Why>
-        ensures { result ≡ insert_refusal E.order_of self.now row.now }
+    fn insert_refusal(&self, entry: &Entry<R>) -> Option<Why>
+        ensures { result ≡ insert_refusal E.order_of self.now entry.now.row }
     {
-        if let Some((index, by)) = first_ban(
-            &self.keys,
-            &self.specs,
-            &self.entries,
-            &self.lists,
-            None,
-            row,
-        ) {
+        if let Some((index, by)) = first_ban(&self.set, &self.slots, entry) {
             return Some(Why::Banned { index, by });
         }
         if self.len() == self.max as u64 {
@@ -267,6 +274,3 @@ impl<R: Drop, E: Extract<R> + Drop> MultiIndex<R, E> {
         None
     }
 }
-
-#[cfg(test)]
-mod tests;

@@ -1,9 +1,10 @@
 //! A container of records under several indices.
 #![tactic(auto)]
 
+mod by_row;
 mod container;
-mod enter;
-mod search;
+mod linked;
+mod walk;
 
 pub use container::MultiIndex;
 pub use container_model::{Entry, Handle, Kind, Refused, Spec, Why};

@@ -1,0 +1,61 @@
+-- A container without records.
+use Rattle.std.proofs.Common.{◌≡◌, ℕ, ◌<◌, ◌≤◌, ◌+◌, ◌^◌, Bool, List, [], ◌∷◌, map, Option, None, refl, sym, ap, ◌∙◌, subst, arith}
+use Rattle.std.specs.Prelude.{IsTrue}
+use Rattle.std.specs.declared.cmp.Ordering.{Ordering}
+use Rattle.list_model.specs.Order.{EachPair}
+use Rattle.node_store.specs.declared.Node.{Node}
+use Rattle.node_store.specs.Store.{Store, empty_store}
+use Rattle.node_store.specs.ByNode as node
+use Rattle.container_model.specs.declared.handle.Handle.{Handle}
+use Rattle.container_model.specs.declared.handle.Entry.{Entry}
+use Rattle.container_model.specs.declared.handle.Spec.{Spec}
+use Rattle.container_model.specs.State.{State, IsState, KeysMatch, empty}
+use Rattle.container_model.proofs.Inserted.{IsState-empty}
+use Rattle.index_set.specs.declared.set.IndexSet.{IndexSet}
+use Rattle.index_set.specs.Lists.{AreUniqueFrom}
+use Rattle.index_set.specs.Set.{store_of, keys_of, specs_of, contents, record_of, lists_of, IsSound, IsKeyed}
+use Rattle.multi_index.specs.declared.by_row.ByRow.{ByRow}
+use Rattle.multi_index.specs.LeadsTo.{LeadsTo}
+use Rattle.multi_index.specs.Linked.{entries_in, handles_in}
+use Rattle.multi_index.specs.Seen.{seen, IsContainer}
+use Rattle.multi_index.proofs.Contents.{entries-empty}
+use Rattle.multi_index.proofs.LeadsTo.{leads-empty}
+
+no_handles : {R : Type 0} (records : Node → Option (Entry R)) (specs : List Spec) → handles_in records (map (λ _. []) specs) ≡ map (λ _. []) specs
+no_handles records [] = refl
+no_handles records (spec ∷ specs) = ap (λ ls. [] ∷ ls) (no_handles records specs)
+
+unique-empty : {R : Type 0} (order : ℕ → R → R → Ordering) (records : Node → Option R) (index : ℕ) (specs : List Spec) → AreUniqueFrom order records None index specs (map (λ _. []) specs)
+unique-empty order records index [] = tt
+unique-empty order records index (spec ∷ specs) = ((λ one. tt), unique-empty order records (index + 1) specs)
+
+module _ {E R : Type 0} (set : IndexSet (Entry R) (ByRow E)) (keys : E) (specs : List Spec) (max first_write : ℕ)
+    (lists : lists_of set ≡ map (λ _. []) specs) (none : store_of set ≡ empty_store) (same_keys : (keys_of set).keys ≡ keys) (same_specs : specs_of set ≡ specs) where
+  no_entries : entries_in (contents set) ≡ []
+  no_entries = ap (λ (s : Store (Entry R)). entries_in (node.contents s)) none ∙ entries-empty
+
+  abbrev make : E → List Spec → List (Entry R) → List (List Handle) → State E R
+  make ks ss es ls = record { keys = ks; specs = ss; max = max; writes = first_write; entries = es; lists = ls }
+
+  pub seen_made : seen set max first_write ≡ empty keys specs max first_write
+  seen_made =
+      let handles = ap (handles_in (record_of set)) lists ∙ no_handles (record_of set) specs in
+      λ i. make (same_keys i) (same_specs i) (no_entries i) (handles i)
+
+  pub IsContainer_made : (has_key : E → ℕ → Bool) (order : E → ℕ → R → R → Ordering) (hash : E → ℕ → R → ℕ) →
+      IsSound (λ by. has_key by.keys) set → IsKeyed (λ by index a b. order by.keys index a.row b.row) (λ by index a. hash by.keys index a.row) set →
+      KeysMatch (has_key keys) specs → max < 2 ^ 32 → first_write < 2 ^ 64 → IsContainer has_key order hash set [] max first_write
+  IsContainer_made has_key order hash sound keyed match narrow numbered = record {
+    linked = record {
+      sound = sound;
+      keyed = keyed;
+      unique = subst (AreUniqueFrom (λ index a b. order (keys_of set).keys index a.row b.row) (record_of set) None 0 (specs_of set)) (sym (lists ∙ ap (map (λ _. [])) (sym same_specs)))
+          (unique-empty (λ index a b. order (keys_of set).keys index a.row b.row) (record_of set) 0 (specs_of set));
+      apart = subst (EachPair _) (sym no_entries) tt;
+      leads = subst (λ (s : Store (Entry R)). LeadsTo s []) (sym none) (leads-empty R);
+    };
+    state = subst (IsState has_key order) (sym seen_made) (IsState-empty has_key order keys specs max first_write match);
+    narrow = narrow;
+    numbered = numbered;
+    added = subst (λ (s : Store (Entry R)). s.added ≤ first_write) (sym none) (omega arith);
+  }

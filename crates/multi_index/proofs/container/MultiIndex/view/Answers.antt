@@ -1,0 +1,38 @@
+use Rattle.std.proofs.Common.{◌≡◌, ◌<◌, ◌∙◌, Bool, true, false, length, map, Result, Ok, Err, ap, sym, subst, rules}
+use Rattle.std.specs.Prelude.{IfOk}
+use Rattle.std.specs.Result.{is_ok, MatchResult}
+use Rattle.container_model.specs.declared.handle.Kind.TheVariants.{Sequenced}
+use Rattle.container_model.specs.declared.handle.Spec.{Spec}
+use Rattle.container_model.specs.State.{is_hashed_kind, list_at}
+use Rattle.container_model.specs.Find.{kind_at}
+use Rattle.container_model.proofs.Keys.{kind_at_is}
+use Rattle.index_set.specs.Set.{store_of, specs_of, contents, record_of, lists_of}
+use Rattle.multi_index.specs.Linked.{handle_of, entries_in, handles_in, nodes_in}
+use Rattle.multi_index.specs.Seen.{seen}
+use Rattle.multi_index.proofs.Contents.{handles_by_age}
+use Rattle.multi_index.proofs.Indices.{index_here}
+use Rattle.multi_index.proofs.container.MultiIndex.view.Goals as goal
+
+-- what a success keeps where only an error is replaced
+if_mapped : {A B C : Type 0} (P : A → Type 0) (r : Result A B) (q : Result A C) (G : B → Type 0) → MatchResult r (λ x. q ≡ Ok x) G → is_ok q ≡ is_ok r → IfOk r P → IfOk q P
+if_mapped P (Ok x) q G cases same p = subst (λ z. IfOk z P) (sym cases) p
+if_mapped P (Err e) (Ok y) G cases same p = absurd (search rules)
+if_mapped P (Err e) (Err f) G cases same p = tt
+
+-- the items of a success are those of an equal list
+if_more : {B : Type 0} {A : Type 0} {X : Type 0} (items : A → X) {xs ys : X} (r : Result A B) → xs ≡ ys → IfOk r (λ a. items a ≡ xs) → IfOk r (λ a. items a ≡ ys)
+if_more items (Ok a) e p = p ∙ e
+if_more items (Err b) e p = tt
+
+pub returns-then-is_hashed-clause-ok : goal.returns-then-is_hashed-clause-ok
+returns-then-is_hashed-clause-ok g c =
+    let set = c.self.inside.set in
+    let s = seen set c.self.inside.max c.self.inside.writes in
+    let within : c.args.index < length (specs_of set) = subst (λ t. c.args.index < length t.specs) (sym c.self.view_is) c.requires in
+    let some_spec : Spec = record { kind = Sequenced; unique = false } in
+    let hashed : is_hashed_kind (kind_at s c.args.index) ≡ true = ap (λ t. is_hashed_kind (kind_at t c.args.index)) c.self.view_is ∙ (sym c.is_hashed.ensures ∙ c.if-is_hashed.true) in
+    let here = (index_here (g.E.Extract.order_of s.keys) s.entries 0 c.args.index s.specs s.lists some_spec c.self.invariant.state.indices within).1 in
+    let by_age = here.by_stamp (ap is_hashed_kind (sym (kind_at_is s c.args.index some_spec within)) ∙ hashed) in
+    let list = sym (handles_by_age (store_of set) c.self.invariant.linked.sound.nodes) ∙ (sym by_age ∙ ap (λ t. list_at t.lists c.args.index) c.self.view_is) in
+    if_mapped (λ handles. handles.items ≡ list_at c.args.self.now.lists c.args.index) c.by_age.result c.map_err.result _ c.map_err.ensures.cases c.map_err.ensures.variant
+    (if_more (λ handles. handles.items) c.by_age.result list c.by_age.ensures)
