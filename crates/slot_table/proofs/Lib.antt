@@ -1,0 +1,3 @@
+mod Gaps
+pub mod Laws
+mod Noted
