@@ -7,6 +7,7 @@ pub mod ByKind
 pub mod Coming
 pub mod Refilled
 pub mod Reading
+pub mod Moving
 pub mod Stores
 pub mod Uniques
 pub mod Members
