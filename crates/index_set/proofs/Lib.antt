@@ -12,3 +12,6 @@ pub mod Stores
 pub mod Uniques
 pub mod Members
 pub mod Keys
+pub mod Written
+pub mod UniqueSteps
+pub mod StaysUnique

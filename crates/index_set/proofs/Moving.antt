@@ -1,5 +1,5 @@
 -- A change of one index alone, in place.
-use Rattle.std.proofs.Common.{◌≡◌, ◌≢◌, ℕ, ◌<◌, List, length, get_or, set, [], refl, sym, ap, ◌∙◌, subst, arith, ⊎_elim, false}
+use Rattle.std.proofs.Common.{◌≡◌, ◌≢◌, ℕ, ◌<◌, List, length, get_or, set, [], sym, ap, ◌∙◌, subst, arith, ⊎_elim}
 use Rattle.std.specs.Prelude.{Bool, IsTrue}
 use Rattle.std.specs.declared.cmp.Ordering.{Ordering}
 use Rattle.std.proofs.lemmas.Bool.{cases_eq}
@@ -10,7 +10,7 @@ use Rattle.node_store.specs.Store.{Store}
 use Rattle.node_store.specs.ByNode.{column_of, contents}
 use Rattle.container_model.specs.State.{is_sequence_kind}
 use Rattle.any_index.specs.declared.index.AnyIndex.{AnyIndex}
-use Rattle.any_index.specs.Spelled.{HasRoom, list_of, kind_of, col_of}
+use Rattle.any_index.specs.Spelled.{HasRoom, list_of, col_of}
 use Rattle.any_index.specs.Keyed as any
 use Rattle.index_set.specs.declared.set.IndexSet.{IndexSet}
 use Rattle.index_set.specs.Indices.{IsPlaced, ArePlaced, lists_in, HaveRoom, AreKeyed}
