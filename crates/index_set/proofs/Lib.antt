@@ -7,7 +7,11 @@ pub mod ByKind
 pub mod Coming
 pub mod Refilled
 pub mod Reading
+pub mod Moving
 pub mod Stores
 pub mod Uniques
 pub mod Members
 pub mod Keys
+pub mod Written
+pub mod UniqueSteps
+pub mod StaysUnique

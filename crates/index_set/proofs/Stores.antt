@@ -21,13 +21,15 @@ module _ {R : Type 0} where
     bounded = λ k le. no_node R k;
   }
 
+  -- the nodes stay
+  pub IsStore_same : (old new : Store R) → nodes new ≡ nodes old → new.added ≡ old.added → IsStore old → IsStore new
+  IsStore_same old new e count h = record {
+    numbered = λ k n at. h.numbered k n (sym (ap (λ (f : ℕ → Option Node). f k) e) ∙ at);
+    bounded = λ k le. ap (λ (f : ℕ → Option Node). f k) e ∙ h.bounded k (omega (arith, le, count));
+  }
+
   pub IsStore_kept : (old new : Store R) → contents new ≡ contents old → IsStore old → IsStore new
-  IsStore_kept old new same h =
-      let e = nodes_kept old new same in
-      record {
-        numbered = λ k n at. h.numbered k n (sym (ap (λ (f : ℕ → Option Node). f k) e) ∙ at);
-        bounded = λ k le. ap (λ (f : ℕ → Option Node). f k) e ∙ h.bounded k (omega (arith, le, added_kept old new same));
-      }
+  IsStore_kept old new same = IsStore_same old new (nodes_kept old new same) (added_kept old new same)
 
   -- a node comes, under the next number
   pub IsStore_added : (old new : Store R) (n : Node) (value : R) → AddsNode old new n value → number_of n ≡ old.added → new.added ≡ old.added + 1 → IsStore old → IsStore new

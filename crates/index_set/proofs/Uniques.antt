@@ -1,4 +1,4 @@
--- One index of those whose lists have no two records of one key.
+-- Lists without two records of one key, index by index.
 use Rattle.std.proofs.Common.{◌≡◌, ℕ, zero, suc, ◌+◌, ◌<◌, false, List, [], ◌∷◌, length, get_or, Option, sym, ◌∙◌, subst, arith}
 use Rattle.std.specs.Prelude.{IsTrue}
 use Rattle.std.specs.Ordering.{is_eq}
@@ -20,7 +20,7 @@ use Rattle.index_set.proofs.Each.{each_listed}
 
 module _ {R : Type 0} (order : ℕ → R → R → Ordering) where
   -- no two nodes of the list but the excepted one have one key of this index
-  abbrev OneOfEach : (Node → Option R) → Option Node → ℕ → List Node → Type 0
+  abbrev pub OneOfEach : (Node → Option R) → Option Node → ℕ → List Node → Type 0
   OneOfEach records except index list = EachPair (λ m n. is_eq (order_at records (order index) m n) ≡ false) (without_excepted except list)
 
   -- the list of one index, counted from the first of these
@@ -32,6 +32,25 @@ module _ {R : Type 0} (order : ℕ → R → R → Ordering) where
   unique_list records except b (spec ∷ specs) (list ∷ lists) one h (suc k) e lt unique =
       subst (λ z. OneOfEach records except z (get_or lists k [])) (omega arith)
       (unique_list records except (b + 1) specs lists (omega (arith, one)) h.1 k e (omega (arith, lt)) unique)
+
+  -- and the other way round
+  listed_unique : (records : Node → Option R) (except : Option Node) (b : ℕ) (specs : List Spec) (lists : List (List Node)) →
+      ((k : ℕ) (e : Spec) → k < length specs → IsTrue (get_or specs k e).unique → OneOfEach records except (b + k) (get_or lists k [])) → AreUniqueFrom order records except b specs lists
+  listed_unique records except b [] lists h = tt
+  listed_unique records except b (spec ∷ specs) [] h = tt
+  listed_unique records except b (spec ∷ specs) (list ∷ lists) h = (
+    (λ unique. subst (λ z. OneOfEach records except z list) (omega arith) (h 0 spec (omega arith) unique)),
+    listed_unique records except (b + 1) specs lists (λ k e lt unique. subst (λ z. OneOfEach records except z (get_or lists k [])) (omega arith) (h (suc k) e (omega (arith, lt)) unique)),
+  )
+
+  -- what holds of all lists, by the numbers of their indices
+  pub unique_at : (records : Node → Option R) (except : Option Node) (specs : List Spec) (lists : List (List Node)) → length lists ≡ length specs → AreUniqueFrom order records except 0 specs lists →
+      (k : ℕ) (e : Spec) → k < length specs → IsTrue (get_or specs k e).unique → OneOfEach records except k (get_or lists k [])
+  unique_at records except specs lists one h k e lt unique = subst (λ z. OneOfEach records except z (get_or lists k [])) (omega arith) (unique_list records except 0 specs lists one h k e lt unique)
+
+  pub unique_from : (records : Node → Option R) (except : Option Node) (specs : List Spec) (lists : List (List Node)) →
+      ((k : ℕ) (e : Spec) → k < length specs → IsTrue (get_or specs k e).unique → OneOfEach records except k (get_or lists k [])) → AreUniqueFrom order records except 0 specs lists
+  unique_from records except specs lists h = listed_unique records except 0 specs lists (λ k e lt unique. subst (λ z. OneOfEach records except z (get_or lists k [])) (omega arith) (h k e lt unique))
 
   -- of a hashed index that is what its search for a record of one key asks for
   one_of_each : (s : Store R) (except : Option Node) (i : AnyIndex) → OneOfEach (record_of s) except (index_of i) (list_of (column_of s) i) → HasOneOfEachKey order s i except
@@ -49,5 +68,4 @@ module _ {R : Type 0} (order : ℕ → R → R → Ordering) where
       one_of_each s except (get_or is k d)
       (subst (λ j. OneOfEach (record_of s) except j (list_of (column_of s) (get_or is k d))) (sym number)
       (subst (λ xs. OneOfEach (record_of s) except k xs) (sym listed)
-      (subst (λ j. OneOfEach (record_of s) except j (get_or (lists_in (column_of s) is) k [])) (omega arith)
-      (unique_list (record_of s) except 0 specs (lists_in (column_of s) is) (length-map is (list_of (column_of s)) ∙ p.one_each) h k e lt unique))))
+      (unique_at (record_of s) except specs (lists_in (column_of s) is) (length-map is (list_of (column_of s)) ∙ p.one_each) h k e lt unique)))

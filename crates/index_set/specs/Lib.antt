@@ -2,3 +2,4 @@ pub mod Each
 pub mod Indices
 pub mod Lists
 pub mod Set
+pub mod Lends

@@ -4,6 +4,7 @@ use Rattle.std.specs.Option.{option_map_or}
 use Rattle.std.specs.declared.cmp.Ordering.{Ordering}
 use Rattle.node_store.specs.declared.Node.{Node}
 use Rattle.node_store.specs.Store.{Store, IsStore}
+use Rattle.node_store.specs.Store as records
 use Rattle.node_store.specs.ByNode as store
 use Rattle.container_model.specs.declared.handle.Spec.{Spec}
 use Rattle.container_model.specs.declared.handle.Kind.{Kind}
@@ -79,6 +80,10 @@ module _ {R E : Type 0} where
   -- at each unique index no two nodes but the excepted one have one key
   abbrev pub IsUniqueExcept : (E → ℕ → R → R → Ordering) → IndexSet R E → Option Node → Type 0
   IsUniqueExcept order s except = AreUniqueFrom (order s.keys) (record_of s) except 0 (specs_of s) (lists_of s)
+
+  -- the set once the record of n has been written through `get_mut`
+  abbrev pub with_record : IndexSet R E → Node → R → IndexSet R E
+  with_record s n r = record s { store = records.with_record s.store n r }
 
   -- nothing but the nodes, their records and the indices may have changed
   pub record IsOfSame (old new : IndexSet R E) : Type 0 where

@@ -6,6 +6,7 @@
 
 mod bans;
 mod every;
+mod order;
 mod reads;
 mod set;
 #[cfg(test)]

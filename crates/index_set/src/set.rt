@@ -1,5 +1,6 @@
 //! The set, its records, and changes of all indices.
 ghost use Rattle.std.specs.Prelude.{◌≡◌, ◌+◌, ◌≤◌, ◌<◌, ◌^◌, ℕ, [], map, length, Some, IfOk, IfErr, OnOk, OnErr};
+ghost use Rattle.std.specs.Borrow.{sem};
 ghost use Rattle.list_model.specs.Walk.{without};
 ghost use Rattle.node_store.specs.Store.{IsNodeOf, nodes, number_of, len_of, empty_store};
 ghost use Rattle.node_store.specs.Age.{last_below};
@@ -95,6 +96,7 @@ impl<R: Drop, E: Extract<R>> IndexSet<R, E> {
 }
 
 impl<R, E: Extract<R>> IndexSet<R, E> {
+    ghost use Rattle.index_set.specs.Lends.{lends_record};
     ghost use Rattle.index_set.specs.Set.{store_of, keys_of, specs_of, contents, record_of, lists_of, list_of, HasRoom, IsSound, IsKeyed, IsKeyedBut, IsKeyedExcept, IsUniqueExcept, IsOfSame};
 
     /// How many records there are, in indices or not. O(1).
@@ -146,6 +148,16 @@ impl<R, E: Extract<R>> IndexSet<R, E> {
         ensures { record_of self.now n ≡ Some result.now }
     {
         self.store.get(n)
+    }
+
+    /// The node's record for writing. Each index stays as it is, so `settle` has to follow where a key may have changed.
+    /// O(1).
+    pub fn get_mut(&mut self, n: Node) -> &mut R
+        requires { IsNodeOf (store_of self.old) n }
+        ensures* writes_back { sem 𝓛 (lends_record R.row E.row self.entry n result) }
+        ensures value { record_of self.old n ≡ Some result.now }
+    {
+        self.store.get_mut(n)
     }
 
     /// Makes room for one more node in each index. Where memory is refused, the lists are as before. O(indices) on

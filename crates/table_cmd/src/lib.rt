@@ -16,6 +16,3 @@ pub use key_extract::{Cell, Row, Text};
 pub use out::{Out, OutOfRoom, READY_ROOM};
 pub use read::read_command;
 pub use reply::{Heading, Record, Reply, write_reply};
-
-#[cfg(test)]
-mod tests;

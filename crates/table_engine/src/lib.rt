@@ -14,6 +14,3 @@ pub use engine::Engine;
 pub use event::{Event, Stop};
 pub use run::run_events;
 pub use stream::{StreamFault, serve_stream};
-
-#[cfg(test)]
-mod tests;

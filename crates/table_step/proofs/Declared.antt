@@ -1,15 +1,21 @@
 -- The indices of a table, as the schema declares them and as the container has them.
-use Rattle.std.proofs.Common.{◌≡◌, ℕ, zero, suc, ◌≤◌, List, [], ◌∷◌, length, map, Some, ap, arith}
-use Rattle.std.specs.Prelude.{slice_get, unwrap_or, IsTrue, bytes_eq}
+use Rattle.std.proofs.Common.{◌≡◌, ℕ, zero, suc, ◌≤◌, List, [], ◌∷◌, length, map, Some, ap, sym, subst, ◌∙◌, arith}
+use Rattle.std.specs.Prelude.{slice_get, unwrap_or, option_map, IsTrue, bytes_eq}
 use Rattle.std.specs.List.{list_all}
 use Rattle.std.specs.Option.{option_map_or}
 use Rattle.std.proofs.lemmas.Bool.{and_parts}
+use Rattle.std.proofs.lemmas.List.{length-map}
+use Rattle.std.proofs.lemmas.Option.{slice_get-map}
+use Rattle.container_model.specs.declared.handle.Spec.{Spec}
+use Rattle.container_model.specs.declared.handle.Kind.TheVariants.{Sequenced}
+use Rattle.container_model.specs.Find.{kind_at}
+use Rattle.container_model.specs.State.{State}
 use Rattle.key_extract.specs.Keys.{key_at, parts_at}
 use Rattle.table_schema.specs.declared.column.IndexSpec.{IndexSpec}
 use Rattle.table_schema.specs.Shape.{TableShape}
 use Rattle.table_schema.specs.Valid.{IsValidTable, is_name, are_distinct}
-use Rattle.table_schema.proofs.Facts.{name_is_short}
-use Rattle.table_step.specs.Step.{keys_of}
+use Rattle.table_schema.proofs.Facts.{name_is_short, within_low, within_high}
+use Rattle.table_step.specs.Step.{Keys, Cells, keys_of, spec_of, specs_of}
 use Rattle.table_step.specs.Values.{parts_of}
 
 -- the key of a declared index
@@ -20,6 +26,18 @@ key_at_place (i ∷ is) (suc place) index e = key_at_place is place index e
 
 pub parts_at_place : (shape : TableShape) (place : ℕ) (index : IndexSpec) → slice_get shape.indices place ≡ Some index → parts_at (keys_of shape) place ≡ parts_of index
 parts_at_place shape place index e = ap (λ key. unwrap_or key []) (key_at_place shape.indices place index e)
+
+-- and its kind
+pub kind_at_place : (shape : TableShape) (place : ℕ) (index : IndexSpec) (records : State Keys Cells) → slice_get shape.indices place ≡ Some index → records.specs ≡ specs_of shape → kind_at records place ≡ index.kind
+kind_at_place shape place index records e specs =
+    let there : slice_get records.specs place ≡ Some (spec_of index) = ap (λ ss. slice_get ss place) specs ∙ (slice_get-map spec_of shape.indices place ∙ ap (option_map spec_of) e) in
+    ap (λ s. option_map_or (λ spec. spec.kind) s Sequenced) there
+
+-- a valid table has 1 to 8 of them
+pub one_to_eight : (shape : TableShape) (specs : List Spec) → IsValidTable shape → specs ≡ specs_of shape → (1 ≤ length specs) × (length specs ≤ 8)
+one_to_eight shape specs valid declared =
+    let as_many : length specs ≡ length shape.indices = ap length declared ∙ length-map shape.indices spec_of in
+    (subst (λ n. 1 ≤ n) (sym as_many) (within_low 1 8 (length shape.indices) valid.indices), subst (λ n. n ≤ 8) (sym as_many) (within_high 1 8 (length shape.indices) valid.indices))
 
 -- the names of a valid table's indices are short
 names_are_short : (indices : List IndexSpec) → IsTrue (list_all is_name (map (λ i. i.name) indices)) → (place : ℕ) → length (option_map_or (λ i. i.name) (slice_get indices place) []) ≤ 32

@@ -5,8 +5,8 @@ use Rattle.std.specs.Option.{option_map_or}
 use Rattle.container_model.specs.declared.handle.Handle.{Handle}
 use Rattle.container_model.specs.declared.refusal.Why.{Why}
 use Rattle.container_model.specs.Find.{found as found_in, counted as counted_in}
-use Rattle.container_model.specs.State.{has_key_kind}
-use Rattle.key_extract.specs.Keys.{probe_fits}
+use Rattle.container_model.specs.State.{has_key_kind, is_hashed_kind}
+use Rattle.key_extract.specs.Keys.{parts_at, probe_fits, probe_is_whole}
 use Rattle.table_cmd.specs.declared.command.Value.{Value}
 use Rattle.table_cmd.specs.declared.fault.Fault.{Fault}
 use Rattle.table_cmd.specs.declared.fault.Fault.TheVariants as faults
@@ -18,8 +18,8 @@ use Rattle.table_step.specs.declared.outcome.Outcome.{Outcome}
 use Rattle.table_step.specs.declared.outcome.Outcome.TheVariants as outcomes
 use Rattle.table_step.specs.Step.{TableState, Cells, Step, Steps, refused, told, at_index, at_key, by_key, index_at, found_by, find_probe, counted_by, count_probe, probe_order}
 use Rattle.table_step.specs.Told.{Answers, IsKeyAt}
-use Rattle.table_step.proofs.Declared.{parts_at_place}
-use Rattle.table_step.proofs.Rows.{probe_fits_key}
+use Rattle.table_step.proofs.Declared.{kind_at_place, parts_at_place}
+use Rattle.table_step.proofs.Rows.{probe_fits_key, probe_is_whole_key}
 use Rattle.table_step.proofs.Told.{steps_refused, steps_told}
 
 module _ (t : TableState) (name : List ℕ) (step : ℕ → IndexSpec → Step) where
@@ -63,6 +63,9 @@ module _ (shape : TableShape) (name : List ℕ) (values : List Value) (place : �
     step_is = keyed_step (Some probe) keyed is_probe;
     within = within;
     fits = subst (λ parts. IsTrue (probe_fits parts probe)) (sym (parts_at_place shape place index there)) (probe_fits_key shape.columns index values probe is_probe);
+    whole = λ records declared hashed.
+        subst (λ parts. IsTrue (probe_is_whole parts probe)) (sym (ap (λ keys. parts_at keys place) declared.keys ∙ parts_at_place shape place index there))
+        (probe_is_whole_key shape.columns index values probe is_probe (subst (λ kind. IsTrue (is_hashed_kind kind)) (kind_at_place shape place index records there declared.specs) hashed));
   }
 
 -- a search by a key of the named index, from what was told

@@ -1,12 +1,13 @@
 -- Cells taken one after another from the values of a key.
 use Rattle.std.proofs.Common.{◌≡◌, ℕ, zero, suc, ◌+◌, ◌<◌, ◌≤◌, Bool, true, false, cond, List, [], ◌∷◌, ◌++◌, length, get_or, drop, Option, Some, None, refl, ap, sym, ◌∙◌, subst, arith, append_assoc}
-use Rattle.std.specs.Prelude.{option_map, option_and_then, slice_get, IsTrue, nat_le}
+use Rattle.std.specs.Prelude.{option_map, option_and_then, slice_get, IsTrue, nat_le, ◌==◌, ◌||◌, not}
 use Rattle.std.proofs.lemmas.Bool.{and_parts}
 use Rattle.std.proofs.lemmas.Bool.Decides.{nat_tests}
+use Rattle.container_model.specs.State.{is_hashed_kind}
 use Rattle.key_extract.specs.declared.cell.Cell.{Cell}
 use Rattle.key_extract.specs.declared.key.Part.{Part}
 use Rattle.table_cmd.specs.declared.command.Value.{Value}
-use Rattle.key_extract.specs.Keys.{probe_fits}
+use Rattle.key_extract.specs.Keys.{probe_fits, probe_is_whole}
 use Rattle.table_schema.specs.declared.column.Column.{Column}
 use Rattle.table_schema.specs.declared.column.IndexSpec.{IndexSpec}
 use Rattle.table_step.specs.Values.{cell_for, part_cells, parts_of, are_enough, probe_from}
@@ -94,6 +95,17 @@ probe_fits_key columns index values probe e =
     let s = searched_by (are_enough index (length values)) (part_cells columns (parts_of index) values) probe e in
     let some : IsTrue (nat_le 1 (length values)) = (and_parts (nat_le 1 (length values)) _ s.0).0 in
     let many = part_cells_as_many columns (parts_of index) values probe s.1 in
+    grind (arith, nat_tests)
+
+-- and is all of it where the index is hashed
+pub probe_is_whole_key : (columns : List Column) (index : IndexSpec) (values : List Value) (probe : List Cell) → probe_from columns index values ≡ Some probe → IsTrue (is_hashed_kind index.kind) → IsTrue (probe_is_whole (parts_of index) probe)
+unfolding probe_from
+probe_is_whole_key columns index values probe e hashed =
+    let s = searched_by (are_enough index (length values)) (part_cells columns (parts_of index) values) probe e in
+    let enough = and_parts (nat_le 1 (length values)) (not (is_hashed_kind index.kind) || (length values == length (parts_of index))) s.0 in
+    let some : IsTrue (nat_le 1 (length values)) = enough.0 in
+    let all : IsTrue (length values == length (parts_of index)) = subst (λ b. IsTrue (not b || (length values == length (parts_of index)))) hashed enough.1 in
+    let many = (part_cells_as_many columns (parts_of index) values probe s.1).cells_are in
     grind (arith, nat_tests)
 
 -- the search key is the cells of the parts, where there are enough values

@@ -2,8 +2,9 @@
 use Rattle.std.specs.Prelude.{◌≡◌, ℕ, ◌<◌, ◌++◌, ◌⊎◌, IsTrue, List, [], length, map, unwrap_or}
 use Rattle.container_model.specs.declared.handle.Handle.{Handle}
 use Rattle.container_model.specs.declared.handle.Entry.{Entry}
-use Rattle.container_model.specs.State.{State, row_of}
-use Rattle.key_extract.specs.Keys.{parts_at, probe_fits}
+use Rattle.container_model.specs.Find.{kind_at}
+use Rattle.container_model.specs.State.{State, row_of, is_hashed_kind}
+use Rattle.key_extract.specs.Keys.{parts_at, probe_fits, probe_is_whole}
 use Rattle.table_cmd.specs.declared.command.Value.{Value}
 use Rattle.table_cmd.specs.declared.reply.Record.{Record}
 use Rattle.table_cmd.specs.Answer.{Answer, answer_text}
@@ -31,6 +32,8 @@ pub record IsKeyAt (shape : TableShape) (name : List ℕ) (values : List Value) 
   pub step_is : (t : TableState) → t.shape ≡ shape → (step : ℕ → Cells → Step) → at_key t name values step ≡ step place probe
   pub within : place < length shape.indices
   pub fits : IsTrue (probe_fits (parts_at (keys_of shape) place) probe)
+  -- a hashed index is searched by a whole key
+  pub whole : (records : State Keys Cells) → HasIndices shape records → IsTrue (is_hashed_kind (kind_at records place)) → IsTrue (probe_is_whole (parts_at records.keys place) probe)
 
 -- the records of handles
 abbrev pub entries_of : List (Entry Cells) → List Handle → List (Entry Cells)

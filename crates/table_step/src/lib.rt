@@ -14,6 +14,3 @@ mod values;
 pub use outcome::Outcome;
 pub use table::Table;
 pub use tell::{refuse, refuse_memory};
-
-#[cfg(test)]
-mod tests;

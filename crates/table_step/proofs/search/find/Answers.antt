@@ -7,6 +7,9 @@ use Rattle.table_step.specs.Told.{Answers, table_of}
 use Rattle.table_step.proofs.Keyed.{find_is, steps_refused_by_key, steps_told_by_key}
 use Rattle.table_step.proofs.search.find.Goals as goal
 
+pub find-requires-clause-whole : goal.find-requires-clause-whole
+find-requires-clause-whole c = c.in-Ok.ensures.key.whole c.args.records.now c.requires.indices
+
 pub returns-in-Ok-find-clause-answer : goal.returns-in-Ok-find-clause-answer
 returns-in-Ok-find-clause-answer c =
     let t = table_of c.args.spec.now c.args.records.now in

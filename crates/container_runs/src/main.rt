@@ -1,0 +1,68 @@
+//! Runs drawn scripts on the container and on its first version over plain lists by turns, and compares each answer,
+//! and after each write each view.
+//!
+//! A line has the indices of a group, as `indices` reads them, how many scripts and calls it had, the refusals by
+//! their names, and the differences. With a difference the status is 1.
+#![tactic(auto)]
+
+mod draw;
+mod indices;
+mod pair;
+mod plain;
+mod script;
+mod tally;
+
+use draw::Draw;
+use indices::Indices;
+use script::run_script;
+use std::alloc::Global;
+use std::io;
+use std::process::ExitCode;
+use tally::Tally;
+
+const SCRIPTS: u64 = 400;
+
+const GROUPS: [&str; 12] = [
+    "sequenced",
+    "ordered:0",
+    "hashed!0",
+    "random ranked:-1",
+    "sequenced ordered!0 hashed:1",
+    "ranked!0-12 hashed:2 random",
+    "ordered:01 ranked:-1-2 hashed:012",
+    "hashed!01 hashed:1 sequenced",
+    "ranked:2 ordered:-20-1 ordered!10",
+    "sequenced sequenced random random ordered:0 ordered:1 ranked:0 ranked:1",
+    "sequenced random ordered!01 ordered:-1 ranked!20-1 ranked:-2 hashed!012 hashed:1",
+    "hashed!0 hashed!12 ordered!0 ranked!1-02 ranked:01",
+];
+
+fn run_group(alloc: Global, indices: &Indices, seed: u64) -> io::Result<Tally> {
+    let mut tally = Tally::default();
+    for number in 0..SCRIPTS {
+        let mut draw = Draw::new(seed, number);
+        run_script(alloc, indices, &mut draw, &mut tally)?;
+    }
+    Ok(tally)
+}
+
+fn run(rt: &HostRuntime) -> io::Result<ExitCode> {
+    let alloc = rt.alloc();
+    let mut total = Tally::default();
+    for (number, text) in GROUPS.iter().enumerate() {
+        let indices = Indices::read(alloc, text)?;
+        let tally = run_group(alloc, &indices, number as u64)?;
+        tally.print(rt, text)?;
+        total.add(&tally);
+    }
+    total.print(rt, "total")?;
+    Ok(if total.is_clean() {
+        ExitCode::SUCCESS
+    } else {
+        ExitCode::FAILURE
+    })
+}
+
+fn main(rt: HostRuntime) -> io::Result<ExitCode> {
+    run(&rt)
+}

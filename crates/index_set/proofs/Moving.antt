@@ -1,0 +1,70 @@
+-- A change of one index alone, in place.
+use Rattle.std.proofs.Common.{◌≡◌, ◌≢◌, ℕ, ◌<◌, List, length, get_or, set, [], sym, ap, ◌∙◌, subst, arith, ⊎_elim}
+use Rattle.std.specs.Prelude.{Bool, IsTrue}
+use Rattle.std.specs.declared.cmp.Ordering.{Ordering}
+use Rattle.std.proofs.lemmas.Bool.{cases_eq}
+use Rattle.std.proofs.lemmas.List.{length-map, length-set, get_or-map, get_or-set_same, get_or-set_other}
+use Rattle.node_store.specs.declared.Node.{Node}
+use Rattle.node_store.specs.Column.{KeepsOthers}
+use Rattle.node_store.specs.Store.{Store}
+use Rattle.node_store.specs.ByNode.{column_of, contents}
+use Rattle.container_model.specs.State.{is_sequence_kind}
+use Rattle.any_index.specs.declared.index.AnyIndex.{AnyIndex}
+use Rattle.any_index.specs.Spelled.{HasRoom, list_of, col_of}
+use Rattle.any_index.specs.Keyed as any
+use Rattle.index_set.specs.declared.set.IndexSet.{IndexSet}
+use Rattle.index_set.specs.Indices.{IsPlaced, ArePlaced, lists_in, HaveRoom, AreKeyed}
+use Rattle.index_set.specs.Set.{IsSound, lists_of, kind_at}
+use Rattle.index_set.proofs.ByKind.{AreKeyed_sequence}
+use Rattle.index_set.proofs.Each.{each_set, each_listed, same_lists}
+use Rattle.index_set.proofs.Frame.{Steps, placed_set, list_kept, keyed_kept}
+use Rattle.index_set.proofs.Reading.{some_spec, kind_here}
+
+module _ {R E : Type 0} {has_key : E → ℕ → Bool} (s : IndexSet R E) (sound : IsSound has_key s) (k : ℕ) (lt : k < length s.specs.items) (i new : AnyIndex) (e : i ≡ get_or s.indices.items k i)
+    (t : Store R) (step : Steps (column_of s.store) (column_of t) i new) where
+  keep : KeepsOthers (column_of s.store) (column_of t) k
+  keep = subst (KeepsOthers (column_of s.store) (column_of t)) (ap col_of e ∙ (sound.placed.each k some_spec i lt).col) step.others
+
+  pub placed_moved : ArePlaced (column_of t) s.specs.items (set s.indices.items k new)
+  placed_moved = placed_set (column_of s.store) (column_of t) s.specs.items s.indices.items k i new lt sound.placed (subst (λ (z : AnyIndex). Steps (column_of s.store) (column_of t) z new) e step)
+
+  pub lists_moved : (xs : List Node) → list_of (column_of t) new ≡ xs → lists_in (column_of t) (set s.indices.items k new) ≡ set (lists_of s) k xs
+  lists_moved xs is =
+      same_lists (lists_in (column_of t) (set s.indices.items k new)) (set (lists_of s) k xs)
+      (length-map (set s.indices.items k new) (list_of (column_of t)) ∙ (length-set s.indices.items k new ∙ sym (length-set (lists_of s) k xs ∙ length-map s.indices.items (list_of (column_of s.store)))))
+      (λ j below.
+      let within : j < length s.indices.items = omega (arith, below, length-map (set s.indices.items k new) (list_of (column_of t)), length-set s.indices.items k new) in
+      let one = sound.placed.one_each in
+      let seen : get_or (lists_in (column_of t) (set s.indices.items k new)) j [] ≡ list_of (column_of t) (get_or (set s.indices.items k new) j i) =
+      get_or-map (list_of (column_of t)) (set s.indices.items k new) j i [] (omega (arith, within, length-set s.indices.items k new)) in
+      ⊎_elim
+      (λ (same : j ≡ k).
+      seen
+      ∙ (ap (λ z. list_of (column_of t) (get_or (set s.indices.items k new) z i)) same
+      ∙ (ap (list_of (column_of t)) (get_or-set_same s.indices.items k new i (omega (arith, lt, one)))
+      ∙ (is ∙ sym (ap (λ z. get_or (set (lists_of s) k xs) z []) same ∙ get_or-set_same (lists_of s) k xs [] (omega (arith, lt, one, length-map s.indices.items (list_of (column_of s.store)))))))))
+      (λ (apart : j ≢ k).
+      let there : j < length s.specs.items = omega (arith, within, one) in
+      seen
+      ∙ (ap (list_of (column_of t)) (get_or-set_other s.indices.items k j new i apart)
+      ∙ (list_kept (column_of s.store) (column_of t) k j _ (get_or s.indices.items j i) (sound.placed.each j some_spec i there) keep apart
+      ∙ (each_listed (list_of (column_of s.store)) s.specs.items s.indices.items one j some_spec i there ∙ sym (get_or-set_other (lists_of s) k j xs [] apart)))))
+      (cases_eq j k))
+
+  pub room_moved : (HasRoom i → HasRoom new) → HaveRoom s.specs.items s.indices.items → HaveRoom s.specs.items (set s.indices.items k new)
+  room_moved kept h = record {
+    each =
+        each_set (λ _ _ x. HasRoom x) (λ _ _ x. HasRoom x) s.specs.items s.indices.items k new sound.placed.one_each lt h.each
+        (λ d. kept (subst HasRoom (sym e) (h.each k some_spec i lt)))
+        (λ j spec x apart room. room);
+  }
+
+  -- a sequence has no keys, and the others are as they were
+  pub keyed_moved : IsTrue (is_sequence_kind (kind_at s k)) → contents t ≡ contents s.store → (order : ℕ → R → R → Ordering) (hash_of : ℕ → R → ℕ) → AreKeyed order hash_of s.store s.specs.items s.indices.items → AreKeyed order hash_of t s.specs.items (set s.indices.items k new)
+  keyed_moved kind same order hash_of h = record {
+    each =
+        each_set (λ j spec x. IsPlaced (column_of s.store) j spec x × any.IsKeyed order hash_of s.store x) (λ _ _ x. any.IsKeyed order hash_of t x) s.specs.items s.indices.items k new sound.placed.one_each lt
+        (λ j d x below. (sound.placed.each j d x below, h.each j d x below))
+        (λ d. AreKeyed_sequence order hash_of t new _ (subst (λ z. IsTrue (is_sequence_kind z)) (sym (step.kind ∙ kind_here s sound k lt i e)) kind))
+        (λ j spec x apart p. keyed_kept order hash_of s.store t k j spec x _ _ p.0 keep same apart (list_kept (column_of s.store) (column_of t) k j spec x p.0 keep apart) p.1);
+  }

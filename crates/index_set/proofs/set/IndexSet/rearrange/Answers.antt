@@ -1,0 +1,30 @@
+use Rattle.index_set.proofs.Frame.{steps_of}
+use Rattle.index_set.proofs.Moving.{placed_moved, lists_moved, room_moved, keyed_moved}
+use Rattle.index_set.proofs.Stores.{IsStore_kept}
+use Rattle.index_set.proofs.set.IndexSet.rearrange.Goals as goal
+
+pub returns-clause-sound : goal.returns-clause-sound
+returns-clause-sound g c =
+    let old = c.requires.sound in
+    record {
+      some = old.some;
+      few = old.few;
+      keys = old.keys;
+      placed = placed_moved c.args.self.now c.requires.sound c.args.index c.requires.index c.index_mut.result.now c.rearrange.new.self c.index_mut.ensures.value c.rearrange.new.store (steps_of c.rearrange.ensures.sound c.rearrange.ensures.kind c.rearrange.ensures.col c.rearrange.ensures.index c.rearrange.ensures.others);
+      nodes = IsStore_kept c.args.self.now.store c.rearrange.new.store c.rearrange.ensures.contents old.nodes;
+    }
+
+pub returns-clause-lists : goal.returns-clause-lists
+returns-clause-lists g c =
+    lists_moved c.args.self.now c.requires.sound c.args.index c.requires.index c.index_mut.result.now c.rearrange.new.self c.index_mut.ensures.value c.rearrange.new.store (steps_of c.rearrange.ensures.sound c.rearrange.ensures.kind c.rearrange.ensures.col c.rearrange.ensures.index c.rearrange.ensures.others)
+    c.args.order.now c.rearrange.ensures.list
+
+pub returns-clause-room : goal.returns-clause-room
+returns-clause-room g c =
+    room_moved c.args.self.now c.requires.sound c.args.index c.requires.index c.index_mut.result.now c.rearrange.new.self c.index_mut.ensures.value c.rearrange.new.store (steps_of c.rearrange.ensures.sound c.rearrange.ensures.kind c.rearrange.ensures.col c.rearrange.ensures.index c.rearrange.ensures.others)
+    c.rearrange.ensures.room
+
+pub returns-clause-keyed : goal.returns-clause-keyed
+returns-clause-keyed g c =
+    keyed_moved c.args.self.now c.requires.sound c.args.index c.requires.index c.index_mut.result.now c.rearrange.new.self c.index_mut.ensures.value c.rearrange.new.store (steps_of c.rearrange.ensures.sound c.rearrange.ensures.kind c.rearrange.ensures.col c.rearrange.ensures.index c.rearrange.ensures.others)
+    c.requires.kind c.rearrange.ensures.contents (g.E.Extract.order_of c.args.self.now.keys) (g.E.Extract.hash_of c.args.self.now.keys)

@@ -1,0 +1,193 @@
+//! Replies at the ends of their ranges, refusals without a table, and the buffer.
+
+use crate::steps::{kind_of, ready_out};
+use std::alloc::{AllocError, Global};
+use table_cmd::{
+    Cell, Fault, Handle, Heading, Out, READY_ROOM, Record, Reply, Row, Text, write_reply,
+};
+use table_step::{refuse, refuse_memory};
+
+const FIRST: Handle = Handle { slot: 0, stamp: 1 };
+
+const LAST: Handle = Handle {
+    slot: u32::MAX,
+    stamp: u64::MAX,
+};
+
+const FAULTS: [Fault; 15] = [
+    Fault::Line,
+    Fault::Json,
+    Fault::Command,
+    Fault::Table,
+    Fault::Index,
+    Fault::Kind,
+    Fault::Row,
+    Fault::Key,
+    Fault::Handle,
+    Fault::Place,
+    Fault::Order,
+    Fault::Overflow,
+    Fault::Full,
+    Fault::Spent,
+    Fault::Memory,
+];
+
+fn found(at: u64, handle: Option<Handle>) -> Reply<'static> {
+    Reply::Found { at, handle }
+}
+
+fn counted(at: u64, number: u64) -> Reply<'static> {
+    Reply::Counted { at, number }
+}
+
+fn push(out: &mut Out, text: &str) -> Result<(), AllocError> {
+    out.try_push(text.as_bytes()).map_err(|_| AllocError)
+}
+
+fn tell(out: &mut Out, reply: &Reply) -> Result<(), AllocError> {
+    write_reply(reply, out).map_err(|_| AllocError)
+}
+
+/// Replies of each form without rows.
+pub fn tell_replies(alloc: Global) -> Result<Out, AllocError> {
+    let mut out = Out::new(alloc);
+    push(&mut out, "=== replies\n")?;
+    tell(&mut out, &found(1, Some(FIRST)))?;
+    tell(&mut out, &found(0, None))?;
+    tell(&mut out, &found(u64::MAX, Some(LAST)))?;
+    tell(&mut out, &counted(3, 2))?;
+    tell(&mut out, &counted(u64::MAX, u64::MAX))?;
+    tell(
+        &mut out,
+        &Reply::Banned {
+            at: 2,
+            index: "u",
+            by: FIRST,
+        },
+    )?;
+    tell(
+        &mut out,
+        &Reply::Listed {
+            at: 7,
+            headings: &[],
+            records: &[],
+        },
+    )?;
+    for fault in FAULTS {
+        push(&mut out, fault.name())?;
+        push(&mut out, " ")?;
+        tell(&mut out, &Reply::Fault(fault))?;
+    }
+    Ok(out)
+}
+
+/// Each fault as it is told without a table.
+pub fn tell_refusals(alloc: Global) -> Result<String, AllocError> {
+    let mut report = String::from_str(alloc, "=== refusals\n")?;
+    let mut out = ready_out(alloc)?;
+    let outcome = refuse(Fault::Line, &mut out);
+    push_told(alloc, kind_of(outcome), &out, &mut report)?;
+    let mut out = ready_out(alloc)?;
+    let outcome = refuse_memory(&mut out);
+    push_told(alloc, kind_of(outcome), &out, &mut report)?;
+    Ok(report)
+}
+
+fn push_told(alloc: Global, kind: &str, out: &Out, report: &mut String) -> Result<(), AllocError> {
+    let text = String::from_utf8_lossy(alloc, out.bytes())?;
+    report.push_str(kind)?;
+    report.push_str(" ")?;
+    report.push_str(text.as_str())
+}
+
+fn heading(alloc: Global, name: &str, place: usize) -> Result<Heading, AllocError> {
+    Ok(Heading {
+        name: Text::copy_of(alloc, name)?,
+        place,
+    })
+}
+
+fn row(alloc: Global, id: i64, group: &str) -> Result<Row, AllocError> {
+    let mut cells = Vec::new(alloc);
+    cells.push(Cell::Int(id))?;
+    cells.push(Cell::Text(Text::copy_of(alloc, group)?))?;
+    Ok(Row::new(cells))
+}
+
+fn wide_row(alloc: Global) -> Result<Row, AllocError> {
+    let mut cells = Vec::new(alloc);
+    cells.push(Cell::Bool(true))?;
+    cells.push(Cell::Bool(false))?;
+    cells.push(Cell::Int(i64::MIN))?;
+    Ok(Row::new(cells))
+}
+
+fn tell_records(alloc: Global, out: &mut Out, headings: &[Heading]) -> Result<(), AllocError> {
+    let plain = row(alloc, 1, "a")?;
+    let escaped = row(alloc, -5, "\"\\/\n\r\t\u{8}\u{c}\u{1}\u{1f}\u{7f}\u{e9}")?;
+    let wide = wide_row(alloc)?;
+    let records = [
+        Record {
+            handle: Handle { slot: 1, stamp: 2 },
+            row: &plain,
+        },
+        Record {
+            handle: FIRST,
+            row: &escaped,
+        },
+        Record {
+            handle: Handle { slot: 2, stamp: 9 },
+            row: &wide,
+        },
+    ];
+    tell(
+        out,
+        &Reply::Listed {
+            at: 2,
+            headings,
+            records: &records,
+        },
+    )
+}
+
+/// Rows below headings that are in the order of their names, and below others, of which two are of no cell of some rows.
+pub fn tell_rows(alloc: Global) -> Result<Out, AllocError> {
+    let mut out = Out::new(alloc);
+    push(&mut out, "=== rows\n")?;
+    let by_name = [heading(alloc, "g", 1)?, heading(alloc, "id", 0)?];
+    tell_records(alloc, &mut out, &by_name)?;
+    let as_given = [
+        heading(alloc, "z", 0)?,
+        heading(alloc, "a", 2)?,
+        heading(alloc, "\"", 3)?,
+    ];
+    tell_records(alloc, &mut out, &as_given)?;
+    Ok(out)
+}
+
+fn push_state(alloc: Global, out: &Out, report: &mut String) -> Result<(), AllocError> {
+    let text = String::from_utf8_lossy(alloc, out.bytes())?;
+    let state = format!(in alloc; "{} '{}'\n", out.bytes().len(), text.as_str())?;
+    report.push_str(state.as_str())
+}
+
+/// A buffer's length and bytes as it takes texts and gives them back.
+pub fn tell_buffer(alloc: Global) -> Result<String, AllocError> {
+    let mut report = String::from_str(alloc, "=== buffer\n")?;
+    let mut out = Out::new(alloc);
+    push_state(alloc, &out, &mut report)?;
+    out.ready().map_err(|_| AllocError)?;
+    out.push(b"one ");
+    out.push(b"two ");
+    out.try_push(b"three ").map_err(|_| AllocError)?;
+    out.try_push_all(&["four", "", "."])
+        .map_err(|_| AllocError)?;
+    push_state(alloc, &out, &mut report)?;
+    out.truncate(3);
+    push_state(alloc, &out, &mut report)?;
+    out.clear();
+    push_state(alloc, &out, &mut report)?;
+    out.push(&[b'x'; READY_ROOM]);
+    push_state(alloc, &out, &mut report)?;
+    Ok(report)
+}

@@ -1,0 +1,172 @@
+//! A script's lines as the stream of a session, sent in many ways.
+ghost use Rattle.std.specs.Prelude.{◌<◌};
+
+use crate::faulty::{first_wrong_read, first_wrong_write};
+use crate::sessions::{are_shared_alike, is_served_alike};
+use std::alloc::{AllocError, Global};
+use table_cmd::Out;
+use table_engine::Engine;
+use table_schema::Schema;
+
+/// The longest stream that is read at once.
+const MAX_READ: usize = 4096;
+
+/// The longest stream that is cut at every place.
+const MAX_CUT: usize = 512;
+
+/// A stream on a schema, and the answers to it.
+#[derive(Clone, Copy)]
+pub struct Sent<'a> {
+    pub alloc: Global,
+    pub schema: &'a Schema,
+    pub stream: &'a [u8],
+    pub answers: &'a [u8],
+}
+
+impl Sent<'_> {
+    /// Whether the stream is read at once.
+    pub fn is_short(&self) -> bool {
+        self.stream.len() <= MAX_READ
+    }
+
+    /// How far apart the places are at which the stream is cut: one byte in a stream of up to 512 bytes, and else so far that
+    /// there are at most 32.
+    pub fn stride(&self) -> usize
+        ensures { 0 < result }
+    {
+        if self.stream.len() <= MAX_CUT {
+            1
+        } else {
+            apart(self.stream.len())
+        }
+    }
+}
+
+/// How far apart at most 32 places of so many are.
+pub fn apart(places: usize) -> usize
+    ensures { 0 < result }
+{
+    places / 32 + 1
+}
+
+// What the one session of a new engine is answered, where its stream comes as a first piece of so many bytes, and then
+// in pieces of another length.
+fn answered(sent: Sent, stream: &[u8], first: usize, then: usize) -> Result<Out, AllocError> {
+    let alloc = sent.alloc;
+    let mut engine = Engine::new(alloc, sent.schema, 1)?;
+    let mut out = Out::new(alloc);
+    let (front, back) = stream.split_at(first.min(stream.len()));
+    engine.feed(0, front, &mut out).map_err(|_| AllocError)?;
+    for piece in back.chunks(then.max(1)) {
+        engine.feed(0, piece, &mut out).map_err(|_| AllocError)?;
+    }
+    engine.finish(0, &mut out).map_err(|_| AllocError)?;
+    Ok(out)
+}
+
+// The first place at which the stream is cut in two, and answered otherwise.
+fn first_wrong_cut(sent: Sent) -> Result<Option<usize>, AllocError> {
+    for at in (0..sent.stream.len()).step_by(sent.stride()) {
+        let out = answered(sent, sent.stream, at, sent.stream.len())?;
+        if out.bytes() != sent.answers {
+            return Ok(Some(at));
+        }
+    }
+    Ok(None)
+}
+
+// The first length of pieces that are answered otherwise. With `is_ended` the last newline is not sent.
+fn first_wrong_piece(sent: Sent, is_ended: bool) -> Result<Option<usize>, AllocError> {
+    let whole = sent.stream;
+    let stream = if is_ended {
+        whole.strip_suffix(b"\n").unwrap_or(whole)
+    } else {
+        whole
+    };
+    for length in [1, 2, 1000] {
+        let out = answered(sent, stream, 0, length)?;
+        if out.bytes() != sent.answers {
+            return Ok(Some(length));
+        }
+    }
+    Ok(None)
+}
+
+/// The lines, each with a newline.
+fn stream_of(alloc: Global, lines: &[Vec<u8>]) -> Result<Vec<u8>, AllocError> {
+    let mut stream = Vec::new(alloc);
+    for line in lines {
+        stream.extend_from_slice(line)?;
+        stream.push(b'\n')?;
+    }
+    Ok(stream)
+}
+
+fn report_way(
+    alloc: Global,
+    way: &str,
+    wrong: Option<usize>,
+    report: &mut String,
+) -> Result<(), AllocError> {
+    report.push_str("  ")?;
+    report.push_str(way)?;
+    match wrong {
+        None => report.push_str(": the same answers\n"),
+        Some(at) => report.push_str(format!(in alloc; ": other answers at {at}\n")?.as_str()),
+    }
+}
+
+/// Adds to the report whether the lines are answered the same in whatever way they are sent.
+pub fn tell_ways(
+    alloc: Global,
+    schema: &Schema,
+    lines: &[Vec<u8>],
+    each: &[Vec<u8>],
+    report: &mut String,
+) -> Result<(), AllocError> {
+    let stream = stream_of(alloc, lines)?;
+    let answers = each.concat(alloc)?;
+    let sent = Sent {
+        alloc,
+        schema,
+        stream: &stream,
+        answers: &answers,
+    };
+    report_way(alloc, "cut in two", first_wrong_cut(sent)?, report)?;
+    report_way(
+        alloc,
+        "in small pieces",
+        first_wrong_piece(sent, false)?,
+        report,
+    )?;
+    report_way(
+        alloc,
+        "without the last newline",
+        first_wrong_piece(sent, true)?,
+        report,
+    )?;
+    report_way(
+        alloc,
+        "over a reader and a writer",
+        is_served_alike(sent)?,
+        report,
+    )?;
+    report_way(
+        alloc,
+        "by two sessions",
+        are_shared_alike(sent, lines, each)?,
+        report,
+    )?;
+    report_way(
+        alloc,
+        "again after a broken read",
+        first_wrong_read(sent)?,
+        report,
+    )?;
+    report_way(
+        alloc,
+        "again after a broken write",
+        first_wrong_write(sent)?,
+        report,
+    )
+}
