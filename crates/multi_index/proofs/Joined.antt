@@ -1,5 +1,5 @@
 -- What becomes of a container's nodes, lists and slots when a node joins the store and then each list.
-use Rattle.std.proofs.Common.{◌≡◌, ℕ, ◌+◌, ◌<◌, ◌==◌, Bool, false, List, [], ◌∷◌, ◌++◌, length, get_or, Option, Some, None, refl, sym, ap, ◌∙◌, subst, arith}
+use Rattle.std.proofs.Common.{◌≡◌, ℕ, ◌+◌, ◌<◌, ◌==◌, Bool, false, List, [], ◌∷◌, ◌++◌, Option, Some, None, refl, sym, ap, ◌∙◌, subst, arith}
 use Rattle.std.specs.Prelude.{IsTrue, option_map}
 use Rattle.std.specs.List.{AllByRecursion}
 use Rattle.std.specs.Cmp.{IsTotalOrder}
@@ -11,29 +11,29 @@ use Rattle.list_model.proofs.Lists.{EachPair-push}
 use Rattle.node_store.specs.declared.Node.{Node}
 use Rattle.node_store.specs.Store.{Store, IsStore, IsNodeOf, number_of}
 use Rattle.node_store.specs.ByNode.{contents, record_of, AddsNode}
-use Rattle.node_store.proofs.ByNode.{records_kept}
 use Rattle.container_model.specs.declared.handle.Entry.{Entry}
 use Rattle.container_model.specs.declared.handle.Spec.{Spec}
 use Rattle.container_model.specs.Insert.{At, entered_from, is_free, ban_from as ban_of_handles}
-use Rattle.container_model.proofs.Keys.{has_key-of_unique}
 use Rattle.container_model.proofs.FreeSlot.{free_slot-is_free}
 use Rattle.container_model.proofs.Handles.{free_is_apart}
 use Rattle.slot_table.specs.Slots.{first_free, with_item}
 use Rattle.index_set.specs.declared.set.IndexSet.{IndexSet}
 use Rattle.index_set.specs.Set as set
 use Rattle.index_set.specs.Set.{store_of, keys_of, specs_of, lists_of, IsSound, IsKeyed, IsOfSame}
+use Rattle.index_set.specs.Indices.{LackIt}
 use Rattle.index_set.proofs.Members.{nodes_held, older}
+use Rattle.index_set.proofs.Keys.{unique_kept}
+use Rattle.index_set.proofs.StaysUnique.{unique_after_enter}
 use Rattle.index_set.specs.Each.{changed_from}
-use Rattle.index_set.specs.Lists.{entered_at, ban_from, AreUniqueFrom}
+use Rattle.index_set.specs.Lists.{entered_at, ban_from}
 use Rattle.multi_index.specs.declared.by_row.ByRow.{ByRow}
 use Rattle.multi_index.specs.Seen.{IsLinked}
 use Rattle.multi_index.specs.Linked.{handle_of, entries_in, handles_in, IsKnown}
 use Rattle.multi_index.specs.LeadsTo.{LeadsTo}
 use Rattle.multi_index.proofs.Bans.{ban_known}
-use Rattle.multi_index.proofs.Contents.{known, entries_added, entries_kept, handles_added, handles_kept, known_added, record_added, record_stays}
+use Rattle.multi_index.proofs.Contents.{known, entries_added, entries_kept, handles_added, handles_kept, known_added, record_added}
 use Rattle.multi_index.proofs.Entered.{AreOlder, entered_all}
 use Rattle.multi_index.proofs.LeadsTo.{leads_kept, leads_added, free_slot-is_first_free}
-use Rattle.multi_index.proofs.Uniques.{unique_entered, unique_same, ban_same}
 
 -- nothing was found where nothing was made of it
 none_before : {A B : Type 0} (f : A → B) (o : Option A) → option_map f o ≡ None → o ≡ None
@@ -55,9 +55,6 @@ module _ {R : Type 0} (order : ℕ → R → R → Ordering) (specs : List Spec)
 
   older_now : AllByRecursion (AreOlder n) lists
   older_now = All-map _ _ (λ xs are. All-map _ _ (λ m less. omega (arith, less, number)) xs are) lists older
-
-  same_records : AllByRecursion (AllByRecursion (λ m. record_of t m ≡ record_of s m)) lists
-  same_records = All-map _ _ (λ xs are. All-map _ _ (λ m is. record_stays s t n m e adds is) xs are) lists nodes
 
   -- its record is the last entry
   pub entries_joined : entries_in (contents u) ≡ entries_in (contents s) ++ e ∷ []
@@ -81,16 +78,9 @@ module _ {R : Type 0} (order : ℕ → R → R → Ordering) (specs : List Spec)
   pub leads_joined : LeadsTo u (with_item slots (first_free slots) (Some n))
   leads_joined = leads_kept t u _ after (leads_added s t n e slots adds slot leads)
 
-  -- no unique index has a key twice
-  pub unique_joined : ((i : ℕ) (d : Spec) → i < length specs → IsTrue (get_or specs i d).unique → IsTotalOrder (order i)) → ban_of_handles order (entries_in (contents s)) (handles_in (record_of s) lists) None e.row 0 specs ≡ None →
-      AreUniqueFrom by_rows (record_of s) None 0 specs lists → AreUniqueFrom by_rows (record_of u) None 0 specs (changed_from (entered_at by_rows (record_of t) at n) 0 specs lists)
-  unique_joined total allowed unique =
-      let allowed_before : ban_from by_rows (record_of s) lists None e 0 specs ≡ None =
-      none_before (λ at. (at.0, handle_of (record_of s) at.1)) _ (sym (ban_known order (record_of s) (entries_in (contents s)) lists known_before e 0 specs) ∙ allowed) in
-      let allowed_now = ban_same by_rows (record_of s) (record_of t) lists same_records None e 0 specs ∙ allowed_before in
-      let unique_now = unique_same by_rows (record_of s) (record_of t) None 0 specs lists same_records unique in
-      subst (λ (records : Node → Option (Entry R)). AreUniqueFrom by_rows records None 0 specs (changed_from (entered_at by_rows (record_of t) at n) 0 specs lists)) (sym (records_kept t u after))
-      (unique_entered (record_of t) n e (record_added s t n e adds) by_rows specs lists (λ i d lt one. on_total (λ (x : Entry R). x.row) (total i d lt one)) at allowed_now unique_now)
+  -- what bans no row bans no record of it
+  pub allowed_joined : ban_of_handles order (entries_in (contents s)) (handles_in (record_of s) lists) None e.row 0 specs ≡ None → ban_from by_rows (record_of s) lists None e 0 specs ≡ None
+  allowed_joined allowed = none_before (λ at. (at.0, handle_of (record_of s) at.1)) _ (sym (ban_known order (record_of s) (entries_in (contents s)) lists known_before e 0 specs) ∙ allowed)
 
 module _ {E R : Type 0} (has_key : E → ℕ → Bool) (order : E → ℕ → R → R → Ordering) (hash : E → ℕ → R → ℕ) where
   abbrev orders : ByRow E → ℕ → Entry R → Entry R → Ordering
@@ -102,11 +92,7 @@ module _ {E R : Type 0} (has_key : E → ℕ → Bool) (order : E → ℕ → R 
   IsLinked_kept old new slots same contents lists sound keyed linked = record {
     sound = sound;
     keyed = keyed;
-    unique =
-        let by_keys = subst (λ ks. AreUniqueFrom (orders ks) (set.record_of old) None 0 (specs_of old) (lists_of old)) (sym same.keys) linked.unique in
-        let by_specs = subst (λ ss. AreUniqueFrom (orders (keys_of new)) (set.record_of old) None 0 ss (lists_of old)) (sym same.specs) by_keys in
-        let by_records = subst (λ (rs : Node → Option (Entry R)). AreUniqueFrom (orders (keys_of new)) rs None 0 (specs_of new) (lists_of old)) (sym (records_kept (store_of old) (store_of new) contents)) by_specs in
-        subst (λ ls. AreUniqueFrom (orders (keys_of new)) (set.record_of new) None 0 (specs_of new) ls) (sym lists) by_records;
+    unique = unique_kept orders old new None same lists contents linked.unique;
     apart = subst (EachPair _) (sym (entries_kept (store_of old) (store_of new) contents)) linked.apart;
     leads = leads_kept (store_of old) (store_of new) slots contents linked.leads;
   }
@@ -130,20 +116,17 @@ module _ {E R : Type 0} (has_key : E → ℕ → Bool) (order : E → ℕ → R 
         ∙ lists_joined (order (keys_of old).keys) (specs_of old) at (store_of old) (store_of mid) (store_of new) (lists_of old) n e slots linked.sound.nodes linked.apart linked.leads
         (nodes_held old linked.sound) (older old linked.sound) adds number count after slot
 
-    pub IsLinked_grown : IsSound (λ by. has_key by.keys) new → IsKeyed orders (λ by index a. hash by.keys index a.row) new →
+    pub IsLinked_grown : LackIt (lists_of mid) n → IsSound (λ by. has_key by.keys) new → IsKeyed orders (λ by index a. hash by.keys index a.row) new →
         ban_of_handles (order (keys_of old).keys) (entries_in (set.contents old)) (handles_in (set.record_of old) (lists_of old)) None e.row 0 (specs_of old) ≡ None →
         IsLinked has_key order hash new (with_item slots (first_free slots) (Some n))
-    IsLinked_grown sound keyed allowed = record {
+    IsLinked_grown loose sound keyed allowed = record {
       sound = sound;
       keyed = keyed;
       unique =
-          let joined =
-          unique_joined (order (keys_of old).keys) (specs_of old) at (store_of old) (store_of mid) (store_of new) (lists_of old) n e slots linked.sound.nodes linked.apart linked.leads
-          (nodes_held old linked.sound) (older old linked.sound) adds number count after slot
-          (λ i d lt one. total (keys_of old).keys i (has_key-of_unique linked.sound.keys i d lt one)) allowed linked.unique in
-          let by_lists = subst (λ ls. AreUniqueFrom (orders (keys_of old)) (set.record_of new) None 0 (specs_of old) ls) (sym new_lists) joined in
-          let by_specs = subst (λ ss. AreUniqueFrom (orders (keys_of old)) (set.record_of new) None 0 ss (lists_of new)) (sym (kept.specs ∙ same.specs)) by_lists in
-          subst (λ ks. AreUniqueFrom (orders ks) (set.record_of new) None 0 (specs_of new) (lists_of new)) (sym (kept.keys ∙ same.keys)) by_specs;
+          unique_after_enter orders (λ keys index has. on_total (λ (x : Entry R). x.row) (total keys.keys index has)) old mid new linked.sound same kept n e at before adds loose entered after
+          (allowed_joined (order (keys_of old).keys) (specs_of old) at (store_of old) (store_of mid) (store_of new) (lists_of old) n e slots linked.sound.nodes linked.apart linked.leads
+          (nodes_held old linked.sound) (older old linked.sound) adds number count after slot allowed)
+          linked.unique;
       apart =
           apart_joined (order (keys_of old).keys) (specs_of old) at (store_of old) (store_of mid) (store_of new) (lists_of old) n e slots linked.sound.nodes linked.apart linked.leads
           (nodes_held old linked.sound) (older old linked.sound) adds number count after slot;

@@ -10,5 +10,4 @@ pub mod LeadsTo
 pub mod Made
 pub mod Reading
 pub mod Sides
-pub mod Uniques
 pub mod Walks

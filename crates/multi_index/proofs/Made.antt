@@ -1,6 +1,5 @@
 -- A container without records.
-use Rattle.std.proofs.Common.{◌≡◌, ℕ, ◌<◌, ◌≤◌, ◌+◌, ◌^◌, Bool, List, [], ◌∷◌, map, Option, None, refl, sym, ap, ◌∙◌, subst, arith}
-use Rattle.std.specs.Prelude.{IsTrue}
+use Rattle.std.proofs.Common.{◌≡◌, ℕ, ◌<◌, ◌≤◌, ◌^◌, Bool, List, [], ◌∷◌, map, Option, None, refl, sym, ap, ◌∙◌, subst, arith}
 use Rattle.std.specs.declared.cmp.Ordering.{Ordering}
 use Rattle.list_model.specs.Order.{EachPair}
 use Rattle.node_store.specs.declared.Node.{Node}
@@ -13,6 +12,7 @@ use Rattle.container_model.specs.State.{State, IsState, KeysMatch, empty}
 use Rattle.container_model.proofs.Inserted.{IsState-empty}
 use Rattle.index_set.specs.declared.set.IndexSet.{IndexSet}
 use Rattle.index_set.specs.Lists.{AreUniqueFrom}
+use Rattle.index_set.proofs.Keys.{unique_empty}
 use Rattle.index_set.specs.Set.{store_of, keys_of, specs_of, contents, record_of, lists_of, IsSound, IsKeyed}
 use Rattle.multi_index.specs.declared.by_row.ByRow.{ByRow}
 use Rattle.multi_index.specs.LeadsTo.{LeadsTo}
@@ -24,10 +24,6 @@ use Rattle.multi_index.proofs.LeadsTo.{leads-empty}
 no_handles : {R : Type 0} (records : Node → Option (Entry R)) (specs : List Spec) → handles_in records (map (λ _. []) specs) ≡ map (λ _. []) specs
 no_handles records [] = refl
 no_handles records (spec ∷ specs) = ap (λ ls. [] ∷ ls) (no_handles records specs)
-
-unique-empty : {R : Type 0} (order : ℕ → R → R → Ordering) (records : Node → Option R) (index : ℕ) (specs : List Spec) → AreUniqueFrom order records None index specs (map (λ _. []) specs)
-unique-empty order records index [] = tt
-unique-empty order records index (spec ∷ specs) = ((λ one. tt), unique-empty order records (index + 1) specs)
 
 module _ {E R : Type 0} (set : IndexSet (Entry R) (ByRow E)) (keys : E) (specs : List Spec) (max first_write : ℕ)
     (lists : lists_of set ≡ map (λ _. []) specs) (none : store_of set ≡ empty_store) (same_keys : (keys_of set).keys ≡ keys) (same_specs : specs_of set ≡ specs) where
@@ -50,7 +46,7 @@ module _ {E R : Type 0} (set : IndexSet (Entry R) (ByRow E)) (keys : E) (specs :
       sound = sound;
       keyed = keyed;
       unique = subst (AreUniqueFrom (λ index a b. order (keys_of set).keys index a.row b.row) (record_of set) None 0 (specs_of set)) (sym (lists ∙ ap (map (λ _. [])) (sym same_specs)))
-          (unique-empty (λ index a b. order (keys_of set).keys index a.row b.row) (record_of set) 0 (specs_of set));
+          (unique_empty (λ index a b. order (keys_of set).keys index a.row b.row) (record_of set) 0 (specs_of set));
       apart = subst (EachPair _) (sym no_entries) tt;
       leads = subst (λ (s : Store (Entry R)). LeadsTo s []) (sym none) (leads-empty R);
     };

@@ -1,6 +1,6 @@
 -- What the calls at one index of a container read.
-use Rattle.std.proofs.Common.{◌≡◌, ℕ, ◌<◌, Bool, true, cond, List, [], ◌∷◌, false, length, map, get_or, Option, Some, Ok, Err, refl, sym, ap, ◌∙◌, subst, arith}
-use Rattle.std.specs.Prelude.{find, option_map}
+use Rattle.std.proofs.Common.{◌≡◌, ℕ, ◌<◌, Bool, true, cond, List, [], length, map, Option, Ok, Err, sym, ap, ◌∙◌, arith}
+use Rattle.std.specs.Prelude.{option_map}
 use Rattle.std.specs.List.{AllByRecursion}
 use Rattle.std.specs.declared.cmp.Ordering.{Ordering}
 use Rattle.std.proofs.lemmas.List.{get_or-map}
@@ -9,13 +9,12 @@ use Rattle.list_model.proofs.InOrder.{All-map}
 use Rattle.list_model.proofs.Lists.{All-at}
 use Rattle.container_model.specs.declared.handle.Entry.{Entry}
 use Rattle.container_model.specs.declared.refusal.Why.TheVariants.{Kind as WrongKind}
-use Rattle.container_model.specs.State.{State, side_of, list_at, has_key_kind}
+use Rattle.container_model.specs.State.{side_of, list_at, has_key_kind}
 use Rattle.container_model.specs.Find.{counted, found, kind_at}
 use Rattle.node_store.specs.declared.Node.{Node}
-use Rattle.node_store.specs.Store.{IsNodeOf}
 use Rattle.index_set.specs.declared.set.IndexSet.{IndexSet}
 use Rattle.index_set.specs.Set.{store_of, keys_of, specs_of, contents, record_of, list_of, lists_of, probe_side}
-use Rattle.index_set.proofs.Members.{nodes_held, nodes_held_at, one_list_each}
+use Rattle.index_set.proofs.Members.{nodes_held, one_list_each}
 use Rattle.multi_index.specs.declared.by_row.ByRow.{ByRow}
 use Rattle.multi_index.specs.Linked.{handle_of, entries_in, handles_in, IsKnown}
 use Rattle.multi_index.specs.Seen.{seen, IsLinked}

@@ -1,9 +1,6 @@
-use Rattle.std.proofs.Common.{◌≡◌, ◌∙◌, ap, sym, subst, Some, None, ℕ, Option}
+use Rattle.std.proofs.Common.{◌∙◌, ap, sym, Some, None}
 use Rattle.std.specs.Prelude.{option_map}
-use Rattle.std.specs.List.{AllByRecursion}
-use Rattle.node_store.specs.declared.Node.{Node}
 use Rattle.node_store.specs.Store.{IsNodeOf}
-use Rattle.container_model.specs.Insert.{ban_from}
 use Rattle.index_set.specs.Set.{store_of, keys_of, specs_of, contents, record_of, lists_of}
 use Rattle.index_set.proofs.Members.{nodes_held}
 use Rattle.multi_index.specs.Linked.{handle_of, entries_in}

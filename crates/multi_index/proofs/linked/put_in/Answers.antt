@@ -1,11 +1,10 @@
-use Rattle.std.proofs.Common.{◌≡◌, ◌+◌, ◌<◌, ◌++◌, ◌∷◌, ◌∙◌, ℕ, Bool, true, not, List, [], None, rules, Option, Result, Ok, Err, refl, sym, ap, subst, arith}
-use Rattle.std.specs.Prelude.{OnOk, OnErr, IsTrue}
+use Rattle.std.proofs.Common.{◌≡◌, ◌+◌, ◌++◌, ◌∷◌, ◌∙◌, true, [], None, rules, Result, Ok, Err, sym, ap, subst, arith}
+use Rattle.std.specs.Prelude.{OnOk, OnErr}
 use Rattle.std.specs.Result.{is_ok}
-use Rattle.std.specs.Cmp.{IsTotalOrder}
 use Rattle.node_store.proofs.ByNode.{added_kept}
 use Rattle.container_model.specs.Insert.{ban_from, entered_from}
 use Rattle.slot_table.specs.Slots.{first_free}
-use Rattle.index_set.specs.Set.{store_of, keys_of, specs_of, contents, record_of, lists_of, HasRoom}
+use Rattle.index_set.specs.Set.{store_of, keys_of, specs_of, contents, record_of, lists_of}
 use Rattle.multi_index.specs.Linked.{entries_in, handles_in}
 use Rattle.multi_index.specs.Seen.{IsLinked}
 use Rattle.multi_index.proofs.Contents.{entries_kept, handles_kept}
@@ -67,7 +66,7 @@ returns-clause-linked g c =
     let entered = c.enter.ensures in
     subst (λ slots. IsLinked has_key order hash c.enter.new.self slots) (sym c.take.ensures.items)
     (IsLinked_grown has_key order hash g.met.E.Extract.order_total now c.add.new.self c.enter.new.self c.reserve_one.new.slots.items c.args.at c.in_ok-node.node c.args.entry c.reserve_one.ensures.linked
-    added.same added.lists added.added added.number added.count entered.same entered.lists entered.contents slot entered.sound entered.keyed allowed)
+    added.same added.lists added.added added.number added.count entered.same entered.lists entered.contents slot added.loose entered.sound entered.keyed allowed)
 
 pub returns-clause-entries : goal.returns-clause-entries
 returns-clause-entries g c =

@@ -1,5 +1,5 @@
 use Rattle.std.proofs.Common.{◌≡◌, ◌<◌, length, ◌∙◌, ap, sym, subst, true}
-use Rattle.container_model.specs.State.{State, has_key_kind}
+use Rattle.container_model.specs.State.{has_key_kind}
 use Rattle.container_model.specs.Find.{counted, kind_at}
 use Rattle.multi_index.specs.Seen.{seen}
 use Rattle.multi_index.proofs.Reading.{counted_seen}

@@ -3,7 +3,6 @@ use Rattle.std.proofs.lemmas.Bool.Decides.{nat_tests}
 use Rattle.container_model.specs.declared.handle.Handle.{Handle}
 use Rattle.container_model.specs.Insert.{free_slot, new_handle}
 use Rattle.index_set.specs.Set.{store_of, contents}
-use Rattle.slot_table.specs.Slots.{first_free}
 use Rattle.multi_index.specs.Linked.{entries_in}
 use Rattle.multi_index.proofs.FreeSlots.{free_slot-le-length}
 use Rattle.multi_index.proofs.LeadsTo.{free_slot-is_first_free}

@@ -1,4 +1,4 @@
-use Rattle.std.proofs.Common.{◌≡◌, ◌<◌, ◌∙◌, Bool, true, false, length, map, Result, Ok, Err, ap, sym, subst, rules}
+use Rattle.std.proofs.Common.{◌≡◌, ◌<◌, ◌∙◌, true, false, length, Result, Ok, Err, ap, sym, subst, rules}
 use Rattle.std.specs.Prelude.{IfOk}
 use Rattle.std.specs.Result.{is_ok, MatchResult}
 use Rattle.container_model.specs.declared.handle.Kind.TheVariants.{Sequenced}
@@ -6,8 +6,7 @@ use Rattle.container_model.specs.declared.handle.Spec.{Spec}
 use Rattle.container_model.specs.State.{is_hashed_kind, list_at}
 use Rattle.container_model.specs.Find.{kind_at}
 use Rattle.container_model.proofs.Keys.{kind_at_is}
-use Rattle.index_set.specs.Set.{store_of, specs_of, contents, record_of, lists_of}
-use Rattle.multi_index.specs.Linked.{handle_of, entries_in, handles_in, nodes_in}
+use Rattle.index_set.specs.Set.{store_of, specs_of}
 use Rattle.multi_index.specs.Seen.{seen}
 use Rattle.multi_index.proofs.Contents.{handles_by_age}
 use Rattle.multi_index.proofs.Indices.{index_here}
