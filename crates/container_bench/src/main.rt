@@ -1,0 +1,76 @@
+//! Prints what the container and std's collections kept by hand answer to some finds, which is the same, and with any
+//! word also the nanoseconds that each call takes, and the bytes of a record: `rt run -- times` in this folder.
+//!
+//! A line has the call, the size, the least time of several rounds, and its growth since the size before.
+#![tactic(auto)]
+
+mod book;
+mod by_hand;
+mod by_hand_times;
+mod container_times;
+mod keys;
+mod memory;
+mod record;
+mod report;
+
+use book::Book;
+use by_hand::ByHand;
+use by_hand_times::Call;
+use report::Report;
+use std::alloc::Global;
+use std::rt::Runtime;
+use std::{env, io};
+
+// Each way to find by hand, with the index of the container that finds the same.
+const FINDS: [(&str, usize, Call); 5] = [
+    ("ranked, by price", 2, Call::FindPrice),
+    ("ordered and unique, by id", 3, Call::FindId),
+    ("hashed, by owner", 4, Call::FindOwner),
+    ("hashed and unique, by id", 5, Call::FindHashedId),
+    ("ordered, by owner and price", 6, Call::FindOwnerAndPrice),
+];
+
+// Prints the sums of what both answer at so many records.
+fn print_answers<R: Runtime>(rt: &R, alloc: Global, count: u64) -> io::Result<()> {
+    let Some(mut book) = Book::new(alloc, 0, 7, u32::MAX)? else {
+        return Ok(());
+    };
+    let mut kept = ByHand::new(alloc, 7);
+    let inserted = container_times::insert_each(&mut book, count);
+    let by_hand = by_hand_times::insert_each(&mut kept, count);
+    println!(rt; "insert: {inserted}, by hand {by_hand}")?;
+    for (name, index, call) in &FINDS {
+        let found = container_times::find_each(&book, *index, count);
+        let by_hand = by_hand_times::each(*call, &mut kept, count);
+        println!(rt; "{name}: {found}, by hand {by_hand}")?;
+    }
+    Ok(())
+}
+
+// The times of all calls at a size.
+fn print_times<R: Runtime>(
+    rt: &R,
+    alloc: Global,
+    report: &mut Report,
+    count: u64,
+    rounds: u64,
+) -> io::Result<()> {
+    for _ in 0..rounds {
+        container_times::times(rt, alloc, report, count)?;
+        by_hand_times::times(rt, alloc, report, count)?;
+    }
+    report.print(rt, count)
+}
+
+fn main(rt: HostRuntime) -> io::Result<()> {
+    print_answers(&rt, rt.alloc(), 100)?;
+    if env::args(&rt)?.count() < 2 {
+        return Ok(());
+    }
+    memory::record_bytes(&rt, rt.alloc(), 100_000)?;
+    let mut report = Report::new(rt.alloc());
+    print_times(&rt, rt.alloc(), &mut report, 1_000, 9)?;
+    print_times(&rt, rt.alloc(), &mut report, 100_000, 3)?;
+    print_times(&rt, rt.alloc(), &mut report, 1_000_000, 1)?;
+    println!(rt; "sum of the answers: {}", report.met())
+}
