@@ -1,6 +1,6 @@
 //! A book of orders.
-ghost use Rattle.std.specs.Prelude.{◌≡◌, None, Some, Ok, IfErr, IfOk, OnErr, OnOk, unwrap_or};
-ghost use Rattle.container_model.specs.State.{empty, list_at};
+ghost use Rattle.std.specs.Prelude.{◌≡◌, None, Some, Ok, IfErr, IfOk, IfSome, OnErr, OnOk, unwrap_or};
+ghost use Rattle.container_model.specs.State.{empty, list_at, row_of};
 ghost use Rattle.container_model.specs.Find.{counted, found};
 ghost use Rattle.container_model.specs.Insert.{insert_refusal, new_handle, with_inserted};
 ghost use Rattle.embedded.specs.Fields.{by_field, to_field, indices};
@@ -91,7 +91,10 @@ impl Book {
     }
 
     /// The order of a handle, if it is in the book. O(1).
-    pub fn get(&self, handle: Handle) -> Option<&Order> {
+    pub fn get(&self, handle: Handle) -> Option<&Order>
+        ensures row { IfSome result (λ order. row_of self.now.entries handle ≡ Some order.now) }
+        ensures none { result ≡ None → row_of self.now.entries handle ≡ None }
+    {
         self.orders.get(handle).ok()
     }
 }
