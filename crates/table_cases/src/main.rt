@@ -4,19 +4,19 @@
 //!
 //! For each line it prints what the line is read as, what kind of outcome that is for the table, and the answer. Below the
 //! lines of a script it prints whether a session of an engine is answered the same, in whatever pieces it sends them.
-//! After the scripts come replies that no command of theirs has.
+//! After the scripts come the faults that are told without a table.
 #![tactic(auto)]
 
 mod faulty;
 mod meaning;
+mod refusals;
 mod repeats;
-mod replies;
 mod script;
 mod sent;
 mod sessions;
 mod steps;
 
-use replies::{tell_buffer, tell_refusals, tell_replies, tell_rows};
+use refusals::tell_refusals;
 use script::{Script, heading};
 use sent::tell_ways;
 use std::alloc::{AllocError, Global};
@@ -60,8 +60,5 @@ fn main(rt: HostRuntime) -> io::Result<()> {
     for script in &read_scripts(&rt)? {
         output.write_all(report_of(alloc, script)?.as_bytes())?;
     }
-    output.write_all(tell_replies(alloc)?.bytes())?;
-    output.write_all(tell_refusals(alloc)?.as_bytes())?;
-    output.write_all(tell_rows(alloc)?.bytes())?;
-    output.write_all(tell_buffer(alloc)?.as_bytes())
+    output.write_all(tell_refusals(alloc)?.as_bytes())
 }

@@ -1,11 +1,9 @@
-//! Replies at the ends of their ranges, refusals without a table, and the buffer.
+//! Replies at the ends of their ranges, rows under headings, and the buffer.
 
-use crate::steps::{kind_of, ready_out};
 use std::alloc::{AllocError, Global};
 use table_cmd::{
     Cell, Fault, Handle, Heading, Out, READY_ROOM, Record, Reply, Row, Text, write_reply,
 };
-use table_step::{refuse, refuse_memory};
 
 const FIRST: Handle = Handle { slot: 0, stamp: 1 };
 
@@ -79,25 +77,6 @@ pub fn tell_replies(alloc: Global) -> Result<Out, AllocError> {
         tell(&mut out, &Reply::Fault(fault))?;
     }
     Ok(out)
-}
-
-/// Each fault as it is told without a table.
-pub fn tell_refusals(alloc: Global) -> Result<String, AllocError> {
-    let mut report = String::from_str(alloc, "=== refusals\n")?;
-    let mut out = ready_out(alloc)?;
-    let outcome = refuse(Fault::Line, &mut out);
-    push_told(alloc, kind_of(outcome), &out, &mut report)?;
-    let mut out = ready_out(alloc)?;
-    let outcome = refuse_memory(&mut out);
-    push_told(alloc, kind_of(outcome), &out, &mut report)?;
-    Ok(report)
-}
-
-fn push_told(alloc: Global, kind: &str, out: &Out, report: &mut String) -> Result<(), AllocError> {
-    let text = String::from_utf8_lossy(alloc, out.bytes())?;
-    report.push_str(kind)?;
-    report.push_str(" ")?;
-    report.push_str(text.as_str())
 }
 
 fn heading(alloc: Global, name: &str, place: usize) -> Result<Heading, AllocError> {
