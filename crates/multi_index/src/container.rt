@@ -18,11 +18,11 @@ use std::marker::Model;
 /// Records under several indices, each of which keeps all of them in an order of its own.
 #[derive(Drop)]
 pub struct MultiIndex<R: Drop, E: Extract<R> + Drop> {
-    set: IndexSet<Entry<R>, ByRow<E>>,
-    slots: SlotTable<Node>,
-    alloc: Global,
-    max: u32,
-    writes: u64,
+    pub(crate) set: IndexSet<Entry<R>, ByRow<E>>,
+    pub(crate) slots: SlotTable<Node>,
+    pub(crate) alloc: Global,
+    pub(crate) max: u32,
+    pub(crate) writes: u64,
 }
 
 impl<R: Drop, E: Extract<R> + Drop> Model for MultiIndex<R, E> {
@@ -187,7 +187,7 @@ impl<R: Drop, E: Extract<R> + Drop> MultiIndex<R, E> {
     }
 
     // Whether the index is searched by whole keys alone.
-    fn is_hashed(&self, index: usize) -> bool
+    pub(crate) fn is_hashed(&self, index: usize) -> bool
         requires { index < length self.now.specs }
         ensures { result ≡ is_hashed_kind (kind_at self.now index) }
     {
@@ -198,7 +198,7 @@ impl<R: Drop, E: Extract<R> + Drop> MultiIndex<R, E> {
     }
 
     // Whether the index has a key.
-    fn has_key(&self, index: usize) -> bool
+    pub(crate) fn has_key(&self, index: usize) -> bool
         requires { index < length self.now.specs }
         ensures { result ≡ has_key_kind (kind_at self.now index) }
     {
