@@ -2,12 +2,17 @@ pub mod Ages
 pub mod Bans
 pub mod Contents
 pub mod Entered
+pub mod Excepted
 pub mod FreeSlots
 pub mod Indices
+pub mod HeldByAll
 pub mod Inserted
 pub mod Joined
 pub mod LeadsTo
 pub mod Made
+pub mod MappedWalks
 pub mod Reading
+pub mod Replaced
+pub mod Rewritten
 pub mod Sides
 pub mod Walks
