@@ -3,8 +3,10 @@
 
 mod by_row;
 mod container;
+mod erase;
 mod linked;
 mod walk;
 
 pub use container::MultiIndex;
 pub use container_model::{Entry, Handle, Kind, Refused, Spec, Why};
+pub use erase::Erased;
