@@ -13,6 +13,7 @@ pub mod Left
 pub mod Made
 pub mod Mapped
 pub mod Named
+pub mod Ordered
 pub mod Reading
 pub mod Shrunk
 pub mod Sides

@@ -5,6 +5,7 @@ mod by_row;
 mod container;
 mod erase;
 mod linked;
+mod order;
 mod walk;
 
 pub use container::MultiIndex;
