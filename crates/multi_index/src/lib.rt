@@ -3,9 +3,11 @@
 
 mod by_row;
 mod container;
+mod erase;
 mod linked;
 mod order;
 mod walk;
 
 pub use container::MultiIndex;
 pub use container_model::{Entry, Handle, Kind, Refused, Spec, Why};
+pub use erase::Erased;
