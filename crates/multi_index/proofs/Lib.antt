@@ -8,6 +8,8 @@ pub mod Inserted
 pub mod Joined
 pub mod LeadsTo
 pub mod Made
+pub mod Mapped
+pub mod Places
 pub mod Reading
 pub mod Sides
 pub mod Walks

@@ -1,9 +1,11 @@
 //! A container of records under several indices.
 #![tactic(auto)]
 
+mod bounds;
 mod by_row;
 mod container;
 mod linked;
+mod positions;
 mod walk;
 
 pub use container::MultiIndex;
