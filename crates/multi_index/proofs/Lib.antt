@@ -9,6 +9,7 @@ pub mod Joined
 pub mod LeadsTo
 pub mod Made
 pub mod Mapped
+pub mod Named
 pub mod Places
 pub mod Reading
 pub mod Sides
