@@ -1,25 +1,22 @@
 -- What the list of an index of a container answers of its nodes is what the index answers of their handles.
-use Rattle.std.proofs.Common.{◌≡◌, ◌≢◌, ℕ, ◌<◌, ◌==◌, Bool, true, false, cond, List, [], length, map, slice_get, Option, Some, Ok, Err, sym, ap, ◌∙◌, subst, ⊎_elim, arith}
-use Rattle.std.specs.Prelude.{option_map, is_some, find, count_by}
+use Rattle.std.proofs.Common.{◌≡◌, ℕ, ◌<◌, Bool, true, cond, List, [], ◌∷◌, length, map, slice_get, Option, Some, None, Ok, Err, sym, ap, ◌∙◌}
+use Rattle.std.specs.Prelude.{option_map}
 use Rattle.std.specs.List.{AllByRecursion, list_any}
 use Rattle.std.specs.Ordering.{is_eq}
 use Rattle.std.specs.declared.cmp.Ordering.{Ordering}
-use Rattle.std.proofs.lemmas.Bool.{false_from_ne_true}
 use Rattle.std.proofs.lemmas.List.{length-map}
-use Rattle.std.proofs.lemmas.Option.{slice_get-map, same_Some}
+use Rattle.std.proofs.lemmas.Option.{slice_get-map}
 use Rattle.list_model.specs.Place.{below, not_above, lower, upper, find_rank}
-use Rattle.list_model.specs.Walk.{place_of, next, prev, last}
+use Rattle.list_model.specs.Walk.{last}
 use Rattle.list_model.proofs.InOrder.{All-map}
-use Rattle.list_model.proofs.Permuted.{split_at, count_by-permutation}
+use Rattle.list_model.proofs.Lists.{some_at}
 use Rattle.container_model.specs.declared.handle.Entry.{Entry}
 use Rattle.container_model.specs.declared.handle.Handle.{Handle}
 use Rattle.container_model.specs.declared.handle.Kind.{Kind as IndexKind}
-use Rattle.container_model.specs.declared.refusal.Why.{Why}
 use Rattle.container_model.specs.declared.refusal.Why.TheVariants.{Kind}
 use Rattle.container_model.specs.State.{State, side_of, list_at}
-use Rattle.container_model.specs.Find.{at_kinds, kind_at}
+use Rattle.container_model.specs.Find.{at_kinds, at_position, kind_at}
 use Rattle.node_store.specs.declared.Node.{Node}
-use Rattle.any_index.specs.Side as nodes
 use Rattle.index_set.specs.declared.set.IndexSet.{IndexSet}
 use Rattle.index_set.specs.Set.{keys_of, specs_of, contents, record_of, list_of, lists_of, probe_side}
 use Rattle.multi_index.specs.declared.by_row.ByRow.{ByRow}
@@ -32,6 +29,17 @@ use Rattle.multi_index.proofs.Sides.{side_known, below_known, not_above_known}
 -- the answer of a call at an index of its kind
 pub answered : {E R A : Type 0} (kinds : IndexKind → Bool) (index : ℕ) (answer : State E R → A) {s t : State E R} (a : A) → s ≡ t → kinds (kind_at t index) ≡ true → a ≡ answer s → Ok a ≡ at_kinds kinds t index (answer t)
 answered kinds index answer {s} {t} a same kind is = ap Ok (is ∙ ap answer same) ∙ ap (λ b. cond b (Ok (answer t)) (Err Kind)) (sym kind)
+
+-- and at its end
+pub answered_end : {E R A : Type 0} (kinds : IndexKind → Bool) (index : ℕ) (answer : State E R → Option Handle → A) {s t : State E R} {position : Option Handle} (a : A) → s ≡ t → kinds (kind_at t index) ≡ true → position ≡ None → a ≡ answer s None →
+    Ok a ≡ at_position kinds t index position (answer t position)
+answered_end kinds index answer {s} {t} a same kind end is =
+    answered kinds index (λ u. answer u None) a same kind is ∙ ap (λ p. at_position kinds t index p (answer t p)) (sym end)
+
+-- what holds of each member holds of the last
+pub some_last : {X : Type 0} (P : X → Type 0) (xs : List X) → AllByRecursion P xs → (x : X) → last xs ≡ Some x → P x
+some_last P [] all x e = cc
+some_last P (y ∷ ys) all x e = some_at P (y ∷ ys) (length ys) all x e
 
 module _ {E R : Type 0} {has_key : E → ℕ → Bool} {order : E → ℕ → R → R → Ordering} {hash : E → ℕ → R → ℕ} (set : IndexSet (Entry R) (ByRow E)) (slots : List (Option Node)) (linked : IsLinked has_key order hash set slots)
     (index : ℕ) (within : index < length (specs_of set)) where

@@ -40,7 +40,7 @@ impl<R: Drop, E: Extract<R> + Drop> MultiIndex<R, E> {
         }
         match position {
             Some(handle) => self.place_at(index, handle),
-            None => Ok(self.len()),
+            None => Ok(self.set.len() as u64),
         }
     }
 
@@ -60,7 +60,11 @@ impl<R: Drop, E: Extract<R> + Drop> MultiIndex<R, E> {
     /// The position after one in the index; after the last record, and after the end, stands the end. A hashed index
     /// answers `Kind`, and only then a handle that names no record is `Stale`. O(1) in a sequence, O(log n) in an index in
     /// order.
-    pub fn project_next(&self, index: usize, position: Option<Handle>) -> Result<Option<Handle>, Why>
+    pub fn project_next(
+        &self,
+        index: usize,
+        position: Option<Handle>,
+    ) -> Result<Option<Handle>, Why>
         requires { index < length self.now.specs }
         ensures { result ≡ the_next self.now index position }
     {
@@ -76,7 +80,11 @@ impl<R: Drop, E: Extract<R> + Drop> MultiIndex<R, E> {
     /// The position before one in the index; before the end stands the last record, and before the first record the end. A
     /// hashed index answers `Kind`, and only then a handle that names no record is `Stale`. O(1) in a sequence, O(log n) in
     /// an index in order.
-    pub fn project_prev(&self, index: usize, position: Option<Handle>) -> Result<Option<Handle>, Why>
+    pub fn project_prev(
+        &self,
+        index: usize,
+        position: Option<Handle>,
+    ) -> Result<Option<Handle>, Why>
         requires { index < length self.now.specs }
         ensures { result ≡ the_prev self.now index position }
     {

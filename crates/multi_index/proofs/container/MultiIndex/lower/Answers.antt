@@ -1,11 +1,11 @@
-use Rattle.std.proofs.Common.{◌≡◌, ◌<◌, length, ◌∙◌, ap, sym, subst}
+use Rattle.std.proofs.Common.{◌<◌, length, ◌∙◌, ap, sym, subst}
 use Rattle.std.specs.Prelude.{option_map}
-use Rattle.list_model.specs.Place.{below, lower}
+use Rattle.list_model.specs.Place.{lower}
 use Rattle.list_model.proofs.Lists.{some_at}
 use Rattle.container_model.specs.State.{is_sorted_kind, list_at}
 use Rattle.container_model.specs.Find as find
 use Rattle.node_store.specs.Store.{IsNodeOf}
-use Rattle.index_set.specs.Set.{store_of, record_of, list_of, probe_side}
+use Rattle.index_set.specs.Set.{store_of, record_of, list_of}
 use Rattle.index_set.proofs.Members.{nodes_held_at}
 use Rattle.multi_index.specs.Linked.{handle_of}
 use Rattle.multi_index.proofs.Places.{answered, lower_seen}
