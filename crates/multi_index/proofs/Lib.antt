@@ -14,6 +14,7 @@ pub mod Made
 pub mod Mapped
 pub mod Named
 pub mod Ordered
+pub mod Places
 pub mod Reading
 pub mod Shrunk
 pub mod Sides

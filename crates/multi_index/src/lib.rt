@@ -1,11 +1,13 @@
 //! A container of records under several indices.
 #![tactic(auto)]
 
+mod bounds;
 mod by_row;
 mod container;
 mod erase;
 mod linked;
 mod order;
+mod positions;
 mod walk;
 
 pub use container::MultiIndex;
