@@ -8,6 +8,7 @@ mod erase;
 mod linked;
 mod order;
 mod positions;
+mod replace;
 mod walk;
 
 pub use container::MultiIndex;
