@@ -1,5 +1,6 @@
 pub mod Ages
 pub mod Bans
+pub mod Changed
 pub mod Contents
 pub mod Entered
 pub mod Excepted
@@ -13,13 +14,13 @@ pub mod LeadsTo
 pub mod Left
 pub mod Made
 pub mod Mapped
-pub mod MappedWalks
 pub mod Named
 pub mod Ordered
 pub mod Places
 pub mod Reading
 pub mod Replaced
 pub mod Rewritten
+pub mod Settling
 pub mod Shrunk
 pub mod Sides
 pub mod Walks
