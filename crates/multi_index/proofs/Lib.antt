@@ -11,6 +11,7 @@ pub mod Made
 pub mod Mapped
 pub mod Named
 pub mod Places
+pub mod Ranges
 pub mod Reading
 pub mod Sides
 pub mod Walks

@@ -6,6 +6,7 @@ mod by_row;
 mod container;
 mod linked;
 mod positions;
+mod range;
 mod walk;
 
 pub use container::MultiIndex;
