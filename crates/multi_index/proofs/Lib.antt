@@ -13,5 +13,6 @@ pub mod Named
 pub mod Places
 pub mod Ranges
 pub mod Reading
+pub mod Rising
 pub mod Sides
 pub mod Walks

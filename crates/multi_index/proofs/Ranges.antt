@@ -10,7 +10,7 @@ use Rattle.std.specs.declared.ops.Bound.{Bound}
 use Rattle.std.specs.declared.ops.Bound.TheVariants.{Unbounded}
 use Rattle.list_model.specs.Order.{EachPair}
 use Rattle.list_model.specs.Place.{Edge, Inclusive, Exclusive, Open, below, not_above, is_from, is_to, range}
-use Rattle.list_model.proofs.Counts.{count_by-cons, count_by_none, count_by_same}
+use Rattle.list_model.proofs.Counts.{count_by-cons, count_by_none}
 use Rattle.list_model.proofs.InOrder.{All-map}
 use Rattle.list_model.proofs.Kept.{EachPair-map}
 use Rattle.multi_index.specs.Edges.{edge_of, Rises}

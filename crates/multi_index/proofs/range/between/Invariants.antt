@@ -1,4 +1,4 @@
-use Rattle.std.proofs.Common.{ℕ, ◌-◌, length}
+use Rattle.std.proofs.Common.{◌-◌, length}
 use Rattle.std.specs.Range.Bound.{bound_map}
 use Rattle.index_set.specs.Set.{record_of, list_of}
 use Rattle.multi_index.specs.Edges.{node_edge}
