@@ -1,11 +1,16 @@
 //! A container of records under several indices.
 #![tactic(auto)]
 
+mod bounds;
 mod by_row;
 mod container;
+mod erase;
 mod linked;
 mod order;
+mod positions;
+mod replace;
 mod walk;
 
 pub use container::MultiIndex;
 pub use container_model::{Entry, Handle, Kind, Refused, Spec, Why};
+pub use erase::Erased;
