@@ -1,5 +1,6 @@
 pub mod Ages
 pub mod Bans
+pub mod Cleared
 pub mod Contents
 pub mod Entered
 pub mod Filtered
@@ -17,4 +18,5 @@ pub mod Ordered
 pub mod Reading
 pub mod Shrunk
 pub mod Sides
+pub mod Thinned
 pub mod Walks

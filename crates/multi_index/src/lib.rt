@@ -2,8 +2,10 @@
 #![tactic(auto)]
 
 mod by_row;
+mod clear;
 mod container;
 mod erase;
+mod erase_key;
 mod linked;
 mod order;
 mod walk;
