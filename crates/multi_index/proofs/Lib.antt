@@ -3,6 +3,7 @@ pub mod Bans
 pub mod Cleared
 pub mod Contents
 pub mod Entered
+pub mod Excepted
 pub mod Filtered
 pub mod FreeSlots
 pub mod HeldByAll
@@ -13,9 +14,13 @@ pub mod LeadsTo
 pub mod Left
 pub mod Made
 pub mod Mapped
+pub mod MappedWalks
 pub mod Named
 pub mod Ordered
+pub mod Places
 pub mod Reading
+pub mod Replaced
+pub mod Rewritten
 pub mod Shrunk
 pub mod Sides
 pub mod Thinned

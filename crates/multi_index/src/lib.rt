@@ -1,6 +1,7 @@
 //! A container of records under several indices.
 #![tactic(auto)]
 
+mod bounds;
 mod by_row;
 mod clear;
 mod container;
@@ -8,6 +9,8 @@ mod erase;
 mod erase_key;
 mod linked;
 mod order;
+mod positions;
+mod replace;
 mod walk;
 
 pub use container::MultiIndex;
