@@ -10,5 +10,6 @@ pub mod LeadsTo
 pub mod Made
 pub mod Ordered
 pub mod Reading
+pub mod Rearranged
 pub mod Sides
 pub mod Walks

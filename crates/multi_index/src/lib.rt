@@ -5,6 +5,7 @@ mod by_row;
 mod container;
 mod linked;
 mod order;
+mod rearrange;
 mod walk;
 
 pub use container::MultiIndex;
