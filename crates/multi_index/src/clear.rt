@@ -15,15 +15,23 @@ impl<R: Drop, E: Extract<R> + Drop> MultiIndex<R, E> {
         ensures handed_back { IfErr result (λ refused. refused.row ≡ None) }
         ensures unchanged { OnErr result (self.new ≡ self.old) }
     {
-        if self.writes == u64::MAX {
-            return Err(Refused {
-                why: Why::Spent,
-                row: None,
-            });
+        if let Some(why) = self.spent() {
+            return Err(Refused { why, row: None });
         }
         self.set.clear();
         self.slots.clear();
         self.writes += 1;
         Ok(())
+    }
+
+    // Why no write may take place.
+    pub(crate) fn spent(&self) -> Option<Why>
+        ensures { result ≡ spent self.now }
+    {
+        if self.writes == u64::MAX {
+            Some(Why::Spent)
+        } else {
+            None
+        }
     }
 }
