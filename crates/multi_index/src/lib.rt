@@ -10,6 +10,7 @@ mod erase_key;
 mod linked;
 mod order;
 mod positions;
+mod range;
 mod rearrange;
 mod replace;
 mod walk;
