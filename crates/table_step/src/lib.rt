@@ -4,8 +4,11 @@
 mod headings;
 mod indices;
 mod insert;
+mod keys;
+mod kinds;
 mod list;
 mod outcome;
+mod refusal;
 mod search;
 mod table;
 mod tell;

@@ -1,46 +1,59 @@
 //! Searching an index by a key.
 
-ghost use Rattle.std.specs.Prelude.{◌≡◌, ◌≤◌, ℕ, IfErr, IfOk, OnOk};
+ghost use Rattle.std.specs.Prelude.{◌≡◌, ◌≤◌};
 ghost use Rattle.table_cmd.specs.Buffer.{Keeps};
-ghost use Rattle.table_step.specs.Step.{Cells, IsShort, Step, Steps, TableState, at_key, count_probe, find_probe, size_step};
-ghost use Rattle.table_step.specs.Told.{HasIndices, IsKeyAt, table_of};
+ghost use Rattle.table_step.specs.Reads.{count_step, counted_by, find_step, found_by, size_step};
+ghost use Rattle.table_step.specs.Step.{IsShort, Steps};
+ghost use Rattle.table_step.specs.Table.{TableState};
+ghost use Rattle.table_step.specs.Told.{HasIndices, table_of};
 
-use crate::indices::{has_key, index_at};
+use crate::keys::key_for;
+use crate::kinds::Kinds;
 use crate::outcome::Outcome;
+use crate::refusal::tell_refusal;
 use crate::tell::{refuse, refuse_memory, tell_read};
-use crate::values::probe_from;
-use key_extract::{Probe, Row, RowKeys};
+use container_model::{Handle, Why};
+use key_extract::{Row, RowKeys};
 use multi_index::MultiIndex;
 use std::alloc::Global;
-use table_cmd::{Fault, Out, READY_ROOM, Reply, Value};
+use table_cmd::{Out, READY_ROOM, Reply, Value};
 use table_schema::TableSpec;
 
-// The place of the named index, and the search key that the values are there. Where there is none the refusal is told.
-fn key_at(
-    alloc: Global,
+// Tells the record that the container answered, or why it refused.
+pub(crate) fn tell_found(
     spec: &TableSpec,
-    name: &str,
-    values: &[Value],
+    records: &MultiIndex<Row, RowKeys>,
+    found: Result<Option<Handle>, Why>,
     out: &mut Out,
-) -> Result<(usize, Probe), Outcome>
+) -> Outcome
     requires { READY_ROOM ≤ out.old.room }
-    ensures key { IfOk result (λ at. IsKeyAt spec.now name.now values.now at.0 at.1) }
-    ensures nothing_told { OnOk result (out.new ≡ out.old) }
-    ensures refused { IfErr result (λ outcome. (t : TableState) → t.shape ≡ spec.now → (step : ℕ → Cells → Step) → Steps outcome out.old.bytes out.new.bytes t t (at_key t name.now values.now step)) }
-    ensures short { IfErr result (λ outcome. IsShort outcome out.old.bytes out.new.bytes) }
+    ensures answer { let t = table_of spec.now records.now in Steps result out.old.bytes out.new.bytes t t (found_by t found) }
+    ensures short { IsShort result out.old.bytes out.new.bytes }
     ensures kept { Keeps out.old out.new }
 {
-    let Some(place) = index_at(spec.indices(), name) else {
-        return Err(refuse(Fault::Index, out));
-    };
-    let index = &spec.indices()[place];
-    if !has_key(index.kind) {
-        return Err(refuse(Fault::Kind, out));
+    let at = records.writes();
+    match found {
+        Ok(handle) => tell_read(&Reply::Found { at, handle }, out),
+        Err(why) => tell_refusal(spec, records, why, out),
     }
-    match probe_from(alloc, spec.columns(), index, values) {
-        Ok(Some(probe)) => Ok((place, probe)),
-        Ok(None) => Err(refuse(Fault::Key, out)),
-        Err(_) => Err(refuse_memory(out)),
+}
+
+// Tells the number that the container answered, or why it refused.
+pub(crate) fn tell_number(
+    spec: &TableSpec,
+    records: &MultiIndex<Row, RowKeys>,
+    number: Result<u64, Why>,
+    out: &mut Out,
+) -> Outcome
+    requires { READY_ROOM ≤ out.old.room }
+    ensures answer { let t = table_of spec.now records.now in Steps result out.old.bytes out.new.bytes t t (counted_by t number) }
+    ensures short { IsShort result out.old.bytes out.new.bytes }
+    ensures kept { Keeps out.old out.new }
+{
+    let at = records.writes();
+    match number {
+        Ok(number) => tell_read(&Reply::Counted { at, number }, out),
+        Err(why) => tell_refusal(spec, records, why, out),
     }
 }
 
@@ -55,21 +68,16 @@ pub(crate) fn find(
 ) -> Outcome
     requires room { READY_ROOM ≤ out.old.room }
     requires indices { HasIndices spec.now records.now }
-    ensures answer { let t = table_of spec.now records.now in Steps result out.old.bytes out.new.bytes t t (at_key t name.now values.now (find_probe t)) }
+    ensures answer { let t = table_of spec.now records.now in Steps result out.old.bytes out.new.bytes t t (find_step t name.now values.now) }
     ensures short { IsShort result out.old.bytes out.new.bytes }
     ensures kept { Keeps out.old out.new }
 {
-    let (place, probe) = match key_at(alloc, spec, name, values, out) {
-        Ok(key) => key,
-        Err(outcome) => return outcome,
+    let (place, probe) = match key_for(alloc, spec, Kinds::Keyed, name, values) {
+        Ok(Ok(key)) => key,
+        Ok(Err(why)) => return refuse(why, out),
+        Err(_) => return refuse_memory(out),
     };
-    match records.find(place, &probe) {
-        Ok(handle) => {
-            let at = records.writes();
-            tell_read(&Reply::Found { at, handle }, out)
-        }
-        Err(_) => refuse(Fault::Kind, out),
-    }
+    tell_found(spec, records, records.find(place, &probe), out)
 }
 
 /// Tells how many records of the named index have the key of the values.
@@ -83,21 +91,16 @@ pub(crate) fn count(
 ) -> Outcome
     requires room { READY_ROOM ≤ out.old.room }
     requires indices { HasIndices spec.now records.now }
-    ensures answer { let t = table_of spec.now records.now in Steps result out.old.bytes out.new.bytes t t (at_key t name.now values.now (count_probe t)) }
+    ensures answer { let t = table_of spec.now records.now in Steps result out.old.bytes out.new.bytes t t (count_step t name.now values.now) }
     ensures short { IsShort result out.old.bytes out.new.bytes }
     ensures kept { Keeps out.old out.new }
 {
-    let (place, probe) = match key_at(alloc, spec, name, values, out) {
-        Ok(key) => key,
-        Err(outcome) => return outcome,
+    let (place, probe) = match key_for(alloc, spec, Kinds::Keyed, name, values) {
+        Ok(Ok(key)) => key,
+        Ok(Err(why)) => return refuse(why, out),
+        Err(_) => return refuse_memory(out),
     };
-    match records.count(place, &probe) {
-        Ok(number) => {
-            let at = records.writes();
-            tell_read(&Reply::Counted { at, number }, out)
-        }
-        Err(_) => refuse(Fault::Kind, out),
-    }
+    tell_number(spec, records, records.count(place, &probe), out)
 }
 
 /// Tells how many records there are.

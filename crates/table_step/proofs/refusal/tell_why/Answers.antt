@@ -1,7 +1,7 @@
 use Rattle.std.proofs.Common.{◌≤◌, length, sym, subst, inl, arith, rules}
 use Rattle.table_cmd.proofs.Short.{banned_is_short}
 use Rattle.table_step.proofs.Declared.{index_name_is_short}
-use Rattle.table_step.proofs.insert.tell_refusal.Goals as goal
+use Rattle.table_step.proofs.refusal.tell_why.Goals as goal
 
 pub tell_short-requires-clause-short : goal.tell_short-requires-clause-short
 tell_short-requires-clause-short c =

@@ -1,0 +1,13 @@
+-- The kinds of index that an operation takes.
+use Rattle.std.specs.Prelude.{Bool, true, not}
+use Rattle.container_model.specs.declared.handle.Kind.{Kind}
+use Rattle.container_model.specs.State.{has_key_kind, is_hashed_kind, is_sequence_kind}
+use Rattle.table_step.specs.declared.kinds.Kinds.{Kinds}
+use Rattle.table_step.specs.declared.kinds.Kinds.TheVariants as kinds
+
+-- whether a kind is one of them
+abbrev pub takes : Kinds → Kind → Bool
+takes kinds.All kind = true
+takes kinds.Keyed kind = has_key_kind kind
+takes kinds.Sequence kind = is_sequence_kind kind
+takes kinds.Walked kind = not (is_hashed_kind kind)
