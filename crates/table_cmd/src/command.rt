@@ -3,6 +3,7 @@
 ghost use Rattle.std.specs.Prelude.{◌≡◌};
 ghost use Rattle.table_cmd.specs.Command.{table_in};
 
+use container_model::Handle;
 use key_extract::{Cell, Text};
 use std::marker::Model;
 
@@ -87,6 +88,16 @@ impl Key {
     }
 }
 
+/// What a text that should spell a handle says: `slot:stamp`, both decimal, with no sign and no leading zeros, the slot at
+/// most 4294967295 and the stamp at most 18446744073709551615.
+#[derive(Clone, Copy, Debug, PartialEq, Eq)]
+pub enum HandleText {
+    /// The handle that it spells, which may be that of no record.
+    Handle(Handle),
+    /// The text spells no handle.
+    Bad,
+}
+
 /// Where an insertion goes at one index: before the record of a place.
 #[derive(Debug, Drop)]
 pub struct Position {
@@ -105,6 +116,37 @@ pub enum Command {
         row: Fields,
         position: Option<Position>,
     },
+    /// This row in place of a record's.
+    Replace {
+        table: Text,
+        handle: HandleText,
+        row: Fields,
+    },
+    /// A record goes. With an index, the record after it there is asked for.
+    Erase {
+        table: Text,
+        handle: HandleText,
+        index: Option<Text>,
+    },
+    /// All records go whose key at the index is or begins with this one.
+    EraseKey {
+        table: Text,
+        index: Text,
+        key: Key,
+    },
+    /// All records go.
+    Clear {
+        table: Text,
+    },
+    /// The record of a handle.
+    Get {
+        table: Text,
+        handle: HandleText,
+    },
+    /// How many records there are.
+    Size {
+        table: Text,
+    },
     /// The first record at the index whose key is or begins with this one.
     Find {
         table: Text,
@@ -116,10 +158,6 @@ pub enum Command {
         table: Text,
         index: Text,
         key: Key,
-    },
-    /// How many records there are.
-    Size {
-        table: Text,
     },
     /// All records, in the order of the index.
     List {
@@ -135,9 +173,14 @@ impl Command {
     {
         match self {
             Command::Insert { table, .. }
+            | Command::Replace { table, .. }
+            | Command::Erase { table, .. }
+            | Command::EraseKey { table, .. }
+            | Command::Clear { table }
+            | Command::Get { table, .. }
+            | Command::Size { table }
             | Command::Find { table, .. }
             | Command::Count { table, .. }
-            | Command::Size { table }
             | Command::List { table, .. } => table.as_str(),
         }
     }

@@ -1,7 +1,7 @@
 use Rattle.std.proofs.Common.{sym, ap, ◌∙◌, map, arith}
 use Rattle.std.proofs.lemmas.List.{take_all}
 use Rattle.table_cmd.proofs.Cells.{value_at, values_of_items_view}
-use Rattle.table_cmd.proofs.read.key_of.Goals as goal
+use Rattle.table_cmd.proofs.parts.values_of.Goals as goal
 
 pub returns : goal.returns
 returns c =

@@ -1,7 +1,7 @@
 use Rattle.std.proofs.Common.{◌≡◌, ◌++◌}
 use Rattle.serde_json.specs.View.{members_view}
-use Rattle.table_cmd.specs.Meaning.{fields_of}
-use Rattle.table_cmd.proofs.read.row_of.Given as goal
+use Rattle.table_cmd.specs.Parts.{fields_of}
+use Rattle.table_cmd.proofs.parts.fields_of.Given as goal
 
 abbrev pub invariant-loop-name : goal.invariant-loop-name
 invariant-loop-name l =
