@@ -8,6 +8,7 @@ pub mod Inserted
 pub mod Joined
 pub mod LeadsTo
 pub mod Made
+pub mod Ordered
 pub mod Reading
 pub mod Sides
 pub mod Walks

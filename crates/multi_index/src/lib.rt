@@ -4,6 +4,7 @@
 mod by_row;
 mod container;
 mod linked;
+mod order;
 mod walk;
 
 pub use container::MultiIndex;
