@@ -9,6 +9,9 @@ pub mod Joined
 pub mod LeadsTo
 pub mod Made
 pub mod Ordered
+pub mod Mapped
+pub mod Named
+pub mod Places
 pub mod Reading
 pub mod Sides
 pub mod Walks

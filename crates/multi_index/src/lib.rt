@@ -1,10 +1,12 @@
 //! A container of records under several indices.
 #![tactic(auto)]
 
+mod bounds;
 mod by_row;
 mod container;
 mod linked;
 mod order;
+mod positions;
 mod walk;
 
 pub use container::MultiIndex;
