@@ -2,8 +2,10 @@ pub mod Ages
 pub mod Bans
 pub mod Contents
 pub mod Entered
+pub mod Excepted
 pub mod FreeSlots
 pub mod Indices
+pub mod HeldByAll
 pub mod Inserted
 pub mod Joined
 pub mod LeadsTo
@@ -12,6 +14,9 @@ pub mod Ordered
 pub mod Mapped
 pub mod Named
 pub mod Places
+pub mod MappedWalks
 pub mod Reading
+pub mod Replaced
+pub mod Rewritten
 pub mod Sides
 pub mod Walks

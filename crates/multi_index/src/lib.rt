@@ -7,6 +7,7 @@ mod container;
 mod linked;
 mod order;
 mod positions;
+mod replace;
 mod walk;
 
 pub use container::MultiIndex;
