@@ -5,3 +5,4 @@ pub mod Laws
 pub mod Same
 pub mod Runs
 pub mod First
+pub mod SomeNode

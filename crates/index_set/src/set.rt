@@ -22,6 +22,7 @@ use std::alloc::{AllocError, Global};
 /// Records under one to eight indices, each of which may have any of its nodes.
 #[derive(Drop)]
 pub struct IndexSet<R, E> {
+    pub(crate) alloc: Global,
     pub(crate) store: NodeStore<R>,
     pub(crate) keys: E,
     pub(crate) specs: Vec<Spec>,
@@ -45,6 +46,7 @@ impl<R: Drop, E: Extract<R> + Drop> IndexSet<R, E> {
     {
         let indices = empty_indices(alloc, &specs)?;
         Ok(IndexSet {
+            alloc,
             store: NodeStore::new(alloc),
             keys,
             specs,

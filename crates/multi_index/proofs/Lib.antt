@@ -3,13 +3,18 @@ pub mod Bans
 pub mod Contents
 pub mod Entered
 pub mod Excepted
+pub mod Filtered
 pub mod FreeSlots
+pub mod HeldByAll
 pub mod Indices
 pub mod HeldByAll
 pub mod Inserted
 pub mod Joined
 pub mod LeadsTo
+pub mod Left
 pub mod Made
+pub mod Mapped
+pub mod Named
 pub mod Ordered
 pub mod Mapped
 pub mod Named
@@ -18,5 +23,6 @@ pub mod MappedWalks
 pub mod Reading
 pub mod Replaced
 pub mod Rewritten
+pub mod Shrunk
 pub mod Sides
 pub mod Walks

@@ -4,6 +4,7 @@
 mod bounds;
 mod by_row;
 mod container;
+mod erase;
 mod linked;
 mod order;
 mod positions;
@@ -12,3 +13,4 @@ mod walk;
 
 pub use container::MultiIndex;
 pub use container_model::{Entry, Handle, Kind, Refused, Spec, Why};
+pub use erase::Erased;
