@@ -6,3 +6,4 @@ pub mod Same
 pub mod Runs
 pub mod First
 pub mod SomeNode
+pub mod Alike
