@@ -38,6 +38,10 @@ fn counted(at: u64, number: u64) -> Reply<'static> {
     Reply::Counted { at, number }
 }
 
+fn next(at: u64, next: Option<Handle>) -> Reply<'static> {
+    Reply::Next { at, next }
+}
+
 fn push(out: &mut Out, text: &str) -> Result<(), AllocError> {
     out.try_push(text.as_bytes()).map_err(|_| AllocError)
 }
@@ -55,6 +59,11 @@ pub fn tell_replies(alloc: Global) -> Result<Out, AllocError> {
     tell(&mut out, &found(u64::MAX, Some(LAST)))?;
     tell(&mut out, &counted(3, 2))?;
     tell(&mut out, &counted(u64::MAX, u64::MAX))?;
+    tell(&mut out, &Reply::Done { at: 0 })?;
+    tell(&mut out, &Reply::Done { at: u64::MAX })?;
+    tell(&mut out, &next(4, Some(FIRST)))?;
+    tell(&mut out, &next(0, None))?;
+    tell(&mut out, &next(u64::MAX, Some(LAST)))?;
     tell(
         &mut out,
         &Reply::Banned {
@@ -129,6 +138,27 @@ fn tell_records(alloc: Global, out: &mut Out, headings: &[Heading]) -> Result<()
     )
 }
 
+fn tell_shown(
+    alloc: Global,
+    out: &mut Out,
+    at: u64,
+    handle: Handle,
+    headings: &[Heading],
+) -> Result<(), AllocError> {
+    let escaped = row(alloc, i64::MAX, "\"\u{1}")?;
+    tell(
+        out,
+        &Reply::Shown {
+            at,
+            headings,
+            record: Record {
+                handle,
+                row: &escaped,
+            },
+        },
+    )
+}
+
 /// Rows below headings that are in the order of their names, and below others, of which two are of no cell of some rows.
 pub fn tell_rows(alloc: Global) -> Result<Out, AllocError> {
     let mut out = Out::new(alloc);
@@ -141,6 +171,9 @@ pub fn tell_rows(alloc: Global) -> Result<Out, AllocError> {
         heading(alloc, "\"", 3)?,
     ];
     tell_records(alloc, &mut out, &as_given)?;
+    tell_shown(alloc, &mut out, 1, FIRST, &by_name)?;
+    tell_shown(alloc, &mut out, 0, FIRST, &[])?;
+    tell_shown(alloc, &mut out, u64::MAX, LAST, &as_given)?;
     Ok(out)
 }
 

@@ -10,9 +10,12 @@ pub(crate) enum Op {
     Replace,
     Erase,
     Get,
+    Nth,
+    Place,
     OnTable(TableOp),
     OnIndex(IndexOp),
     OnKey(KeyOp),
+    OnPosition(PositionOp),
 }
 
 /// What is done to a table as a whole.
@@ -34,6 +37,19 @@ pub(crate) enum KeyOp {
     EraseKey,
     Find,
     Count,
+    Lower,
+    Upper,
+    FindRank,
+    LowerRank,
+    UpperRank,
+}
+
+/// What is asked about a position of an index: a record's, or the end.
+#[derive(Clone, Copy, Debug, PartialEq, Eq)]
+pub(crate) enum PositionOp {
+    Rank,
+    Next,
+    Prev,
 }
 
 impl Op {
@@ -64,6 +80,16 @@ impl Op {
             ("size", Op::OnTable(TableOp::Size)),
             ("find", Op::OnKey(KeyOp::Find)),
             ("count", Op::OnKey(KeyOp::Count)),
+            ("lower", Op::OnKey(KeyOp::Lower)),
+            ("upper", Op::OnKey(KeyOp::Upper)),
+            ("nth", Op::Nth),
+            ("rank", Op::OnPosition(PositionOp::Rank)),
+            ("place", Op::Place),
+            ("find_rank", Op::OnKey(KeyOp::FindRank)),
+            ("lower_rank", Op::OnKey(KeyOp::LowerRank)),
+            ("upper_rank", Op::OnKey(KeyOp::UpperRank)),
+            ("next", Op::OnPosition(PositionOp::Next)),
+            ("prev", Op::OnPosition(PositionOp::Prev)),
             ("list", Op::OnIndex(IndexOp::List)),
         ]
     }
@@ -77,9 +103,12 @@ impl Op {
             Op::Replace => &["op", "t", "h", "r"],
             Op::Erase => &["op", "t", "h", "i"],
             Op::Get => &["op", "t", "h"],
+            Op::Nth => &["op", "t", "i", "n"],
+            Op::Place => &["op", "t", "i", "h"],
             Op::OnTable(_) => &["op", "t"],
             Op::OnIndex(_) => &["op", "t", "i"],
             Op::OnKey(_) => &["op", "t", "i", "k"],
+            Op::OnPosition(_) => &["op", "t", "i", "h"],
         }
     }
 }
