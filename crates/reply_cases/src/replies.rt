@@ -138,25 +138,26 @@ fn tell_records(alloc: Global, out: &mut Out, headings: &[Heading]) -> Result<()
     )
 }
 
-fn tell_shown(
-    alloc: Global,
-    out: &mut Out,
-    at: u64,
-    handle: Handle,
-    headings: &[Heading],
-) -> Result<(), AllocError> {
+fn shown<'a>(at: u64, headings: &'a [Heading], handle: Handle, row: &'a Row) -> Reply<'a> {
+    let record = Record { handle, row };
+    Reply::Shown {
+        at,
+        headings,
+        record,
+    }
+}
+
+/// One record below headings.
+pub fn tell_shown(alloc: Global) -> Result<Out, AllocError> {
+    let mut out = Out::new(alloc);
+    push(&mut out, "=== shown\n")?;
     let escaped = row(alloc, i64::MAX, "\"\u{1}")?;
-    tell(
-        out,
-        &Reply::Shown {
-            at,
-            headings,
-            record: Record {
-                handle,
-                row: &escaped,
-            },
-        },
-    )
+    let by_name = [heading(alloc, "g", 1)?, heading(alloc, "id", 0)?];
+    let wide = [heading(alloc, "z", 0)?, heading(alloc, "\"", 3)?];
+    tell(&mut out, &shown(1, &by_name, FIRST, &escaped))?;
+    tell(&mut out, &shown(0, &[], FIRST, &escaped))?;
+    tell(&mut out, &shown(u64::MAX, &wide, LAST, &escaped))?;
+    Ok(out)
 }
 
 /// Rows below headings that are in the order of their names, and below others, of which two are of no cell of some rows.
@@ -171,9 +172,6 @@ pub fn tell_rows(alloc: Global) -> Result<Out, AllocError> {
         heading(alloc, "\"", 3)?,
     ];
     tell_records(alloc, &mut out, &as_given)?;
-    tell_shown(alloc, &mut out, 1, FIRST, &by_name)?;
-    tell_shown(alloc, &mut out, 0, FIRST, &[])?;
-    tell_shown(alloc, &mut out, u64::MAX, LAST, &as_given)?;
     Ok(out)
 }
 
