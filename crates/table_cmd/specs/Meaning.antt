@@ -12,7 +12,7 @@ use Rattle.table_cmd.specs.declared.op.Op.TheVariants as ops
 use Rattle.table_cmd.specs.declared.op.TableOp.{TableOp}
 use Rattle.table_cmd.specs.declared.op.TableOp.TheVariants.{Clear, Size}
 use Rattle.table_cmd.specs.declared.op.IndexOp.{IndexOp}
-use Rattle.table_cmd.specs.declared.op.IndexOp.TheVariants.{List as Listing}
+use Rattle.table_cmd.specs.declared.op.IndexOp.TheVariants.{Reverse, List as Listing}
 use Rattle.table_cmd.specs.declared.op.KeyOp.{KeyOp}
 use Rattle.table_cmd.specs.declared.op.KeyOp.TheVariants.{EraseKey, Find, Count, Lower, Upper, FindRank, LowerRank, UpperRank}
 use Rattle.table_cmd.specs.declared.op.PositionOp.{PositionOp}
@@ -46,6 +46,15 @@ erase_of d = do
   handle ← handle_at d
   index ← text_if_given (get (codes "i") d)
   Some (commands.Erase table handle index)
+
+-- a move: a table, an index, a handle and a place
+unfoldable pub move_of : Data → Option Command
+move_of d = do
+  table ← text_at (codes "t") d
+  index ← text_at (codes "i") d
+  handle ← handle_at d
+  place ← count_at (codes "p") d
+  Some (commands.Move table index handle place)
 
 -- a look-up by handle: a table and a handle
 unfoldable pub get_of : Data → Option Command
@@ -82,6 +91,7 @@ table_command op d = do
 
 -- a command on an index as a whole
 unfoldable pub on_index : IndexOp → List ℕ → List ℕ → Command
+on_index Reverse table index = commands.Reverse table index
 on_index Listing table index = commands.List table index
 
 unfoldable pub index_command : IndexOp → Data → Option Command
@@ -126,6 +136,7 @@ abbrev pub shaped : Op → Data → Option Command
 shaped ops.Insert d = insert_of d
 shaped ops.Replace d = replace_of d
 shaped ops.Erase d = erase_of d
+shaped ops.Move d = move_of d
 shaped ops.Get d = get_of d
 shaped ops.Nth d = nth_of d
 shaped ops.Place d = place_of d

@@ -3,7 +3,7 @@ use Rattle.std.specs.Prelude.{ℕ, List, [], ◌∷◌, if◌then◌else◌, Opt
 use Rattle.table_cmd.specs.declared.op.Op.{Op}
 use Rattle.table_cmd.specs.declared.op.Op.TheVariants as ops
 use Rattle.table_cmd.specs.declared.op.TableOp.TheVariants.{Clear, Size}
-use Rattle.table_cmd.specs.declared.op.IndexOp.TheVariants.{List as Listing}
+use Rattle.table_cmd.specs.declared.op.IndexOp.TheVariants.{Reverse, List as Listing}
 use Rattle.table_cmd.specs.declared.op.KeyOp.TheVariants.{EraseKey, Find, Count, Lower, Upper, FindRank, LowerRank, UpperRank}
 use Rattle.table_cmd.specs.declared.op.PositionOp.TheVariants.{Rank, Next, Prev}
 
@@ -15,6 +15,8 @@ op_names =
     ∷ (codes "erase", ops.Erase)
     ∷ (codes "erase_key", ops.OnKey EraseKey)
     ∷ (codes "clear", ops.OnTable Clear)
+    ∷ (codes "move", ops.Move)
+    ∷ (codes "reverse", ops.OnIndex Reverse)
     ∷ (codes "get", ops.Get)
     ∷ (codes "size", ops.OnTable Size)
     ∷ (codes "find", ops.OnKey Find)
@@ -46,6 +48,7 @@ abbrev pub keys_of : Op → List (List ℕ)
 keys_of ops.Insert = codes "op" ∷ codes "t" ∷ codes "r" ∷ codes "i" ∷ codes "p" ∷ []
 keys_of ops.Replace = codes "op" ∷ codes "t" ∷ codes "h" ∷ codes "r" ∷ []
 keys_of ops.Erase = codes "op" ∷ codes "t" ∷ codes "h" ∷ codes "i" ∷ []
+keys_of ops.Move = codes "op" ∷ codes "t" ∷ codes "i" ∷ codes "h" ∷ codes "p" ∷ []
 keys_of ops.Get = codes "op" ∷ codes "t" ∷ codes "h" ∷ []
 keys_of ops.Nth = codes "op" ∷ codes "t" ∷ codes "i" ∷ codes "n" ∷ []
 keys_of ops.Place = codes "op" ∷ codes "t" ∷ codes "i" ∷ codes "h" ∷ []

@@ -138,6 +138,18 @@ pub enum Command {
     Clear {
         table: Text,
     },
+    /// A record goes before the record that is then at a place of a sequence, counted from 0, or last.
+    Move {
+        table: Text,
+        index: Text,
+        handle: HandleText,
+        place: u64,
+    },
+    /// The records of a sequence in the opposite order.
+    Reverse {
+        table: Text,
+        index: Text,
+    },
     /// The record of a handle.
     Get {
         table: Text,
@@ -237,6 +249,8 @@ impl Command {
             | Command::Erase { table, .. }
             | Command::EraseKey { table, .. }
             | Command::Clear { table }
+            | Command::Move { table, .. }
+            | Command::Reverse { table, .. }
             | Command::Get { table, .. }
             | Command::Size { table }
             | Command::Find { table, .. }

@@ -9,6 +9,7 @@ pub(crate) enum Op {
     Insert,
     Replace,
     Erase,
+    Move,
     Get,
     Nth,
     Place,
@@ -28,6 +29,7 @@ pub(crate) enum TableOp {
 /// What is done to an index as a whole.
 #[derive(Clone, Copy, Debug, PartialEq, Eq)]
 pub(crate) enum IndexOp {
+    Reverse,
     List,
 }
 
@@ -76,6 +78,8 @@ impl Op {
             ("erase", Op::Erase),
             ("erase_key", Op::OnKey(KeyOp::EraseKey)),
             ("clear", Op::OnTable(TableOp::Clear)),
+            ("move", Op::Move),
+            ("reverse", Op::OnIndex(IndexOp::Reverse)),
             ("get", Op::Get),
             ("size", Op::OnTable(TableOp::Size)),
             ("find", Op::OnKey(KeyOp::Find)),
@@ -102,6 +106,7 @@ impl Op {
             Op::Insert => &["op", "t", "r", "i", "p"],
             Op::Replace => &["op", "t", "h", "r"],
             Op::Erase => &["op", "t", "h", "i"],
+            Op::Move => &["op", "t", "i", "h", "p"],
             Op::Get => &["op", "t", "h"],
             Op::Nth => &["op", "t", "i", "n"],
             Op::Place => &["op", "t", "i", "h"],

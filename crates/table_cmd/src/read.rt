@@ -4,7 +4,7 @@ ghost use Rattle.std.specs.Prelude.{◌≡◌, map, bytes_eq};
 ghost use Rattle.std.specs.List.{list_any};
 ghost use Rattle.serde_json.specs.View.{view, members_view};
 ghost use Rattle.table_cmd.specs.Parts.{Gives, has_only, or_fault};
-ghost use Rattle.table_cmd.specs.Meaning.{insert_of, replace_of, erase_of, get_of, nth_of, place_of, on_table, table_command, on_index, index_command, on_key, key_command, on_position, position_command, shaped, command_of, meaning};
+ghost use Rattle.table_cmd.specs.Meaning.{insert_of, replace_of, erase_of, move_of, get_of, nth_of, place_of, on_table, table_command, on_index, index_command, on_key, key_command, on_position, position_command, shaped, command_of, meaning};
 
 use crate::command::{Command, HandleText, Key};
 use crate::fault::CommandFault;
@@ -86,6 +86,22 @@ fn erase_of(alloc: Global, value: &Json) -> Result<Command, CommandFault>
     })
 }
 
+#[tactic(auto, unfolding(crate::specs::Meaning::move_of))]
+fn move_of(alloc: Global, value: &Json) -> Result<Command, CommandFault>
+    ensures { Gives result (or_fault (move_of (view value.now))) }
+{
+    let table = text_of(alloc, value, "t")?;
+    let index = text_of(alloc, value, "i")?;
+    let handle = handle_of(value)?;
+    let place = count_of(value, "p")?;
+    Ok(Command::Move {
+        table,
+        index,
+        handle,
+        place,
+    })
+}
+
 #[tactic(auto, unfolding(crate::specs::Meaning::get_of))]
 fn get_of(alloc: Global, value: &Json) -> Result<Command, CommandFault>
     ensures { Gives result (or_fault (get_of (view value.now))) }
@@ -146,6 +162,7 @@ fn on_index(op: IndexOp, table: Text, index: Text) -> Command
     ensures { result ≡ on_index op table index }
 {
     match op {
+        IndexOp::Reverse => Command::Reverse { table, index },
         IndexOp::List => Command::List { table, index },
     }
 }
@@ -226,6 +243,7 @@ fn shaped(alloc: Global, op: Op, value: &Json) -> Result<Command, CommandFault>
         Op::Insert => insert_of(alloc, value),
         Op::Replace => replace_of(alloc, value),
         Op::Erase => erase_of(alloc, value),
+        Op::Move => move_of(alloc, value),
         Op::Get => get_of(alloc, value),
         Op::Nth => nth_of(alloc, value),
         Op::Place => place_of(alloc, value),
