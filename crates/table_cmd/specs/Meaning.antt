@@ -12,13 +12,16 @@ use Rattle.table_cmd.specs.declared.op.Op.TheVariants as ops
 use Rattle.table_cmd.specs.declared.op.TableOp.{TableOp}
 use Rattle.table_cmd.specs.declared.op.TableOp.TheVariants.{Clear, Size}
 use Rattle.table_cmd.specs.declared.op.IndexOp.{IndexOp}
-use Rattle.table_cmd.specs.declared.op.IndexOp.TheVariants.{List as Listing}
+use Rattle.table_cmd.specs.declared.op.IndexOp.TheVariants.{Reverse, List as Listing}
 use Rattle.table_cmd.specs.declared.op.KeyOp.{KeyOp}
-use Rattle.table_cmd.specs.declared.op.KeyOp.TheVariants.{EraseKey, Find, Count}
+use Rattle.table_cmd.specs.declared.op.KeyOp.TheVariants.{EraseKey, Find, Count, Lower, Upper, FindRank, LowerRank, UpperRank}
+use Rattle.table_cmd.specs.declared.op.PositionOp.{PositionOp}
+use Rattle.table_cmd.specs.declared.op.PositionOp.TheVariants.{Rank, Next, Prev}
+use Rattle.table_cmd.specs.declared.command.HandleText.{HandleText}
 use Rattle.table_cmd.specs.declared.fault.CommandFault.{CommandFault}
 use Rattle.table_cmd.specs.declared.fault.CommandFault.TheVariants as faults
 use Rattle.table_cmd.specs.Op.{op_of, keys_of}
-use Rattle.table_cmd.specs.Parts.{◌>>=◌, has_only, text_at, key_at, row_at, handle_at, text_if_given, position_at, or_fault}
+use Rattle.table_cmd.specs.Parts.{◌>>=◌, has_only, text_at, key_at, row_at, handle_at, end_at, count_at, text_if_given, position_at, or_fault}
 
 -- an insertion: a table and a row, and perhaps where it goes at an index
 unfoldable pub insert_of : Data → Option Command
@@ -44,6 +47,15 @@ erase_of d = do
   index ← text_if_given (get (codes "i") d)
   Some (commands.Erase table handle index)
 
+-- a move: a table, an index, a handle and a place
+unfoldable pub move_of : Data → Option Command
+move_of d = do
+  table ← text_at (codes "t") d
+  index ← text_at (codes "i") d
+  handle ← handle_at d
+  place ← count_at (codes "p") d
+  Some (commands.Move table index handle place)
+
 -- a look-up by handle: a table and a handle
 unfoldable pub get_of : Data → Option Command
 get_of d = do
@@ -51,8 +63,24 @@ get_of d = do
   handle ← handle_at d
   Some (commands.Get table handle)
 
+-- a look-up by place: a table, an index and a place
+unfoldable pub nth_of : Data → Option Command
+nth_of d = do
+  table ← text_at (codes "t") d
+  index ← text_at (codes "i") d
+  place ← count_at (codes "n") d
+  Some (commands.Nth table index place)
+
+-- the place of a record: a table, an index and a handle
+unfoldable pub place_of : Data → Option Command
+place_of d = do
+  table ← text_at (codes "t") d
+  index ← text_at (codes "i") d
+  handle ← handle_at d
+  Some (commands.Place table index handle)
+
 -- a command on a table as a whole
-abbrev pub on_table : TableOp → List ℕ → Command
+unfoldable pub on_table : TableOp → List ℕ → Command
 on_table Clear table = commands.Clear table
 on_table Size table = commands.Size table
 
@@ -62,7 +90,8 @@ table_command op d = do
   Some (on_table op table)
 
 -- a command on an index as a whole
-abbrev pub on_index : IndexOp → List ℕ → List ℕ → Command
+unfoldable pub on_index : IndexOp → List ℕ → List ℕ → Command
+on_index Reverse table index = commands.Reverse table index
 on_index Listing table index = commands.List table index
 
 unfoldable pub index_command : IndexOp → Data → Option Command
@@ -72,10 +101,15 @@ index_command op d = do
   Some (on_index op table index)
 
 -- a command at a key of an index
-abbrev pub on_key : KeyOp → List ℕ → List ℕ → List Value → Command
+unfoldable pub on_key : KeyOp → List ℕ → List ℕ → List Value → Command
 on_key EraseKey table index key = commands.EraseKey table index key
 on_key Find table index key = commands.Find table index key
 on_key Count table index key = commands.Count table index key
+on_key Lower table index key = commands.Lower table index key
+on_key Upper table index key = commands.Upper table index key
+on_key FindRank table index key = commands.FindRank table index key
+on_key LowerRank table index key = commands.LowerRank table index key
+on_key UpperRank table index key = commands.UpperRank table index key
 
 unfoldable pub key_command : KeyOp → Data → Option Command
 key_command op d = do
@@ -84,15 +118,32 @@ key_command op d = do
   key ← key_at d
   Some (on_key op table index key)
 
+-- a command at a position of an index
+unfoldable pub on_position : PositionOp → List ℕ → List ℕ → Option HandleText → Command
+on_position Rank table index position = commands.Rank table index position
+on_position Next table index position = commands.Next table index position
+on_position Prev table index position = commands.Prev table index position
+
+unfoldable pub position_command : PositionOp → Data → Option Command
+position_command op d = do
+  table ← text_at (codes "t") d
+  index ← text_at (codes "i") d
+  position ← end_at d
+  Some (on_position op table index position)
+
 -- the command of an operation, by the keys of its object
 abbrev pub shaped : Op → Data → Option Command
 shaped ops.Insert d = insert_of d
 shaped ops.Replace d = replace_of d
 shaped ops.Erase d = erase_of d
+shaped ops.Move d = move_of d
 shaped ops.Get d = get_of d
+shaped ops.Nth d = nth_of d
+shaped ops.Place d = place_of d
 shaped (ops.OnTable op) d = table_command op d
 shaped (ops.OnIndex op) d = index_command op d
 shaped (ops.OnKey op) d = key_command op d
+shaped (ops.OnPosition op) d = position_command op d
 
 -- the command of an operation, whose object has no other keys than its own
 unfoldable pub command_for : Op → Members → Option Command

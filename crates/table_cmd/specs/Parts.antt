@@ -55,6 +55,10 @@ text_at k d = option_and_then as_str (get k d)
 abbrev pub as_count : Data → Option ℕ
 as_count d = option_and_then as_u64 (as_number d)
 
+-- the whole number under a name
+abbrev pub count_at : List ℕ → Data → Option ℕ
+count_at k d = option_and_then as_count (get k d)
+
 -- the key: an array
 abbrev pub key_at : Data → Option (List Value)
 key_at d = option_map values_of (option_and_then as_array (get (codes "k") d))
@@ -66,6 +70,19 @@ row_at d = option_map fields_of (option_and_then as_object (get (codes "r") d))
 -- the handle: a text
 abbrev pub handle_at : Data → Option HandleText
 handle_at d = option_map handle_said (text_at (codes "h") d)
+
+-- a handle, or null for the end
+abbrev pub handle_or_end : Data → Option (Option HandleText)
+handle_or_end null = Some None
+handle_or_end (boolean b) = None
+handle_or_end (number n) = None
+handle_or_end (string s) = Some (Some (handle_said s))
+handle_or_end (array ds) = None
+handle_or_end (object ms) = None
+
+-- the position: a handle, or null for the end
+abbrev pub end_at : Data → Option (Option HandleText)
+end_at d = option_and_then handle_or_end (get (codes "h") d)
 
 -- a text that may be left out
 abbrev pub text_if_given : Option Data → Option (Option (List ℕ))

@@ -138,6 +138,18 @@ pub enum Command {
     Clear {
         table: Text,
     },
+    /// A record goes before the record that is then at a place of a sequence, counted from 0, or last.
+    Move {
+        table: Text,
+        index: Text,
+        handle: HandleText,
+        place: u64,
+    },
+    /// The records of a sequence in the opposite order.
+    Reverse {
+        table: Text,
+        index: Text,
+    },
     /// The record of a handle.
     Get {
         table: Text,
@@ -159,6 +171,66 @@ pub enum Command {
         index: Text,
         key: Key,
     },
+    /// The first record at the index whose key does not come before this one, or its leading part.
+    Lower {
+        table: Text,
+        index: Text,
+        key: Key,
+    },
+    /// The first record at the index whose key, or leading part, comes after this one.
+    Upper {
+        table: Text,
+        index: Text,
+        key: Key,
+    },
+    /// The record at a place of the index, counted from 0.
+    Nth {
+        table: Text,
+        index: Text,
+        place: u64,
+    },
+    /// How many records stand before a record at the index, or how many there are: before the end.
+    Rank {
+        table: Text,
+        index: Text,
+        position: Option<HandleText>,
+    },
+    /// The place of a record at the index, counted from 0.
+    Place {
+        table: Text,
+        index: Text,
+        handle: HandleText,
+    },
+    /// How many records stand before what `Find` answers.
+    FindRank {
+        table: Text,
+        index: Text,
+        key: Key,
+    },
+    /// How many records stand before what `Lower` answers.
+    LowerRank {
+        table: Text,
+        index: Text,
+        key: Key,
+    },
+    /// How many records stand before what `Upper` answers.
+    UpperRank {
+        table: Text,
+        index: Text,
+        key: Key,
+    },
+    /// The record after another at the index, or after the end: the first.
+    Next {
+        table: Text,
+        index: Text,
+        position: Option<HandleText>,
+    },
+    /// The record before another at the index, or before the end: the last.
+    Prev {
+        table: Text,
+        index: Text,
+        position: Option<HandleText>,
+    },
     /// All records, in the order of the index.
     List {
         table: Text,
@@ -177,10 +249,22 @@ impl Command {
             | Command::Erase { table, .. }
             | Command::EraseKey { table, .. }
             | Command::Clear { table }
+            | Command::Move { table, .. }
+            | Command::Reverse { table, .. }
             | Command::Get { table, .. }
             | Command::Size { table }
             | Command::Find { table, .. }
             | Command::Count { table, .. }
+            | Command::Lower { table, .. }
+            | Command::Upper { table, .. }
+            | Command::Nth { table, .. }
+            | Command::Rank { table, .. }
+            | Command::Place { table, .. }
+            | Command::FindRank { table, .. }
+            | Command::LowerRank { table, .. }
+            | Command::UpperRank { table, .. }
+            | Command::Next { table, .. }
+            | Command::Prev { table, .. }
             | Command::List { table, .. } => table.as_str(),
         }
     }

@@ -9,10 +9,14 @@ pub(crate) enum Op {
     Insert,
     Replace,
     Erase,
+    Move,
     Get,
+    Nth,
+    Place,
     OnTable(TableOp),
     OnIndex(IndexOp),
     OnKey(KeyOp),
+    OnPosition(PositionOp),
 }
 
 /// What is done to a table as a whole.
@@ -25,6 +29,7 @@ pub(crate) enum TableOp {
 /// What is done to an index as a whole.
 #[derive(Clone, Copy, Debug, PartialEq, Eq)]
 pub(crate) enum IndexOp {
+    Reverse,
     List,
 }
 
@@ -34,6 +39,19 @@ pub(crate) enum KeyOp {
     EraseKey,
     Find,
     Count,
+    Lower,
+    Upper,
+    FindRank,
+    LowerRank,
+    UpperRank,
+}
+
+/// What is asked about a position of an index: a record's, or the end.
+#[derive(Clone, Copy, Debug, PartialEq, Eq)]
+pub(crate) enum PositionOp {
+    Rank,
+    Next,
+    Prev,
 }
 
 impl Op {
@@ -60,10 +78,22 @@ impl Op {
             ("erase", Op::Erase),
             ("erase_key", Op::OnKey(KeyOp::EraseKey)),
             ("clear", Op::OnTable(TableOp::Clear)),
+            ("move", Op::Move),
+            ("reverse", Op::OnIndex(IndexOp::Reverse)),
             ("get", Op::Get),
             ("size", Op::OnTable(TableOp::Size)),
             ("find", Op::OnKey(KeyOp::Find)),
             ("count", Op::OnKey(KeyOp::Count)),
+            ("lower", Op::OnKey(KeyOp::Lower)),
+            ("upper", Op::OnKey(KeyOp::Upper)),
+            ("nth", Op::Nth),
+            ("rank", Op::OnPosition(PositionOp::Rank)),
+            ("place", Op::Place),
+            ("find_rank", Op::OnKey(KeyOp::FindRank)),
+            ("lower_rank", Op::OnKey(KeyOp::LowerRank)),
+            ("upper_rank", Op::OnKey(KeyOp::UpperRank)),
+            ("next", Op::OnPosition(PositionOp::Next)),
+            ("prev", Op::OnPosition(PositionOp::Prev)),
             ("list", Op::OnIndex(IndexOp::List)),
         ]
     }
@@ -76,10 +106,14 @@ impl Op {
             Op::Insert => &["op", "t", "r", "i", "p"],
             Op::Replace => &["op", "t", "h", "r"],
             Op::Erase => &["op", "t", "h", "i"],
+            Op::Move => &["op", "t", "i", "h", "p"],
             Op::Get => &["op", "t", "h"],
+            Op::Nth => &["op", "t", "i", "n"],
+            Op::Place => &["op", "t", "i", "h"],
             Op::OnTable(_) => &["op", "t"],
             Op::OnIndex(_) => &["op", "t", "i"],
             Op::OnKey(_) => &["op", "t", "i", "k"],
+            Op::OnPosition(_) => &["op", "t", "i", "h"],
         }
     }
 }

@@ -3,7 +3,7 @@
 ghost use Rattle.std.specs.Prelude.{◌≡◌, IfOk, Some, option_map, codes};
 ghost use Rattle.serde_json.specs.Find.{get};
 ghost use Rattle.serde_json.specs.View.{view, items_view, members_view};
-ghost use Rattle.table_cmd.specs.Parts.{Gives, value_of, values_of, fields_of, text_at, key_at, row_at, handle_at, text_if_given, position_at, or_fault};
+ghost use Rattle.table_cmd.specs.Parts.{Gives, value_of, values_of, fields_of, text_at, key_at, row_at, handle_at, end_at, count_at, text_if_given, position_at, or_fault};
 
 use crate::command::{Field, Fields, HandleText, Key, Position, Value};
 use crate::fault::CommandFault;
@@ -89,6 +89,27 @@ pub(crate) fn handle_of(value: &Json) -> Result<HandleText, CommandFault>
 {
     match text_at(value, "h") {
         Some(text) => Ok(handle_said(text)),
+        None => Err(CommandFault::Command),
+    }
+}
+
+// A handle, or null for the end.
+pub(crate) fn end_of(value: &Json) -> Result<Option<HandleText>, CommandFault>
+    ensures { Gives result (or_fault (end_at (view value.now))) }
+{
+    match value.get("h") {
+        Some(Json::Null) => Ok(None),
+        Some(Json::String(text)) => Ok(Some(handle_said(text.as_str()))),
+        _ => Err(CommandFault::Command),
+    }
+}
+
+// The whole number under a name, where a command needs one.
+pub(crate) fn count_of(value: &Json, name: &str) -> Result<u64, CommandFault>
+    ensures { Gives result (or_fault (count_at name.now (view value.now))) }
+{
+    match value.get(name).and_then(Json::as_u64) {
+        Some(count) => Ok(count),
         None => Err(CommandFault::Command),
     }
 }

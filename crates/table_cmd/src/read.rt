@@ -4,12 +4,14 @@ ghost use Rattle.std.specs.Prelude.{◌≡◌, map, bytes_eq};
 ghost use Rattle.std.specs.List.{list_any};
 ghost use Rattle.serde_json.specs.View.{view, members_view};
 ghost use Rattle.table_cmd.specs.Parts.{Gives, has_only, or_fault};
-ghost use Rattle.table_cmd.specs.Meaning.{insert_of, replace_of, erase_of, get_of, on_table, table_command, on_index, index_command, on_key, key_command, shaped, command_of, meaning};
+ghost use Rattle.table_cmd.specs.Meaning.{insert_of, replace_of, erase_of, move_of, get_of, nth_of, place_of, on_table, table_command, on_index, index_command, on_key, key_command, on_position, position_command, shaped, command_of, meaning};
 
-use crate::command::{Command, Key};
+use crate::command::{Command, HandleText, Key};
 use crate::fault::CommandFault;
-use crate::op::{IndexOp, KeyOp, Op, TableOp};
-use crate::parts::{handle_of, index_if_given, key_of, position_of, row_of, text_at, text_of};
+use crate::op::{IndexOp, KeyOp, Op, PositionOp, TableOp};
+use crate::parts::{
+    count_of, end_of, handle_of, index_if_given, key_of, position_of, row_of, text_at, text_of,
+};
 use key_extract::Text;
 use serde_json::{Map, Value as Json};
 use std::alloc::Global;
@@ -84,6 +86,22 @@ fn erase_of(alloc: Global, value: &Json) -> Result<Command, CommandFault>
     })
 }
 
+#[tactic(auto, unfolding(crate::specs::Meaning::move_of))]
+fn move_of(alloc: Global, value: &Json) -> Result<Command, CommandFault>
+    ensures { Gives result (or_fault (move_of (view value.now))) }
+{
+    let table = text_of(alloc, value, "t")?;
+    let index = text_of(alloc, value, "i")?;
+    let handle = handle_of(value)?;
+    let place = count_of(value, "p")?;
+    Ok(Command::Move {
+        table,
+        index,
+        handle,
+        place,
+    })
+}
+
 #[tactic(auto, unfolding(crate::specs::Meaning::get_of))]
 fn get_of(alloc: Global, value: &Json) -> Result<Command, CommandFault>
     ensures { Gives result (or_fault (get_of (view value.now))) }
@@ -93,6 +111,35 @@ fn get_of(alloc: Global, value: &Json) -> Result<Command, CommandFault>
     Ok(Command::Get { table, handle })
 }
 
+#[tactic(auto, unfolding(crate::specs::Meaning::nth_of))]
+fn nth_of(alloc: Global, value: &Json) -> Result<Command, CommandFault>
+    ensures { Gives result (or_fault (nth_of (view value.now))) }
+{
+    let table = text_of(alloc, value, "t")?;
+    let index = text_of(alloc, value, "i")?;
+    let place = count_of(value, "n")?;
+    Ok(Command::Nth {
+        table,
+        index,
+        place,
+    })
+}
+
+#[tactic(auto, unfolding(crate::specs::Meaning::place_of))]
+fn place_of(alloc: Global, value: &Json) -> Result<Command, CommandFault>
+    ensures { Gives result (or_fault (place_of (view value.now))) }
+{
+    let table = text_of(alloc, value, "t")?;
+    let index = text_of(alloc, value, "i")?;
+    let handle = handle_of(value)?;
+    Ok(Command::Place {
+        table,
+        index,
+        handle,
+    })
+}
+
+#[tactic(auto, unfolding(crate::specs::Meaning::on_table))]
 fn on_table(op: TableOp, table: Text) -> Command
     ensures { result ≡ on_table op table }
 {
@@ -110,10 +157,12 @@ fn table_command(alloc: Global, op: TableOp, value: &Json) -> Result<Command, Co
     Ok(on_table(op, table))
 }
 
+#[tactic(auto, unfolding(crate::specs::Meaning::on_index))]
 fn on_index(op: IndexOp, table: Text, index: Text) -> Command
     ensures { result ≡ on_index op table index }
 {
     match op {
+        IndexOp::Reverse => Command::Reverse { table, index },
         IndexOp::List => Command::List { table, index },
     }
 }
@@ -127,6 +176,7 @@ fn index_command(alloc: Global, op: IndexOp, value: &Json) -> Result<Command, Co
     Ok(on_index(op, table, index))
 }
 
+#[tactic(auto, unfolding(crate::specs::Meaning::on_key))]
 fn on_key(op: KeyOp, table: Text, index: Text, key: Key) -> Command
     ensures { result ≡ on_key op table index key }
 {
@@ -134,6 +184,11 @@ fn on_key(op: KeyOp, table: Text, index: Text, key: Key) -> Command
         KeyOp::EraseKey => Command::EraseKey { table, index, key },
         KeyOp::Find => Command::Find { table, index, key },
         KeyOp::Count => Command::Count { table, index, key },
+        KeyOp::Lower => Command::Lower { table, index, key },
+        KeyOp::Upper => Command::Upper { table, index, key },
+        KeyOp::FindRank => Command::FindRank { table, index, key },
+        KeyOp::LowerRank => Command::LowerRank { table, index, key },
+        KeyOp::UpperRank => Command::UpperRank { table, index, key },
     }
 }
 
@@ -147,6 +202,39 @@ fn key_command(alloc: Global, op: KeyOp, value: &Json) -> Result<Command, Comman
     Ok(on_key(op, table, index, key))
 }
 
+#[tactic(auto, unfolding(crate::specs::Meaning::on_position))]
+fn on_position(op: PositionOp, table: Text, index: Text, position: Option<HandleText>) -> Command
+    ensures { result ≡ on_position op table index position }
+{
+    match op {
+        PositionOp::Rank => Command::Rank {
+            table,
+            index,
+            position,
+        },
+        PositionOp::Next => Command::Next {
+            table,
+            index,
+            position,
+        },
+        PositionOp::Prev => Command::Prev {
+            table,
+            index,
+            position,
+        },
+    }
+}
+
+#[tactic(auto, unfolding(crate::specs::Meaning::position_command))]
+fn position_command(alloc: Global, op: PositionOp, value: &Json) -> Result<Command, CommandFault>
+    ensures { Gives result (or_fault (position_command op (view value.now))) }
+{
+    let table = text_of(alloc, value, "t")?;
+    let index = text_of(alloc, value, "i")?;
+    let position = end_of(value)?;
+    Ok(on_position(op, table, index, position))
+}
+
 // The command of an operation, by the keys of its object.
 fn shaped(alloc: Global, op: Op, value: &Json) -> Result<Command, CommandFault>
     ensures { Gives result (or_fault (shaped op (view value.now))) }
@@ -155,10 +243,14 @@ fn shaped(alloc: Global, op: Op, value: &Json) -> Result<Command, CommandFault>
         Op::Insert => insert_of(alloc, value),
         Op::Replace => replace_of(alloc, value),
         Op::Erase => erase_of(alloc, value),
+        Op::Move => move_of(alloc, value),
         Op::Get => get_of(alloc, value),
+        Op::Nth => nth_of(alloc, value),
+        Op::Place => place_of(alloc, value),
         Op::OnTable(op) => table_command(alloc, op, value),
         Op::OnIndex(op) => index_command(alloc, op, value),
         Op::OnKey(op) => key_command(alloc, op, value),
+        Op::OnPosition(op) => position_command(alloc, op, value),
     }
 }
 
