@@ -10,7 +10,7 @@ use Rattle.table_schema.specs.Shape.{TableShape}
 use Rattle.table_step.specs.declared.kinds.Kinds.{Kinds}
 use Rattle.table_step.specs.declared.outcome.Outcome.{Outcome}
 use Rattle.table_step.specs.Step.{Steps}
-use Rattle.table_step.specs.Table.{Cells, Step, TableState, after, at_key, key_for, key_of_place, or_fault, place_for}
+use Rattle.table_step.specs.Table.{Cells, Step, TableState, at_key, key_for, key_of_place, or_fault, place_for, then_step}
 use Rattle.table_step.specs.Told.{IsKeyAt}
 use Rattle.table_step.specs.Values.{probe_from}
 use Rattle.table_step.proofs.Declared.{kind_at_place, parts_at_place}
@@ -36,4 +36,4 @@ key_for_is shape kinds name values place index probe placed there is_probe =
 -- a step by a search key that was found
 pub steps_by_key : (outcome : Outcome) (before then : List ℕ) (t u : TableState) (kinds : Kinds) (name : List ℕ) (values : List Value) (key : ℕ × Cells) (step : ℕ → Cells → Step) → Ok key ≡ key_for t.shape kinds name values →
     Steps outcome before then t u (step key.0 key.1) → Steps outcome before then t u (at_key t kinds name values step)
-steps_by_key outcome before then t u kinds name values key step e steps = subst (λ r. Steps outcome before then t u (after t r (λ k. step k.0 k.1))) e steps
+steps_by_key outcome before then t u kinds name values key step e steps = subst (λ r. Steps outcome before then t u (then_step t r (λ k. step k.0 k.1))) e steps

@@ -7,17 +7,39 @@ use Rattle.table_cmd.specs.Command.{table_in}
 use Rattle.table_cmd.specs.Answer.{fault, answer_text}
 use Rattle.table_step.specs.declared.outcome.Outcome.{Outcome}
 use Rattle.table_step.specs.declared.outcome.Outcome.TheVariants as outcomes
-use Rattle.table_step.specs.Changes.{insert_step}
-use Rattle.table_step.specs.Reads.{count_step, find_step, list_step, size_step}
+use Rattle.table_step.specs.declared.positions.Walk.TheVariants as walks
+use Rattle.table_step.specs.declared.search.Number.TheVariants as numbers
+use Rattle.table_step.specs.declared.search.Search.TheVariants as searches
+use Rattle.table_step.specs.Changes.{clear_step, erase_key_step, erase_step, insert_step, replace_step}
+use Rattle.table_step.specs.Moves.{move_step, reverse_step}
+use Rattle.table_step.specs.Positions.{nth_step, place_step, rank_step, walk_step}
+use Rattle.table_step.specs.Reads.{count_step, find_step, get_step, list_step, size_step}
 use Rattle.table_step.specs.Table.{refused}
 pub use Rattle.table_step.specs.Table.{TableState, FitsShape, Step, new_table}
 
 -- a command on the table that it names
 abbrev pub step_at : TableState → Command → Step
 step_at t (commands.Insert table row position) = insert_step t row position
-step_at t (commands.Find table index key) = find_step t index key
-step_at t (commands.Count table index key) = count_step t index key
+step_at t (commands.Replace table handle row) = replace_step t handle row
+step_at t (commands.Erase table handle index) = erase_step t handle index
+step_at t (commands.EraseKey table index key) = erase_key_step t index key
+step_at t (commands.Clear table) = clear_step t
+step_at t (commands.Move table index handle place) = move_step t index handle place
+step_at t (commands.Reverse table index) = reverse_step t index
+step_at t (commands.Get table handle) = get_step t handle
 step_at t (commands.Size table) = size_step t
+step_at t (commands.Find table index key) = find_step t searches.Find index key
+step_at t (commands.Count table index key) = count_step t numbers.Count index key
+step_at t (commands.Lower table index key) = find_step t searches.Lower index key
+step_at t (commands.Upper table index key) = find_step t searches.Upper index key
+step_at t (commands.Nth table index place) = nth_step t index place
+step_at t (commands.Rank table index position) = rank_step t index position
+step_at t (commands.Place table index handle) = place_step t index handle
+step_at t (commands.FindRank table index key) = count_step t numbers.FindRank index key
+step_at t (commands.LowerRank table index key) = count_step t numbers.LowerRank index key
+step_at t (commands.UpperRank table index key) = count_step t numbers.UpperRank index key
+step_at t (commands.Next table index position) = walk_step t walks.Next index position
+step_at t (commands.Prev table index position) = walk_step t walks.Prev index position
 step_at t (commands.List table index) = list_step t index
 
 -- what a command does to a table

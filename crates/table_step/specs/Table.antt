@@ -10,6 +10,8 @@ use Rattle.container_model.specs.State.{State, empty}
 use Rattle.key_extract.specs.declared.cell.Cell.{Cell}
 use Rattle.key_extract.specs.declared.key.Part.{Part}
 use Rattle.key_extract.specs.Keys.{parts_at, key_cmp, probe_cmp}
+use Rattle.table_cmd.specs.declared.command.HandleText.{HandleText}
+use Rattle.table_cmd.specs.declared.command.HandleText.TheVariants as texts
 use Rattle.table_cmd.specs.declared.command.Value.{Value}
 use Rattle.table_cmd.specs.declared.fault.Fault.{Fault}
 use Rattle.table_cmd.specs.declared.fault.Fault.TheVariants as faults
@@ -75,9 +77,9 @@ abbrev pub told : TableState → Answer → Step
 told t answer = record { outcome = outcomes.Read; answer = answer; table = t }
 
 -- the step that comes of what was found, or the fault in its place
-abbrev pub after : {A : Type 0} → TableState → Result A Fault → (A → Step) → Step
-after t (Ok x) step = step x
-after t (Err why) step = refused t why
+abbrev pub then_step : {A : Type 0} → TableState → Result A Fault → (A → Step) → Step
+then_step t (Ok x) step = step x
+then_step t (Err why) step = refused t why
 
 abbrev pub or_fault : {A : Type 0} → Fault → Option A → Result A Fault
 or_fault why None = Err why
@@ -113,7 +115,32 @@ key_for shape kinds name values = key_of_place shape values (place_for kinds sha
 
 -- what is done by the search key that values are at the index of a name
 abbrev pub at_key : TableState → Kinds → List ℕ → List Value → (ℕ → Cells → Step) → Step
-at_key t kinds name values step = after t (key_for t.shape kinds name values) (λ key. step key.0 key.1)
+at_key t kinds name values step = then_step t (key_for t.shape kinds name values) (λ key. step key.0 key.1)
+
+-- the handle that a text spells
+abbrev pub handle_for : HandleText → Result Handle Fault
+handle_for (texts.Handle h) = Ok h
+handle_for texts.Bad = Err faults.Handle
+
+-- the position that is asked for: null is the end
+abbrev pub end_or_handle : Option HandleText → Result (Option Handle) Fault
+end_or_handle None = Ok None
+end_or_handle (Some (texts.Handle h)) = Ok (Some h)
+end_or_handle (Some texts.Bad) = Err faults.Handle
+
+-- the two that were found, or the first fault
+abbrev pub both : {A B : Type 0} → Result A Fault → Result B Fault → Result (A × B) Fault
+both (Ok x) (Ok y) = Ok (x, y)
+both (Ok x) (Err why) = Err why
+both (Err why) other = Err why
+
+-- the place of the index of a name, which is to be of one of the kinds, and the handle
+abbrev pub record_for : Kinds → List IndexSpec → List ℕ → HandleText → Result (ℕ × Handle) Fault
+record_for kinds indices name text = both (place_for kinds indices name) (handle_for text)
+
+-- and the position
+abbrev pub position_for : Kinds → List IndexSpec → List ℕ → Option HandleText → Result (ℕ × Option Handle) Fault
+position_for kinds indices name text = both (place_for kinds indices name) (end_or_handle text)
 
 -- what the container's refusal is answered by
 abbrev pub refusal_answer : TableState → Why → Answer

@@ -13,6 +13,14 @@ pub(crate) enum Kinds {
     All,
     /// Those with a key.
     Keyed,
+    /// Those in the order of a key.
+    Sorted,
+    /// Those with ranks.
+    Ranked,
+    /// Those whose records are found by their places.
+    Counted,
+    /// The sequences whose places can be counted.
+    Random,
     /// Those that keep an order of one's own.
     Sequence,
     /// Those whose records have a next one.
@@ -27,6 +35,10 @@ impl Kinds {
         match self {
             Kinds::All => true,
             Kinds::Keyed => has_key(kind),
+            Kinds::Sorted => has_key(kind) && kind != Kind::Hashed,
+            Kinds::Ranked => kind == Kind::Ranked,
+            Kinds::Counted => kind == Kind::Ranked || kind == Kind::Random,
+            Kinds::Random => kind == Kind::Random,
             Kinds::Sequence => !has_key(kind),
             Kinds::Walked => kind != Kind::Hashed,
         }
