@@ -1,5 +1,6 @@
 pub mod Ages
 pub mod Bans
+pub mod Cleared
 pub mod Contents
 pub mod Entered
 pub mod Excepted
@@ -22,4 +23,5 @@ pub mod Replaced
 pub mod Rewritten
 pub mod Shrunk
 pub mod Sides
+pub mod Thinned
 pub mod Walks

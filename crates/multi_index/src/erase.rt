@@ -103,7 +103,7 @@ fn next_at<R, E: Extract<R>>(
 }
 
 // Takes a node out of each index, its record out of the set, and frees its slot.
-fn take_out<R: Drop, E: Extract<R>>(
+pub(crate) fn take_out<R: Drop, E: Extract<R>>(
     set: &mut IndexSet<Entry<R>, ByRow<E>>,
     slots: &mut SlotTable<Node>,
     node: Node,

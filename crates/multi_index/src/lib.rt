@@ -3,8 +3,10 @@
 
 mod bounds;
 mod by_row;
+mod clear;
 mod container;
 mod erase;
+mod erase_key;
 mod linked;
 mod order;
 mod positions;
