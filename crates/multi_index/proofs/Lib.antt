@@ -19,6 +19,7 @@ pub mod Named
 pub mod Ordered
 pub mod Places
 pub mod Reading
+pub mod Rearranged
 pub mod Replaced
 pub mod Rewritten
 pub mod Shrunk

@@ -1,7 +1,7 @@
 -- A sequence of nodes put into another order, and what that makes of a container.
-use Rattle.std.proofs.Common.{◌≡◌, ℕ, zero, suc, ◌+◌, ◌-◌, ◌<◌, ◌≤◌, ◌^◌, Bool, true, false, cond, not, List, [], ◌∷◌, ◌++◌, length, map, reverse, set, Option, Some, None, ◌⊎◌, refl, sym, ap, ◌∙◌, subst, ⊎_elim, arith, ◌==◌, eq-eqb}
-use Rattle.std.specs.Prelude.{insert, nat_le, is_some, IsTrue}
-use Rattle.std.specs.List.{AllByRecursion}
+use Rattle.std.proofs.Common.{◌≡◌, ℕ, ◌+◌, ◌-◌, ◌<◌, ◌≤◌, ◌^◌, Bool, true, false, cond, not, List, [], ◌∷◌, ◌++◌, length, map, reverse, set, Option, Some, None, refl, sym, ap, ◌∙◌, subst, ⊎_elim, arith, ◌==◌, eq-eqb}
+use Rattle.std.specs.Prelude.{insert, nat_le, is_some, IsTrue, IsPermutation}
+use Rattle.std.specs.List.{AllByRecursion, list_all}
 use Rattle.std.specs.declared.cmp.Ordering.{Ordering}
 use Rattle.std.proofs.lemmas.Bool.{false_from_ne_true}
 use Rattle.std.proofs.lemmas.Bool.Decides.{nat_tests}
@@ -23,10 +23,10 @@ use Rattle.container_model.specs.declared.handle.Entry.{Entry}
 use Rattle.container_model.specs.declared.handle.Spec.{Spec}
 use Rattle.container_model.specs.declared.handle.Kind.TheVariants.{Sequenced}
 use Rattle.container_model.specs.declared.refusal.Why.{Why}
-use Rattle.container_model.specs.declared.refusal.Why.TheVariants.{Kind, Stale, Place, Spent}
+use Rattle.container_model.specs.declared.refusal.Why.TheVariants.{Kind, Stale, Place, Order, Spent}
 use Rattle.container_model.specs.State.{State, IsState, is_handle, is_sequence_kind, list_at, row_of}
 use Rattle.container_model.specs.Find.{kind_at, is_live}
-use Rattle.container_model.specs.Sequence.{with_list, relocate_refusal, sequence_refusal}
+use Rattle.container_model.specs.Sequence.{with_list, has_each_once, relocate_refusal, rearrange_refusal, sequence_refusal}
 use Rattle.container_model.proofs.Found.{is_handle_itself, is_handle_same, count_live, stands_once}
 use Rattle.index_set.specs.declared.set.IndexSet.{IndexSet}
 use Rattle.index_set.specs.Set as set
@@ -171,14 +171,17 @@ module _ {E R : Type 0} {has_key : E → ℕ → Bool} {order : E → ℕ → R 
       ∙ (ap length (list_seen old slots was.linked index within)
       ∙ as_many_each (order (keys_of old).keys) (entries_in (contents old)) index (specs_of old) (handles_in (record_of old) (lists_of old)) some_spec was.state.indices within)
 
+  -- and the nodes of all of them
+  pub members_here : IsPermutation (map (λ e. e.handle) (entries_in (contents old))) (list_at (handles_in (record_of old) (lists_of old)) index)
+  members_here = (index_here (order (keys_of old).keys) (entries_in (contents old)) 0 index (specs_of old) (handles_in (record_of old) (lists_of old)) some_spec was.state.indices within).1.members
+
   module _ (n : Node) (h : Handle) (is : IsNodeOf (store_of old) n) (handle : handle_of (record_of old) n ≡ h) where
     -- it stands in the list of the index
     pub stands_in : is_live (seen old max writes) h ≡ true → Holds (list_of old index) n
     stands_in live =
         let entries = entries_in (contents old) in
         let list = list_at (handles_in (record_of old) (lists_of old)) index in
-        let here = (index_here (order (keys_of old).keys) entries 0 index (specs_of old) (handles_in (record_of old) (lists_of old)) some_spec was.state.indices within).1 in
-        let once = stands_once h list (count_by-permutation (is_handle h) _ list here.members ∙ count_live entries h was.state.slots live) in
+        let once = stands_once h list (count_by-permutation (is_handle h) _ list members_here ∙ count_live entries h was.state.slots live) in
         held_by_handle (store_of old) slots was.linked.leads n (list_of old index) once.front once.back is (nodes_held_at old was.linked.sound index within)
         (list_seen old slots was.linked index within ∙ (once.whole ∙ ap (λ g. once.front ++ g ∷ once.back) (sym handle)))
 
@@ -259,3 +262,20 @@ may_order s index e = from_tests (is_sequence_kind (kind_at s index)) (s.writes 
     from_tests false d e = absurd (cc)
     from_tests true true e = absurd (cc)
     from_tests true false e = (refl, refl)
+
+-- an order that nothing refuses is of each record once in a sequence, and not the last write
+pub record MayRearrange {E R : Type 0} (s : State E R) (index : ℕ) (handles : List Handle) : Type 0 where
+  pub sequence : is_sequence_kind (kind_at s index) ≡ true
+  pub once : has_each_once s.entries handles ≡ true
+  pub more : (s.writes == 2 ^ 64 - 1) ≡ false
+
+pub may_rearrange : {E R : Type 0} (s : State E R) (index : ℕ) (handles : List Handle) → rearrange_refusal s index handles ≡ None → MayRearrange s index handles
+may_rearrange s index handles e = from_tests (is_sequence_kind (kind_at s index)) (list_all (λ h. is_live s h) handles) (has_each_once s.entries handles) (s.writes == 2 ^ 64 - 1) refl refl refl e
+  where
+    from_tests : (a b c d : Bool) → is_sequence_kind (kind_at s index) ≡ a → has_each_once s.entries handles ≡ c → (s.writes == 2 ^ 64 - 1) ≡ d →
+        cond a (cond b (cond c (cond d (Some Spent) None) (Some Order)) (Some Stale)) (Some Kind) ≡ None → MayRearrange s index handles
+    from_tests false b c d p r t e = absurd (cc)
+    from_tests true false c d p r t e = absurd (cc)
+    from_tests true true false d p r t e = absurd (cc)
+    from_tests true true true true p r t e = absurd (cc)
+    from_tests true true true false p r t e = record { sequence = p; once = r; more = t }

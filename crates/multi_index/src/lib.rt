@@ -10,6 +10,7 @@ mod erase_key;
 mod linked;
 mod order;
 mod positions;
+mod rearrange;
 mod replace;
 mod walk;
 

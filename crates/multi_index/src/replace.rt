@@ -12,7 +12,7 @@ ghost use Rattle.multi_index.specs.Seen.{IsLinked};
 
 use crate::by_row::ByRow;
 use crate::container::MultiIndex;
-use crate::linked::{first_ban, handle_at, node_at};
+use crate::linked::{first_ban, node_at};
 use container_model::{Entry, Handle, Refused, Why};
 use index_set::IndexSet;
 use key_extract::Extract;
