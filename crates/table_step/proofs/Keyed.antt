@@ -8,9 +8,7 @@ use Rattle.table_cmd.specs.declared.fault.Fault.TheVariants as faults
 use Rattle.table_schema.specs.declared.column.IndexSpec.{IndexSpec}
 use Rattle.table_schema.specs.Shape.{TableShape}
 use Rattle.table_step.specs.declared.kinds.Kinds.{Kinds}
-use Rattle.table_step.specs.declared.outcome.Outcome.{Outcome}
-use Rattle.table_step.specs.Step.{Steps}
-use Rattle.table_step.specs.Table.{Cells, Step, TableState, at_key, key_for, key_of_place, or_fault, place_for, then_step}
+use Rattle.table_step.specs.Table.{Cells, key_for, key_of_place, or_fault, place_for}
 use Rattle.table_step.specs.Told.{IsKeyAt}
 use Rattle.table_step.specs.Values.{probe_from}
 use Rattle.table_step.proofs.Declared.{kind_at_place, parts_at_place}
@@ -32,8 +30,3 @@ key_for_is shape kinds name values place index probe placed there is_probe =
     ap (key_of_place shape values) placed
     ∙ (ap (λ o. or_fault faults.Key (option_map (λ p. (place, p)) (option_and_then (λ i. probe_from shape.columns i values) o))) there
     ∙ ap (λ o. or_fault faults.Key (option_map (λ p. (place, p)) o)) is_probe)
-
--- a step by a search key that was found
-pub steps_by_key : (outcome : Outcome) (before then : List ℕ) (t u : TableState) (kinds : Kinds) (name : List ℕ) (values : List Value) (key : ℕ × Cells) (step : ℕ → Cells → Step) → Ok key ≡ key_for t.shape kinds name values →
-    Steps outcome before then t u (step key.0 key.1) → Steps outcome before then t u (at_key t kinds name values step)
-steps_by_key outcome before then t u kinds name values key step e steps = subst (λ r. Steps outcome before then t u (then_step t r (λ k. step k.0 k.1))) e steps

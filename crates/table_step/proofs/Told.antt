@@ -1,5 +1,5 @@
 -- Steps from what was told.
-use Rattle.std.proofs.Common.{◌≡◌, ℕ, ◌++◌, inl, inr, List, Option, Some, None, ap, sym, subst, refl, ◌∙◌}
+use Rattle.std.proofs.Common.{◌≡◌, ℕ, ◌++◌, inl, inr, List, Option, Some, None, sym, subst, refl, ◌∙◌}
 use Rattle.std.specs.Prelude.{unwrap_or}
 use Rattle.container_model.specs.declared.refusal.Why.{Why}
 use Rattle.container_model.specs.declared.refusal.Why.TheVariants as whys
@@ -41,10 +41,3 @@ pub steps_unchanged : (outcome : Outcome) (before after : List ℕ) (shape : Tab
     Steps outcome before after (table_of shape old) (table_of shape new) (changed (table_of shape old) refusal answer records)
 steps_unchanged outcome before after shape old new refusal why answer records same why_is told =
     subst (λ s. Steps outcome before after (table_of shape s) (table_of shape new) (changed (table_of shape s) refusal answer records)) same (told refusal answer records why_is)
-
--- and where the container says why
-pub steps_refused : (outcome : Outcome) (before after : List ℕ) (shape : TableShape) (old new : State Keys Cells) (refusal : Option Why) (why : Why) (answer : Answer) (records : State Keys Cells) → new ≡ old → Some why ≡ refusal →
-    ((refusal : Option Why) → (reply : Answer) → (later : State Keys Cells) → why ≡ unwrap_or refusal whys.Memory → Steps outcome before after (table_of shape new) (table_of shape new) (changed (table_of shape new) refusal reply later)) →
-    Steps outcome before after (table_of shape old) (table_of shape new) (changed (table_of shape old) refusal answer records)
-steps_refused outcome before after shape old new refusal why answer records same why_is told =
-    steps_unchanged outcome before after shape old new refusal why answer records same (ap (λ o. unwrap_or o whys.Memory) why_is) told
