@@ -7,7 +7,7 @@ use container_model::{Refused, Why};
 use key_extract::Extract;
 
 impl<R: Drop, E: Extract<R> + Drop> MultiIndex<R, E> {
-    /// Takes every record out. `Spent` alone refuses, and then nothing is changed. It takes no memory. O(records).
+    /// Takes every record out. `Spent` alone refuses, and then nothing is changed. It takes no memory. O(records + slots).
     pub fn clear(&mut self) -> Result<(), Refused<R>>
         ensures allowed { OnOk result (spent self.old ≡ None) }
         ensures ok { OnOk result (self.new ≡ cleared self.old) }
