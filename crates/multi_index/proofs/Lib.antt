@@ -12,4 +12,6 @@ pub mod Ordered
 pub mod Reading
 pub mod Rearranged
 pub mod Sides
+pub mod Sorted
+pub mod StableSort
 pub mod Walks

@@ -6,6 +6,7 @@ mod container;
 mod linked;
 mod order;
 mod rearrange;
+mod sort;
 mod walk;
 
 pub use container::MultiIndex;
