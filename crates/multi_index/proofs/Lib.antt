@@ -26,5 +26,7 @@ pub mod Rewritten
 pub mod Rising
 pub mod Shrunk
 pub mod Sides
+pub mod Sorted
+pub mod StableSort
 pub mod Thinned
 pub mod Walks

@@ -13,6 +13,7 @@ mod positions;
 mod range;
 mod rearrange;
 mod replace;
+mod sort;
 mod walk;
 
 pub use container::MultiIndex;
