@@ -1,14 +1,14 @@
 -- Members by name in a mapped list: each stands there as it does in the list itself.
-use Rattle.std.proofs.Common.{◌≡◌, ◌+◌, Bool, true, false, cond, not, ◌&&◌, List, [], ◌∷◌, map, Option, Some, None, refl, sym, ap, ◌∙◌}
-use Rattle.std.specs.Prelude.{insert, option_map, slice_get}
+use Rattle.std.proofs.Common.{◌≡◌, ℕ, ◌-◌, Bool, true, false, cond, not, ◌&&◌, List, [], ◌∷◌, map, Option, Some, None, refl, sym, ap, ◌∙◌}
+use Rattle.std.specs.Prelude.{insert, nat_le, option_map}
 use Rattle.std.specs.List.{AllByRecursion}
 use Rattle.std.specs.Option.{option_map_or}
 use Rattle.std.specs.Ordering.{is_le, is_ge}
 use Rattle.std.specs.declared.cmp.Ordering.{Ordering}
-use Rattle.std.proofs.lemmas.Option.{slice_get-map}
 use Rattle.list_model.specs.Place.{not_above}
-use Rattle.list_model.specs.Walk.{place_of, without, next, prev, prev_onto, fits_between, placed, settled}
+use Rattle.list_model.specs.Walk.{place_of, without, relocated, next, prev, fits_between, placed, settled}
 use Rattle.multi_index.proofs.Entered.{map-insert}
+use Rattle.multi_index.proofs.Mapped.{place_mapped, next_mapped, prev_mapped}
 use Rattle.multi_index.proofs.Sides.{count_mapped}
 
 module _ {X Y : Type 0} (f : X → Y) (is : X → Bool) (named : Y → Bool) where
@@ -25,25 +25,11 @@ module _ {X Y : Type 0} (f : X → Y) (is : X → Bool) (named : Y → Bool) whe
   map-without (x ∷ xs) same =
       without_by (is x) x (without is xs) (without named (map f xs)) (map-without xs same.1) ∙ ap (λ b. cond (not b) (f x ∷ without named (map f xs)) (without named (map f xs))) same.0
 
-  place_of-map : (xs : List X) → AreNamed xs → place_of named (map f xs) ≡ place_of is xs
-  place_of-map [] same = refl
-  place_of-map (x ∷ xs) same = λ i. cond (not (sym same.0 i)) (1 + place_of-map xs same.1 i) 0
-
-  pub next-map : (xs : List X) → AreNamed xs → next named (map f xs) ≡ option_map f (next is xs)
-  next-map xs same = ap (λ k. slice_get (map f xs) (k + 1)) (place_of-map xs same) ∙ slice_get-map f xs (place_of is xs + 1)
-
-  prev_by : (b : Bool) (before o : Option X) (l : Option Y) → l ≡ option_map f o → cond b (option_map f before) l ≡ option_map f (cond b before o)
-  prev_by true before o l rest = refl
-  prev_by false before o l rest = rest
-
-  prev_onto-map : (before : Option X) (xs : List X) → AreNamed xs → prev_onto named (option_map f before) (map f xs) ≡ option_map f (prev_onto is before xs)
-  prev_onto-map before [] same = refl
-  prev_onto-map before (x ∷ xs) same =
-      ap (λ b. cond b (option_map f before) (prev_onto named (Some (f x)) (map f xs))) (sym same.0)
-      ∙ prev_by (is x) before (prev_onto is (Some x) xs) (prev_onto named (Some (f x)) (map f xs)) (prev_onto-map (Some x) xs same.1)
-
-  pub prev-map : (xs : List X) → AreNamed xs → prev named (map f xs) ≡ option_map f (prev is xs)
-  prev-map xs same = prev_onto-map None xs same
+  -- a member that moves in a list moves in what a function makes of the list
+  pub map-relocated : (x : X) (p : ℕ) (xs : List X) → AreNamed xs → map f (relocated is x p xs) ≡ relocated named (f x) p (map f xs)
+  map-relocated x p xs same =
+      map-insert f (without is xs) (cond (nat_le p (place_of is xs)) p (p - 1)) x
+      ∙ (λ i. insert (map-without xs same i) (cond (nat_le p (place_mapped f is named xs same i)) p (p - 1)) (f x))
 
   module _ (side : Y → Ordering) where
     test-map : (test : Ordering → Bool) (o : Option X) → option_map_or (λ y. test (side y)) (option_map f o) true ≡ option_map_or (λ x. test (side (f x))) o true
@@ -53,9 +39,9 @@ module _ {X Y : Type 0} (f : X → Y) (is : X → Bool) (named : Y → Bool) whe
     fits_between-map : (xs : List X) → AreNamed xs → fits_between named side (map f xs) ≡ fits_between is (λ x. side (f x)) xs
     fits_between-map xs same =
         let before : option_map_or (λ y. is_le (side y)) (prev named (map f xs)) true ≡ option_map_or (λ x. is_le (side (f x))) (prev is xs) true =
-        ap (λ o. option_map_or (λ y. is_le (side y)) o true) (prev-map xs same) ∙ test-map is_le (prev is xs) in
+        ap (λ o. option_map_or (λ y. is_le (side y)) o true) (sym (prev_mapped f is named xs same)) ∙ test-map is_le (prev is xs) in
         let after : option_map_or (λ y. is_ge (side y)) (next named (map f xs)) true ≡ option_map_or (λ x. is_ge (side (f x))) (next is xs) true =
-        ap (λ o. option_map_or (λ y. is_ge (side y)) o true) (next-map xs same) ∙ test-map is_ge (next is xs) in
+        ap (λ o. option_map_or (λ y. is_ge (side y)) o true) (sym (next_mapped f is named xs same)) ∙ test-map is_ge (next is xs) in
         λ i. before i && after i
 
     all_alike : (xs : List X) → AllByRecursion (λ x. is_le (side (f x)) ≡ is_le (side (f x))) xs

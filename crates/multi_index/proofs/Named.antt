@@ -31,6 +31,7 @@ use Rattle.multi_index.specs.Seen.{IsLinked}
 use Rattle.multi_index.proofs.Contents.{has_record}
 use Rattle.multi_index.proofs.Indices.{index_here}
 use Rattle.multi_index.proofs.LeadsTo.{row_of_live, row_of_stale, row_of_free}
+use Rattle.multi_index.proofs.HeldByAll.{same_by_handle}
 use Rattle.multi_index.proofs.Mapped.{place_mapped, next_mapped, prev_mapped}
 use Rattle.multi_index.proofs.Reading.{list_seen}
 use Rattle.multi_index.proofs.Sides.{count_mapped}
@@ -75,13 +76,7 @@ module _ {E R : Type 0} {has_key : E → ℕ → Bool} {order : E → ℕ → R 
     -- and no other node has it
     one_named : (m : Node) → IsNodeOf (store_of set) m → same_node n m ≡ is_handle h (handle m)
     one_named m is =
-        ⊎_elim
-        (λ (one : n ≡ m). ap (same_node n) (sym one) ∙ (same_node-refl n ∙ (sym named ∙ ap (λ x. is_handle h (handle x)) one)))
-        (λ (other : n ≢ m).
-        let here : is_handle h (handle m) ≡ true → n ≡ m =
-        (λ t. same_Some n m (sym at ∙ (ap (λ (g : Handle). item_at slots g.slot) (is_handle_same h (handle m) t) ∙ linked.leads.node_at m is))) in
-        false_from_ne_true _ (λ t. other (same_node-true n m t)) ∙ sym (false_from_ne_true _ (λ t. other (here t))))
-        (node_cases n m)
+        same_by_handle (store_of set) slots linked.leads n m node_here is ∙ ap (λ g. is_handle g (handle m)) (sym (is_handle_same h (handle n) named))
 
     module _ (index : ℕ) (within : index < length (specs_of set)) where
       abbrev list : List Node
