@@ -41,6 +41,10 @@ module _ {R : Type 0} (s : Store R) (n : Node) (r : R) where
         let w = Rewrites-with_record s n r is in
         record_of-at (store.with_record s n r) n (ap (λ (f : ℕ → Option Node). f (number_of n)) w.nodes ∙ is) ∙ w.written.changed
 
+    -- the node stays one
+    pub node_written : IsNodeOf (store.with_record s n r) n
+    node_written = ap (λ (f : ℕ → Option Node). f (number_of n)) (nodes_with_record s n r) ∙ is
+
     -- the record of any other node stays
     pub others_written : (m : Node) → m ≢ n → record_of (store.with_record s n r) m ≡ record_of s m
     unfolding record_of
@@ -82,9 +86,6 @@ module _ {R E : Type 0} (s : IndexSet R E) (n : Node) (r : R) where
     }
 
 module _ {R E : Type 0} (s : IndexSet R E) (n : Node) (r w : R) (had : record_of s.store n ≡ Some r) (is : IsNodeOf s.store n) where
-  still : IsNodeOf (store.with_record s.store n w) n
-  still = ap (λ (f : ℕ → Option Node). f (number_of n)) (nodes_with_record s.store n w) ∙ is
-
   -- the record that a node had, written back, is as if none was written
   pub written_back : record_of (with_record (with_record s n w) n r).store ≡ record_of s.store
   written_back = λ i m. at m i
@@ -92,8 +93,8 @@ module _ {R E : Type 0} (s : IndexSet R E) (n : Node) (r w : R) (had : record_of
       at : (m : Node) → record_of (store.with_record (store.with_record s.store n w) n r) m ≡ record_of s.store m
       at m =
           ⊎_elim
-          (λ (e : m ≡ n). ap (record_of (store.with_record (store.with_record s.store n w) n r)) e ∙ (record_written (store.with_record s.store n w) n r still ∙ sym (ap (record_of s.store) e ∙ had)))
-          (λ (ne : m ≢ n). others_written (store.with_record s.store n w) n r still m ne ∙ others_written s.store n w is m ne)
+          (λ (e : m ≡ n). ap (record_of (store.with_record (store.with_record s.store n w) n r)) e ∙ (record_written (store.with_record s.store n w) n r (node_written s.store n w is) ∙ sym (ap (record_of s.store) e ∙ had)))
+          (λ (ne : m ≢ n). others_written (store.with_record s.store n w) n r (node_written s.store n w is) m ne ∙ others_written s.store n w is m ne)
           (node_cases m n)
 
   -- so a set whose record was written and put back is as keyed as it was

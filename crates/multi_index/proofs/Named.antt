@@ -1,10 +1,8 @@
 -- The node that a handle names, in the list of an index of a container: the list answers of it what the index answers of the handle.
-use Rattle.std.proofs.Common.{◌≡◌, ◌≢◌, ℕ, ◌<◌, Bool, true, false, cond, List, ◌∷◌, ◌++◌, length, map, Option, Some, None, Ok, Err, refl, sym, ap, ◌∙◌, ⊎_elim, arith}
+use Rattle.std.proofs.Common.{◌≡◌, ℕ, ◌<◌, Bool, true, false, cond, List, ◌∷◌, ◌++◌, length, map, Option, Some, None, Ok, Err, refl, sym, ap, ◌∙◌, arith}
 use Rattle.std.specs.Prelude.{IsTrue, not, option_map, is_some, count_by}
 use Rattle.std.specs.List.{AllByRecursion}
 use Rattle.std.specs.declared.cmp.Ordering.{Ordering}
-use Rattle.std.proofs.lemmas.Bool.{false_from_ne_true}
-use Rattle.std.proofs.lemmas.Option.{same_Some}
 use Rattle.list_model.specs.Walk.{place_of, next, prev}
 use Rattle.list_model.proofs.InOrder.{All-map}
 use Rattle.list_model.proofs.Permuted.{split_at, count_by-permutation}
@@ -20,7 +18,7 @@ use Rattle.node_store.specs.declared.Node.{Node}
 use Rattle.node_store.specs.Nodes.{Holds}
 use Rattle.node_store.specs.Store.{IsNodeOf}
 use Rattle.node_store.specs.ByNode.{same_node}
-use Rattle.node_store.proofs.ByNode.{node_cases, same_node-refl, same_node-true}
+use Rattle.node_store.proofs.ByNode.{same_node-true}
 use Rattle.slot_table.specs.Slots.{item_at}
 use Rattle.index_set.specs.declared.set.IndexSet.{IndexSet}
 use Rattle.index_set.specs.Set.{store_of, keys_of, specs_of, contents, record_of, list_of, lists_of}
@@ -31,6 +29,7 @@ use Rattle.multi_index.specs.Seen.{IsLinked}
 use Rattle.multi_index.proofs.Contents.{has_record}
 use Rattle.multi_index.proofs.Indices.{index_here}
 use Rattle.multi_index.proofs.LeadsTo.{row_of_live, row_of_stale, row_of_free}
+use Rattle.multi_index.proofs.HeldByAll.{same_by_handle}
 use Rattle.multi_index.proofs.Mapped.{place_mapped, next_mapped, prev_mapped}
 use Rattle.multi_index.proofs.Reading.{list_seen}
 use Rattle.multi_index.proofs.Sides.{count_mapped}
@@ -78,13 +77,7 @@ module _ {E R : Type 0} {has_key : E → ℕ → Bool} {order : E → ℕ → R 
     -- and no other node has it
     one_named : (m : Node) → IsNodeOf (store_of set) m → same_node n m ≡ is_handle h (handle m)
     one_named m is =
-        ⊎_elim
-        (λ (one : n ≡ m). ap (same_node n) (sym one) ∙ (same_node-refl n ∙ (sym named ∙ ap (λ x. is_handle h (handle x)) one)))
-        (λ (other : n ≢ m).
-        let here : is_handle h (handle m) ≡ true → n ≡ m =
-        (λ t. same_Some n m (sym at ∙ (ap (λ (g : Handle). item_at slots g.slot) (is_handle_same h (handle m) t) ∙ linked.leads.node_at m is))) in
-        false_from_ne_true _ (λ t. other (same_node-true n m t)) ∙ sym (false_from_ne_true _ (λ t. other (here t))))
-        (node_cases n m)
+        same_by_handle (store_of set) slots linked.leads n m node_here is ∙ ap (λ g. is_handle g (handle m)) (sym (is_handle_same h (handle n) named))
 
     module _ (index : ℕ) (within : index < length (specs_of set)) where
       abbrev list : List Node

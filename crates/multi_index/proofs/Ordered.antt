@@ -1,14 +1,12 @@
 -- A sequence of nodes put into another order, and what that makes of a container.
-use Rattle.std.proofs.Common.{◌≡◌, ℕ, zero, suc, ◌+◌, ◌-◌, ◌<◌, ◌≤◌, ◌^◌, Bool, true, false, cond, not, List, [], ◌∷◌, ◌++◌, length, map, reverse, set, Option, Some, None, ◌⊎◌, refl, sym, ap, ◌∙◌, subst, ⊎_elim, arith, ◌==◌, eq-eqb}
-use Rattle.std.specs.Prelude.{insert, nat_le, is_some, IsTrue}
-use Rattle.std.specs.List.{AllByRecursion}
+use Rattle.std.proofs.Common.{◌≡◌, ℕ, ◌+◌, ◌-◌, ◌<◌, ◌≤◌, ◌^◌, Bool, true, false, cond, not, List, [], ◌∷◌, ◌++◌, length, map, reverse, set, Option, Some, None, refl, sym, ap, ◌∙◌, subst, arith, ◌==◌, eq-eqb}
+use Rattle.std.specs.Prelude.{nat_le, is_some, IsTrue, IsPermutation}
+use Rattle.std.specs.List.{AllByRecursion, list_all}
 use Rattle.std.specs.declared.cmp.Ordering.{Ordering}
-use Rattle.std.proofs.lemmas.Bool.{false_from_ne_true}
 use Rattle.std.proofs.lemmas.Bool.Decides.{nat_tests}
 use Rattle.std.proofs.lemmas.List.{map-set, map-append, length-map, reverse-append}
-use Rattle.std.proofs.lemmas.Option.{same_Some}
 use Rattle.list_model.specs.Order.{EachPair}
-use Rattle.list_model.specs.Walk.{place_of, without, relocated}
+use Rattle.list_model.specs.Walk.{relocated}
 use Rattle.list_model.proofs.InOrder.{All-map}
 use Rattle.list_model.proofs.Permuted.{count_by-permutation}
 use Rattle.node_store.specs.declared.Node.{Node}
@@ -16,18 +14,18 @@ use Rattle.node_store.specs.Nodes.{Holds}
 use Rattle.node_store.specs.Store.{Store, IsStore, IsNodeOf}
 use Rattle.node_store.specs.ByNode as node
 use Rattle.node_store.specs.ByNode.{same_node}
-use Rattle.node_store.proofs.ByNode.{node_cases, same_node-refl, same_node-true, added_kept}
+use Rattle.node_store.proofs.ByNode.{added_kept}
 use Rattle.slot_table.specs.Slots.{item_at}
 use Rattle.container_model.specs.declared.handle.Handle.{Handle}
 use Rattle.container_model.specs.declared.handle.Entry.{Entry}
 use Rattle.container_model.specs.declared.handle.Spec.{Spec}
 use Rattle.container_model.specs.declared.handle.Kind.TheVariants.{Sequenced}
 use Rattle.container_model.specs.declared.refusal.Why.{Why}
-use Rattle.container_model.specs.declared.refusal.Why.TheVariants.{Kind, Stale, Place, Spent}
+use Rattle.container_model.specs.declared.refusal.Why.TheVariants.{Kind, Stale, Place, Order, Spent}
 use Rattle.container_model.specs.State.{State, IsState, is_handle, is_sequence_kind, list_at, row_of}
 use Rattle.container_model.specs.Find.{kind_at, is_live}
-use Rattle.container_model.specs.Sequence.{with_list, relocate_refusal, sequence_refusal}
-use Rattle.container_model.proofs.Found.{is_handle_itself, is_handle_same, count_live, stands_once}
+use Rattle.container_model.specs.Sequence.{with_list, has_each_once, relocate_refusal, rearrange_refusal, sequence_refusal}
+use Rattle.container_model.proofs.Found.{count_live, stands_once}
 use Rattle.index_set.specs.declared.set.IndexSet.{IndexSet}
 use Rattle.index_set.specs.Set as set
 use Rattle.index_set.specs.Set.{store_of, keys_of, specs_of, contents, record_of, list_of, lists_of, IsSound, IsKeyed, IsOfSame}
@@ -38,33 +36,13 @@ use Rattle.multi_index.specs.LeadsTo.{LeadsTo}
 use Rattle.multi_index.specs.Linked.{handle_of, entries_in, handles_in}
 use Rattle.multi_index.specs.Seen.{seen, IsContainer}
 use Rattle.multi_index.proofs.Contents.{entries_kept, handles_kept, has_record}
-use Rattle.multi_index.proofs.Entered.{map-insert}
+use Rattle.multi_index.proofs.HeldByAll.{one_node, same_by_handle}
 use Rattle.multi_index.proofs.Indices.{index_here, as_many_each}
 use Rattle.multi_index.proofs.LeadsTo.{row_of_live, row_of_stale, row_of_free, leads_kept}
+use Rattle.multi_index.proofs.MappedWalks.{map-relocated}
 use Rattle.multi_index.proofs.Reading.{list_seen}
 
 -- ---- lists
-
--- a member that moves in a list moves in what a function makes of the list, where both are named alike
-module _ {X Y : Type 0} (f : X → Y) (is : X → Bool) (named : Y → Bool) where
-  taken_by : (b : Bool) (x : X) (xs : List X) (ys : List Y) → map f xs ≡ ys → map f (cond (not b) (x ∷ xs) xs) ≡ cond (not b) (f x ∷ ys) ys
-  taken_by true x xs ys e = e
-  taken_by false x xs ys e = ap (λ l. f x ∷ l) e
-
-  map-without : (xs : List X) → AllByRecursion (λ x. is x ≡ named (f x)) xs → map f (without is xs) ≡ without named (map f xs)
-  map-without [] same = refl
-  map-without (x ∷ xs) same =
-      taken_by (is x) x (without is xs) (without named (map f xs)) (map-without xs same.1)
-      ∙ ap (λ b. cond (not b) (f x ∷ without named (map f xs)) (without named (map f xs))) same.0
-
-  place_of-map : (xs : List X) → AllByRecursion (λ x. is x ≡ named (f x)) xs → place_of is xs ≡ place_of named (map f xs)
-  place_of-map [] same = refl
-  place_of-map (x ∷ xs) same = (λ i. cond (not (same.0 i)) (1 + place_of-map xs same.1 i) 0)
-
-  pub map-relocated : (x : X) (p : ℕ) (xs : List X) → AllByRecursion (λ x. is x ≡ named (f x)) xs → map f (relocated is x p xs) ≡ relocated named (f x) p (map f xs)
-  map-relocated x p xs same =
-      map-insert f (without is xs) (cond (nat_le p (place_of is xs)) p (p - 1)) x
-      ∙ (λ i. insert (map-without xs same i) (cond (nat_le p (place_of-map xs same i)) p (p - 1)) (f x))
 
 pub map-reverse : {X Y : Type 0} (f : X → Y) (xs : List X) → map f (reverse xs) ≡ reverse (map f xs)
 map-reverse f [] = refl
@@ -99,26 +77,11 @@ some_spec = record { kind = Sequenced; unique = false }
 -- ---- nodes and their handles
 
 module _ {R : Type 0} (s : Store (Entry R)) (slots : List (Option Node)) (leads : LeadsTo s slots) where
-  -- nodes of one handle are one
-  pub one_node : (n m : Node) → IsNodeOf s n → IsNodeOf s m → handle_of (node.record_of s) n ≡ handle_of (node.record_of s) m → n ≡ m
-  one_node n m is has e = same_Some n m (sym (leads.node_at n is) ∙ (ap (λ (h : Handle). item_at slots h.slot) e ∙ leads.node_at m has))
-
-  -- the test of nodes answers as that of their handles
-  pub same_handle : (n m : Node) → IsNodeOf s n → IsNodeOf s m → same_node n m ≡ is_handle (handle_of (node.record_of s) n) (handle_of (node.record_of s) m)
-  same_handle n m is has =
-      let f = handle_of (node.record_of s) in
-      ⊎_elim
-      (λ (same : n ≡ m). ap (λ x. same_node x m) same ∙ (same_node-refl m ∙ sym (ap (λ x. is_handle (f x) (f m)) same ∙ is_handle_itself (f m))))
-      (λ apart.
-      false_from_ne_true _ (λ t. apart (same_node-true n m t))
-      ∙ sym (false_from_ne_true _ (λ t. apart (one_node n m is has (is_handle_same (f n) (f m) t)))))
-      (node_cases n m)
-
   -- a node whose handle stands in a list of handles stands in the list of their nodes
   pub held_by_handle : (n : Node) (xs : List Node) (front back : List Handle) → IsNodeOf s n → AllByRecursion (IsNodeOf s) xs → map (handle_of (node.record_of s)) xs ≡ front ++ handle_of (node.record_of s) n ∷ back → Holds xs n
   held_by_handle n xs front back is nodes e =
       let p = stands_for (handle_of (node.record_of s)) xs front (handle_of (node.record_of s) n) back e in
-      let one : p.member ≡ n = one_node p.member n (middle_of (IsNodeOf s) p.before p.member p.after (subst (AllByRecursion (IsNodeOf s)) p.whole nodes)) is p.image in
+      let one : p.member ≡ n = one_node s slots leads p.member n (middle_of (IsNodeOf s) p.before p.member p.after (subst (AllByRecursion (IsNodeOf s)) p.whole nodes)) is p.image in
       record { before = p.before; after = p.after; is = p.whole ∙ ap (λ x. p.before ++ x ∷ p.after) one }
     where
       middle_of : {X : Type 0} (P : X → Type 0) (before : List X) (x : X) (after : List X) → AllByRecursion P (before ++ x ∷ after) → P x
@@ -171,14 +134,17 @@ module _ {E R : Type 0} {has_key : E → ℕ → Bool} {order : E → ℕ → R 
       ∙ (ap length (list_seen old slots was.linked index within)
       ∙ as_many_each (order (keys_of old).keys) (entries_in (contents old)) index (specs_of old) (handles_in (record_of old) (lists_of old)) some_spec was.state.indices within)
 
+  -- and the nodes of all of them
+  pub members_here : IsPermutation (map (λ e. e.handle) (entries_in (contents old))) (list_at (handles_in (record_of old) (lists_of old)) index)
+  members_here = (index_here (order (keys_of old).keys) (entries_in (contents old)) 0 index (specs_of old) (handles_in (record_of old) (lists_of old)) some_spec was.state.indices within).1.members
+
   module _ (n : Node) (h : Handle) (is : IsNodeOf (store_of old) n) (handle : handle_of (record_of old) n ≡ h) where
     -- it stands in the list of the index
     pub stands_in : is_live (seen old max writes) h ≡ true → Holds (list_of old index) n
     stands_in live =
         let entries = entries_in (contents old) in
         let list = list_at (handles_in (record_of old) (lists_of old)) index in
-        let here = (index_here (order (keys_of old).keys) entries 0 index (specs_of old) (handles_in (record_of old) (lists_of old)) some_spec was.state.indices within).1 in
-        let once = stands_once h list (count_by-permutation (is_handle h) _ list here.members ∙ count_live entries h was.state.slots live) in
+        let once = stands_once h list (count_by-permutation (is_handle h) _ list members_here ∙ count_live entries h was.state.slots live) in
         held_by_handle (store_of old) slots was.linked.leads n (list_of old index) once.front once.back is (nodes_held_at old was.linked.sound index within)
         (list_seen old slots was.linked index within ∙ (once.whole ∙ ap (λ g. once.front ++ g ∷ once.back) (sym handle)))
 
@@ -186,7 +152,7 @@ module _ {E R : Type 0} {has_key : E → ℕ → Bool} {order : E → ℕ → R 
     pub relocated_seen : (place : ℕ) → map (handle_of (record_of old)) (relocated (same_node n) n place (list_of old index)) ≡ relocated (is_handle h) h place (list_at (handles_in (record_of old) (lists_of old)) index)
     relocated_seen place =
         map-relocated (handle_of (record_of old)) (same_node n) (is_handle (handle_of (record_of old) n)) n place (list_of old index)
-        (All-map _ _ (λ m has. same_handle (store_of old) slots was.linked.leads n m is has) (list_of old index) (nodes_held_at old was.linked.sound index within))
+        (All-map _ _ (λ m has. same_by_handle (store_of old) slots was.linked.leads n m is has) (list_of old index) (nodes_held_at old was.linked.sound index within))
         ∙ (λ i. relocated (is_handle (handle i)) (handle i) place (list_seen old slots was.linked index within i))
 
 -- ---- live handles
@@ -259,3 +225,20 @@ may_order s index e = from_tests (is_sequence_kind (kind_at s index)) (s.writes 
     from_tests false d e = absurd (cc)
     from_tests true true e = absurd (cc)
     from_tests true false e = (refl, refl)
+
+-- an order that nothing refuses is of each record once in a sequence, and not the last write
+pub record MayRearrange {E R : Type 0} (s : State E R) (index : ℕ) (handles : List Handle) : Type 0 where
+  pub sequence : is_sequence_kind (kind_at s index) ≡ true
+  pub once : has_each_once s.entries handles ≡ true
+  pub more : (s.writes == 2 ^ 64 - 1) ≡ false
+
+pub may_rearrange : {E R : Type 0} (s : State E R) (index : ℕ) (handles : List Handle) → rearrange_refusal s index handles ≡ None → MayRearrange s index handles
+may_rearrange s index handles e = from_tests (is_sequence_kind (kind_at s index)) (list_all (λ h. is_live s h) handles) (has_each_once s.entries handles) (s.writes == 2 ^ 64 - 1) refl refl refl e
+  where
+    from_tests : (a b c d : Bool) → is_sequence_kind (kind_at s index) ≡ a → has_each_once s.entries handles ≡ c → (s.writes == 2 ^ 64 - 1) ≡ d →
+        cond a (cond b (cond c (cond d (Some Spent) None) (Some Order)) (Some Stale)) (Some Kind) ≡ None → MayRearrange s index handles
+    from_tests false b c d p r t e = absurd (cc)
+    from_tests true false c d p r t e = absurd (cc)
+    from_tests true true false d p r t e = absurd (cc)
+    from_tests true true true true p r t e = absurd (cc)
+    from_tests true true true false p r t e = record { sequence = p; once = r; more = t }

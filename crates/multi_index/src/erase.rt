@@ -62,10 +62,7 @@ impl<R: Drop, E: Extract<R> + Drop> MultiIndex<R, E> {
         if self.get(handle).is_err() {
             return Some(Why::Stale);
         }
-        if self.writes == u64::MAX {
-            return Some(Why::Spent);
-        }
-        None
+        self.spent()
     }
 
     // Takes out a record that nothing keeps in.
@@ -103,7 +100,7 @@ fn next_at<R, E: Extract<R>>(
 }
 
 // Takes a node out of each index, its record out of the set, and frees its slot.
-fn take_out<R: Drop, E: Extract<R>>(
+pub(crate) fn take_out<R: Drop, E: Extract<R>>(
     set: &mut IndexSet<Entry<R>, ByRow<E>>,
     slots: &mut SlotTable<Node>,
     node: Node,

@@ -3,13 +3,18 @@
 
 mod bounds;
 mod by_row;
+mod clear;
 mod container;
 mod erase;
+mod erase_key;
 mod linked;
 mod modify;
 mod order;
 mod positions;
+mod range;
+mod rearrange;
 mod replace;
+mod sort;
 mod walk;
 
 pub use container::MultiIndex;

@@ -1,6 +1,4 @@
-use Rattle.std.proofs.Common.{◌≡◌, ◌≤◌, ◌<◌, true, length, sym, ◌∙◌, arith, ne_eqb}
-use Rattle.container_model.specs.State.{is_sequence_kind}
-use Rattle.container_model.specs.Find.{kind_at, is_live}
+use Rattle.std.proofs.Common.{◌≡◌, length, sym, ◌∙◌, arith, ne_eqb}
 use Rattle.index_set.specs.Set.{store_of, contents}
 use Rattle.multi_index.specs.Linked.{entries_in}
 use Rattle.multi_index.specs.Seen.{seen}

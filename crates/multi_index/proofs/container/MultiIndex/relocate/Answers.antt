@@ -1,4 +1,4 @@
-use Rattle.std.proofs.Common.{◌≡◌, ◌<◌, length, ◌∙◌, ap, sym, subst, arith}
+use Rattle.std.proofs.Common.{◌<◌, length, ◌∙◌, ap, sym, subst, arith}
 use Rattle.container_model.specs.Sequence.{with_relocated}
 use Rattle.container_model.proofs.Moved.{IsState-relocated}
 use Rattle.index_set.specs.Set.{specs_of, list_of}

@@ -1,9 +1,8 @@
-use Rattle.std.proofs.Common.{◌≡◌, ◌<◌, length, map, reverse, ◌∙◌, ap, sym, subst}
-use Rattle.container_model.specs.State.{list_at}
+use Rattle.std.proofs.Common.{◌<◌, length, reverse, ◌∙◌, ap, sym, subst}
 use Rattle.container_model.specs.Sequence.{sequence_refusal, with_reversed}
 use Rattle.container_model.proofs.Moved.{IsState-reversed}
-use Rattle.index_set.specs.Set.{specs_of, record_of, list_of, lists_of}
-use Rattle.multi_index.specs.Linked.{handle_of, handles_in}
+use Rattle.index_set.specs.Set.{specs_of, record_of, list_of}
+use Rattle.multi_index.specs.Linked.{handle_of}
 use Rattle.multi_index.specs.Seen.{seen}
 use Rattle.multi_index.proofs.Ordered.{map-reverse, may_order, seen_listed, IsContainer_listed}
 use Rattle.multi_index.proofs.Reading.{list_seen}
