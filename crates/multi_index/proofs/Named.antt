@@ -56,12 +56,15 @@ module _ {E R : Type 0} {has_key : E → ℕ → Bool} {order : E → ℕ → R 
   entries = entries_in (contents set)
 
   -- a handle that its slot's node does not have names no record
-  pub stale_seen : ((n : Node) → item_at slots h.slot ≡ Some n → IsTrue (not (is_handle h (handle n)))) → is_some (row_of entries h) ≡ false
-  stale_seen none =
-      ap is_some (elim (item_at slots h.slot) as (λ (o : Option Node). item_at slots h.slot ≡ o → row_of entries h ≡ None) [
+  pub none_seen : ((n : Node) → item_at slots h.slot ≡ Some n → IsTrue (not (is_handle h (handle n)))) → row_of entries h ≡ None
+  none_seen none =
+      elim (item_at slots h.slot) as (λ (o : Option Node). item_at slots h.slot ≡ o → row_of entries h ≡ None) [
         | None ↦ λ free. row_of_free (store_of set) slots linked.sound.nodes linked.leads h free
         | Some n ↦ λ at. row_of_stale (store_of set) slots linked.sound.nodes linked.leads h n at (is_not _ (none n at))
-      ] refl)
+      ] refl
+
+  pub stale_seen : ((n : Node) → item_at slots h.slot ≡ Some n → IsTrue (not (is_handle h (handle n)))) → is_some (row_of entries h) ≡ false
+  stale_seen none = ap is_some (none_seen none)
 
   module _ (n : Node) (at : item_at slots h.slot ≡ Some n) (named : is_handle h (handle n) ≡ true) where
     node_here : IsNodeOf (store_of set) n

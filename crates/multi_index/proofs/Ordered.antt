@@ -42,8 +42,8 @@ use Rattle.multi_index.proofs.Entered.{map-insert}
 use Rattle.multi_index.proofs.HeldByAll.{one_node, same_by_handle}
 use Rattle.multi_index.proofs.Indices.{index_here, as_many_each}
 use Rattle.multi_index.proofs.LeadsTo.{row_of_live, row_of_stale, row_of_free, leads_kept}
-use Rattle.multi_index.proofs.MappedWalks.{map-relocated}
 use Rattle.multi_index.proofs.Reading.{list_seen}
+use Rattle.multi_index.proofs.Settling.{relocated_mapped}
 
 -- ---- lists
 
@@ -154,7 +154,7 @@ module _ {E R : Type 0} {has_key : E → ℕ → Bool} {order : E → ℕ → R 
     -- its handle moves as it does
     pub relocated_seen : (place : ℕ) → map (handle_of (record_of old)) (relocated (same_node n) n place (list_of old index)) ≡ relocated (is_handle h) h place (list_at (handles_in (record_of old) (lists_of old)) index)
     relocated_seen place =
-        map-relocated (handle_of (record_of old)) (same_node n) (is_handle (handle_of (record_of old) n)) n place (list_of old index)
+        relocated_mapped (handle_of (record_of old)) (same_node n) (is_handle (handle_of (record_of old) n)) n place (list_of old index)
         (All-map _ _ (λ m has. same_by_handle (store_of old) slots was.linked.leads n m is has) (list_of old index) (nodes_held_at old was.linked.sound index within))
         ∙ (λ i. relocated (is_handle (handle i)) (handle i) place (list_seen old slots was.linked index within i))
 
