@@ -18,11 +18,15 @@ pub mod MappedWalks
 pub mod Named
 pub mod Ordered
 pub mod Places
+pub mod Ranges
 pub mod Reading
 pub mod Rearranged
 pub mod Replaced
 pub mod Rewritten
+pub mod Rising
 pub mod Shrunk
 pub mod Sides
+pub mod Sorted
+pub mod StableSort
 pub mod Thinned
 pub mod Walks

@@ -10,8 +10,10 @@ mod erase_key;
 mod linked;
 mod order;
 mod positions;
+mod range;
 mod rearrange;
 mod replace;
+mod sort;
 mod walk;
 
 pub use container::MultiIndex;

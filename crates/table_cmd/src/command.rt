@@ -138,7 +138,8 @@ pub enum Command {
     Clear {
         table: Text,
     },
-    /// A record goes before the record that is then at a place of a sequence, counted from 0, or last.
+    /// A record of a sequence goes before the record that is at a place, counted from 0. The place may be past the last
+    /// record.
     Move {
         table: Text,
         index: Text,
@@ -189,7 +190,7 @@ pub enum Command {
         index: Text,
         place: u64,
     },
-    /// How many records stand before a record at the index, or how many there are: before the end.
+    /// How many records stand before a record at the index; before the end all do.
     Rank {
         table: Text,
         index: Text,
@@ -201,31 +202,31 @@ pub enum Command {
         index: Text,
         handle: HandleText,
     },
-    /// How many records stand before what `Find` answers.
+    /// How many records stand before the one that `Find` answers; all where it answers none.
     FindRank {
         table: Text,
         index: Text,
         key: Key,
     },
-    /// How many records stand before what `Lower` answers.
+    /// How many records stand before the one that `Lower` answers; all where it answers none.
     LowerRank {
         table: Text,
         index: Text,
         key: Key,
     },
-    /// How many records stand before what `Upper` answers.
+    /// How many records stand before the one that `Upper` answers; all where it answers none.
     UpperRank {
         table: Text,
         index: Text,
         key: Key,
     },
-    /// The record after another at the index, or after the end: the first.
+    /// The record after another at the index. After the last comes the end, and after the end the end.
     Next {
         table: Text,
         index: Text,
         position: Option<HandleText>,
     },
-    /// The record before another at the index, or before the end: the last.
+    /// The record before another at the index. Before the end comes the last, and before the first the end.
     Prev {
         table: Text,
         index: Text,
