@@ -88,8 +88,8 @@ impl Key {
     }
 }
 
-/// What a text that should spell a handle says: `slot:stamp`, both decimal, with no sign and no leading zeros, the slot at
-/// most 4294967295 and the stamp at most 18446744073709551615.
+/// What a text that should spell a handle says: `slot:stamp`, both decimal, with no sign and no leading zeros, the slot
+/// at most 4294967295 and the stamp at most 18446744073709551615.
 #[derive(Clone, Copy, Debug, PartialEq, Eq)]
 pub enum HandleText {
     /// The handle that it spells, which may be that of no record.
