@@ -1,40 +1,17 @@
 //! Exit statuses and texts.
 use crate::program::main_with;
-use std::io::{Error, ErrorKind, Read, Write};
+use std::io::{Read, Write};
 use std::test::Fail;
-use std::{env, fs, io};
+use std::{env, fs};
 
-/// A reader that fails once its bytes are read.
-#[derive(Drop)]
-struct Failing<'a> {
-    rest: &'a [u8],
-}
-
-impl Read for Failing<'_> {
-    fn read(&mut self, buf: &mut [u8]) -> io::Result<usize> {
-        match self.rest.split_first() {
-            Some((byte, rest)) if !buf.is_empty() => {
-                buf[0] = *byte;
-                self.rest = rest;
-                Ok(1)
-            }
-            _ => Err(Error::from(ErrorKind::Other)),
-        }
-    }
-}
-
-/// A writer that takes nothing.
-#[derive(Drop)]
-struct Full;
-
-impl Write for Full {
-    fn write(&mut self, _buf: &[u8]) -> io::Result<usize> {
-        Err(Error::from(ErrorKind::Other))
-    }
-
-    fn flush(&mut self) -> io::Result<()> {
-        Ok(())
-    }
+/// A run on one line: its words, in which `@` stands for the front of a temporary file's path, its status, its answers and
+/// a part of its fault's text, which is empty where there is none.
+#[derive(Clone, Copy)]
+struct Run {
+    words: &'static str,
+    status: u8,
+    answers: &'static str,
+    fault: &'static str,
 }
 
 const LIST: &str = "{\"op\":\"list\",\"t\":\"f\",\"i\":\"q\"}\n";
@@ -45,13 +22,39 @@ const JSON: &str = "{\"err\":\"json\"}\n";
 
 const TABLE: &str = "{\"err\":\"table\"}\n";
 
-/// A file's path in the folder of temporary files.
-fn path_of(rt: &HostRuntime, name: &str) -> Result<String, Fail> {
-    let file = format!(in rt.alloc(); "table_server_test_{name}")?;
-    Ok(env::temp_dir(rt)?.join(rt.alloc(), &file)?.into_string())
+const SCHEMA: &str = "[[table]]
+name = \"p\"
+column = [{name = \"id\", cell = \"int\"}]
+index = [{name = \"q\", kind = \"sequenced\"}]
+";
+
+fn answered(words: &'static str, answers: &'static str) -> Run {
+    Run {
+        words,
+        status: 0,
+        answers,
+        fault: "",
+    }
 }
 
-/// The words of a text, where `@` stands before the name of a temporary file.
+fn refused(words: &'static str, status: u8, fault: &'static str) -> Run {
+    Run {
+        words,
+        status,
+        answers: "",
+        fault,
+    }
+}
+
+/// A temporary file's path.
+fn path_of(rt: &HostRuntime, name: &str) -> Result<String, Fail> {
+    let mut path = String::from_str(rt.alloc(), env::temp_dir(rt)?.as_str())?;
+    path.push_str("/table_server_test_")?;
+    path.push_str(name)?;
+    Ok(path)
+}
+
+/// The words of a text.
 fn words_of(rt: &HostRuntime, text: &str) -> Result<Vec<String>, Fail> {
     let mut words = Vec::new(rt.alloc());
     for word in text.split_whitespace() {
@@ -63,65 +66,73 @@ fn words_of(rt: &HostRuntime, text: &str) -> Result<Vec<String>, Fail> {
     Ok(words)
 }
 
+/// The status of a run, and its fault's text.
+fn ended<I: Read, O: Write>(
+    rt: &HostRuntime,
+    words: &[String],
+    input: &mut I,
+    output: &mut O,
+) -> Result<(u8, String), Fail> {
+    let mut faults = Vec::new(rt.alloc());
+    let status = main_with(rt, words, input, output, &mut faults);
+    Ok((status, String::from_utf8(faults)?))
+}
+
+/// Whether a run ends as it is to.
+fn is_right(rt: &HostRuntime, run: &Run) -> Result<bool, Fail> {
+    let words = words_of(rt, run.words)?;
+    let mut output = Vec::new(rt.alloc());
+    let (status, said) = ended(rt, &words, &mut LIST.as_bytes(), &mut output)?;
+    Ok(
+        status == run.status
+            && output.as_slice() == run.answers.as_bytes()
+            && said.contains(run.fault)
+            && said.is_empty() == run.fault.is_empty(),
+    )
+}
+
+fn write_files(rt: &HostRuntime) -> Result<(), Fail> {
+    fs::write(rt, path_of(rt, "schema")?.as_str(), SCHEMA)?;
+    fs::write(rt, path_of(rt, "broken")?.as_str(), "a = ")?;
+    fs::write(rt, path_of(rt, "lines")?.as_str(), "[1\n")?;
+    Ok(())
+}
+
 #[test]
 fn words_and_files(rt: HostRuntime) -> Result<(), Fail> {
-    fs::write(&rt, path_of(&rt, "schema")?.as_str(), SCHEMA)?;
-    fs::write(&rt, path_of(&rt, "broken")?.as_str(), "a = ")?;
-    fs::write(&rt, path_of(&rt, "lines")?.as_str(), "[1\n")?;
-    let rows = [
-        ("", 0, LISTED, ""),
-        ("run", 0, LISTED, ""),
-        ("run --commands @lines", 0, JSON, ""),
-        ("run --schema @schema", 0, TABLE, ""),
-        ("run --schema @schema --commands @lines", 0, JSON, ""),
-        ("run --commands @absent", 1, "", "device: read\n"),
-        ("run --schema @absent", 1, "", "device: read\n"),
-        ("fly", 2, "", "fly"),
-        ("run --schema @broken", 3, "", "schema: toml\n"),
-        (
+    write_files(&rt)?;
+    for run in &[
+        answered("", LISTED),
+        answered("run", LISTED),
+        answered("run --commands @lines", JSON),
+        answered("run --schema @schema", TABLE),
+        answered("run --schema @schema --commands @lines", JSON),
+        refused("run --commands @absent", 1, "device: read\n"),
+        refused("run --schema @absent", 1, "device: read\n"),
+        refused("fly", 2, "fly"),
+        refused("run --schema @broken", 3, "schema: toml\n"),
+        refused(
             "run --schema @broken --commands @absent",
             3,
-            "",
             "schema: toml\n",
         ),
-    ];
-    for (text, status, answers, fault) in rows {
-        let words = words_of(&rt, text)?;
-        let mut output = Vec::new(rt.alloc());
-        let mut faults = Vec::new(rt.alloc());
-        let given = main_with(&rt, &words, &mut LIST.as_bytes(), &mut output, &mut faults);
-        assert!(rt;
-            given == status && output.as_slice() == answers.as_bytes(),
-            "{text}"
-        );
-        let said = String::from_utf8(faults)?;
-        assert!(rt;
-            said.contains(fault) && said.is_empty() == fault.is_empty(),
-            "{said}"
-        );
+    ] {
+        assert!(rt; is_right(&rt, run)?, "{}", run.words);
     }
     Ok(())
 }
 
 #[test]
 fn devices(rt: HostRuntime) -> Result<(), Fail> {
-    let alloc = rt.alloc();
-    let mut output = Vec::new(alloc);
-    let mut faults = Vec::new(alloc);
-    let mut reader = Failing {
-        rest: LIST.as_bytes(),
-    };
-    let status = main_with(&rt, &[], &mut reader, &mut output, &mut faults);
-    assert!(rt; status == 1 && output.as_slice() == LISTED.as_bytes());
-    assert!(rt; faults.as_slice() == "device: read\n".as_bytes());
-    faults.clear();
-    let status = main_with(&rt, &[], &mut LIST.as_bytes(), &mut Full, &mut faults);
-    assert!(rt; status == 1 && faults.as_slice() == "device: write\n".as_bytes());
+    // A folder can be opened, and then neither be read nor written.
+    let folder = env::temp_dir(&rt)?;
+    let mut input = LIST.as_bytes().chain(fs::open(&rt, folder.as_str())?);
+    let mut output = Vec::new(rt.alloc());
+    let (status, said) = ended(&rt, &[], &mut input, &mut output)?;
+    assert!(rt; status == 1 && said.as_str() == "device: read\n");
+    assert!(rt; output.as_slice() == LISTED.as_bytes());
+    let mut unwritten = fs::open(&rt, folder.as_str())?;
+    let (status, said) = ended(&rt, &[], &mut LIST.as_bytes(), &mut unwritten)?;
+    assert!(rt; status == 1 && said.as_str() == "device: write\n");
     Ok(())
 }
-
-const SCHEMA: &str = "[[table]]
-name = \"p\"
-column = [{name = \"id\", cell = \"int\"}]
-index = [{name = \"q\", kind = \"sequenced\"}]
-";
