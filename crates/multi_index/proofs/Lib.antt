@@ -15,7 +15,6 @@ pub mod LeadsTo
 pub mod Left
 pub mod Made
 pub mod Mapped
-pub mod MappedWalks
 pub mod Named
 pub mod Ordered
 pub mod Places
@@ -25,6 +24,7 @@ pub mod Rearranged
 pub mod Replaced
 pub mod Rewritten
 pub mod Rising
+pub mod Settling
 pub mod Shrunk
 pub mod Sides
 pub mod Sorted

@@ -1,12 +1,14 @@
 -- A sequence of nodes put into another order, and what that makes of a container.
-use Rattle.std.proofs.Common.{◌≡◌, ℕ, ◌+◌, ◌-◌, ◌<◌, ◌≤◌, ◌^◌, Bool, true, false, cond, not, List, [], ◌∷◌, ◌++◌, length, map, reverse, set, Option, Some, None, refl, sym, ap, ◌∙◌, subst, arith, ◌==◌, eq-eqb}
-use Rattle.std.specs.Prelude.{nat_le, is_some, IsTrue, IsPermutation}
+use Rattle.std.proofs.Common.{◌≡◌, ℕ, ◌+◌, ◌-◌, ◌<◌, ◌≤◌, ◌^◌, Bool, true, false, cond, not, List, [], ◌∷◌, ◌++◌, length, map, reverse, set, Option, Some, None, refl, sym, ap, ◌∙◌, subst, ⊎_elim, arith, ◌==◌, eq-eqb}
+use Rattle.std.specs.Prelude.{insert, nat_le, is_some, IsTrue, IsPermutation}
 use Rattle.std.specs.List.{AllByRecursion, list_all}
 use Rattle.std.specs.declared.cmp.Ordering.{Ordering}
+use Rattle.std.proofs.lemmas.Bool.{false_from_ne_true}
 use Rattle.std.proofs.lemmas.Bool.Decides.{nat_tests}
 use Rattle.std.proofs.lemmas.List.{map-set, map-append, length-map, reverse-append}
+use Rattle.std.proofs.lemmas.Option.{same_Some}
 use Rattle.list_model.specs.Order.{EachPair}
-use Rattle.list_model.specs.Walk.{relocated}
+use Rattle.list_model.specs.Walk.{place_of, without, relocated}
 use Rattle.list_model.proofs.InOrder.{All-map}
 use Rattle.list_model.proofs.Permuted.{count_by-permutation}
 use Rattle.node_store.specs.declared.Node.{Node}
@@ -14,7 +16,7 @@ use Rattle.node_store.specs.Nodes.{Holds}
 use Rattle.node_store.specs.Store.{Store, IsStore, IsNodeOf}
 use Rattle.node_store.specs.ByNode as node
 use Rattle.node_store.specs.ByNode.{same_node}
-use Rattle.node_store.proofs.ByNode.{added_kept}
+use Rattle.node_store.proofs.ByNode.{node_cases, same_node-refl, same_node-true, added_kept}
 use Rattle.slot_table.specs.Slots.{item_at}
 use Rattle.container_model.specs.declared.handle.Handle.{Handle}
 use Rattle.container_model.specs.declared.handle.Entry.{Entry}
@@ -25,7 +27,7 @@ use Rattle.container_model.specs.declared.refusal.Why.TheVariants.{Kind, Stale, 
 use Rattle.container_model.specs.State.{State, IsState, is_handle, is_sequence_kind, list_at, row_of}
 use Rattle.container_model.specs.Find.{kind_at, is_live}
 use Rattle.container_model.specs.Sequence.{with_list, has_each_once, relocate_refusal, rearrange_refusal, sequence_refusal}
-use Rattle.container_model.proofs.Found.{count_live, stands_once}
+use Rattle.container_model.proofs.Found.{is_handle_itself, is_handle_same, count_live, stands_once}
 use Rattle.index_set.specs.declared.set.IndexSet.{IndexSet}
 use Rattle.index_set.specs.Set as set
 use Rattle.index_set.specs.Set.{store_of, keys_of, specs_of, contents, record_of, list_of, lists_of, IsSound, IsKeyed, IsOfSame}
@@ -36,11 +38,12 @@ use Rattle.multi_index.specs.LeadsTo.{LeadsTo}
 use Rattle.multi_index.specs.Linked.{handle_of, entries_in, handles_in}
 use Rattle.multi_index.specs.Seen.{seen, IsContainer}
 use Rattle.multi_index.proofs.Contents.{entries_kept, handles_kept, has_record}
+use Rattle.multi_index.proofs.Entered.{map-insert}
 use Rattle.multi_index.proofs.HeldByAll.{one_node, same_by_handle}
 use Rattle.multi_index.proofs.Indices.{index_here, as_many_each}
 use Rattle.multi_index.proofs.LeadsTo.{row_of_live, row_of_stale, row_of_free, leads_kept}
-use Rattle.multi_index.proofs.MappedWalks.{map-relocated}
 use Rattle.multi_index.proofs.Reading.{list_seen}
+use Rattle.multi_index.proofs.Settling.{relocated_mapped}
 
 -- ---- lists
 
@@ -151,7 +154,7 @@ module _ {E R : Type 0} {has_key : E → ℕ → Bool} {order : E → ℕ → R 
     -- its handle moves as it does
     pub relocated_seen : (place : ℕ) → map (handle_of (record_of old)) (relocated (same_node n) n place (list_of old index)) ≡ relocated (is_handle h) h place (list_at (handles_in (record_of old) (lists_of old)) index)
     relocated_seen place =
-        map-relocated (handle_of (record_of old)) (same_node n) (is_handle (handle_of (record_of old) n)) n place (list_of old index)
+        relocated_mapped (handle_of (record_of old)) (same_node n) (is_handle (handle_of (record_of old) n)) n place (list_of old index)
         (All-map _ _ (λ m has. same_by_handle (store_of old) slots was.linked.leads n m is has) (list_of old index) (nodes_held_at old was.linked.sound index within))
         ∙ (λ i. relocated (is_handle (handle i)) (handle i) place (list_seen old slots was.linked index within i))
 

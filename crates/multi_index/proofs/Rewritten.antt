@@ -40,7 +40,7 @@ use Rattle.multi_index.specs.Linked.{handle_of, entries_in, handles_in}
 use Rattle.multi_index.proofs.Contents.{has_record, handle_of-is, known}
 use Rattle.multi_index.proofs.Entered.{order_known}
 use Rattle.multi_index.proofs.HeldByAll.{same_by_handle}
-use Rattle.multi_index.proofs.MappedWalks.{settled-map}
+use Rattle.multi_index.proofs.Settling.{settled_mapped}
 
 -- ---- lists
 
@@ -163,7 +163,7 @@ module _ {R : Type 0} (s u : Store (Entry R)) (n : Node) (h : Handle) (row : R) 
         ap (map f)
         (subst (λ l. settled (same_node n) (λ m. order_at (record_of u) by_row m n) n l ≡ settled (same_node n) (λ m. side (f m)) n l) (sym held.is)
         (settled_same (same_node n) (λ m. order_at (record_of u) by_row m n) (λ m. side (f m)) held.before n held.after before (same_node-refl n) behind (alike held.before before there.0) (alike held.after behind there.1.1)))
-        ∙ (settled-map f (same_node n) (is_handle h) side n xs (All-map _ _ (λ m node. its_name m node ∙ ap (is_handle h) (sym (handle_kept m))) xs are)
+        ∙ (settled_mapped f (same_node n) (is_handle h) side n xs (All-map _ _ (λ m node. its_name m node ∙ ap (is_handle h) (sym (handle_kept m))) xs are)
         ∙ ap (λ g. settled (is_handle h) side g (map f xs)) (handle_of-is (record_of u) n entry its_record))
 
     one_settled : (kind : Kind) (xs : List Node) → Holds xs n → IsDistinct xs → AllByRecursion (IsNodeOf s) xs →

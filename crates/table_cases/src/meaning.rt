@@ -1,79 +1,193 @@
 //! Commands in short.
 
-use std::alloc::{AllocError, Global};
-use table_cmd::{Cell, Command, Fields, Key, Position, Text, Value};
+use crate::report::Report;
+use std::alloc::AllocError;
+use table_cmd::{Cell, Command, Fields, HandleText, Key, Position, Text, Value};
 
 /// The longest text that is shown whole, in bytes.
 const MAX_SHOWN: usize = 64;
 
-fn text_shown(alloc: Global, text: &Text) -> Result<String, AllocError> {
-    if text.len() > MAX_SHOWN {
-        return format!(in alloc; "text of {} bytes", text.len());
-    }
-    format!(in alloc; "'{}'", text.as_str())
+// What a command has beside its op and its table.
+#[derive(Clone, Copy)]
+enum Parts<'a> {
+    Table,
+    Handle(HandleText),
+    Row(&'a Fields, Option<&'a Position>),
+    NewRow(HandleText, &'a Fields),
+    Index(&'a Text),
+    Key(&'a Text, &'a Key),
+    // A record, or the end.
+    At(&'a Text, Option<HandleText>),
+    Place(&'a Text, u64),
+    Move(&'a Text, HandleText, u64),
 }
 
-fn value_shown(alloc: Global, value: &Value) -> Result<String, AllocError> {
-    match value {
-        Value::Cell(Cell::Int(number)) => format!(in alloc; "{number}"),
-        Value::Cell(Cell::Text(text)) => text_shown(alloc, text),
-        Value::Cell(Cell::Bool(truth)) => format!(in alloc; "{truth}"),
-        Value::Other => String::from_str(alloc, "other"),
-    }
+// The op of a change, and the rest.
+fn parts_of_change(command: &Command) -> Option<(&'static str, Parts<'_>)> {
+    Some(match command {
+        Command::Insert { row, position, .. } => ("insert", Parts::Row(row, position.as_ref())),
+        Command::Replace { handle, row, .. } => ("replace", Parts::NewRow(*handle, row)),
+        Command::Erase {
+            handle,
+            index: None,
+            ..
+        } => ("erase", Parts::Handle(*handle)),
+        Command::Erase {
+            handle,
+            index: Some(index),
+            ..
+        } => ("erase", Parts::At(index, Some(*handle))),
+        Command::EraseKey { index, key, .. } => ("erase_key", Parts::Key(index, key)),
+        Command::Clear { .. } => ("clear", Parts::Table),
+        Command::Move {
+            index,
+            handle,
+            place,
+            ..
+        } => ("move", Parts::Move(index, *handle, *place)),
+        Command::Reverse { index, .. } => ("reverse", Parts::Index(index)),
+        _ => return None,
+    })
 }
 
-fn insert_shown(
-    alloc: Global,
-    table: &Text,
-    row: &Fields,
-    position: Option<&Position>,
-) -> Result<String, AllocError> {
-    let mut shown = format!(in alloc; "insert {}", table.as_str())?;
-    for field in row.as_slice() {
-        let value = value_shown(alloc, &field.value)?;
-        shown.push_str(" ")?;
-        shown.push_str(field.name.as_str())?;
-        shown.push_str("=")?;
-        shown.push_str(value.as_str())?;
-    }
-    if let Some(position) = position {
-        let at = format!(in alloc; " at {} {}", position.index.as_str(), position.place)?;
-        shown.push_str(at.as_str())?;
-    }
-    Ok(shown)
-}
-
-fn search_shown(
-    alloc: Global,
-    op: &str,
-    table: &Text,
-    index: &Text,
-    key: &Key,
-) -> Result<String, AllocError> {
-    let mut shown = format!(in alloc; "{op} {} {}", table.as_str(), index.as_str())?;
-    for value in key.as_slice() {
-        let value = value_shown(alloc, value)?;
-        shown.push_str(" ")?;
-        shown.push_str(value.as_str())?;
-    }
-    Ok(shown)
-}
-
-/// The command in short: its op, its names, and its values.
-pub fn shown(alloc: Global, command: &Command) -> Result<String, AllocError> {
+// The op of any other command, and the rest.
+fn parts_of_read(command: &Command) -> (&'static str, Parts<'_>) {
     match command {
-        Command::Insert {
-            table,
-            row,
+        Command::Get { handle, .. } => ("get", Parts::Handle(*handle)),
+        Command::Find { index, key, .. } => ("find", Parts::Key(index, key)),
+        Command::Count { index, key, .. } => ("count", Parts::Key(index, key)),
+        Command::Lower { index, key, .. } => ("lower", Parts::Key(index, key)),
+        Command::Upper { index, key, .. } => ("upper", Parts::Key(index, key)),
+        Command::Nth { index, place, .. } => ("nth", Parts::Place(index, *place)),
+        Command::Rank {
+            index,
             position,
-        } => insert_shown(alloc, table, row, position.as_ref()),
-        Command::Find { table, index, key } => search_shown(alloc, "find", table, index, key),
-        Command::Count { table, index, key } => search_shown(alloc, "count", table, index, key),
-        Command::Size { table } => format!(in alloc; "size {}", table.as_str()),
-        Command::List { table, index } => format!(in alloc;
-            "list {} {}",
-            table.as_str(),
-            index.as_str()
-        ),
+            ..
+        } => ("rank", Parts::At(index, *position)),
+        Command::Place { index, handle, .. } => ("place", Parts::At(index, Some(*handle))),
+        Command::FindRank { index, key, .. } => ("find_rank", Parts::Key(index, key)),
+        Command::LowerRank { index, key, .. } => ("lower_rank", Parts::Key(index, key)),
+        Command::UpperRank { index, key, .. } => ("upper_rank", Parts::Key(index, key)),
+        Command::Next {
+            index,
+            position,
+            ..
+        } => ("next", Parts::At(index, *position)),
+        Command::Prev {
+            index,
+            position,
+            ..
+        } => ("prev", Parts::At(index, *position)),
+        Command::List { index, .. } => ("list", Parts::Index(index)),
+        Command::Size { .. } => ("size", Parts::Table),
+        _ => ("another op", Parts::Table),
     }
+}
+
+fn tell_text(text: &Text, report: &mut Report) -> Result<(), AllocError> {
+    if text.len() > MAX_SHOWN {
+        report.text("text of ")?;
+        report.number(text.len())?;
+        return report.text(" bytes");
+    }
+    report.text("'")?;
+    report.text(text.as_str())?;
+    report.text("'")
+}
+
+fn tell_value(value: &Value, report: &mut Report) -> Result<(), AllocError> {
+    match value {
+        Value::Cell(Cell::Int(number)) => report.number(*number),
+        Value::Cell(Cell::Text(text)) => tell_text(text, report),
+        Value::Cell(Cell::Bool(true)) => report.text("true"),
+        Value::Cell(Cell::Bool(false)) => report.text("false"),
+        Value::Other => report.text("other"),
+    }
+}
+
+fn tell_word(word: &str, report: &mut Report) -> Result<(), AllocError> {
+    report.text(" ")?;
+    report.text(word)
+}
+
+fn tell_row(row: &Fields, report: &mut Report) -> Result<(), AllocError> {
+    for field in row.as_slice() {
+        tell_word(field.name.as_str(), report)?;
+        report.text("=")?;
+        tell_value(&field.value, report)?;
+    }
+    Ok(())
+}
+
+fn tell_key(key: &Key, report: &mut Report) -> Result<(), AllocError> {
+    for value in key.as_slice() {
+        report.text(" ")?;
+        tell_value(value, report)?;
+    }
+    Ok(())
+}
+
+fn tell_handle(handle: Option<HandleText>, report: &mut Report) -> Result<(), AllocError> {
+    match handle {
+        None => report.text(" end"),
+        Some(HandleText::Bad) => report.text(" no handle"),
+        Some(HandleText::Handle(handle)) => {
+            report.text(" ")?;
+            report.number(handle.slot)?;
+            report.text(":")?;
+            report.number(handle.stamp)
+        }
+    }
+}
+
+fn tell_place(place: u64, report: &mut Report) -> Result<(), AllocError> {
+    report.text(" ")?;
+    report.number(place)
+}
+
+fn tell_parts(parts: Parts, report: &mut Report) -> Result<(), AllocError> {
+    match parts {
+        Parts::Table => Ok(()),
+        Parts::Handle(handle) => tell_handle(Some(handle), report),
+        Parts::Row(row, None) => tell_row(row, report),
+        Parts::Row(row, Some(position)) => {
+            tell_row(row, report)?;
+            report.text(" at")?;
+            tell_word(position.index.as_str(), report)?;
+            tell_place(position.place, report)
+        }
+        Parts::NewRow(handle, row) => {
+            tell_handle(Some(handle), report)?;
+            tell_row(row, report)
+        }
+        Parts::Index(index) => tell_word(index.as_str(), report),
+        Parts::Key(index, key) => {
+            tell_word(index.as_str(), report)?;
+            tell_key(key, report)
+        }
+        Parts::At(index, handle) => {
+            tell_word(index.as_str(), report)?;
+            tell_handle(handle, report)
+        }
+        Parts::Place(index, place) => {
+            tell_word(index.as_str(), report)?;
+            tell_place(place, report)
+        }
+        Parts::Move(index, handle, place) => {
+            tell_word(index.as_str(), report)?;
+            tell_handle(Some(handle), report)?;
+            tell_place(place, report)
+        }
+    }
+}
+
+/// Adds the command in short: its op, its names, and its values.
+pub fn tell_command(command: &Command, report: &mut Report) -> Result<(), AllocError> {
+    let (op, parts) = match parts_of_change(command) {
+        Some(change) => change,
+        None => parts_of_read(command),
+    };
+    report.text(op)?;
+    tell_word(command.table(), report)?;
+    tell_parts(parts, report)
 }

@@ -1,6 +1,5 @@
 //! Scripts: a schema, and lines of commands.
 
-use crate::repeats::spelled_out;
 use std::alloc::{AllocError, Global};
 use table_schema::{Schema, SchemaFault, builtin, read_schema};
 
@@ -8,53 +7,56 @@ use table_schema::{Schema, SchemaFault, builtin, read_schema};
 #[derive(Drop)]
 pub struct Script {
     /// What it is called.
-    pub name: String,
+    pub name: Vec<u8>,
     /// The lines, without their newlines.
     pub lines: Vec<Vec<u8>>,
-    schema: String,
+    schema: Vec<u8>,
     is_own: bool,
     has_schema: bool,
 }
 
 /// The name on a line that begins a script.
-pub fn heading(line: &str) -> Option<&str> {
-    line.strip_prefix("=== ")
+pub fn heading(line: &[u8]) -> Option<&[u8]> {
+    match line {
+        [b'=', b'=', b'=', b' ', name @ ..] => Some(name),
+        _ => None,
+    }
 }
 
 impl Script {
     /// A script without lines, whose schema file is that of the script before it, if it has none of its own.
-    pub fn new(alloc: Global, name: &str, before: Option<&Script>) -> Result<Script, AllocError> {
+    pub fn new(alloc: Global, name: &[u8], before: Option<&Script>) -> Result<Script, AllocError> {
         let schema = match before {
-            Some(script) => script.schema.as_str(),
-            None => "",
+            Some(script) => script.schema.to_vec(alloc)?,
+            None => Vec::new(alloc),
         };
         Ok(Script {
-            name: String::from_str(alloc, name)?,
+            name: name.to_vec(alloc)?,
             lines: Vec::new(alloc),
-            schema: String::from_str(alloc, schema)?,
+            schema,
             is_own: false,
             has_schema: false,
         })
     }
 
     // Takes the next line of the schema file.
-    fn add_to_schema(&mut self, line: &str) -> Result<(), AllocError> {
+    fn add_to_schema(&mut self, line: &[u8]) -> Result<(), AllocError> {
         if !self.is_own {
             self.schema.clear();
             self.is_own = true;
         }
-        self.schema.push_str(line)?;
-        self.schema.push('\n')
+        self.schema.extend_from_slice(line)?;
+        Ok(self.schema.push(b'\n')?)
     }
 
     /// Takes the next line.
-    pub fn add(&mut self, alloc: Global, line: &str) -> Result<(), AllocError> {
+    pub fn add(&mut self, line: Vec<u8>) -> Result<(), AllocError> {
         if self.has_schema {
-            self.lines.push(spelled_out(alloc, line)?)?;
-        } else if line == "---" {
+            self.lines.push(line)?;
+        } else if let [b'-', b'-', b'-'] = line.as_slice() {
             self.has_schema = true;
         } else {
-            self.add_to_schema(line)?;
+            self.add_to_schema(&line)?;
         }
         Ok(())
     }
@@ -64,6 +66,6 @@ impl Script {
         if self.schema.is_empty() {
             return Ok(builtin(alloc)?);
         }
-        read_schema(alloc, self.schema.as_bytes())
+        read_schema(alloc, &self.schema)
     }
 }

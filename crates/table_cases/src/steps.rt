@@ -1,10 +1,10 @@
 //! What each line is to each table.
 ghost use Rattle.std.specs.Prelude.{◌≤◌, IfOk};
 
-use crate::meaning::shown;
+use crate::meaning::tell_command;
+use crate::report::Report;
 use std::alloc::{AllocError, Global};
 use table_cmd::{Command, CommandFault, Fault, Out, READY_ROOM, read_command};
-use table_engine::{Cut, LineCutter};
 use table_schema::Schema;
 use table_step::{Outcome, Table, refuse};
 
@@ -76,73 +76,39 @@ fn only(alloc: Global, told: Told) -> Result<Vec<Told>, AllocError> {
     Ok(all)
 }
 
-// What a line is read as, and what it is told.
+// Adds what a line is read as, and gives what it is told.
 fn read_and_told(
     alloc: Global,
     tables: &mut [Table],
     line: &[u8],
-) -> Result<(String, Vec<Told>), AllocError> {
+    report: &mut Report,
+) -> Result<Vec<Told>, AllocError> {
     match read_command(alloc, line) {
         Ok(command) => {
-            let shown = shown(alloc, &command)?;
-            Ok((shown, carried_out(alloc, tables, &command)?))
+            tell_command(&command, report)?;
+            carried_out(alloc, tables, &command)
         }
         Err(CommandFault::Json) => {
-            let told = refused(alloc, Fault::Json)?;
-            Ok((String::from_str(alloc, "json")?, only(alloc, told)?))
+            report.text("json")?;
+            only(alloc, refused(alloc, Fault::Json)?)
         }
         Err(CommandFault::Command) => {
-            let told = refused(alloc, Fault::Command)?;
-            Ok((String::from_str(alloc, "command")?, only(alloc, told)?))
+            report.text("command")?;
+            only(alloc, refused(alloc, Fault::Command)?)
         }
         Err(CommandFault::Memory) => Err(AllocError),
     }
 }
 
-// Feeds the cutter a line and its newline.
-fn cut(cutter: &mut LineCutter, line: &[u8]) -> Cut {
-    for byte in line {
-        cutter.feed(*byte);
-    }
-    cutter.feed(b'\n')
-}
-
-// What a blank line, which has no answer, is read as.
-fn blank_meant(alloc: Global, line: &[u8]) -> Result<String, AllocError> {
-    let mut none = Vec::new(alloc);
-    let (meant, _) = read_and_told(alloc, &mut none, line)?;
-    format!(in alloc; "blank {}", meant.as_str())
-}
-
-fn meant_and_told(
-    alloc: Global,
-    tables: &mut [Table],
-    cutter: &mut LineCutter,
-    line: &[u8],
-) -> Result<(String, Vec<Told>), AllocError> {
-    match cut(cutter, line) {
-        Cut::Unended => Ok((String::from_str(alloc, "unended")?, Vec::new(alloc))),
-        Cut::Blank => Ok((blank_meant(alloc, line)?, Vec::new(alloc))),
-        Cut::Long => {
-            let told = refused(alloc, Fault::Line)?;
-            Ok((String::from_str(alloc, "long")?, only(alloc, told)?))
-        }
-        Cut::Line => read_and_told(alloc, tables, cutter.line()),
-    }
-}
-
-// Adds what was told to the report, and gives all answers together.
-fn report_told(alloc: Global, all: &[Told], report: &mut String) -> Result<Vec<u8>, AllocError> {
-    let mut answer = Vec::new(alloc);
+// Adds what was told.
+fn tell_told(all: &[Told], report: &mut Report) -> Result<(), AllocError> {
     for told in all {
-        let text = String::from_utf8_lossy(alloc, told.out.bytes())?;
-        report.push_str("  ")?;
-        report.push_str(kind_of(told.outcome))?;
-        report.push_str(" ")?;
-        report.push_str(text.as_str())?;
-        answer.extend_from_slice(told.out.bytes())?;
+        report.text("  ")?;
+        report.text(kind_of(told.outcome))?;
+        report.text(" ")?;
+        report.push(told.out.bytes())?;
     }
-    Ok(answer)
+    Ok(())
 }
 
 fn new_tables(alloc: Global, schema: &Schema) -> Result<Vec<Table>, AllocError> {
@@ -154,21 +120,18 @@ fn new_tables(alloc: Global, schema: &Schema) -> Result<Vec<Table>, AllocError> 
 }
 
 /// Tells each line to new tables of the schema. Adds to the report what the line is read as, and the kind of its outcome
-/// and its answer; and gives each line's answer, which is empty where it has none.
+/// and its answer.
 pub fn tell_lines(
     alloc: Global,
     schema: &Schema,
     lines: &[Vec<u8>],
-    report: &mut String,
-) -> Result<Vec<Vec<u8>>, AllocError> {
+    report: &mut Report,
+) -> Result<(), AllocError> {
     let mut tables = new_tables(alloc, schema)?;
-    let mut cutter = LineCutter::new();
-    let mut answers = Vec::new(alloc);
     for line in lines {
-        let (meant, told) = meant_and_told(alloc, &mut tables, &mut cutter, line)?;
-        report.push_str(meant.as_str())?;
-        report.push('\n')?;
-        answers.push(report_told(alloc, &told, report)?)?;
+        let told = read_and_told(alloc, &mut tables, line, report)?;
+        report.text("\n")?;
+        tell_told(&told, report)?;
     }
-    Ok(answers)
+    Ok(())
 }

@@ -88,14 +88,75 @@ impl Key {
     }
 }
 
-/// What a text that should spell a handle says: `slot:stamp`, both decimal, with no sign and no leading zeros, the slot at
-/// most 4294967295 and the stamp at most 18446744073709551615.
+/// What a text that should spell a handle says: `slot:stamp`, both decimal, with no sign and no leading zeros, the slot
+/// at most 4294967295 and the stamp at most 18446744073709551615.
 #[derive(Clone, Copy, Debug, PartialEq, Eq)]
 pub enum HandleText {
     /// The handle that it spells, which may be that of no record.
     Handle(Handle),
     /// The text spells no handle.
     Bad,
+}
+
+/// Handles in an order, as texts say them.
+#[derive(Debug, Drop)]
+pub struct Handles {
+    handles: Vec<HandleText>,
+}
+
+impl Model for Handles {
+    ghost use Rattle.std.specs.Prelude.{List};
+    ghost use Rattle.table_cmd.specs.declared.command.HandleText.{HandleText as Said};
+
+    ghost Value = { List Said };
+
+    ghost view = { λ h. h.handles.items };
+}
+
+impl Handles {
+    /// These handles, in this order. O(1).
+    pub fn new(handles: Vec<HandleText>) -> Handles
+        ensures { result ≡ handles.items }
+    {
+        Handles { handles }
+    }
+
+    /// The handles, as long as they are borrowed. O(1).
+    pub fn as_slice(&self) -> &[HandleText]
+        ensures { result.now ≡ self.now }
+    {
+        &self.handles
+    }
+}
+
+/// Names of columns in an order, each perhaps with a `-` before it.
+#[derive(Debug, Drop)]
+pub struct Names {
+    names: Vec<Text>,
+}
+
+impl Model for Names {
+    ghost use Rattle.std.specs.Prelude.{List, ℕ};
+
+    ghost Value = { List (List ℕ) };
+
+    ghost view = { λ n. n.names.items };
+}
+
+impl Names {
+    /// These names, in this order. O(1).
+    pub fn new(names: Vec<Text>) -> Names
+        ensures { result ≡ names.items }
+    {
+        Names { names }
+    }
+
+    /// The names, as long as they are borrowed. O(1).
+    pub fn as_slice(&self) -> &[Text]
+        ensures { result.now ≡ self.now }
+    {
+        &self.names
+    }
 }
 
 /// Where an insertion goes at one index: before the record of a place.
@@ -146,10 +207,23 @@ pub enum Command {
         handle: HandleText,
         place: u64,
     },
+    /// The records of a sequence in the order of their handles here, each of which must be named once.
+    Rearrange {
+        table: Text,
+        index: Text,
+        handles: Handles,
+    },
     /// The records of a sequence in the opposite order.
     Reverse {
         table: Text,
         index: Text,
+    },
+    /// The records of a sequence in ascending order of these columns, or descending where a name has a `-`. Records that
+    /// are equal in all of them stay as they stand.
+    Sort {
+        table: Text,
+        index: Text,
+        by: Names,
     },
     /// The record of a handle.
     Get {
@@ -251,7 +325,9 @@ impl Command {
             | Command::EraseKey { table, .. }
             | Command::Clear { table }
             | Command::Move { table, .. }
+            | Command::Rearrange { table, .. }
             | Command::Reverse { table, .. }
+            | Command::Sort { table, .. }
             | Command::Get { table, .. }
             | Command::Size { table }
             | Command::Find { table, .. }

@@ -37,7 +37,11 @@ fn send(
 
 // The byte at a place of a line, if it has one there.
 fn byte_at(line: &[u8], at: usize) -> &[u8] {
-    if at < line.len() { &line[at..=at] } else { &[] }
+    if at < line.len() {
+        &line[at..at + 1]
+    } else {
+        &[]
+    }
 }
 
 // Sends two lines byte by byte, one of each session in turn, and then their newlines.

@@ -1,8 +1,6 @@
-//! A script's lines as the stream of a session, sent in many ways.
+//! A stream of one session, sent in pieces.
 ghost use Rattle.std.specs.Prelude.{◌<◌};
 
-use crate::faulty::{first_wrong_read, first_wrong_write};
-use crate::sessions::{are_shared_alike, is_served_alike};
 use std::alloc::{AllocError, Global};
 use table_cmd::Out;
 use table_engine::Engine;
@@ -64,8 +62,8 @@ fn answered(sent: Sent, stream: &[u8], first: usize, then: usize) -> Result<Out,
     Ok(out)
 }
 
-// The first place at which the stream is cut in two, and answered otherwise.
-fn first_wrong_cut(sent: Sent) -> Result<Option<usize>, AllocError> {
+/// The first place at which the stream is cut in two, and answered otherwise.
+pub fn first_wrong_cut(sent: Sent) -> Result<Option<usize>, AllocError> {
     for at in (0..sent.stream.len()).step_by(sent.stride()) {
         let out = answered(sent, sent.stream, at, sent.stream.len())?;
         if out.bytes() != sent.answers {
@@ -75,8 +73,8 @@ fn first_wrong_cut(sent: Sent) -> Result<Option<usize>, AllocError> {
     Ok(None)
 }
 
-// The first length of pieces that are answered otherwise. With `is_ended` the last newline is not sent.
-fn first_wrong_piece(sent: Sent, is_ended: bool) -> Result<Option<usize>, AllocError> {
+/// The first length of pieces that are answered otherwise. With `is_ended` the last newline is not sent.
+pub fn first_wrong_piece(sent: Sent, is_ended: bool) -> Result<Option<usize>, AllocError> {
     let whole = sent.stream;
     let stream = if is_ended {
         whole.strip_suffix(b"\n").unwrap_or(whole)
@@ -92,81 +90,19 @@ fn first_wrong_piece(sent: Sent, is_ended: bool) -> Result<Option<usize>, AllocE
     Ok(None)
 }
 
-/// The lines, each with a newline.
-fn stream_of(alloc: Global, lines: &[Vec<u8>]) -> Result<Vec<u8>, AllocError> {
-    let mut stream = Vec::new(alloc);
-    for line in lines {
-        stream.extend_from_slice(line)?;
-        stream.push(b'\n')?;
-    }
-    Ok(stream)
-}
-
-fn report_way(
-    alloc: Global,
-    way: &str,
-    wrong: Option<usize>,
-    report: &mut String,
-) -> Result<(), AllocError> {
-    report.push_str("  ")?;
-    report.push_str(way)?;
-    match wrong {
-        None => report.push_str(": the same answers\n"),
-        Some(at) => report.push_str(format!(in alloc; ": other answers at {at}\n")?.as_str()),
-    }
-}
-
-/// Adds to the report whether the lines are answered the same in whatever way they are sent.
-pub fn tell_ways(
+/// What the one session of a new engine is answered to each line that it sends.
+pub fn each_answer(
     alloc: Global,
     schema: &Schema,
     lines: &[Vec<u8>],
-    each: &[Vec<u8>],
-    report: &mut String,
-) -> Result<(), AllocError> {
-    let stream = stream_of(alloc, lines)?;
-    let answers = each.concat(alloc)?;
-    let sent = Sent {
-        alloc,
-        schema,
-        stream: &stream,
-        answers: &answers,
-    };
-    report_way(alloc, "cut in two", first_wrong_cut(sent)?, report)?;
-    report_way(
-        alloc,
-        "in small pieces",
-        first_wrong_piece(sent, false)?,
-        report,
-    )?;
-    report_way(
-        alloc,
-        "without the last newline",
-        first_wrong_piece(sent, true)?,
-        report,
-    )?;
-    report_way(
-        alloc,
-        "over a reader and a writer",
-        is_served_alike(sent)?,
-        report,
-    )?;
-    report_way(
-        alloc,
-        "by two sessions",
-        are_shared_alike(sent, lines, each)?,
-        report,
-    )?;
-    report_way(
-        alloc,
-        "again after a broken read",
-        first_wrong_read(sent)?,
-        report,
-    )?;
-    report_way(
-        alloc,
-        "again after a broken write",
-        first_wrong_write(sent)?,
-        report,
-    )
+) -> Result<Vec<Vec<u8>>, AllocError> {
+    let mut engine = Engine::new(alloc, schema, 1)?;
+    let mut answers = Vec::new(alloc);
+    for line in lines {
+        let mut out = Out::new(alloc);
+        engine.feed(0, line, &mut out).map_err(|_| AllocError)?;
+        engine.feed(0, b"\n", &mut out).map_err(|_| AllocError)?;
+        answers.push(out.bytes().to_vec(alloc)?)?;
+    }
+    Ok(answers)
 }

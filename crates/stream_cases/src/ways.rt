@@ -1,0 +1,93 @@
+//! The ways in which a stream is sent.
+
+use crate::faulty::{first_wrong_read, first_wrong_write};
+use crate::input::Stream;
+use crate::sent::{Sent, each_answer, first_wrong_cut, first_wrong_piece};
+use crate::sessions::{are_shared_alike, is_served_alike};
+use itoa::Buffer;
+use std::alloc::{AllocError, Global};
+use table_schema::Schema;
+
+// The lines, each with a newline.
+fn stream_of(alloc: Global, lines: &[Vec<u8>]) -> Result<Vec<u8>, AllocError> {
+    let mut stream = Vec::new(alloc);
+    for line in lines {
+        stream.extend_from_slice(line)?;
+        stream.push(b'\n')?;
+    }
+    Ok(stream)
+}
+
+// The answers, one after the other.
+fn joined(alloc: Global, each: &[Vec<u8>]) -> Result<Vec<u8>, AllocError> {
+    let mut answers = Vec::new(alloc);
+    for answer in each {
+        answers.extend_from_slice(answer)?;
+    }
+    Ok(answers)
+}
+
+fn tell_way(way: &[u8], wrong: Option<usize>, report: &mut Vec<u8>) -> Result<(), AllocError> {
+    report.extend_from_slice(way)?;
+    match wrong {
+        None => report.extend_from_slice(b": the same answers\n"),
+        Some(at) => {
+            let mut buffer = Buffer::new();
+            report.extend_from_slice(b": other answers at ")?;
+            report.extend_from_slice(buffer.format(at).as_bytes())?;
+            report.extend_from_slice(b"\n")
+        }
+    }
+}
+
+fn tell_each_way(
+    sent: Sent,
+    lines: &[Vec<u8>],
+    each: &[Vec<u8>],
+    report: &mut Vec<u8>,
+) -> Result<(), AllocError> {
+    tell_way(b"cut in two", first_wrong_cut(sent)?, report)?;
+    tell_way(b"in small pieces", first_wrong_piece(sent, false)?, report)?;
+    let wrong = first_wrong_piece(sent, true)?;
+    tell_way(b"without the last newline", wrong, report)?;
+    tell_way(
+        b"over a reader and a writer",
+        is_served_alike(sent)?,
+        report,
+    )?;
+    let wrong = are_shared_alike(sent, lines, each)?;
+    tell_way(b"by two sessions", wrong, report)?;
+    tell_way(
+        b"again after a broken read",
+        first_wrong_read(sent)?,
+        report,
+    )?;
+    tell_way(
+        b"again after a broken write",
+        first_wrong_write(sent)?,
+        report,
+    )
+}
+
+/// Adds to the report the answers to a stream, and whether they are the same in whatever way it is sent.
+pub fn tell_ways(
+    alloc: Global,
+    schema: &Schema,
+    stream: &Stream,
+    report: &mut Vec<u8>,
+) -> Result<(), AllocError> {
+    let each = each_answer(alloc, schema, &stream.lines)?;
+    let answers = joined(alloc, &each)?;
+    report.extend_from_slice(b"=== ")?;
+    report.extend_from_slice(&stream.name)?;
+    report.extend_from_slice(b"\n")?;
+    report.extend_from_slice(&answers)?;
+    let whole = stream_of(alloc, &stream.lines)?;
+    let sent = Sent {
+        alloc,
+        schema,
+        stream: &whole,
+        answers: &answers,
+    };
+    tell_each_way(sent, &stream.lines, &each, report)
+}
