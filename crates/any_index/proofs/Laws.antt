@@ -42,6 +42,7 @@ use Rattle.any_index.specs.declared.index.AnyIndex.TheVariants.{Sequenced, Rando
 use Rattle.any_index.specs.Keyed.{HasItsKey, Accepts, AreKeyed, IsKeyed, IsKeyedBut}
 use Rattle.any_index.specs.Lists.{entered, entry_place, settled_in}
 use Rattle.any_index.specs.Spelled.{IsSound, list_of, kind_of, col_of, index_of, by_number, number_cmp}
+use Rattle.any_index.proofs.Alike.{HasOneKey, order_alike, hash_alike}
 use Rattle.any_index.proofs.ByNumber.{Lacks_moved, Holds_moved, moved_by_number, moved_back}
 
 -- ---- an index stays as it is where its column stays
@@ -205,6 +206,33 @@ module _ {R : Type 0} (order : ℕ → R → R → Ordering) (hash_of : ℕ → 
   IsKeyed_restored old new i links records h =
       subst (AreKeyed order hash_of new i) (sym (list_of_kept (column_of old) (column_of new) i links))
       (AreKeyed_kept old new i (list_of (column_of old) i) links records h)
+
+  -- nor does it matter that the record of one node is another with the same keys
+  AreKeyed_alike : (old new : Store R) (n : Node) (a b : R) (i : AnyIndex) (xs : List Node) → column_of new (col_of i) ≡ column_of old (col_of i) → record_of old n ≡ Some a → record_of new n ≡ Some b → ((m : Node) → m ≢ n → record_of new m ≡ record_of old m) →
+      (IsTrue (has_key_kind (kind_of i)) → HasOneKey (order (index_of i)) (hash_of (index_of i)) a b) → AreKeyed order hash_of old i xs → AreKeyed order hash_of new i xs
+  AreKeyed_alike old new n a b (Sequenced i) xs links had has records one h = tt
+  AreKeyed_alike old new n a b (Random i) xs links had has records one h = tt
+  AreKeyed_alike old new n a b (Ordered i) xs links had has records one h =
+      let key = one refl in
+      subst (λ (f : Node → Node → Ordering). IsInOrder f xs) (sym (order_alike (record_of old) (record_of new) n a b had has records (order (index_of (Ordered i))) key.total key.equal)) h
+  AreKeyed_alike old new n a b (Ranked i) xs links had has records one h =
+      let key = one refl in
+      subst (λ (f : Node → Node → Ordering). IsInOrder f xs) (sym (order_alike (record_of old) (record_of new) n a b had has records (order (index_of (Ranked i))) key.total key.equal)) h
+  AreKeyed_alike old new n a b (Hashed i) xs links had has records one h = each xs h
+    where
+      k : ℕ
+      k = buckets.index_of i
+
+      each : (ys : List Node) → IsHashed (hash_of k) old (buckets.col_of i) ys → IsHashed (hash_of k) new (buckets.col_of i) ys
+      each [] p = tt
+      each (y ∷ ys) p =
+          (ap (λ (c : Column). tag_at c y) links ∙ (p.0 ∙ sym (hash_alike (record_of old) (record_of new) n a b had has records (hash_of k) (one refl).same_hash y)), each ys p.1)
+
+  pub IsKeyed_alike : (old new : Store R) (n : Node) (a b : R) (i : AnyIndex) → column_of new (col_of i) ≡ column_of old (col_of i) → record_of old n ≡ Some a → record_of new n ≡ Some b → ((m : Node) → m ≢ n → record_of new m ≡ record_of old m) →
+      (IsTrue (has_key_kind (kind_of i)) → HasOneKey (order (index_of i)) (hash_of (index_of i)) a b) → IsKeyed order hash_of old i → IsKeyed order hash_of new i
+  IsKeyed_alike old new n a b i links had has records one h =
+      subst (AreKeyed order hash_of new i) (sym (list_of_kept (column_of old) (column_of new) i links))
+      (AreKeyed_alike old new n a b i (list_of (column_of old) i) links had has records one h)
 
 -- ---- the nodes of the lists that changes leave
 

@@ -5,3 +5,5 @@ pub mod Laws
 pub mod Same
 pub mod Runs
 pub mod First
+pub mod SomeNode
+pub mod Alike

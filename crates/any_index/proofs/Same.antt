@@ -50,7 +50,7 @@ pub find_first : (p : Node → Bool) (xs : List Node) → find p xs ≡ slice_ge
 find_first p [] = refl
 find_first p (x ∷ xs) = first_by (p x) x (find p xs) (filter p xs) (find_first p xs)
 
-equal_is : (o : Ordering) → is_eq o ≡ true → o ≡ Equal
+pub equal_is : (o : Ordering) → is_eq o ≡ true → o ≡ Equal
 equal_is Less h = cc
 equal_is Equal h = refl
 equal_is Greater h = cc

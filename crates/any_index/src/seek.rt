@@ -1,6 +1,7 @@
 //! Look-ups by a key.
-ghost use Rattle.std.specs.Prelude.{◌≡◌, IsTrue};
+ghost use Rattle.std.specs.Prelude.{◌≡◌, IfSome, IsTrue, None};
 ghost use Rattle.std.specs.declared.cmp.Ordering.{Ordering};
+ghost use Rattle.std.specs.declared.cmp.Ordering.TheVariants.{Equal};
 ghost use Rattle.list_model.specs.Order.{IsInOrder};
 ghost use Rattle.hash_index.specs.Hashed.{IsHashed};
 ghost use Rattle.hash_index.specs.Spelled as hash;
@@ -10,7 +11,7 @@ ghost use Rattle.list_model.specs.Place.{below, not_above, count_equal, find_equ
 ghost use Rattle.node_store.specs.ByNode.{column_of, record_of};
 ghost use Rattle.any_index.specs.Side.{AreNodesOf, equal_but};
 ghost use Rattle.any_index.specs.Side.{side_of, order_at};
-ghost use Rattle.any_index.specs.Spelled.{IsSound, list_of, kind_of, index_of, by_number};
+ghost use Rattle.any_index.specs.Spelled.{IsSound, Holds, list_of, kind_of, index_of, by_number};
 ghost use Rattle.any_index.specs.Earliest.{earlier as the_earlier};
 ghost use Rattle.any_index.specs.Keyed.{HasItsKey, Accepts, IsKeyed, IsKeyedExcept, HasOneOfEachKey};
 
@@ -40,6 +41,27 @@ impl AnyIndex {
             AnyIndex::Ranked(tree) => tree.find(store, keys, probe),
             AnyIndex::Hashed(buckets) => first_added(buckets, store, keys, probe),
             AnyIndex::Sequenced(_) | AnyIndex::Random(_) => unreachable!(),
+        }
+    }
+
+    /// Some node that has the key, whichever it is, or `None` where no node has it. O(log n) in a tree, expected O(1) in
+    /// buckets. A sequence has no such call.
+    pub fn find_any<R, E: Extract<R>>(
+        &self,
+        store: &NodeStore<R>,
+        keys: &E,
+        probe: &E::Probe,
+    ) -> Option<Node>
+        requires sound { IsSound (column_of store.now) self.now }
+        requires key { HasItsKey (E.has_key keys.now) self.now }
+        requires fits { Accepts (λ j. E.does_fit keys.now j probe.now) (λ j. E.is_whole keys.now j probe.now) self.now }
+        requires keyed { IsKeyed (E.order_of keys.now) (E.hash_of keys.now) store.now self.now }
+        ensures found { IfSome result (λ n. Holds (list_of (column_of store.now) self.now) n × (side_of (record_of store.now) (λ a. E.probe_order_of keys.now (index_of self.now) a probe.now) n ≡ Equal)) }
+        ensures none { result ≡ None → find_equal (side_of (record_of store.now) (λ a. E.probe_order_of keys.now (index_of self.now) a probe.now)) (list_of (column_of store.now) self.now) ≡ None }
+    {
+        match self {
+            AnyIndex::Hashed(buckets) => buckets.first_of(store, keys, probe),
+            _ => self.find(store, keys, probe),
         }
     }
 

@@ -15,3 +15,4 @@ pub mod Keys
 pub mod Written
 pub mod UniqueSteps
 pub mod StaysUnique
+pub mod Emptied

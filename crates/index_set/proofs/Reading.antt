@@ -64,3 +64,8 @@ module _ {R E : Type 0} {has_key : E → ℕ → Bool} (s : IndexSet R E) (sound
       answer ≡ f (side_of (record_of s.store) (λ a. order s.keys (any.index_of i) a probe)) (any.list_of (column_of s.store) i) → answer ≡ f (probe_side order s k probe) (list_of s k)
   sought_here f order probe answer h =
       h ∙ (λ z. f (side_of (record_of s.store) (λ a. order s.keys (number_here z) a probe)) (list_here z))
+
+  -- the same of what the index says of its answer
+  pub told_here : {P : Type 0} (says : (Node → Ordering) → List Node → Type 0) (order : E → ℕ → R → P → Ordering) (probe : P) →
+      says (side_of (record_of s.store) (λ a. order s.keys (any.index_of i) a probe)) (any.list_of (column_of s.store) i) → says (probe_side order s k probe) (list_of s k)
+  told_here says order probe h = subst (λ z. says (probe_side order s k probe) z) list_here (subst (λ z. says (side_of (record_of s.store) (λ a. order s.keys z a probe)) (any.list_of (column_of s.store) i)) number_here h)

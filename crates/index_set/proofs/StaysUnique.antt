@@ -1,9 +1,11 @@
 -- Where each key of a unique index stands once, it does so after each call, in the words of the calls' clauses.
-use Rattle.std.proofs.Common.{◌≡◌, ◌≢◌, ℕ, ◌<◌, Bool, List, length, get_or, set, map, Option, Some, None, refl, sym, ◌∙◌, subst}
+use Rattle.std.proofs.Common.{◌≡◌, ◌≢◌, ℕ, ◌<◌, Bool, false, List, length, get_or, set, map, Option, Some, None, refl, sym, ap, ◌∙◌, subst}
 use Rattle.std.specs.Prelude.{IsTrue}
 use Rattle.std.specs.Option.{option_map_or}
 use Rattle.std.specs.Cmp.{IsTotalOrder}
+use Rattle.std.specs.Ordering.{is_eq}
 use Rattle.std.specs.declared.cmp.Ordering.{Ordering}
+use Rattle.list_model.specs.Order.{EachPair}
 use Rattle.list_model.specs.Walk.{without}
 use Rattle.list_model.proofs.Lists.{slice_get_at}
 use Rattle.node_store.specs.declared.Node.{Node}
@@ -17,16 +19,16 @@ use Rattle.container_model.specs.declared.handle.Kind.TheVariants as kind
 use Rattle.container_model.specs.Insert.{At}
 use Rattle.container_model.specs.State.{has_key_kind, is_sequence_kind}
 use Rattle.index_set.specs.declared.set.IndexSet.{IndexSet}
-use Rattle.index_set.specs.Each.{changed_from}
+use Rattle.index_set.specs.Each.{changed_from, list_at}
 use Rattle.index_set.specs.Indices.{LackIt, HoldIt}
 use Rattle.index_set.specs.Lists.{entered_at, settled_at, ban_from, AreUniqueFrom}
-use Rattle.index_set.specs.Set.{IsSound, IsUniqueExcept, IsOfSame, lists_of, kind_at, with_record}
+use Rattle.index_set.specs.Set.{IsSound, IsUniqueExcept, IsOfSame, HasKeysOf, lists_of, kind_at, with_record}
 use Rattle.index_set.proofs.Each.{all_listed, get_or_same}
 use Rattle.index_set.proofs.Members.{one_list_each, distinct_at}
 use Rattle.index_set.proofs.Reading.{some_spec}
-use Rattle.index_set.proofs.Uniques.{unique_at, unique_from}
+use Rattle.index_set.proofs.Uniques.{OneOfEach, unique_at, unique_from}
 use Rattle.index_set.proofs.UniqueSteps.{AreUnique, unique_loose, unique_written, unique_entered, unique_settled, unique_left, unique_but, unique_moved}
-use Rattle.index_set.proofs.Written.{lists_written, others_written, written_back}
+use Rattle.index_set.proofs.Written.{lists_written, others_written, sound_written, written_back, order_restored}
 
 keyless : (k : Kind) → IsTrue (is_sequence_kind k) → IsTrue (has_key_kind k) → ⊥
 keyless kind.Sequenced p q = cc
@@ -42,6 +44,11 @@ apart_from_sequence s sound k lt sequence j below unique e =
     let there : IsTrue (is_sequence_kind (get_or s.specs.items k some_spec).kind) =
     subst (λ (o : Option Spec). IsTrue (is_sequence_kind (option_map_or (λ (d : Spec). d.kind) o kind.Sequenced))) (slice_get_at s.specs.items k some_spec lt) sequence in
     keyless (get_or s.specs.items j some_spec).kind (subst (λ z. IsTrue (is_sequence_kind (get_or s.specs.items z some_spec).kind)) (sym e) there) (sound.keys.unique j some_spec below unique)
+
+-- but has a key
+key_at : {R E : Type 0} {has_key : E → ℕ → Bool} (s : IndexSet R E) → IsSound has_key s → (j : ℕ) → j < length s.specs.items → IsTrue (get_or s.specs.items j some_spec).unique → IsTrue (has_key_kind (kind_at s j))
+key_at s sound j lt unique =
+    ap (λ (o : Option Spec). has_key_kind (option_map_or (λ (d : Spec). d.kind) o kind.Sequenced)) (slice_get_at s.specs.items j some_spec lt) ∙ sound.keys.unique j some_spec lt unique
 
 itself : {R E : Type 0} (s : IndexSet R E) → IsOfSame s s
 itself s = record { keys = refl; specs = refl }
@@ -110,6 +117,15 @@ module _ {R E : Type 0} {has_key : E → ℕ → Bool} (order : E → ℕ → R 
   module _ (total : (keys : E) (index : ℕ) → IsTrue (has_key keys index) → IsTotalOrder (order keys index)) where
     total_at : (s : IndexSet R E) → IsSound has_key s → (j : ℕ) → j < length s.specs.items → IsTrue (get_or s.specs.items j some_spec).unique → IsTotalOrder (order s.keys j)
     total_at s sound j lt unique = total s.keys j (sound.keys.keyed j some_spec lt ∙ sound.keys.unique j some_spec lt unique)
+
+    -- a record has the keys again that it had before it was written
+    pub unique_restored : (s : IndexSet R E) → IsSound has_key s → (n : Node) (before : R) → IsNodeOf s.store n → HasKeysOf order s n before → IsUniqueExcept order (with_record s n before) None → IsUniqueExcept order s None
+    unique_restored s sound n before is keys h =
+        let t = with_record s n before in
+        from_lists order s s (record_of s.store) (lists_of s) None (itself s) refl refl
+        (λ j lt unique.
+        subst (λ (f : Node → Node → Ordering). EachPair (λ m k. is_eq (f m k) ≡ false) (list_at (lists_of s) j)) (sym (order_restored order total s sound n before is keys j lt (key_at s sound j lt unique)))
+        (subst (λ (ls : List (List Node)). OneOfEach (order s.keys) (record_of t.store) None j (list_at ls j)) (lists_written s n before) (to_lists t None (sound_written s n before has_key sound) h j lt unique)))
 
     -- a record that nothing bans was added and entered
     pub unique_after_enter : (s t u : IndexSet R E) → IsSound has_key s → IsOfSame s t → IsOfSame t u → (n : Node) (row : R) (at : At) →

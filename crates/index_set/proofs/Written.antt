@@ -1,6 +1,10 @@
 -- What stays of a set whose record of one node was written.
-use Rattle.std.proofs.Common.{◌≡◌, ◌≢◌, ℕ, Bool, get_or, Option, Some, None, sym, ap, ◌∙◌, subst, ⊎_elim, cond, option_and_then}
+use Rattle.std.proofs.Common.{◌≡◌, ◌≢◌, ℕ, ◌<◌, Bool, length, get_or, Option, Some, None, sym, ap, ◌∙◌, subst, arith, ⊎_elim, cond, option_and_then}
+use Rattle.std.specs.Prelude.{IsTrue}
+use Rattle.std.specs.Option.{option_map_or}
+use Rattle.std.specs.Cmp.{IsTotalOrder}
 use Rattle.std.specs.declared.cmp.Ordering.{Ordering}
+use Rattle.std.specs.declared.cmp.Ordering.TheVariants.{Equal}
 use Rattle.std.proofs.lemmas.Bool.{cases_eq}
 use Rattle.node_store.specs.declared.Node.{Node}
 use Rattle.node_store.specs.Column.{Column}
@@ -10,11 +14,20 @@ use Rattle.node_store.specs.ByNode.{column_of, record_of, of_node, same_node}
 use Rattle.node_store.proofs.ByNode.{node_cases, record_of-at, column_of_with_record}
 use Rattle.node_store.proofs.Members.{same_node-false}
 use Rattle.node_store.proofs.StoreLemmas.{nodes_with_record, added_with_record, Rewrites-with_record}
-use Rattle.any_index.specs.Spelled.{col_of}
-use Rattle.any_index.proofs.Laws.{IsKeyedBut_rewritten, IsKeyed_restored}
+use Rattle.list_model.proofs.Lists.{slice_get_at}
+use Rattle.container_model.specs.declared.handle.Spec.{Spec}
+use Rattle.container_model.specs.declared.handle.Kind.TheVariants.{Sequenced}
+use Rattle.container_model.specs.State.{has_key_kind}
+use Rattle.any_index.specs.declared.index.AnyIndex.{AnyIndex}
+use Rattle.any_index.specs.Side.{order_at}
+use Rattle.any_index.specs.Spelled.{kind_of, col_of, index_of}
+use Rattle.any_index.proofs.Alike.{HasOneKey, order_alike}
+use Rattle.any_index.proofs.Laws.{IsKeyedBut_rewritten, IsKeyed_restored, IsKeyed_alike}
 use Rattle.index_set.specs.declared.set.IndexSet.{IndexSet}
 use Rattle.index_set.specs.Indices.{ArePlaced, lists_in}
-use Rattle.index_set.specs.Set.{IsSound, IsKeyed, IsKeyedBut, lists_of, with_record}
+use Rattle.index_set.specs.Set.{IsSound, IsKeyed, IsKeyedBut, HasKeysOf, IsRestored, lists_of, kind_at, with_record}
+use Rattle.index_set.proofs.Each.{get_or_same}
+use Rattle.index_set.proofs.Reading.{some_spec, kind_here, number_here}
 use Rattle.index_set.proofs.Stores.{IsStore_same}
 
 module _ {R : Type 0} (s : Store R) (n : Node) (r : R) where
@@ -27,6 +40,10 @@ module _ {R : Type 0} (s : Store R) (n : Node) (r : R) where
     record_written =
         let w = Rewrites-with_record s n r is in
         record_of-at (store.with_record s n r) n (ap (λ (f : ℕ → Option Node). f (number_of n)) w.nodes ∙ is) ∙ w.written.changed
+
+    -- the node stays one
+    pub node_written : IsNodeOf (store.with_record s n r) n
+    node_written = ap (λ (f : ℕ → Option Node). f (number_of n)) (nodes_with_record s n r) ∙ is
 
     -- the record of any other node stays
     pub others_written : (m : Node) → m ≢ n → record_of (store.with_record s n r) m ≡ record_of s m
@@ -69,9 +86,6 @@ module _ {R E : Type 0} (s : IndexSet R E) (n : Node) (r : R) where
     }
 
 module _ {R E : Type 0} (s : IndexSet R E) (n : Node) (r w : R) (had : record_of s.store n ≡ Some r) (is : IsNodeOf s.store n) where
-  still : IsNodeOf (store.with_record s.store n w) n
-  still = ap (λ (f : ℕ → Option Node). f (number_of n)) (nodes_with_record s.store n w) ∙ is
-
   -- the record that a node had, written back, is as if none was written
   pub written_back : record_of (with_record (with_record s n w) n r).store ≡ record_of s.store
   written_back = λ i m. at m i
@@ -79,8 +93,8 @@ module _ {R E : Type 0} (s : IndexSet R E) (n : Node) (r w : R) (had : record_of
       at : (m : Node) → record_of (store.with_record (store.with_record s.store n w) n r) m ≡ record_of s.store m
       at m =
           ⊎_elim
-          (λ (e : m ≡ n). ap (record_of (store.with_record (store.with_record s.store n w) n r)) e ∙ (record_written (store.with_record s.store n w) n r still ∙ sym (ap (record_of s.store) e ∙ had)))
-          (λ (ne : m ≢ n). others_written (store.with_record s.store n w) n r still m ne ∙ others_written s.store n w is m ne)
+          (λ (e : m ≡ n). ap (record_of (store.with_record (store.with_record s.store n w) n r)) e ∙ (record_written (store.with_record s.store n w) n r (node_written s.store n w is) ∙ sym (ap (record_of s.store) e ∙ had)))
+          (λ (ne : m ≢ n). others_written (store.with_record s.store n w) n r (node_written s.store n w is) m ne ∙ others_written s.store n w is m ne)
           (node_cases m n)
 
   -- so a set whose record was written and put back is as keyed as it was
@@ -91,3 +105,48 @@ module _ {R E : Type 0} (s : IndexSet R E) (n : Node) (r w : R) (had : record_of
         IsKeyed_restored (order s.keys) (hash_of s.keys) s.store (store.with_record (store.with_record s.store n w) n r) x
         (ap (λ (cs : ℕ → Column). cs (col_of x)) (columns_written (store.with_record s.store n w) n r ∙ columns_written s.store n w)) written_back (h.each j d i lt);
   }
+
+  -- and one whose record has other contents with the same keys is restored
+  pub restored : (order : E → ℕ → R → R → Ordering) (hash_of : E → ℕ → R → ℕ) → ((index : ℕ) → index < length s.specs.items → IsTrue (has_key_kind (kind_at s index)) → order s.keys index w r ≡ Equal) →
+      IsKeyed order hash_of s → IsRestored order hash_of (with_record s n w) n
+  restored order hash_of same h = record {
+    before = r;
+    keyed = keyed_put_back order hash_of h;
+    keys = record { row = w; is = record_written s.store n w is; equal = same };
+  }
+
+-- the record of a node has the keys that it had before it was written
+module _ {R E : Type 0} {has_key : E → ℕ → Bool} (order : E → ℕ → R → R → Ordering) (total : (keys : E) (index : ℕ) → IsTrue (has_key keys index) → IsTotalOrder (order keys index))
+    (s : IndexSet R E) (sound : IsSound has_key s) (n : Node) (before : R) (is : IsNodeOf s.store n) (keys : HasKeysOf order s n before) where
+  -- an index of a kind that has a key has it
+  has_here : (j : ℕ) → j < length s.specs.items → IsTrue (has_key_kind (kind_at s j)) → IsTrue (has_key s.keys j)
+  has_here j lt key =
+      sound.keys.keyed j some_spec lt
+      ∙ (ap (λ (o : Option Spec). has_key_kind (option_map_or (λ (d : Spec). d.kind) o Sequenced)) (sym (slice_get_at s.specs.items j some_spec lt)) ∙ key)
+
+  -- so at each index with a key all nodes stand to one another as they did
+  pub order_restored : (j : ℕ) → j < length s.specs.items → IsTrue (has_key_kind (kind_at s j)) → order_at (record_of s.store) (order s.keys j) ≡ order_at (record_of (store.with_record s.store n before)) (order s.keys j)
+  order_restored j lt key =
+      order_alike (record_of (store.with_record s.store n before)) (record_of s.store) n before keys.row (record_written s.store n before is) keys.is (λ m ne. sym (others_written s.store n before is m ne))
+      (order s.keys j) (total s.keys j (has_here j lt key)) (keys.equal j lt key)
+
+  module _ (hash_of : E → ℕ → R → ℕ) (alike : (keys : E) (index : ℕ) (a b : R) → IsTrue (has_key keys index) → order keys index a b ≡ Equal → hash_of keys index a ≡ hash_of keys index b) where
+    one_key : (j : ℕ) → j < length s.specs.items → IsTrue (has_key_kind (kind_at s j)) → HasOneKey (order s.keys j) (hash_of s.keys j) before keys.row
+    one_key j lt key =
+        let has = has_here j lt key in
+        record { total = total s.keys j has; equal = keys.equal j lt key; same_hash = alike s.keys j keys.row before has (keys.equal j lt key) }
+
+    one_key_at : (j : ℕ) (lt : j < length s.specs.items) (i : AnyIndex) → i ≡ get_or s.indices.items j i → IsTrue (has_key_kind (kind_of i)) → HasOneKey (order s.keys (index_of i)) (hash_of s.keys (index_of i)) before keys.row
+    one_key_at j lt i e key =
+        subst (λ z. HasOneKey (order s.keys z) (hash_of s.keys z) before keys.row) (sym (number_here s sound j lt i e))
+        (one_key j lt (subst (λ z. IsTrue (has_key_kind z)) (kind_here s sound j lt i e) key))
+
+    -- and the set is as keyed as it was
+    pub keyed_restored : IsKeyed order hash_of (with_record s n before) → IsKeyed order hash_of s
+    keyed_restored h = record {
+      each = λ j d i lt.
+          let x = get_or s.indices.items j i in
+          IsKeyed_alike (order s.keys) (hash_of s.keys) (store.with_record s.store n before) s.store n before keys.row x
+          (sym (ap (λ (cs : ℕ → Column). cs (col_of x)) (columns_written s.store n before))) (record_written s.store n before is) keys.is (λ m ne. sym (others_written s.store n before is m ne))
+          (one_key_at j lt x (get_or_same s.indices.items j i x (omega (arith, lt, sound.placed.one_each)))) (h.each j d i lt);
+    }

@@ -1,7 +1,8 @@
 -- A set of records as the lists of its indices.
-use Rattle.std.specs.Prelude.{◌≡◌, ℕ, ◌≤◌, Bool, List, length, slice_get, Option}
+use Rattle.std.specs.Prelude.{◌≡◌, ℕ, ◌≤◌, ◌<◌, Bool, List, length, slice_get, Option, Some, IsTrue}
 use Rattle.std.specs.Option.{option_map_or}
 use Rattle.std.specs.declared.cmp.Ordering.{Ordering}
+use Rattle.std.specs.declared.cmp.Ordering.TheVariants.{Equal}
 use Rattle.node_store.specs.declared.Node.{Node}
 use Rattle.node_store.specs.Store.{Store, IsStore}
 use Rattle.node_store.specs.Store as records
@@ -9,7 +10,7 @@ use Rattle.node_store.specs.ByNode as store
 use Rattle.container_model.specs.declared.handle.Spec.{Spec}
 use Rattle.container_model.specs.declared.handle.Kind.{Kind}
 use Rattle.container_model.specs.declared.handle.Kind.TheVariants.{Sequenced}
-use Rattle.container_model.specs.State.{KeysMatch}
+use Rattle.container_model.specs.State.{KeysMatch, has_key_kind}
 use Rattle.any_index.specs.Side.{side_of}
 use Rattle.index_set.specs.declared.set.IndexSet.{IndexSet}
 use Rattle.index_set.specs.Each as each
@@ -84,6 +85,18 @@ module _ {R E : Type 0} where
   -- the set once the record of n has been written through `get_mut`
   abbrev pub with_record : IndexSet R E → Node → R → IndexSet R E
   with_record s n r = record s { store = records.with_record s.store n r }
+
+  -- at each index that has a key, the key of the record of n is that of this record
+  pub record HasKeysOf (order : E → ℕ → R → R → Ordering) (s : IndexSet R E) (n : Node) (before : R) : Type 0 where
+    pub row : R
+    pub is : record_of s n ≡ Some row
+    pub equal : (index : ℕ) → index < length (specs_of s) → IsTrue (has_key_kind (kind_at s index)) → order s.keys index row before ≡ Equal
+
+  -- the record of n has the keys of one with which each index had its nodes where their records' keys put them
+  pub record IsRestored (order : E → ℕ → R → R → Ordering) (hash_of : E → ℕ → R → ℕ) (s : IndexSet R E) (n : Node) : Type 0 where
+    pub before : R
+    pub keyed : IsKeyed order hash_of (with_record s n before)
+    pub keys : HasKeysOf order s n before
 
   -- nothing but the nodes, their records and the indices may have changed
   pub record IsOfSame (old new : IndexSet R E) : Type 0 where

@@ -30,6 +30,18 @@ pub(crate) fn empty_indices(alloc: Global, specs: &[Spec]) -> Result<Vec<AnyInde
     Ok(indices)
 }
 
+// Makes each index one without nodes.
+pub(crate) fn empty_each(alloc: Global, specs: &[Spec], indices: &mut [AnyIndex])
+    requires few { length specs.now ≤ 8 }
+    requires one_each { length indices.old ≡ length specs.now }
+    ensures placed { (cs : ℕ → Column) → ArePlaced cs specs.now indices.new }
+    ensures empty { (cs : ℕ → Column) → lists_in cs indices.new ≡ map (λ _. []) specs.now }
+{
+    for index in 0..specs.len() {
+        indices[index] = AnyIndex::new(alloc, specs[index].kind, index);
+    }
+}
+
 // Makes room for one more node in each index.
 pub(crate) fn reserve_each<R>(
     store: &mut NodeStore<R>,

@@ -5,6 +5,7 @@
 #![tactic(auto)]
 
 mod bans;
+mod clear;
 mod every;
 mod order;
 mod reads;

@@ -1,5 +1,6 @@
 //! Look-ups and walks by the number of an index.
-ghost use Rattle.std.specs.Prelude.{◌≡◌, ◌<◌, length, not, slice_get, IsTrue};
+ghost use Rattle.std.specs.Prelude.{◌≡◌, ◌<◌, length, not, slice_get, IfSome, IsTrue, None};
+ghost use Rattle.std.specs.declared.cmp.Ordering.TheVariants.{Equal};
 ghost use Rattle.container_model.specs.State.{has_key_kind, has_places_kind, is_hashed_kind, is_ranked_kind, is_sorted_kind};
 ghost use Rattle.list_model.specs.Place.{below, not_above, count_equal, find_equal, lower as the_lower, upper as the_upper, find_rank as the_rank};
 ghost use Rattle.list_model.specs.Walk.{place_of as the_place, next as the_next, prev as the_prev, last as the_last};
@@ -24,6 +25,21 @@ impl<R, E: Extract<R>> IndexSet<R, E> {
         ensures { result ≡ find_equal (probe_side E.probe_order_of self.now index probe.now) (list_of self.now index) }
     {
         self.indices[index].find(&self.store, &self.keys, probe)
+    }
+
+    /// Some node of the index that has the key, whichever it is, or `None` where no node has it. O(log n) in an index in
+    /// order, expected O(1) in a hashed one. A sequence has no such call.
+    pub fn find_any(&self, index: usize, probe: &E::Probe) -> Option<Node>
+        requires sound { IsSound E.has_key self.now }
+        requires index { index < length (specs_of self.now) }
+        requires kind { IsTrue (has_key_kind (kind_at self.now index)) }
+        requires fits { IsTrue (is_sorted_kind (kind_at self.now index)) → IsTrue (E.does_fit (keys_of self.now) index probe.now) }
+        requires whole { IsTrue (is_hashed_kind (kind_at self.now index)) → IsTrue (E.is_whole (keys_of self.now) index probe.now) }
+        requires keyed { IsKeyed E.order_of E.hash_of self.now }
+        ensures found { IfSome result (λ n. Holds (list_of self.now index) n × (probe_side E.probe_order_of self.now index probe.now n ≡ Equal)) }
+        ensures none { result ≡ None → find_equal (probe_side E.probe_order_of self.now index probe.now) (list_of self.now index) ≡ None }
+    {
+        self.indices[index].find_any(&self.store, &self.keys, probe)
     }
 
     /// How many nodes of the index have the key. In O(log n) comparisons in an index in order, and that many steps where

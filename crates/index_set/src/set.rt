@@ -1,5 +1,5 @@
 //! The set, its records, and changes of all indices.
-ghost use Rattle.std.specs.Prelude.{◌≡◌, ◌+◌, ◌≤◌, ◌<◌, ◌^◌, ℕ, [], map, length, Some, IfOk, IfErr, OnOk, OnErr};
+ghost use Rattle.std.specs.Prelude.{◌≡◌, ◌+◌, ◌≤◌, ◌<◌, ◌^◌, ℕ, [], map, length, Some, None, IfOk, IfErr, OnOk, OnErr};
 ghost use Rattle.std.specs.Borrow.{sem};
 ghost use Rattle.list_model.specs.Walk.{without};
 ghost use Rattle.node_store.specs.Store.{IsNodeOf, nodes, number_of, len_of, empty_store};
@@ -22,6 +22,7 @@ use std::alloc::{AllocError, Global};
 /// Records under one to eight indices, each of which may have any of its nodes.
 #[derive(Drop)]
 pub struct IndexSet<R, E> {
+    pub(crate) alloc: Global,
     pub(crate) store: NodeStore<R>,
     pub(crate) keys: E,
     pub(crate) specs: Vec<Spec>,
@@ -45,6 +46,7 @@ impl<R: Drop, E: Extract<R> + Drop> IndexSet<R, E> {
     {
         let indices = empty_indices(alloc, &specs)?;
         Ok(IndexSet {
+            alloc,
             store: NodeStore::new(alloc),
             keys,
             specs,
@@ -97,7 +99,7 @@ impl<R: Drop, E: Extract<R>> IndexSet<R, E> {
 
 impl<R, E: Extract<R>> IndexSet<R, E> {
     ghost use Rattle.index_set.specs.Lends.{lends_record};
-    ghost use Rattle.index_set.specs.Set.{store_of, keys_of, specs_of, contents, record_of, lists_of, list_of, HasRoom, IsSound, IsKeyed, IsKeyedBut, IsKeyedExcept, IsUniqueExcept, IsOfSame};
+    ghost use Rattle.index_set.specs.Set.{store_of, keys_of, specs_of, contents, record_of, lists_of, list_of, HasRoom, IsSound, IsKeyed, IsKeyedBut, IsKeyedExcept, IsUniqueExcept, HasKeysOf, IsRestored, IsOfSame, with_record};
 
     /// How many records there are, in indices or not. O(1).
     pub fn len(&self) -> usize
@@ -234,6 +236,20 @@ impl<R, E: Extract<R>> IndexSet<R, E> {
             &mut self.indices,
             n,
         );
+    }
+
+    /// Called in place of `settle` where the record of `n`, after writes through `get_mut`, has the keys again that it had
+    /// before them: as writing a record moves no node, each index has all its nodes where their keys put them, and a unique
+    /// one each key once, as before. It takes no memory. O(1).
+    pub fn put_back(&mut self, n: Node)
+        requires sound { IsSound E.has_key self.old }
+        requires node { IsNodeOf (store_of self.old) n }
+        requires restored { IsRestored E.order_of E.hash_of self.old n }
+        ensures unchanged { self.new ≡ self.old }
+        ensures keyed { IsKeyed E.order_of E.hash_of self.new }
+        ensures unique { (before : R) → HasKeysOf E.order_of self.old n before → IsUniqueExcept E.order_of (with_record self.old n before) None → IsUniqueExcept E.order_of self.new None }
+    {
+        // Each node stands where it stood.
     }
 
     /// The first unique index in which a node other than the excepted one has the record's key, with that node. The

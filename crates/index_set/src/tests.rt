@@ -1,7 +1,10 @@
-//! A record comes into a set of two kinds of index, and is found in each.
-ghost use Rattle.std.specs.Prelude.{◌≡◌, ◌∷◌, ◌<◌, [], true, false, IfOk, None};
+//! A record comes into a set of two kinds of index, is found in each, changes and goes.
+ghost use Rattle.std.specs.Prelude.{◌≡◌, ◌∷◌, ◌<◌, ℕ, [], true, false, length, IfOk, IfSome, IsTrue, None, Some};
+ghost use Rattle.std.specs.declared.cmp.Ordering.TheVariants.{Equal};
+ghost use Rattle.node_store.specs.Store.{IsNodeOf};
 ghost use Rattle.container_model.specs.declared.handle.Kind.TheVariants.{Ordered, Hashed};
-ghost use Rattle.index_set.specs.Set.{store_of, IsSound, IsKeyed, IsUniqueExcept, IsOfSame};
+ghost use Rattle.container_model.specs.State.{has_key_kind};
+ghost use Rattle.index_set.specs.Set.{store_of, keys_of, specs_of, record_of, kind_at, IsSound, IsKeyed, IsUniqueExcept, IsOfSame};
 
 use crate::IndexSet;
 use container_model::{Kind, Spec};
@@ -91,6 +94,7 @@ fn insert<R: Drop, E: Extract<R>>(set: &mut IndexSet<R, E>, value: R) -> Option<
     ensures sound { IsSound E.has_key set.new }
     ensures keyed { IsKeyed E.order_of E.hash_of set.new }
     ensures same { IsOfSame set.old set.new }
+    ensures node { IfSome result (λ n. IsNodeOf (store_of set.new) n) }
 {
     let Ok(()) = set.reserve_one() else {
         return None;
@@ -103,6 +107,21 @@ fn insert<R: Drop, E: Extract<R>>(set: &mut IndexSet<R, E>, value: R) -> Option<
     };
     set.enter(n, None);
     Some(n)
+}
+
+// Gives a node another record of the same keys.
+fn rewrite<R: Drop, E: Extract<R>>(set: &mut IndexSet<R, E>, n: Node, value: R)
+    requires sound { IsSound E.has_key set.old }
+    requires keyed { IsKeyed E.order_of E.hash_of set.old }
+    requires node { IsNodeOf (store_of set.old) n }
+    requires same { (index : ℕ) (row : R) → index < length (specs_of set.old) → IsTrue (has_key_kind (kind_at set.old index)) → record_of set.old n ≡ Some row → E.order_of (keys_of set.old) index value row ≡ Equal }
+    ensures sound { IsSound E.has_key set.new }
+    ensures keyed { IsKeyed E.order_of E.hash_of set.new }
+    ensures same { IsOfSame set.old set.new }
+    ensures written { record_of set.new n ≡ Some value }
+{
+    *set.get_mut(n) = value;
+    set.put_back(n);
 }
 
 // An index in order, and a hashed one without two records of one key.
@@ -121,7 +140,8 @@ fn two_indices(alloc: Global) -> Result<Vec<Spec>, AllocError>
     Ok(specs)
 }
 
-// Whether a number that was put in is found at its key in each index.
+// Whether a number that was put in is found at its key in each index, also once it is another of that key, until the set
+// is emptied.
 fn script(alloc: Global) -> Option<bool> {
     let Ok(specs) = two_indices(alloc) else {
         return None;
@@ -132,7 +152,12 @@ fn script(alloc: Global) -> Option<bool> {
     let mut set = made;
     let n = insert(&mut set, 7)?;
     let found = set.find(0, &()) == Some(n) && set.find(1, &()) == Some(n);
-    Some(found && set.specs().len() == 2 && set.len() == 1)
+    rewrite(&mut set, n, 8);
+    let found_again = set.find_any(0, &()) == Some(n) && set.find_any(1, &()) == Some(n);
+    let one = set.specs().len() == 2 && set.len() == 1;
+    set.clear();
+    let none = set.find_any(0, &()).is_none() && set.find_any(1, &()).is_none();
+    Some(found && found_again && one && none && set.len() == 0 && set.added() == 1)
 }
 
 #[test]

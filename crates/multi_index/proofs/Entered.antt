@@ -41,7 +41,7 @@ AreOlder n xs = AllByRecursion (λ m. number_of m < number_of n) xs
 module _ {R : Type 0} (records : Node → Option (Entry R)) (entries : List (Entry R)) (n : Node) (e : Entry R) (is : records n ≡ Some e) where
   module _ (order : R → R → Ordering) where
     -- a known node stands to the new one as its handle stands to the row
-    order_known : (m : Node) → IsKnown records entries m → order_at records (λ a b. order a.row b.row) m n ≡ side_of (λ a. order a e.row) entries (handle_of records m)
+    pub order_known : (m : Node) → IsKnown records entries m → order_at records (λ a b. order a.row b.row) m n ≡ side_of (λ a. order a e.row) entries (handle_of records m)
     order_known m k =
         ap (option_cmp (λ (a b : Entry R). order a.row b.row) (records m)) is
         ∙ (ap (λ o. option_cmp (λ (a b : Entry R). order a.row b.row) o (Some e)) k.is ∙ sym (ap (λ o. option_map_or (λ a. order a e.row) o Less) (row_known records entries m k)))

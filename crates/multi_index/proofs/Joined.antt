@@ -30,13 +30,13 @@ use Rattle.multi_index.specs.declared.by_row.ByRow.{ByRow}
 use Rattle.multi_index.specs.Seen.{IsLinked}
 use Rattle.multi_index.specs.Linked.{handle_of, entries_in, handles_in, IsKnown}
 use Rattle.multi_index.specs.LeadsTo.{LeadsTo}
-use Rattle.multi_index.proofs.Bans.{ban_known}
+use Rattle.multi_index.proofs.Bans.{ban_known, told_none}
 use Rattle.multi_index.proofs.Contents.{known, entries_added, entries_kept, handles_added, handles_kept, known_added, record_added}
 use Rattle.multi_index.proofs.Entered.{AreOlder, entered_all}
 use Rattle.multi_index.proofs.LeadsTo.{leads_kept, leads_added, free_slot-is_first_free}
 
 -- nothing was found where nothing was made of it
-none_before : {A B : Type 0} (f : A → B) (o : Option A) → option_map f o ≡ None → o ≡ None
+pub none_before : {A B : Type 0} (f : A → B) (o : Option A) → option_map f o ≡ None → o ≡ None
 none_before f None e = refl
 none_before f (Some a) e = absurd (cc)
 
@@ -80,7 +80,7 @@ module _ {R : Type 0} (order : ℕ → R → R → Ordering) (specs : List Spec)
 
   -- what bans no row bans no record of it
   pub allowed_joined : ban_of_handles order (entries_in (contents s)) (handles_in (record_of s) lists) None e.row 0 specs ≡ None → ban_from by_rows (record_of s) lists None e 0 specs ≡ None
-  allowed_joined allowed = none_before (λ at. (at.0, handle_of (record_of s) at.1)) _ (sym (ban_known order (record_of s) (entries_in (contents s)) lists known_before e 0 specs) ∙ allowed)
+  allowed_joined allowed = none_before (λ at. (at.0, handle_of (record_of s) at.1)) _ (sym (ban_known order (record_of s) (entries_in (contents s)) lists None known_before (told_none (record_of s) lists) e 0 specs) ∙ allowed)
 
 module _ {E R : Type 0} (has_key : E → ℕ → Bool) (order : E → ℕ → R → R → Ordering) (hash : E → ℕ → R → ℕ) where
   abbrev orders : ByRow E → ℕ → Entry R → Entry R → Ordering

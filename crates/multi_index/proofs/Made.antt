@@ -21,7 +21,7 @@ use Rattle.multi_index.specs.Seen.{seen, IsContainer}
 use Rattle.multi_index.proofs.Contents.{entries-empty}
 use Rattle.multi_index.proofs.LeadsTo.{leads-empty}
 
-no_handles : {R : Type 0} (records : Node → Option (Entry R)) (specs : List Spec) → handles_in records (map (λ _. []) specs) ≡ map (λ _. []) specs
+pub no_handles : {R : Type 0} (records : Node → Option (Entry R)) (specs : List Spec) → handles_in records (map (λ _. []) specs) ≡ map (λ _. []) specs
 no_handles records [] = refl
 no_handles records (spec ∷ specs) = ap (λ ls. [] ∷ ls) (no_handles records specs)
 

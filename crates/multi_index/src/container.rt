@@ -262,7 +262,7 @@ impl<R: Drop, E: Extract<R> + Drop> MultiIndex<R, E> {
     fn insert_refusal(&self, entry: &Entry<R>) -> Option<Why>
         ensures { result ≡ insert_refusal E.order_of self.now entry.now.row }
     {
-        if let Some((index, by)) = first_ban(&self.set, &self.slots, entry) {
+        if let Some((index, by)) = first_ban(&self.set, &self.slots, entry, None) {
             return Some(Why::Banned { index, by });
         }
         if self.len() == self.max as u64 {

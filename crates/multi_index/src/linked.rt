@@ -44,16 +44,19 @@ pub(crate) fn node_at<R, E: Extract<R>>(
     }
 }
 
-// The first unique index in which a record has the row's key, with the handle of that record.
+// The first unique index in which a record other than the excepted node's has the row's key, with the handle of that
+// record.
 pub(crate) fn first_ban<R, E: Extract<R>>(
     set: &IndexSet<Entry<R>, ByRow<E>>,
     slots: &SlotTable<Node>,
     entry: &Entry<R>,
+    except: Option<Node>,
 ) -> Option<(usize, Handle)>
-    requires { IsLinked E.has_key E.order_of E.hash_of set.now slots.now.items }
-    ensures { result ≡ ban_from (E.order_of (keys_of set.now).keys) (entries_in (contents set.now)) (handles_in (record_of set.now) (lists_of set.now)) None entry.now.row 0 (specs_of set.now) }
+    requires linked { IsLinked E.has_key E.order_of E.hash_of set.now slots.now.items }
+    requires except { AreNodesOf (store_of set.now) except }
+    ensures { result ≡ ban_from (E.order_of (keys_of set.now).keys) (entries_in (contents set.now)) (handles_in (record_of set.now) (lists_of set.now)) (option_map (handle_of (record_of set.now)) except) entry.now.row 0 (specs_of set.now) }
 {
-    let (index, node) = set.bans(entry, None)?;
+    let (index, node) = set.bans(entry, except)?;
     Some((index, handle_at(set, node)))
 }
 

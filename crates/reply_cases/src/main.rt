@@ -3,7 +3,7 @@
 
 mod replies;
 
-use replies::{tell_buffer, tell_replies, tell_rows};
+use replies::{tell_buffer, tell_replies, tell_rows, tell_shown};
 use std::io;
 use std::io::Write;
 
@@ -12,5 +12,6 @@ fn main(rt: HostRuntime) -> io::Result<()> {
     let mut output = io::writer(&rt);
     output.write_all(tell_replies(alloc)?.bytes())?;
     output.write_all(tell_rows(alloc)?.bytes())?;
+    output.write_all(tell_shown(alloc)?.bytes())?;
     output.write_all(tell_buffer(alloc)?.as_bytes())
 }

@@ -38,6 +38,10 @@ fn counted(at: u64, number: u64) -> Reply<'static> {
     Reply::Counted { at, number }
 }
 
+fn next(at: u64, next: Option<Handle>) -> Reply<'static> {
+    Reply::Next { at, next }
+}
+
 fn push(out: &mut Out, text: &str) -> Result<(), AllocError> {
     out.try_push(text.as_bytes()).map_err(|_| AllocError)
 }
@@ -55,6 +59,11 @@ pub fn tell_replies(alloc: Global) -> Result<Out, AllocError> {
     tell(&mut out, &found(u64::MAX, Some(LAST)))?;
     tell(&mut out, &counted(3, 2))?;
     tell(&mut out, &counted(u64::MAX, u64::MAX))?;
+    tell(&mut out, &Reply::Done { at: 0 })?;
+    tell(&mut out, &Reply::Done { at: u64::MAX })?;
+    tell(&mut out, &next(4, Some(FIRST)))?;
+    tell(&mut out, &next(0, None))?;
+    tell(&mut out, &next(u64::MAX, Some(LAST)))?;
     tell(
         &mut out,
         &Reply::Banned {
@@ -127,6 +136,28 @@ fn tell_records(alloc: Global, out: &mut Out, headings: &[Heading]) -> Result<()
             records: &records,
         },
     )
+}
+
+fn shown<'a>(at: u64, headings: &'a [Heading], handle: Handle, row: &'a Row) -> Reply<'a> {
+    let record = Record { handle, row };
+    Reply::Shown {
+        at,
+        headings,
+        record,
+    }
+}
+
+/// One record below headings.
+pub fn tell_shown(alloc: Global) -> Result<Out, AllocError> {
+    let mut out = Out::new(alloc);
+    push(&mut out, "=== shown\n")?;
+    let escaped = row(alloc, i64::MAX, "\"\u{1}")?;
+    let by_name = [heading(alloc, "g", 1)?, heading(alloc, "id", 0)?];
+    let wide = [heading(alloc, "z", 0)?, heading(alloc, "\"", 3)?];
+    tell(&mut out, &shown(1, &by_name, FIRST, &escaped))?;
+    tell(&mut out, &shown(0, &[], FIRST, &escaped))?;
+    tell(&mut out, &shown(u64::MAX, &wide, LAST, &escaped))?;
+    Ok(out)
 }
 
 /// Rows below headings that are in the order of their names, and below others, of which two are of no cell of some rows.

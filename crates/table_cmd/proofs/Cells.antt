@@ -8,7 +8,7 @@ use denote.Ref.{Bor}
 use Rattle.serde_json.specs.View.{view, items_view}
 use Rattle.serde_json.specs.declared.value.Value.{Value as Json}
 use Rattle.table_cmd.specs.declared.command.Value.{Value}
-use Rattle.table_cmd.specs.Meaning.{value_of, values_of}
+use Rattle.table_cmd.specs.Parts.{value_of, values_of}
 
 -- a JSON value as a value of a command
 abbrev pub value_at : Json → Value

@@ -5,7 +5,8 @@ use Rattle.std.specs.Str.{IsUtf8, is_utf8}
 use Rattle.serde_json.specs.Data.{Data}
 use Rattle.serde_json.specs.Read.{read}
 use Rattle.table_cmd.specs.declared.fault.CommandFault.TheVariants.{Json}
-use Rattle.table_cmd.specs.Meaning.{meaning, read_data, or_fault, command_of}
+use Rattle.table_cmd.specs.Meaning.{meaning, read_data, command_of}
+use Rattle.table_cmd.specs.Parts.{or_fault}
 
 no_json_at : (b : Bool) (line : List ℕ) → is_utf8 line ≡ b → (IsUtf8 line → read line ≡ None) → cond b (read_data (read line)) (Err Json) ≡ Err Json
 no_json_at true line e h = rw (h (IsUtf8-from_is_utf8 line e)) refl

@@ -6,7 +6,8 @@ use Rattle.container_model.specs.declared.handle.Handle.{Handle}
 use Rattle.table_cmd.specs.declared.fault.Fault.{Fault}
 use Rattle.table_cmd.specs.declared.fault.Fault.TheVariants.{Line, Json, Command, Table, Index, Kind, Row, Key, Handle as StaleHandle, Place, Order, Overflow, Full, Spent, Memory}
 use Rattle.table_cmd.specs.Buffer.{joined}
-use Rattle.table_cmd.specs.Answer.{HandleFits, handle_text, handle_or_null, answer_text, found, counted, banned, fault}
+use Rattle.table_cmd.specs.Spelling.{HandleFits, spelling}
+use Rattle.table_cmd.specs.Answer.{handle_text, handle_or_null, answer_text, done, found, counted, after, banned, fault}
 
 pub fault_is_short : (f : Fault) → length (answer_text (fault f)) ≤ 256
 fault_is_short Line = omega arith
@@ -36,19 +37,30 @@ number_is_short n h = length-decimal-le 20 n (omega arith) (omega arith) h
 slot_is_short : (n : ℕ) → n < 2 ^ 32 → length (decimal n) ≤ 10
 slot_is_short n h = length-decimal-le 10 n (omega arith) (omega arith) (omega arith)
 
+spelling_is_short : (h : Handle) → HandleFits h → length (spelling h) ≤ 31
+unfolding spelling
+spelling_is_short h fits =
+    let stamp = codes ":" ∷ decimal h.stamp ∷ [] in
+    let s = slot_is_short h.slot fits.0 in
+    let t = number_is_short h.stamp fits.1 in
+    omega (arith, length-joined (decimal h.slot) stamp, length-joined (decimal h.stamp) [])
+
 handle_is_short : (h : Handle) → HandleFits h → length (handle_text h) ≤ 33
 unfolding handle_text
 handle_is_short h fits =
-    let stamp = codes ":" ∷ decimal h.stamp ∷ codes "\"" ∷ [] in
-    let last = codes "\"" ∷ [] in
-    let s = slot_is_short h.slot fits.0 in
-    let t = number_is_short h.stamp fits.1 in
-    omega (arith, length-joined (decimal h.slot) stamp, length-joined (decimal h.stamp) last)
+    let s = spelling_is_short h fits in
+    omega (arith, length-joined (spelling h) (codes "\"" ∷ []))
 
 handle_or_null_is_short : (h : Option Handle) → IfSome h HandleFits → length (handle_or_null h) ≤ 33
 unfolding handle_or_null
 handle_or_null_is_short None fits = omega arith
 handle_or_null_is_short (Some h) fits = handle_is_short h fits
+
+pub done_is_short : (at : ℕ) → at < 2 ^ 64 → length (answer_text (done at)) ≤ 256
+done_is_short at fits =
+    let last = codes ",\"ok\":true}\n" ∷ [] in
+    let a = number_is_short at fits in
+    omega (arith, length-joined (decimal at) last)
 
 pub found_is_short : (at : ℕ) (h : Option Handle) → at < 2 ^ 64 → IfSome h HandleFits → length (answer_text (found at h)) ≤ 256
 found_is_short at h fits handle_fits =
@@ -57,6 +69,14 @@ found_is_short at h fits handle_fits =
     let a = number_is_short at fits in
     let b = handle_or_null_is_short h handle_fits in
     omega (arith, length-joined (decimal at) next, length-joined (handle_or_null h) last)
+
+pub after_is_short : (at : ℕ) (next : Option Handle) → at < 2 ^ 64 → IfSome next HandleFits → length (answer_text (after at next)) ≤ 256
+after_is_short at next fits handle_fits =
+    let last = codes ",\"ok\":true}\n" ∷ [] in
+    let rest = codes ",\"next\":" ∷ handle_or_null next ∷ last in
+    let a = number_is_short at fits in
+    let b = handle_or_null_is_short next handle_fits in
+    omega (arith, length-joined (decimal at) rest, length-joined (handle_or_null next) last)
 
 pub counted_is_short : (at number : ℕ) → at < 2 ^ 64 → number < 2 ^ 64 → length (answer_text (counted at number)) ≤ 256
 counted_is_short at number fits number_fits =

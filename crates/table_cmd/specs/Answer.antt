@@ -1,5 +1,5 @@
 -- What is answered to a command, and the line that says it.
-use Rattle.std.specs.Prelude.{ℕ, ◌<◌, ◌^◌, List, [], ◌∷◌, ◌++◌, Bool, true, false, Option, Some, None, codes, decimal, map, slice_get}
+use Rattle.std.specs.Prelude.{ℕ, List, [], ◌∷◌, ◌++◌, Bool, true, false, Option, Some, None, codes, decimal, map, slice_get}
 use Rattle.serde_json.specs.Data.{Data, null, boolean, number, string, object, Members, no_members, member}
 use Rattle.serde_json.specs.Find.{of_integer}
 use Rattle.serde_json.specs.Written.{compact_text, comma_if}
@@ -13,10 +13,7 @@ use Rattle.table_cmd.specs.declared.reply.Record.{Record}
 use Rattle.table_cmd.specs.declared.reply.Reply.{Reply}
 use Rattle.table_cmd.specs.declared.reply.Reply.TheVariants as replies
 use Rattle.table_cmd.specs.Buffer.{joined}
-
--- the numbers of a handle fit their types
-abbrev pub HandleFits : Handle → Type 0
-HandleFits h = (h.slot < 2 ^ 32) × (h.stamp < 2 ^ 64)
+use Rattle.table_cmd.specs.Spelling.{spelling}
 
 -- a cell under the name of its column, which the row may lack
 pub record Named : Type 0 where
@@ -28,10 +25,14 @@ pub record Listed : Type 0 where
   pub handle : Handle
   pub row : List Named
 
--- what an answer line says: a record or nothing, a number, a ban, records, a fault
+-- what an answer line says: that a write is done, a record or nothing, a number, the record after one that went or the
+-- end, a record with its row, a ban, records with their rows, a fault
 pub data Answer : Type 0 where
+  done : ℕ → Answer
   found : ℕ → Option Handle → Answer
   counted : ℕ → ℕ → Answer
+  after : ℕ → Option Handle → Answer
+  shown : ℕ → Listed → Answer
   banned : ℕ → List ℕ → Handle → Answer
   listed : ℕ → List Listed → Answer
   fault : Fault → Answer
@@ -46,8 +47,11 @@ listed_of headings r = record { handle = r.handle; row = named headings r.row.no
 
 -- what a reply says
 abbrev pub answer : Reply → Answer
+answer (replies.Done at) = done at
 answer (replies.Found at h) = found at h
 answer (replies.Counted at n) = counted at n
+answer (replies.Next at next) = after at next
+answer (replies.Shown at headings r) = shown at (listed_of headings.now r)
 answer (replies.Banned at index by) = banned at index.now by
 answer (replies.Listed at headings records) = listed at (map (listed_of headings.now) records.now)
 answer (replies.Fault f) = fault f
@@ -70,9 +74,9 @@ fault_name faults.Full = codes "full"
 fault_name faults.Spent = codes "spent"
 fault_name faults.Memory = codes "memory"
 
--- a handle as a JSON text: its slot, a colon and its stamp
+-- a handle as a JSON text
 unfoldable pub handle_text : Handle → List ℕ
-handle_text h = joined (codes "\"" ∷ decimal h.slot ∷ codes ":" ∷ decimal h.stamp ∷ codes "\"" ∷ [])
+handle_text h = joined (codes "\"" ∷ spelling h ∷ codes "\"" ∷ [])
 
 -- a handle, or null
 unfoldable pub handle_or_null : Option Handle → List ℕ
@@ -99,6 +103,10 @@ row_data ns = object (row_members ns)
 abbrev pub record_front : Handle → List ℕ
 record_front h = joined (codes "{\"h\":" ∷ handle_text h ∷ codes ",\"r\":" ∷ [])
 
+-- a shown record's line up to its row
+abbrev pub shown_front : ℕ → Handle → List ℕ
+shown_front at h = joined (codes "{\"at\":" ∷ decimal at ∷ codes ",\"h\":" ∷ handle_text h ∷ codes ",\"ok\":true,\"r\":" ∷ [])
+
 -- a list's line up to its first record
 abbrev pub listed_front : ℕ → List ℕ
 listed_front at = joined (codes "{\"at\":" ∷ decimal at ∷ codes ",\"ok\":true,\"rs\":[" ∷ [])
@@ -114,8 +122,11 @@ listed_texts later (l ∷ ls) = comma_if later ++ (listed_text l ++ listed_texts
 
 -- the line of an answer, with its newline
 abbrev pub answer_text : Answer → List ℕ
+answer_text (done at) = joined (codes "{\"at\":" ∷ decimal at ∷ codes ",\"ok\":true}\n" ∷ [])
 answer_text (found at h) = joined (codes "{\"at\":" ∷ decimal at ∷ codes ",\"h\":" ∷ handle_or_null h ∷ codes ",\"ok\":true}\n" ∷ [])
 answer_text (counted at n) = joined (codes "{\"at\":" ∷ decimal at ∷ codes ",\"n\":" ∷ decimal n ∷ codes ",\"ok\":true}\n" ∷ [])
+answer_text (after at next) = joined (codes "{\"at\":" ∷ decimal at ∷ codes ",\"next\":" ∷ handle_or_null next ∷ codes ",\"ok\":true}\n" ∷ [])
+answer_text (shown at l) = joined (codes "{\"at\":" ∷ decimal at ∷ codes ",\"h\":" ∷ handle_text l.handle ∷ codes ",\"ok\":true,\"r\":" ∷ compact_text (row_data l.row) ∷ codes "}\n" ∷ [])
 answer_text (banned at index by) = joined (codes "{\"at\":" ∷ decimal at ∷ codes ",\"by\":\"" ∷ index ∷ codes "\",\"err\":\"banned\",\"h\":" ∷ handle_text by ∷ codes "}\n" ∷ [])
 answer_text (listed at ls) = joined (codes "{\"at\":" ∷ decimal at ∷ codes ",\"ok\":true,\"rs\":[" ∷ listed_texts false ls ∷ codes "}\n" ∷ [])
 answer_text (fault f) = joined (codes "{\"err\":\"" ∷ fault_name f ∷ codes "\"}\n" ∷ [])

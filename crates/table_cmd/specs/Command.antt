@@ -6,7 +6,24 @@ use Rattle.table_cmd.specs.declared.command.Command.TheVariants as commands
 -- the table that a command names
 abbrev pub table_in : Command → List ℕ
 table_in (commands.Insert table row position) = table
+table_in (commands.Replace table handle row) = table
+table_in (commands.Erase table handle index) = table
+table_in (commands.EraseKey table index key) = table
+table_in (commands.Clear table) = table
+table_in (commands.Move table index handle place) = table
+table_in (commands.Reverse table index) = table
+table_in (commands.Get table handle) = table
+table_in (commands.Size table) = table
 table_in (commands.Find table index key) = table
 table_in (commands.Count table index key) = table
-table_in (commands.Size table) = table
+table_in (commands.Lower table index key) = table
+table_in (commands.Upper table index key) = table
+table_in (commands.Nth table index place) = table
+table_in (commands.Rank table index position) = table
+table_in (commands.Place table index handle) = table
+table_in (commands.FindRank table index key) = table
+table_in (commands.LowerRank table index key) = table
+table_in (commands.UpperRank table index key) = table
+table_in (commands.Next table index position) = table
+table_in (commands.Prev table index position) = table
 table_in (commands.List table index) = table

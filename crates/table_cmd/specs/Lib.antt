@@ -1,4 +1,7 @@
 pub mod Command
+pub mod Op
+pub mod Spelling
+pub mod Parts
 pub mod Meaning
 pub mod Buffer
 pub mod Answer

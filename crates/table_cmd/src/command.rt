@@ -3,6 +3,7 @@
 ghost use Rattle.std.specs.Prelude.{◌≡◌};
 ghost use Rattle.table_cmd.specs.Command.{table_in};
 
+use container_model::Handle;
 use key_extract::{Cell, Text};
 use std::marker::Model;
 
@@ -87,6 +88,16 @@ impl Key {
     }
 }
 
+/// What a text that should spell a handle says: `slot:stamp`, both decimal, with no sign and no leading zeros, the slot at
+/// most 4294967295 and the stamp at most 18446744073709551615.
+#[derive(Clone, Copy, Debug, PartialEq, Eq)]
+pub enum HandleText {
+    /// The handle that it spells, which may be that of no record.
+    Handle(Handle),
+    /// The text spells no handle.
+    Bad,
+}
+
 /// Where an insertion goes at one index: before the record of a place.
 #[derive(Debug, Drop)]
 pub struct Position {
@@ -105,6 +116,49 @@ pub enum Command {
         row: Fields,
         position: Option<Position>,
     },
+    /// This row in place of a record's.
+    Replace {
+        table: Text,
+        handle: HandleText,
+        row: Fields,
+    },
+    /// A record goes. With an index, the record after it there is asked for.
+    Erase {
+        table: Text,
+        handle: HandleText,
+        index: Option<Text>,
+    },
+    /// All records go whose key at the index is or begins with this one.
+    EraseKey {
+        table: Text,
+        index: Text,
+        key: Key,
+    },
+    /// All records go.
+    Clear {
+        table: Text,
+    },
+    /// A record goes before the record that is then at a place of a sequence, counted from 0, or last.
+    Move {
+        table: Text,
+        index: Text,
+        handle: HandleText,
+        place: u64,
+    },
+    /// The records of a sequence in the opposite order.
+    Reverse {
+        table: Text,
+        index: Text,
+    },
+    /// The record of a handle.
+    Get {
+        table: Text,
+        handle: HandleText,
+    },
+    /// How many records there are.
+    Size {
+        table: Text,
+    },
     /// The first record at the index whose key is or begins with this one.
     Find {
         table: Text,
@@ -117,9 +171,65 @@ pub enum Command {
         index: Text,
         key: Key,
     },
-    /// How many records there are.
-    Size {
+    /// The first record at the index whose key does not come before this one, or its leading part.
+    Lower {
         table: Text,
+        index: Text,
+        key: Key,
+    },
+    /// The first record at the index whose key, or leading part, comes after this one.
+    Upper {
+        table: Text,
+        index: Text,
+        key: Key,
+    },
+    /// The record at a place of the index, counted from 0.
+    Nth {
+        table: Text,
+        index: Text,
+        place: u64,
+    },
+    /// How many records stand before a record at the index, or how many there are: before the end.
+    Rank {
+        table: Text,
+        index: Text,
+        position: Option<HandleText>,
+    },
+    /// The place of a record at the index, counted from 0.
+    Place {
+        table: Text,
+        index: Text,
+        handle: HandleText,
+    },
+    /// How many records stand before what `Find` answers.
+    FindRank {
+        table: Text,
+        index: Text,
+        key: Key,
+    },
+    /// How many records stand before what `Lower` answers.
+    LowerRank {
+        table: Text,
+        index: Text,
+        key: Key,
+    },
+    /// How many records stand before what `Upper` answers.
+    UpperRank {
+        table: Text,
+        index: Text,
+        key: Key,
+    },
+    /// The record after another at the index, or after the end: the first.
+    Next {
+        table: Text,
+        index: Text,
+        position: Option<HandleText>,
+    },
+    /// The record before another at the index, or before the end: the last.
+    Prev {
+        table: Text,
+        index: Text,
+        position: Option<HandleText>,
     },
     /// All records, in the order of the index.
     List {
@@ -135,9 +245,26 @@ impl Command {
     {
         match self {
             Command::Insert { table, .. }
+            | Command::Replace { table, .. }
+            | Command::Erase { table, .. }
+            | Command::EraseKey { table, .. }
+            | Command::Clear { table }
+            | Command::Move { table, .. }
+            | Command::Reverse { table, .. }
+            | Command::Get { table, .. }
+            | Command::Size { table }
             | Command::Find { table, .. }
             | Command::Count { table, .. }
-            | Command::Size { table }
+            | Command::Lower { table, .. }
+            | Command::Upper { table, .. }
+            | Command::Nth { table, .. }
+            | Command::Rank { table, .. }
+            | Command::Place { table, .. }
+            | Command::FindRank { table, .. }
+            | Command::LowerRank { table, .. }
+            | Command::UpperRank { table, .. }
+            | Command::Next { table, .. }
+            | Command::Prev { table, .. }
             | Command::List { table, .. } => table.as_str(),
         }
     }

@@ -3,13 +3,15 @@
 
 mod command;
 mod fault;
+mod handle;
 mod op;
 mod out;
+mod parts;
 mod print;
 mod read;
 mod reply;
 
-pub use command::{Command, Field, Fields, Key, Position, Value};
+pub use command::{Command, Field, Fields, HandleText, Key, Position, Value};
 pub use container_model::Handle;
 pub use fault::{CommandFault, Fault};
 pub use key_extract::{Cell, Row, Text};

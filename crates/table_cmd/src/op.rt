@@ -1,48 +1,119 @@
 //! The operations that a line may name.
 
-ghost use Rattle.std.specs.Prelude.{◌≡◌, map, option_map};
-ghost use Rattle.table_cmd.specs.Meaning.{op_of, names_of};
+ghost use Rattle.std.specs.Prelude.{◌≡◌, map};
+ghost use Rattle.table_cmd.specs.Op.{op_of, op_names, keys_of};
 
-/// What a command does, as its line names it.
+/// What a command does, as its line names it. Operations of one shape stand together.
 #[derive(Clone, Copy, Debug, PartialEq, Eq)]
 pub(crate) enum Op {
     Insert,
+    Replace,
+    Erase,
+    Move,
+    Get,
+    Nth,
+    Place,
+    OnTable(TableOp),
+    OnIndex(IndexOp),
+    OnKey(KeyOp),
+    OnPosition(PositionOp),
+}
+
+/// What is done to a table as a whole.
+#[derive(Clone, Copy, Debug, PartialEq, Eq)]
+pub(crate) enum TableOp {
+    Clear,
+    Size,
+}
+
+/// What is done to an index as a whole.
+#[derive(Clone, Copy, Debug, PartialEq, Eq)]
+pub(crate) enum IndexOp {
+    Reverse,
+    List,
+}
+
+/// What is done at a key of an index.
+#[derive(Clone, Copy, Debug, PartialEq, Eq)]
+pub(crate) enum KeyOp {
+    EraseKey,
     Find,
     Count,
-    Size,
-    List,
+    Lower,
+    Upper,
+    FindRank,
+    LowerRank,
+    UpperRank,
+}
+
+/// What is asked about a position of an index: a record's, or the end.
+#[derive(Clone, Copy, Debug, PartialEq, Eq)]
+pub(crate) enum PositionOp {
+    Rank,
+    Next,
+    Prev,
 }
 
 impl Op {
     // The operation of a name.
-    #[tactic(auto, unfolding(crate::specs::Meaning::op_of))]
+    #[tactic(auto, unfolding(crate::specs::Op::op_of))]
     pub(crate) fn of(name: &str) -> Option<Op>
         ensures { result ≡ op_of name.now }
     {
-        if name == "insert" {
-            Some(Op::Insert)
-        } else if name == "find" {
-            Some(Op::Find)
-        } else if name == "count" {
-            Some(Op::Count)
-        } else if name == "size" {
-            Some(Op::Size)
-        } else if name == "list" {
-            Some(Op::List)
-        } else {
-            None
+        for (known, op) in Op::named() {
+            if *known == name {
+                return Some(*op);
+            }
         }
+        None
+    }
+
+    // Each operation under its name.
+    fn named() -> &'static [(&'static str, Op)]
+        ensures { map (λ p. (p.0.now, p.1)) result.now ≡ op_names }
+    {
+        &[
+            ("insert", Op::Insert),
+            ("replace", Op::Replace),
+            ("erase", Op::Erase),
+            ("erase_key", Op::OnKey(KeyOp::EraseKey)),
+            ("clear", Op::OnTable(TableOp::Clear)),
+            ("move", Op::Move),
+            ("reverse", Op::OnIndex(IndexOp::Reverse)),
+            ("get", Op::Get),
+            ("size", Op::OnTable(TableOp::Size)),
+            ("find", Op::OnKey(KeyOp::Find)),
+            ("count", Op::OnKey(KeyOp::Count)),
+            ("lower", Op::OnKey(KeyOp::Lower)),
+            ("upper", Op::OnKey(KeyOp::Upper)),
+            ("nth", Op::Nth),
+            ("rank", Op::OnPosition(PositionOp::Rank)),
+            ("place", Op::Place),
+            ("find_rank", Op::OnKey(KeyOp::FindRank)),
+            ("lower_rank", Op::OnKey(KeyOp::LowerRank)),
+            ("upper_rank", Op::OnKey(KeyOp::UpperRank)),
+            ("next", Op::OnPosition(PositionOp::Next)),
+            ("prev", Op::OnPosition(PositionOp::Prev)),
+            ("list", Op::OnIndex(IndexOp::List)),
+        ]
     }
 
     // The names that its object may have.
-    pub(crate) fn names(self) -> &'static [&'static str]
-        ensures { map (λ s. s.now) result.now ≡ names_of self }
+    pub(crate) fn keys(self) -> &'static [&'static str]
+        ensures { map (λ s. s.now) result.now ≡ keys_of self }
     {
         match self {
             Op::Insert => &["op", "t", "r", "i", "p"],
-            Op::Find | Op::Count => &["op", "t", "i", "k"],
-            Op::Size => &["op", "t"],
-            Op::List => &["op", "t", "i"],
+            Op::Replace => &["op", "t", "h", "r"],
+            Op::Erase => &["op", "t", "h", "i"],
+            Op::Move => &["op", "t", "i", "h", "p"],
+            Op::Get => &["op", "t", "h"],
+            Op::Nth => &["op", "t", "i", "n"],
+            Op::Place => &["op", "t", "i", "h"],
+            Op::OnTable(_) => &["op", "t"],
+            Op::OnIndex(_) => &["op", "t", "i"],
+            Op::OnKey(_) => &["op", "t", "i", "k"],
+            Op::OnPosition(_) => &["op", "t", "i", "h"],
         }
     }
 }

@@ -6,9 +6,10 @@ ghost use Rattle.json.specs.Print.{quoted, escape_byte};
 ghost use Rattle.std.specs.Char.{digit_char};
 ghost use Rattle.serde_json.specs.Written.{compact_text, comma_if};
 ghost use Rattle.table_cmd.specs.Buffer.{Adds, AddsWhole};
-ghost use Rattle.table_cmd.specs.Answer.{found, counted, banned, fault, listed, answer_text, handle_text, handle_or_null, data_of, row_data, named, listed_of, listed_text, listed_texts, listed_front, record_front};
+ghost use Rattle.table_cmd.specs.Answer.{done, found, counted, after, shown, banned, fault, listed, shown_front, answer_text, handle_text, handle_or_null, data_of, row_data, named, listed_of, listed_text, listed_texts, listed_front, record_front};
 
 use crate::fault::Fault;
+use crate::handle::{SPELLING_LEN, spelling};
 use crate::out::{Out, OutOfRoom};
 use crate::reply::{Heading, Record};
 use arrayvec::ArrayString;
@@ -16,20 +17,17 @@ use container_model::Handle;
 use itoa::Buffer;
 use key_extract::Cell;
 
-/// Room for a slot of 10 digits, a stamp of 20, and three signs.
-const HANDLE_LEN: usize = 33;
+/// Room for a handle's text and two quotes.
+const HANDLE_LEN: usize = SPELLING_LEN + 2;
 
 /// The text of a handle.
-#[tactic(auto, using(std::proofs::Common::append_assoc), unfolding(crate::specs::Answer::handle_text))]
+#[tactic(auto, unfolding(crate::specs::Answer::handle_text))]
 fn handle_text(handle: Handle) -> ArrayString<HANDLE_LEN>
     ensures { result.bytes ≡ handle_text handle }
 {
     let mut text = ArrayString::new();
-    let mut digits = Buffer::new();
     text.push_str("\"");
-    text.push_str(digits.format(handle.slot));
-    text.push_str(":");
-    text.push_str(digits.format(handle.stamp));
+    text.push_str(spelling(handle).as_str());
     text.push_str("\"");
     text
 }
@@ -48,6 +46,12 @@ fn handle_or_null(handle: Option<Handle>) -> ArrayString<HANDLE_LEN>
     }
 }
 
+pub(crate) fn push_done(out: &mut Out, at: u64) -> Result<(), OutOfRoom>
+    ensures { AddsWhole result out.old out.new (answer_text (done at)) }
+{
+    out.try_push_all(&["{\"at\":", Buffer::new().format(at), ",\"ok\":true}\n"])
+}
+
 pub(crate) fn push_found(out: &mut Out, at: u64, handle: Option<Handle>) -> Result<(), OutOfRoom>
     ensures { AddsWhole result out.old out.new (answer_text (found at handle)) }
 {
@@ -57,6 +61,19 @@ pub(crate) fn push_found(out: &mut Out, at: u64, handle: Option<Handle>) -> Resu
         Buffer::new().format(at),
         ",\"h\":",
         handle.as_str(),
+        ",\"ok\":true}\n",
+    ])
+}
+
+pub(crate) fn push_after(out: &mut Out, at: u64, next: Option<Handle>) -> Result<(), OutOfRoom>
+    ensures { AddsWhole result out.old out.new (answer_text (after at next)) }
+{
+    let next = handle_or_null(next);
+    out.try_push_all(&[
+        "{\"at\":",
+        Buffer::new().format(at),
+        ",\"next\":",
+        next.as_str(),
         ",\"ok\":true}\n",
     ])
 }
@@ -159,6 +176,32 @@ fn push_record(out: &mut Out, headings: &[Heading], shown: &Record) -> Result<()
     push_record_front(out, shown.handle)?;
     push_row(out, headings, shown.row.cells())?;
     out.try_push(b"}")
+}
+
+fn push_shown_front(out: &mut Out, at: u64, handle: Handle) -> Result<(), OutOfRoom>
+    ensures { AddsWhole result out.old out.new (shown_front at handle) }
+{
+    let handle = handle_text(handle);
+    out.try_push_all(&[
+        "{\"at\":",
+        Buffer::new().format(at),
+        ",\"h\":",
+        handle.as_str(),
+        ",\"ok\":true,\"r\":",
+    ])
+}
+
+pub(crate) fn push_shown(
+    out: &mut Out,
+    at: u64,
+    headings: &[Heading],
+    one: &Record,
+) -> Result<(), OutOfRoom>
+    ensures { Adds result out.old out.new (answer_text (shown at (listed_of headings.now one.now))) }
+{
+    push_shown_front(out, at, one.handle)?;
+    push_row(out, headings, one.row.cells())?;
+    out.try_push(b"}\n")
 }
 
 fn push_row(out: &mut Out, headings: &[Heading], cells: &[Cell]) -> Result<(), OutOfRoom>

@@ -1,18 +1,20 @@
 //! Reads a line as a command.
 
-ghost use Rattle.std.specs.Prelude.{◌≡◌, IfOk, Some, option_map, map, bytes_eq, codes};
+ghost use Rattle.std.specs.Prelude.{◌≡◌, map, bytes_eq};
 ghost use Rattle.std.specs.List.{list_any};
-ghost use Rattle.serde_json.specs.Find.{get};
-ghost use Rattle.serde_json.specs.View.{view, items_view, members_view};
-ghost use Rattle.table_cmd.specs.Meaning.{Gives, value_of, values_of, fields_of, has_only, text_at, position_at, insert_of, search_of, list_of, shaped, command_of, or_fault, meaning};
-ghost use Rattle.table_cmd.specs.declared.op.Op.TheVariants as ops;
+ghost use Rattle.serde_json.specs.View.{view, members_view};
+ghost use Rattle.table_cmd.specs.Parts.{Gives, has_only, or_fault};
+ghost use Rattle.table_cmd.specs.Meaning.{insert_of, replace_of, erase_of, move_of, get_of, nth_of, place_of, on_table, table_command, on_index, index_command, on_key, key_command, on_position, position_command, shaped, command_of, meaning};
 
-use crate::command::{Command, Field, Fields, Key, Position, Value};
+use crate::command::{Command, HandleText, Key};
 use crate::fault::CommandFault;
-use crate::op::Op;
-use key_extract::{Cell, Text};
+use crate::op::{IndexOp, KeyOp, Op, PositionOp, TableOp};
+use crate::parts::{
+    count_of, end_of, handle_of, index_if_given, key_of, position_of, row_of, text_at, text_of,
+};
+use key_extract::Text;
 use serde_json::{Map, Value as Json};
-use std::alloc::{AllocError, Global};
+use std::alloc::Global;
 
 /// Reads a line as a command. The last of repeated names counts. O(n · log n) for n bytes.
 pub fn read_command(alloc: Global, line: &[u8]) -> Result<Command, CommandFault>
@@ -26,43 +28,6 @@ pub fn read_command(alloc: Global, line: &[u8]) -> Result<Command, CommandFault>
             Err(CommandFault::Json)
         },
     }
-}
-
-fn value_of(alloc: Global, json: &Json) -> Result<Value, AllocError>
-    ensures { IfOk result (λ value. value ≡ value_of (view json.now)) }
-{
-    match json {
-        Json::Bool(truth) => Ok(Value::Cell(Cell::Bool(*truth))),
-        Json::Number(number) => Ok(match number.as_i64() {
-            Some(number) => Value::Cell(Cell::Int(number)),
-            None => Value::Other,
-        }),
-        Json::String(text) => Ok(Value::Cell(Cell::Text(Text::new(text.clone()?)))),
-        Json::Null | Json::Array(_) | Json::Object(_) => Ok(Value::Other),
-    }
-}
-
-fn key_of(alloc: Global, values: &Vec<Json>) -> Result<Key, AllocError>
-    ensures { IfOk result (λ key. key ≡ values_of (items_view values.now.items)) }
-{
-    let mut key = Vec::with_capacity(alloc, values.len())?;
-    for value in values {
-        key.push(value_of(alloc, value)?)?;
-    }
-    Ok(Key::new(key))
-}
-
-fn row_of(alloc: Global, members: &Map<String, Json>) -> Result<Fields, AllocError>
-    ensures { IfOk result (λ row. row ≡ fields_of (members_view members.now.entries)) }
-{
-    let mut row = Vec::with_capacity(alloc, members.len())?;
-    for (name, value) in members {
-        row.push(Field {
-            name: Text::new(name.clone()?),
-            value: value_of(alloc, value)?,
-        })?;
-    }
-    Ok(Fields::new(row))
 }
 
 fn has_only(members: &Map<String, Json>, names: &[&str]) -> bool
@@ -83,127 +48,209 @@ fn is_among(name: &str, names: &[&str]) -> bool
     names.contains(&name)
 }
 
-fn text_at<'a>(value: &'a Json, name: &str) -> Option<&'a str>
-    ensures { option_map (λ s. s.now) result ≡ text_at name.now (view value.now) }
-{
-    value.get(name).and_then(Json::as_str)
-}
-
-// Where an insertion is to go; `Err` where only one of index and place is given, or one is of another type.
-fn position_of(alloc: Global, value: &Json) -> Result<Option<Position>, CommandFault>
-    ensures { Gives result (or_fault (position_at (get (codes "i") (view value.now)) (get (codes "p") (view value.now)))) }
-{
-    match (value.get("i"), value.get("p")) {
-        (None, None) => Ok(None),
-        (Some(index), Some(place)) => position_at(alloc, index, place),
-        (None, Some(_)) | (Some(_), None) => Err(CommandFault::Command),
-    }
-}
-
-fn position_at(alloc: Global, index: &Json, place: &Json) -> Result<Option<Position>, CommandFault>
-    ensures { Gives result (or_fault (position_at (Some (view index.now)) (Some (view place.now)))) }
-{
-    let Some(index) = index.as_str() else {
-        return Err(CommandFault::Command);
-    };
-    let Some(place) = place.as_u64() else {
-        return Err(CommandFault::Command);
-    };
-    Ok(Some(Position {
-        index: Text::new(String::from_str(alloc, index)?),
-        place,
-    }))
-}
-
 #[tactic(auto, unfolding(crate::specs::Meaning::insert_of))]
 fn insert_of(alloc: Global, value: &Json) -> Result<Command, CommandFault>
     ensures { Gives result (or_fault (insert_of (view value.now))) }
 {
-    let Some(table) = text_at(value, "t") else {
-        return Err(CommandFault::Command);
-    };
-    let Some(row) = value.get("r").and_then(Json::as_object) else {
-        return Err(CommandFault::Command);
-    };
+    let table = text_of(alloc, value, "t")?;
+    let row = row_of(alloc, value)?;
     let position = position_of(alloc, value)?;
     Ok(Command::Insert {
-        table: Text::new(String::from_str(alloc, table)?),
-        row: row_of(alloc, row)?,
+        table,
+        row,
         position,
     })
 }
 
-// What a search names.
-#[derive(Drop)]
-pub(crate) struct Search {
-    pub(crate) table: Text,
-    pub(crate) index: Text,
-    pub(crate) key: Key,
+#[tactic(auto, unfolding(crate::specs::Meaning::replace_of))]
+fn replace_of(alloc: Global, value: &Json) -> Result<Command, CommandFault>
+    ensures { Gives result (or_fault (replace_of (view value.now))) }
+{
+    let table = text_of(alloc, value, "t")?;
+    let handle = handle_of(value)?;
+    let row = row_of(alloc, value)?;
+    Ok(Command::Replace { table, handle, row })
 }
 
-#[tactic(auto, unfolding(crate::specs::Meaning::search_of))]
-fn search_of(alloc: Global, value: &Json) -> Result<Search, CommandFault>
-    ensures { Gives result (or_fault (search_of (view value.now))) }
+#[tactic(auto, unfolding(crate::specs::Meaning::erase_of))]
+fn erase_of(alloc: Global, value: &Json) -> Result<Command, CommandFault>
+    ensures { Gives result (or_fault (erase_of (view value.now))) }
 {
-    let Some(table) = text_at(value, "t") else {
-        return Err(CommandFault::Command);
-    };
-    let Some(index) = text_at(value, "i") else {
-        return Err(CommandFault::Command);
-    };
-    let Some(key) = value.get("k").and_then(Json::as_array) else {
-        return Err(CommandFault::Command);
-    };
-    Ok(Search {
-        table: Text::new(String::from_str(alloc, table)?),
-        index: Text::new(String::from_str(alloc, index)?),
-        key: key_of(alloc, key)?,
+    let table = text_of(alloc, value, "t")?;
+    let handle = handle_of(value)?;
+    let index = index_if_given(alloc, value)?;
+    Ok(Command::Erase {
+        table,
+        handle,
+        index,
     })
 }
 
-fn size_of(alloc: Global, value: &Json) -> Result<Command, CommandFault>
-    ensures { Gives result (or_fault (shaped ops.Size (view value.now))) }
+#[tactic(auto, unfolding(crate::specs::Meaning::move_of))]
+fn move_of(alloc: Global, value: &Json) -> Result<Command, CommandFault>
+    ensures { Gives result (or_fault (move_of (view value.now))) }
 {
-    let Some(table) = text_at(value, "t") else {
-        return Err(CommandFault::Command);
-    };
-    Ok(Command::Size {
-        table: Text::new(String::from_str(alloc, table)?),
+    let table = text_of(alloc, value, "t")?;
+    let index = text_of(alloc, value, "i")?;
+    let handle = handle_of(value)?;
+    let place = count_of(value, "p")?;
+    Ok(Command::Move {
+        table,
+        index,
+        handle,
+        place,
     })
 }
 
-#[tactic(auto, unfolding(crate::specs::Meaning::list_of))]
-fn list_of(alloc: Global, value: &Json) -> Result<Command, CommandFault>
-    ensures { Gives result (or_fault (list_of (view value.now))) }
+#[tactic(auto, unfolding(crate::specs::Meaning::get_of))]
+fn get_of(alloc: Global, value: &Json) -> Result<Command, CommandFault>
+    ensures { Gives result (or_fault (get_of (view value.now))) }
 {
-    let Some(table) = text_at(value, "t") else {
-        return Err(CommandFault::Command);
-    };
-    let Some(index) = text_at(value, "i") else {
-        return Err(CommandFault::Command);
-    };
-    Ok(Command::List {
-        table: Text::new(String::from_str(alloc, table)?),
-        index: Text::new(String::from_str(alloc, index)?),
+    let table = text_of(alloc, value, "t")?;
+    let handle = handle_of(value)?;
+    Ok(Command::Get { table, handle })
+}
+
+#[tactic(auto, unfolding(crate::specs::Meaning::nth_of))]
+fn nth_of(alloc: Global, value: &Json) -> Result<Command, CommandFault>
+    ensures { Gives result (or_fault (nth_of (view value.now))) }
+{
+    let table = text_of(alloc, value, "t")?;
+    let index = text_of(alloc, value, "i")?;
+    let place = count_of(value, "n")?;
+    Ok(Command::Nth {
+        table,
+        index,
+        place,
     })
 }
 
-// The command of an operation, by the names in its object.
+#[tactic(auto, unfolding(crate::specs::Meaning::place_of))]
+fn place_of(alloc: Global, value: &Json) -> Result<Command, CommandFault>
+    ensures { Gives result (or_fault (place_of (view value.now))) }
+{
+    let table = text_of(alloc, value, "t")?;
+    let index = text_of(alloc, value, "i")?;
+    let handle = handle_of(value)?;
+    Ok(Command::Place {
+        table,
+        index,
+        handle,
+    })
+}
+
+#[tactic(auto, unfolding(crate::specs::Meaning::on_table))]
+fn on_table(op: TableOp, table: Text) -> Command
+    ensures { result ≡ on_table op table }
+{
+    match op {
+        TableOp::Clear => Command::Clear { table },
+        TableOp::Size => Command::Size { table },
+    }
+}
+
+#[tactic(auto, unfolding(crate::specs::Meaning::table_command))]
+fn table_command(alloc: Global, op: TableOp, value: &Json) -> Result<Command, CommandFault>
+    ensures { Gives result (or_fault (table_command op (view value.now))) }
+{
+    let table = text_of(alloc, value, "t")?;
+    Ok(on_table(op, table))
+}
+
+#[tactic(auto, unfolding(crate::specs::Meaning::on_index))]
+fn on_index(op: IndexOp, table: Text, index: Text) -> Command
+    ensures { result ≡ on_index op table index }
+{
+    match op {
+        IndexOp::Reverse => Command::Reverse { table, index },
+        IndexOp::List => Command::List { table, index },
+    }
+}
+
+#[tactic(auto, unfolding(crate::specs::Meaning::index_command))]
+fn index_command(alloc: Global, op: IndexOp, value: &Json) -> Result<Command, CommandFault>
+    ensures { Gives result (or_fault (index_command op (view value.now))) }
+{
+    let table = text_of(alloc, value, "t")?;
+    let index = text_of(alloc, value, "i")?;
+    Ok(on_index(op, table, index))
+}
+
+#[tactic(auto, unfolding(crate::specs::Meaning::on_key))]
+fn on_key(op: KeyOp, table: Text, index: Text, key: Key) -> Command
+    ensures { result ≡ on_key op table index key }
+{
+    match op {
+        KeyOp::EraseKey => Command::EraseKey { table, index, key },
+        KeyOp::Find => Command::Find { table, index, key },
+        KeyOp::Count => Command::Count { table, index, key },
+        KeyOp::Lower => Command::Lower { table, index, key },
+        KeyOp::Upper => Command::Upper { table, index, key },
+        KeyOp::FindRank => Command::FindRank { table, index, key },
+        KeyOp::LowerRank => Command::LowerRank { table, index, key },
+        KeyOp::UpperRank => Command::UpperRank { table, index, key },
+    }
+}
+
+#[tactic(auto, unfolding(crate::specs::Meaning::key_command))]
+fn key_command(alloc: Global, op: KeyOp, value: &Json) -> Result<Command, CommandFault>
+    ensures { Gives result (or_fault (key_command op (view value.now))) }
+{
+    let table = text_of(alloc, value, "t")?;
+    let index = text_of(alloc, value, "i")?;
+    let key = key_of(alloc, value)?;
+    Ok(on_key(op, table, index, key))
+}
+
+#[tactic(auto, unfolding(crate::specs::Meaning::on_position))]
+fn on_position(op: PositionOp, table: Text, index: Text, position: Option<HandleText>) -> Command
+    ensures { result ≡ on_position op table index position }
+{
+    match op {
+        PositionOp::Rank => Command::Rank {
+            table,
+            index,
+            position,
+        },
+        PositionOp::Next => Command::Next {
+            table,
+            index,
+            position,
+        },
+        PositionOp::Prev => Command::Prev {
+            table,
+            index,
+            position,
+        },
+    }
+}
+
+#[tactic(auto, unfolding(crate::specs::Meaning::position_command))]
+fn position_command(alloc: Global, op: PositionOp, value: &Json) -> Result<Command, CommandFault>
+    ensures { Gives result (or_fault (position_command op (view value.now))) }
+{
+    let table = text_of(alloc, value, "t")?;
+    let index = text_of(alloc, value, "i")?;
+    let position = end_of(value)?;
+    Ok(on_position(op, table, index, position))
+}
+
+// The command of an operation, by the keys of its object.
 fn shaped(alloc: Global, op: Op, value: &Json) -> Result<Command, CommandFault>
     ensures { Gives result (or_fault (shaped op (view value.now))) }
 {
     match op {
         Op::Insert => insert_of(alloc, value),
-        Op::Find => {
-            let Search { table, index, key } = search_of(alloc, value)?;
-            Ok(Command::Find { table, index, key })
-        }
-        Op::Count => {
-            let Search { table, index, key } = search_of(alloc, value)?;
-            Ok(Command::Count { table, index, key })
-        }
-        Op::Size => size_of(alloc, value),
-        Op::List => list_of(alloc, value),
+        Op::Replace => replace_of(alloc, value),
+        Op::Erase => erase_of(alloc, value),
+        Op::Move => move_of(alloc, value),
+        Op::Get => get_of(alloc, value),
+        Op::Nth => nth_of(alloc, value),
+        Op::Place => place_of(alloc, value),
+        Op::OnTable(op) => table_command(alloc, op, value),
+        Op::OnIndex(op) => index_command(alloc, op, value),
+        Op::OnKey(op) => key_command(alloc, op, value),
+        Op::OnPosition(op) => position_command(alloc, op, value),
     }
 }
 
@@ -217,7 +264,7 @@ fn command_of(alloc: Global, value: &Json) -> Result<Command, CommandFault>
     let Some(op) = text_at(value, "op").and_then(Op::of) else {
         return Err(CommandFault::Command);
     };
-    if !has_only(members, op.names()) {
+    if !has_only(members, op.keys()) {
         return Err(CommandFault::Command);
     }
     shaped(alloc, op, value)

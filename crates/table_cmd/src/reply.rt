@@ -5,7 +5,10 @@ ghost use Rattle.table_cmd.specs.Answer.{answer, answer_text};
 
 use crate::fault::Fault;
 use crate::out::{Out, OutOfRoom};
-use crate::print::{push_banned, push_counted, push_fault, push_found, push_listed};
+use crate::print::{
+    push_after, push_banned, push_counted, push_done, push_fault, push_found, push_listed,
+    push_shown,
+};
 use container_model::Handle;
 use key_extract::{Row, Text};
 
@@ -30,6 +33,10 @@ pub struct Record<'a> {
 /// What is answered to a command. `at` is the table's write number after it.
 #[derive(Clone, Copy)]
 pub enum Reply<'a> {
+    /// That a write is carried out.
+    Done {
+        at: u64,
+    },
     /// A record, or nothing, which prints as null.
     Found {
         at: u64,
@@ -39,6 +46,17 @@ pub enum Reply<'a> {
     Counted {
         at: u64,
         number: u64,
+    },
+    /// The record after one that went, or the end, which prints as null.
+    Next {
+        at: u64,
+        next: Option<Handle>,
+    },
+    /// A record, whose row shows the cells of the headings in their order.
+    Shown {
+        at: u64,
+        headings: &'a [Heading],
+        record: Record<'a>,
     },
     /// A unique index has a record with the new key. The index's name is printed as it stands: it must need no escape.
     Banned {
@@ -73,8 +91,15 @@ fn push_reply(reply: &Reply, out: &mut Out) -> Result<(), OutOfRoom>
     ensures { Adds result out.old out.new (answer_text (answer reply.now)) }
 {
     match *reply {
+        Reply::Done { at } => push_done(out, at),
         Reply::Found { at, handle } => push_found(out, at, handle),
         Reply::Counted { at, number } => push_counted(out, at, number),
+        Reply::Next { at, next } => push_after(out, at, next),
+        Reply::Shown {
+            at,
+            headings,
+            record,
+        } => push_shown(out, at, headings, &record),
         Reply::Banned { at, index, by } => push_banned(out, at, index, by),
         Reply::Listed {
             at,

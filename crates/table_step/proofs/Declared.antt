@@ -15,7 +15,7 @@ use Rattle.table_schema.specs.declared.column.IndexSpec.{IndexSpec}
 use Rattle.table_schema.specs.Shape.{TableShape}
 use Rattle.table_schema.specs.Valid.{IsValidTable, is_name, are_distinct}
 use Rattle.table_schema.proofs.Facts.{name_is_short, within_low, within_high}
-use Rattle.table_step.specs.Step.{Keys, Cells, keys_of, spec_of, specs_of}
+use Rattle.table_step.specs.Table.{Keys, Cells, keys_of, spec_of, specs_of}
 use Rattle.table_step.specs.Values.{parts_of}
 
 -- the key of a declared index

@@ -15,7 +15,8 @@ use Rattle.table_cmd.specs.declared.reply.Heading.{Heading}
 use Rattle.table_cmd.specs.declared.reply.Record.{Record}
 use Rattle.table_cmd.specs.Answer.{Listed, listed_of, named}
 use Rattle.table_step.specs.Headings.{headings_of}
-use Rattle.table_step.specs.Step.{Cells, TableState, listed_handle}
+use Rattle.table_step.specs.Reads.{listed_handle}
+use Rattle.table_step.specs.Table.{Cells, TableState}
 use Rattle.table_step.specs.Told.{entries_of, shown_entries}
 
 found_in : {R : Type 0} (order : ℕ → R → R → Ordering) (entries : List (Entry R)) → EachPair (λ a b. (b.handle.slot == a.handle.slot) ≡ false) entries → (index : ℕ) (specs : List Spec) (lists : List (List Handle)) → AreIndices order entries index specs lists →

@@ -3,36 +3,41 @@ use Rattle.std.proofs.Common.{◌≡◌, ℕ, ◌++◌, inl, inr, List, Option, 
 use Rattle.std.specs.Prelude.{unwrap_or}
 use Rattle.container_model.specs.declared.refusal.Why.{Why}
 use Rattle.container_model.specs.declared.refusal.Why.TheVariants as whys
-use Rattle.container_model.specs.Insert.{At}
-use Rattle.table_cmd.specs.declared.fault.Fault.{Fault}
-use Rattle.table_cmd.specs.Answer.{Answer, answer_text, fault}
+use Rattle.container_model.specs.State.{State}
+use Rattle.table_cmd.specs.Answer.{Answer, answer_text}
+use Rattle.table_schema.specs.Shape.{TableShape}
 use Rattle.table_step.specs.declared.outcome.Outcome.{Outcome}
 use Rattle.table_step.specs.declared.outcome.Outcome.TheVariants as outcomes
-use Rattle.table_step.specs.Step.{TableState, Cells, Step, Steps, refused, told, insert_by, refusal_answer, memory_line}
-use Rattle.table_step.specs.Told.{Answers}
+use Rattle.table_step.specs.Step.{Steps, memory_line}
+use Rattle.table_step.specs.Table.{Cells, Keys, Step, TableState, changed, refusal_answer, refused_by, told}
+use Rattle.table_step.specs.Told.{Answers, table_of}
 
 module _ (outcome : Outcome) (before after : List ℕ) (t : TableState) where
   -- memory may be refused at any step
-  pub steps_memory : (step : Step) → outcome ≡ outcomes.Memory → after ≡ before ++ memory_line → Steps outcome before after t t step
+  steps_memory : (step : Step) → outcome ≡ outcomes.Memory → after ≡ before ++ memory_line → Steps outcome before after t t step
   steps_memory step e line = subst (λ o. Steps o before after t t step) (sym e) (line, refl)
-
-  pub steps_refused : (why : Fault) → outcome ≡ outcomes.Refusal → after ≡ before ++ answer_text (fault why) → Steps outcome before after t t (refused t why)
-  steps_refused why e line = subst (λ o. Steps o before after t t (refused t why)) (sym e) (record { kind = refl; line = line; table = refl })
 
   pub steps_told : (answer : Answer) → Answers outcome before after outcomes.Read answer → Steps outcome before after t t (told t answer)
   steps_told answer (inl told_it) = subst (λ o. Steps o before after t t (told t answer)) (sym told_it.0) (record { kind = refl; line = told_it.1; table = refl })
   steps_told answer (inr no_memory) = steps_memory (told t answer) no_memory.0 no_memory.1
 
-  kept_by_container : (at : At) (row : Cells) (why : Why) → Answers outcome before after outcomes.Refusal (refusal_answer t why) → Steps outcome before after t t (insert_by t at row (Some why))
-  kept_by_container at row why (inl told_it) = subst (λ o. Steps o before after t t (insert_by t at row (Some why))) (sym told_it.0) (record { kind = refl; line = told_it.1; table = refl })
-  kept_by_container at row why (inr no_memory) = steps_memory (insert_by t at row (Some why)) no_memory.0 no_memory.1
+  -- a call that the container refused for this reason
+  pub refused_by_container : (why : Why) → Answers outcome before after outcomes.Refusal (refusal_answer t why) → Steps outcome before after t t (refused_by t why)
+  refused_by_container why (inl told_it) = subst (λ o. Steps o before after t t (refused_by t why)) (sym told_it.0) (record { kind = refl; line = told_it.1; table = refl })
+  refused_by_container why (inr no_memory) = steps_memory (refused_by t why) no_memory.0 no_memory.1
 
   out_of_memory : (step : Step) (answer : Answer) → outcome ≡ outcomes.Memory → Answers outcome before after outcomes.Refusal answer → Steps outcome before after t t step
   out_of_memory step answer e (inl told_it) = let k : outcomes.Memory ≡ outcomes.Refusal = sym e ∙ told_it.0 in cc
   out_of_memory step answer e (inr no_memory) = steps_memory step e no_memory.1
 
-  -- an insertion that the container refused for this reason, or where it has none for want of memory
-  pub steps_kept : (at : At) (row : Cells) (refusal : Option Why) (why : Why) → why ≡ unwrap_or refusal whys.Memory → Answers outcome before after outcomes.Refusal (refusal_answer t why) → (why ≡ whys.Memory → outcome ≡ outcomes.Memory) → Steps outcome before after t t (insert_by t at row refusal)
-  steps_kept at row None why e answers memory = out_of_memory (insert_by t at row None) (refusal_answer t why) (memory e) answers
-  steps_kept at row (Some w) why e answers memory =
-      subst (λ x. Steps outcome before after t t (insert_by t at row (Some x))) e (kept_by_container at row why answers)
+  -- a change that the container refused for this reason, or where it has none for want of memory
+  pub steps_kept : (refusal : Option Why) (answer : Answer) (records : State Keys Cells) (why : Why) → why ≡ unwrap_or refusal whys.Memory → Answers outcome before after outcomes.Refusal (refusal_answer t why) → (why ≡ whys.Memory → outcome ≡ outcomes.Memory) → Steps outcome before after t t (changed t refusal answer records)
+  steps_kept None answer records why e answers memory = out_of_memory (changed t None answer records) (refusal_answer t why) (memory e) answers
+  steps_kept (Some w) answer records why e answers memory = subst (λ x. Steps outcome before after t t (refused_by t x)) e (refused_by_container why answers)
+
+-- and where the container's records are then those that they were
+pub steps_unchanged : (outcome : Outcome) (before after : List ℕ) (shape : TableShape) (old new : State Keys Cells) (refusal : Option Why) (why : Why) (answer : Answer) (records : State Keys Cells) → new ≡ old → why ≡ unwrap_or refusal whys.Memory →
+    ((refusal : Option Why) → (reply : Answer) → (later : State Keys Cells) → why ≡ unwrap_or refusal whys.Memory → Steps outcome before after (table_of shape new) (table_of shape new) (changed (table_of shape new) refusal reply later)) →
+    Steps outcome before after (table_of shape old) (table_of shape new) (changed (table_of shape old) refusal answer records)
+steps_unchanged outcome before after shape old new refusal why answer records same why_is told =
+    subst (λ s. Steps outcome before after (table_of shape s) (table_of shape new) (changed (table_of shape s) refusal answer records)) same (told refusal answer records why_is)

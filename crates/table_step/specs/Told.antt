@@ -5,13 +5,13 @@ use Rattle.container_model.specs.declared.handle.Entry.{Entry}
 use Rattle.container_model.specs.Find.{kind_at}
 use Rattle.container_model.specs.State.{State, row_of, is_hashed_kind}
 use Rattle.key_extract.specs.Keys.{parts_at, probe_fits, probe_is_whole}
-use Rattle.table_cmd.specs.declared.command.Value.{Value}
 use Rattle.table_cmd.specs.declared.reply.Record.{Record}
 use Rattle.table_cmd.specs.Answer.{Answer, answer_text}
 use Rattle.table_schema.specs.Shape.{TableShape}
 use Rattle.table_step.specs.declared.outcome.Outcome.{Outcome}
 use Rattle.table_step.specs.declared.outcome.Outcome.TheVariants as outcomes
-use Rattle.table_step.specs.Step.{Keys, Cells, Step, TableState, at_key, keys_of, specs_of, memory_line}
+use Rattle.table_step.specs.Step.{memory_line}
+use Rattle.table_step.specs.Table.{Keys, Cells, TableState, keys_of, specs_of}
 
 -- a table of this shape and these records
 abbrev pub table_of : TableShape → State Keys Cells → TableState
@@ -27,9 +27,8 @@ pub record HasIndices (shape : TableShape) (records : State Keys Cells) : Type 0
   pub keys : records.keys ≡ keys_of shape
   pub specs : records.specs ≡ specs_of shape
 
--- the search key that values are at the index of a name, for any table of this shape
-pub record IsKeyAt (shape : TableShape) (name : List ℕ) (values : List Value) (place : ℕ) (probe : Cells) : Type 0 where
-  pub step_is : (t : TableState) → t.shape ≡ shape → (step : ℕ → Cells → Step) → at_key t name values step ≡ step place probe
+-- a search key of the index at a place
+pub record IsKeyAt (shape : TableShape) (place : ℕ) (probe : Cells) : Type 0 where
   pub within : place < length shape.indices
   pub fits : IsTrue (probe_fits (parts_at (keys_of shape) place) probe)
   -- a hashed index is searched by a whole key

@@ -2,13 +2,14 @@
 
 ghost use Rattle.std.specs.Prelude.{◌≡◌, ◌<◌, [], IfOk, IfSome, length, map, slice_get};
 ghost use Rattle.std.specs.Option.{option_map_or};
-ghost use Rattle.container_model.specs.State.{has_key_kind, is_sequence_kind};
 ghost use Rattle.table_schema.specs.Valid.{IsValidTable};
-ghost use Rattle.table_step.specs.Step.{spec_of, index_at};
+ghost use Rattle.table_step.specs.Table.{spec_of, index_at, place_for};
 
-use container_model::{Kind, Spec};
+use crate::kinds::Kinds;
+use container_model::Spec;
 use key_extract::RowKeys;
 use std::alloc::{AllocError, Global};
+use table_cmd::Fault;
 use table_schema::{IndexSpec, TableSpec};
 
 /// The keys of the indices in their order.
@@ -36,29 +37,27 @@ pub(crate) fn specs_of(alloc: Global, indices: &[IndexSpec]) -> Result<Vec<Spec>
     Ok(specs)
 }
 
-/// Whether an index of the kind has a key.
-pub(crate) fn has_key(kind: Kind) -> bool
-    ensures { result ≡ has_key_kind kind }
-{
-    match kind {
-        Kind::Ordered | Kind::Ranked | Kind::Hashed => true,
-        Kind::Sequenced | Kind::Random => false,
-    }
-}
-
-/// Whether an index of the kind is a sequence.
-pub(crate) fn is_sequence(kind: Kind) -> bool
-    ensures { result ≡ is_sequence_kind kind }
-{
-    !has_key(kind)
-}
-
-/// The place of the index of a name.
-pub(crate) fn index_at(indices: &[IndexSpec], name: &str) -> Option<usize>
+// The place of the index of a name.
+fn index_at(indices: &[IndexSpec], name: &str) -> Option<usize>
     ensures place { result ≡ index_at indices.now name.now }
     ensures within { IfSome result (λ place. place < length indices.now) }
 {
     indices.iter().position(|index| index.name.as_str() == name)
+}
+
+/// The place of the index of a name, where it is of one of the kinds.
+pub(crate) fn place_for(indices: &[IndexSpec], kinds: Kinds, name: &str) -> Result<usize, Fault>
+    ensures place { result ≡ place_for kinds indices.now name.now }
+    ensures within { IfOk result (λ place. place < length indices.now) }
+{
+    let Some(place) = index_at(indices, name) else {
+        return Err(Fault::Index);
+    };
+    if kinds.takes(indices[place].kind) {
+        Ok(place)
+    } else {
+        Err(Fault::Kind)
+    }
 }
 
 /// The name of the index at a place.

@@ -5,11 +5,15 @@ ghost use Rattle.std.specs.Option.{option_copied};
 ghost use Rattle.container_model.specs.Insert.{new_handle, with_inserted};
 ghost use Rattle.container_model.specs.declared.refusal.Why.TheVariants as whys;
 ghost use Rattle.table_cmd.specs.Buffer.{Keeps};
-ghost use Rattle.table_step.specs.Step.{IsShort, Steps, TableState, insert_fields, insert_row, insert_step, refusal_answer, refusal_at, row_order};
-ghost use Rattle.table_step.specs.Told.{Answers, HasIndices, table_of};
+ghost use Rattle.table_step.specs.Changes.{insert_fields, insert_row, insert_step, refusal_at};
+ghost use Rattle.table_step.specs.Step.{IsShort, Steps};
+ghost use Rattle.table_step.specs.Table.{row_order};
+ghost use Rattle.table_step.specs.Told.{HasIndices, table_of};
 
-use crate::indices::{index_at, index_name, is_sequence};
+use crate::indices::place_for;
+use crate::kinds::Kinds;
 use crate::outcome::Outcome;
+use crate::refusal::tell_refusal;
 use crate::tell::{refuse, refuse_memory, tell_short};
 use crate::values::row_from;
 use container_model::{Handle, Why};
@@ -20,7 +24,6 @@ use table_cmd::{Fault, Field, Out, Position, READY_ROOM, Reply};
 use table_schema::TableSpec;
 
 /// Puts the row of the fields in, before the position where there is one. Memory is refused before anything is changed.
-#[tactic(auto, unfolding(crate::specs::Step::insert_before))]
 pub(crate) fn insert(
     alloc: Global,
     spec: &TableSpec,
@@ -39,17 +42,15 @@ pub(crate) fn insert(
     let Some(position) = position else {
         return insert_fields(alloc, spec, records, None, fields, out);
     };
-    let Some(place) = index_at(spec.indices(), position.index.as_str()) else {
-        return refuse(Fault::Index, out);
-    };
-    if !is_sequence(spec.indices()[place].kind) {
-        return refuse(Fault::Kind, out);
+    match place_for(spec.indices(), Kinds::Sequence, position.index.as_str()) {
+        Ok(place) => {
+            let at = Some((place, position.place));
+            insert_fields(alloc, spec, records, at, fields, out)
+        }
+        Err(why) => refuse(why, out),
     }
-    let at = Some((place, position.place));
-    insert_fields(alloc, spec, records, at, fields, out)
 }
 
-#[tactic(auto, unfolding(crate::specs::Step::insert_fields))]
 fn insert_fields(
     alloc: Global,
     spec: &TableSpec,
@@ -73,7 +74,7 @@ fn insert_fields(
     }
 }
 
-#[tactic(auto, unfolding(crate::specs::Step::insert_row))]
+#[tactic(auto, unfolding(crate::specs::Changes::insert_row))]
 fn insert_row(
     spec: &TableSpec,
     records: &mut MultiIndex<Row, RowKeys>,
@@ -98,7 +99,7 @@ fn insert_row(
             tell_short(&found, out);
             Outcome::Write
         }
-        Err(why) => tell_refusal(spec, records.writes(), why, out),
+        Err(why) => tell_refusal(spec, records, why, out),
     }
 }
 
@@ -122,32 +123,4 @@ fn put(
         Some((place, before)) => records.insert_at(place, before, row),
     };
     inserted.map_err(|refused| refused.why)
-}
-
-// Tells why the container refused a row, at the write of this number.
-fn tell_refusal(spec: &TableSpec, at: u64, why: Why, out: &mut Out) -> Outcome
-    requires { READY_ROOM ≤ out.old.room }
-    ensures line { (t : TableState) → t.shape ≡ spec.now → t.records.writes ≡ at → Answers result out.old.bytes out.new.bytes Outcome.Refusal (refusal_answer t why) }
-    ensures memory { why ≡ whys.Memory → result ≡ Outcome.Memory }
-    ensures short { IsShort result out.old.bytes out.new.bytes }
-    ensures kept { Keeps out.old out.new }
-{
-    match why {
-        Why::Banned { index, by } => {
-            let banned = Reply::Banned {
-                at,
-                index: index_name(spec, index),
-                by,
-            };
-            tell_short(&banned, out);
-            Outcome::Refusal
-        }
-        Why::Kind => refuse(Fault::Kind, out),
-        Why::Stale => refuse(Fault::Handle, out),
-        Why::Place => refuse(Fault::Place, out),
-        Why::Order => refuse(Fault::Order, out),
-        Why::Full => refuse(Fault::Full, out),
-        Why::Spent => refuse(Fault::Spent, out),
-        Why::Memory => refuse_memory(out),
-    }
 }

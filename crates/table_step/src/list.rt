@@ -5,17 +5,19 @@ ghost use Rattle.std.specs.List.{AllByRecursion};
 ghost use Rattle.container_model.specs.Find.{is_live};
 ghost use Rattle.table_cmd.specs.Buffer.{Keeps};
 ghost use Rattle.table_step.specs.Headings.{headings_of};
-ghost use Rattle.table_step.specs.Step.{IsShort, Steps, at_index, list_in};
+ghost use Rattle.table_step.specs.Reads.{list_in, list_step};
+ghost use Rattle.table_step.specs.Step.{IsShort, Steps};
 ghost use Rattle.table_step.specs.Told.{HasIndices, entries_of, shown_entries, table_of};
 
-use crate::indices::index_at;
+use crate::indices::place_for;
+use crate::kinds::Kinds;
 use crate::outcome::Outcome;
 use crate::tell::{refuse, refuse_memory, tell_read};
 use container_model::Handle;
 use key_extract::{Row, RowKeys};
 use multi_index::MultiIndex;
 use std::alloc::{AllocError, Global};
-use table_cmd::{Fault, Heading, Out, READY_ROOM, Record, Reply};
+use table_cmd::{Heading, Out, READY_ROOM, Record, Reply};
 use table_schema::TableSpec;
 
 /// Tells the records of the named index, in its order.
@@ -30,17 +32,17 @@ pub(crate) fn list(
     requires room { READY_ROOM ≤ out.old.room }
     requires indices { HasIndices spec.now records.now }
     requires headings { headings.now ≡ headings_of spec.now.columns }
-    ensures answer { let t = table_of spec.now records.now in Steps result out.old.bytes out.new.bytes t t (at_index t name.now (λ place index. list_in t place)) }
+    ensures answer { let t = table_of spec.now records.now in Steps result out.old.bytes out.new.bytes t t (list_step t name.now) }
     ensures short { IsShort result out.old.bytes out.new.bytes }
     ensures kept { Keeps out.old out.new }
 {
-    match index_at(spec.indices(), name) {
-        Some(place) => list_in(alloc, spec, headings, records, place, out),
-        None => refuse(Fault::Index, out),
+    match place_for(spec.indices(), Kinds::All, name) {
+        Ok(place) => list_in(alloc, spec, headings, records, place, out),
+        Err(why) => refuse(why, out),
     }
 }
 
-#[tactic(auto, unfolding(crate::specs::Step::list_in))]
+#[tactic(auto, unfolding(crate::specs::Reads::list_in))]
 fn list_in(
     alloc: Global,
     spec: &TableSpec,

@@ -4,12 +4,16 @@ ghost use Rattle.std.specs.Prelude.{◌≡◌, ◌≤◌, IfOk};
 ghost use Rattle.table_cmd.specs.Buffer.{Keeps};
 ghost use Rattle.table_step.specs.Step.{IsShort, Steps, new_table, step_of};
 
+use crate::change::{clear, erase, erase_key, replace};
 use crate::headings::headings_of;
 use crate::indices::{keys_of, specs_of};
 use crate::insert::insert;
 use crate::list::list;
+use crate::moves::{move_before, reverse};
 use crate::outcome::Outcome;
-use crate::search::{count, find, size};
+use crate::positions::{Walk, neighbour, nth, place, rank};
+use crate::search::{Number, Search, count, find, size};
+use crate::show::get;
 use crate::tell::refuse;
 use key_extract::{Row, RowKeys};
 use multi_index::MultiIndex;
@@ -66,8 +70,8 @@ impl Table {
     /// nothing. Where memory is refused nothing is changed and the memory line is appended; an accepted write is
     /// always answered. `out` keeps its memory.
     ///
-    /// An insertion reads its row in O(columns · fields) and a listing shows it in O(records · columns), besides
-    /// what the container's own call costs.
+    /// An insertion and a replacement read their row in O(columns · fields), a record is shown in O(columns) and a listing
+    /// in O(records · columns), besides what the container's own call costs.
     #[tactic(auto, unfolding(crate::specs::Step::step_of))]
     pub fn step(&mut self, command: &Command, out: &mut Out) -> Outcome
         requires { READY_ROOM ≤ out.old.room }
@@ -88,10 +92,53 @@ impl Table {
                 position.as_ref(),
                 out,
             ),
+            Command::Replace { handle, row, .. } => replace(
+                self.alloc,
+                &self.spec,
+                &mut self.records,
+                *handle,
+                row.as_slice(),
+                out,
+            ),
+            Command::Erase { handle, index, .. } => erase(
+                &self.spec,
+                &mut self.records,
+                *handle,
+                index.as_ref(),
+                out,
+            ),
+            Command::EraseKey { index, key, .. } => erase_key(
+                self.alloc,
+                &self.spec,
+                &mut self.records,
+                index.as_str(),
+                key.as_slice(),
+                out,
+            ),
+            Command::Clear { .. } => clear(&self.spec, &mut self.records, out),
+            Command::Move {
+                index,
+                handle,
+                place,
+                ..
+            } => move_before(
+                &self.spec,
+                &mut self.records,
+                index.as_str(),
+                *handle,
+                *place,
+                out,
+            ),
+            Command::Reverse { index, .. } => {
+                reverse(&self.spec, &mut self.records, index.as_str(), out)
+            }
+            Command::Get { handle, .. } => get(&self.headings, &self.records, *handle, out),
+            Command::Size { .. } => size(&self.records, out),
             Command::Find { index, key, .. } => find(
                 self.alloc,
                 &self.spec,
                 &self.records,
+                Search::Find,
                 index.as_str(),
                 key.as_slice(),
                 out,
@@ -100,11 +147,93 @@ impl Table {
                 self.alloc,
                 &self.spec,
                 &self.records,
+                Number::Count,
                 index.as_str(),
                 key.as_slice(),
                 out,
             ),
-            Command::Size { .. } => size(&self.records, out),
+            Command::Lower { index, key, .. } => find(
+                self.alloc,
+                &self.spec,
+                &self.records,
+                Search::Lower,
+                index.as_str(),
+                key.as_slice(),
+                out,
+            ),
+            Command::Upper { index, key, .. } => find(
+                self.alloc,
+                &self.spec,
+                &self.records,
+                Search::Upper,
+                index.as_str(),
+                key.as_slice(),
+                out,
+            ),
+            Command::Nth {
+                index,
+                place: number,
+                ..
+            } => nth(&self.spec, &self.records, index.as_str(), *number, out),
+            Command::Rank {
+                index,
+                position,
+                ..
+            } => rank(&self.spec, &self.records, index.as_str(), *position, out),
+            Command::Place { index, handle, .. } => {
+                place(&self.spec, &self.records, index.as_str(), *handle, out)
+            }
+            Command::FindRank { index, key, .. } => count(
+                self.alloc,
+                &self.spec,
+                &self.records,
+                Number::FindRank,
+                index.as_str(),
+                key.as_slice(),
+                out,
+            ),
+            Command::LowerRank { index, key, .. } => count(
+                self.alloc,
+                &self.spec,
+                &self.records,
+                Number::LowerRank,
+                index.as_str(),
+                key.as_slice(),
+                out,
+            ),
+            Command::UpperRank { index, key, .. } => count(
+                self.alloc,
+                &self.spec,
+                &self.records,
+                Number::UpperRank,
+                index.as_str(),
+                key.as_slice(),
+                out,
+            ),
+            Command::Next {
+                index,
+                position,
+                ..
+            } => neighbour(
+                &self.spec,
+                &self.records,
+                Walk::Next,
+                index.as_str(),
+                *position,
+                out,
+            ),
+            Command::Prev {
+                index,
+                position,
+                ..
+            } => neighbour(
+                &self.spec,
+                &self.records,
+                Walk::Prev,
+                index.as_str(),
+                *position,
+                out,
+            ),
             Command::List { index, .. } => list(
                 self.alloc,
                 &self.spec,

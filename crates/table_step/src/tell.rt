@@ -1,13 +1,13 @@
 //! Answers that are appended, or the memory line in their place.
 
 ghost use Rattle.std.specs.Prelude.{◌≡◌, ◌≤◌, ◌+◌, ◌++◌, IsTrue, false, length};
-ghost use Rattle.table_cmd.specs.Answer.{answer, answer_text, fault};
+ghost use Rattle.table_cmd.specs.Answer.{answer, answer_text, counted, done, fault, after};
 ghost use Rattle.table_cmd.specs.Buffer.{Keeps};
 ghost use Rattle.table_step.specs.Step.{IsShort, memory_line};
 ghost use Rattle.table_step.specs.Told.{Answers};
 
 use crate::outcome::Outcome;
-use table_cmd::{Fault, Out, READY_ROOM, Reply, write_reply};
+use table_cmd::{Fault, Handle, Out, READY_ROOM, Reply, write_reply};
 
 /// The answer where memory is refused.
 const MEMORY_LINE: &[u8] = b"{\"err\":\"memory\"}\n";
@@ -36,6 +36,45 @@ pub(crate) fn tell_short(reply: &Reply, out: &mut Out)
     ensures kept { Keeps out.old out.new }
 {
     let _ = tell(reply, out);
+}
+
+// Appends the line of a write that has nothing to tell.
+#[tactic(auto, using(table_cmd::proofs::Short::done_is_short))]
+pub(crate) fn tell_done(at: u64, out: &mut Out) -> Outcome
+    requires { READY_ROOM ≤ out.old.room }
+    ensures line { out.new.bytes ≡ out.old.bytes ++ answer_text (done at) }
+    ensures outcome { result ≡ Outcome.Write }
+    ensures short { IsShort result out.old.bytes out.new.bytes }
+    ensures kept { Keeps out.old out.new }
+{
+    tell_short(&Reply::Done { at }, out);
+    Outcome::Write
+}
+
+// Appends the line of an erasure that tells the next record.
+#[tactic(auto, using(table_cmd::proofs::Short::after_is_short))]
+pub(crate) fn tell_next(at: u64, next: Option<Handle>, out: &mut Out) -> Outcome
+    requires { READY_ROOM ≤ out.old.room }
+    ensures line { out.new.bytes ≡ out.old.bytes ++ answer_text (after at next) }
+    ensures outcome { result ≡ Outcome.Write }
+    ensures short { IsShort result out.old.bytes out.new.bytes }
+    ensures kept { Keeps out.old out.new }
+{
+    tell_short(&Reply::Next { at, next }, out);
+    Outcome::Write
+}
+
+// Appends the line of an erasure of so many records.
+#[tactic(auto, using(table_cmd::proofs::Short::counted_is_short))]
+pub(crate) fn tell_erased(at: u64, number: u64, out: &mut Out) -> Outcome
+    requires { READY_ROOM ≤ out.old.room }
+    ensures line { out.new.bytes ≡ out.old.bytes ++ answer_text (counted at number) }
+    ensures outcome { result ≡ Outcome.Write }
+    ensures short { IsShort result out.old.bytes out.new.bytes }
+    ensures kept { Keeps out.old out.new }
+{
+    tell_short(&Reply::Counted { at, number }, out);
+    Outcome::Write
 }
 
 // Appends the line that answers a read, or else the memory line.

@@ -1,5 +1,5 @@
 use Rattle.std.proofs.Common.{None, arith}
-use Rattle.node_store.proofs.ByNode.{added_kept, IsNodeOf_added}
+use Rattle.node_store.proofs.ByNode.{added_kept, IsNodeOf_added, IsNodeOf_kept}
 use Rattle.index_set.proofs.Keys.{except_none, unique_kept}
 use Rattle.index_set.proofs.tests.insert.Goals as goal
 
@@ -14,3 +14,7 @@ add-requires-clause-count g c = omega (arith, c.requires.count, added_kept c.arg
 
 pub enter-requires-clause-node : goal.enter-requires-clause-node
 enter-requires-clause-node g c = IsNodeOf_added c.reserve_one.new.self.store c.add.new.self.store c.in-Ok-add.n c.args.value c.in-Ok-add.ensures.added
+
+pub returns-clause-node : goal.returns-clause-node
+returns-clause-node g c =
+    IsNodeOf_kept c.add.new.self.store c.enter.new.self.store c.in-Ok-add.n c.enter.ensures.contents (IsNodeOf_added c.reserve_one.new.self.store c.add.new.self.store c.in-Ok-add.n c.args.value c.in-Ok-add.ensures.added)

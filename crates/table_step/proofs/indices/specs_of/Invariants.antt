@@ -1,5 +1,5 @@
 use Rattle.std.proofs.Common.{◌≡◌, map, take}
-use Rattle.table_step.specs.Step.{spec_of}
+use Rattle.table_step.specs.Table.{spec_of}
 use Rattle.table_step.proofs.indices.specs_of.Given as goal
 
 abbrev pub invariant-loop-index : goal.invariant-loop-index

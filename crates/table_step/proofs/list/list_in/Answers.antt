@@ -4,7 +4,7 @@ use Rattle.container_model.specs.Find.{is_live}
 use Rattle.container_model.specs.State.{list_at}
 use Rattle.table_cmd.specs.Answer.{listed, listed_of}
 use Rattle.table_step.specs.declared.outcome.Outcome.TheVariants as outcomes
-use Rattle.table_step.specs.Step.{list_in, listed_handle}
+use Rattle.table_step.specs.Reads.{list_in, listed_handle}
 use Rattle.table_step.specs.Told.{Answers, entries_of, shown_entries, table_of}
 use Rattle.table_step.proofs.Shown.{all_live, listed_is}
 use Rattle.table_step.proofs.Told.{steps_told}

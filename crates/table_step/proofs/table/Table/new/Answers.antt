@@ -3,7 +3,7 @@ use Rattle.std.specs.Prelude.{is_some}
 use Rattle.container_model.specs.State.{KeysMatch}
 use Rattle.key_extract.specs.Keys.{key_at}
 use Rattle.table_schema.proofs.Facts.{keys_match}
-use Rattle.table_step.specs.Step.{keys_of, spec_of, specs_of}
+use Rattle.table_step.specs.Table.{keys_of, spec_of, specs_of}
 use Rattle.table_step.proofs.Declared.{one_to_eight}
 use Rattle.table_step.proofs.table.Table.new.Goals as goal
 

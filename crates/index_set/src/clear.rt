@@ -1,0 +1,43 @@
+//! A set without records again.
+ghost use Rattle.std.specs.Prelude.{◌≡◌, ℕ, None, [], map};
+ghost use Rattle.node_store.specs.Store.{IsStore, nodes, len_of};
+ghost use Rattle.node_store.specs.Age.{nodes_of};
+ghost use Rattle.index_set.specs.Set.{store_of, specs_of, lists_of, IsSound, IsKeyed, IsUniqueExcept, IsOfSame};
+
+use crate::every::empty_each;
+use crate::set::IndexSet;
+use key_extract::Extract;
+use node_store::NodeStore;
+
+// Removes each node of a store, the newest first.
+fn remove_all<R: Drop>(store: &mut NodeStore<R>)
+    requires { IsStore store.old }
+    ensures sound { IsStore store.new }
+    ensures nodes { (k : ℕ) → nodes store.new k ≡ None }
+    ensures count { store.new.added ≡ store.old.added }
+{
+    while let Some(n) = store.newest() {
+        store.remove(n);
+    }
+}
+
+impl<R: Drop, E: Extract<R>> IndexSet<R, E> {
+    /// Takes every record out of each index, and removes it. The indices, their keys and the count of adds stay, so a new
+    /// node has a number that none had before. It takes no memory, and leaves no room that was reserved.
+    /// O(records + indices).
+    pub fn clear(&mut self)
+        requires { IsSound E.has_key self.old }
+        ensures sound { IsSound E.has_key self.new }
+        ensures same { IsOfSame self.old self.new }
+        ensures lists { lists_of self.new ≡ map (λ _. []) (specs_of self.old) }
+        ensures nodes { (k : ℕ) → nodes (store_of self.new) k ≡ None }
+        ensures none { nodes_of (store_of self.new) ≡ [] }
+        ensures len { len_of (store_of self.new) ≡ 0 }
+        ensures count { (store_of self.new).added ≡ (store_of self.old).added }
+        ensures keyed { IsKeyed E.order_of E.hash_of self.new }
+        ensures unique { IsUniqueExcept E.order_of self.new None }
+    {
+        empty_each(self.alloc, &self.specs, &mut self.indices);
+        remove_all(&mut self.store);
+    }
+}

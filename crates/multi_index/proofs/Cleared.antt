@@ -1,0 +1,61 @@
+-- What a container is once all its records are taken out.
+use Rattle.std.proofs.Common.{◌≡◌, ℕ, ◌+◌, ◌<◌, ◌^◌, Bool, List, [], map, Option, None, sym, ap, ◌∙◌, subst, arith}
+use Rattle.std.specs.List.{filter_map}
+use Rattle.std.specs.declared.cmp.Ordering.{Ordering}
+use Rattle.list_model.specs.Order.{EachPair}
+use Rattle.node_store.specs.declared.Node.{Node}
+use Rattle.node_store.specs.Store.{Store, nodes, number_of}
+use Rattle.node_store.specs.Age.{nodes_of}
+use Rattle.node_store.specs.ByNode as node
+use Rattle.container_model.specs.declared.handle.Handle.{Handle}
+use Rattle.container_model.specs.declared.handle.Entry.{Entry}
+use Rattle.container_model.specs.declared.handle.Spec.{Spec}
+use Rattle.container_model.specs.State.{State, IsState}
+use Rattle.container_model.specs.Change.{cleared}
+use Rattle.container_model.proofs.Erased.{IsState-cleared}
+use Rattle.index_set.specs.declared.set.IndexSet.{IndexSet}
+use Rattle.index_set.specs.Set.{store_of, specs_of, contents, record_of, lists_of, IsSound, IsKeyed, IsUniqueExcept, IsOfSame}
+use Rattle.multi_index.specs.declared.by_row.ByRow.{ByRow}
+use Rattle.multi_index.specs.LeadsTo.{LeadsTo}
+use Rattle.multi_index.specs.Linked.{entries_in, handles_in}
+use Rattle.multi_index.specs.Seen.{seen, IsContainer}
+use Rattle.multi_index.proofs.Made.{no_handles}
+
+no_records : {R : Type 0} (s : Store (Entry R)) → nodes_of s ≡ [] → entries_in (node.contents s) ≡ []
+unfolding node.contents
+no_records s none = ap (filter_map (node.record_of s)) none
+
+leads_nowhere : {R : Type 0} (s : Store (Entry R)) → ((k : ℕ) → nodes s k ≡ None) → LeadsTo s []
+leads_nowhere s none = record {
+  node_at = λ n is. let bad = sym is ∙ none (number_of n) in cc;
+  slot_of = λ k n at. cc;
+}
+
+module _ {E R : Type 0} (old new : IndexSet (Entry R) (ByRow E)) (max writes : ℕ) (same : IsOfSame old new) (lists : lists_of new ≡ map (λ _. []) (specs_of old)) (none : nodes_of (store_of new) ≡ []) where
+  no_entries : entries_in (contents new) ≡ []
+  no_entries = no_records (store_of new) none
+
+  abbrev make : E → List Spec → List (Entry R) → List (List Handle) → State E R
+  make ks ss es ls = record { keys = ks; specs = ss; max = max; writes = writes + 1; entries = es; lists = ls }
+
+  pub seen_cleared : seen new max (writes + 1) ≡ cleared (seen old max writes)
+  seen_cleared =
+      let handles = ap (handles_in (record_of new)) lists ∙ no_handles (record_of new) (specs_of old) in
+      λ i. make (same.keys i).keys (same.specs i) (no_entries i) (handles i)
+
+  pub IsContainer_cleared : (has_key : E → ℕ → Bool) (order : E → ℕ → R → R → Ordering) (hash : E → ℕ → R → ℕ) (slots : List (Option Node)) →
+      IsSound (λ by. has_key by.keys) new → IsKeyed (λ by index a b. order by.keys index a.row b.row) (λ by index a. hash by.keys index a.row) new → IsUniqueExcept (λ by index a b. order by.keys index a.row b.row) new None →
+      ((k : ℕ) → nodes (store_of new) k ≡ None) → (store_of new).added ≡ (store_of old).added → writes + 1 < 2 ^ 64 → IsContainer has_key order hash old slots max writes → IsContainer has_key order hash new [] max (writes + 1)
+  IsContainer_cleared has_key order hash slots sound keyed unique empty count next was = record {
+    linked = record {
+      sound = sound;
+      keyed = keyed;
+      unique = unique;
+      apart = subst (EachPair _) (sym no_entries) tt;
+      leads = leads_nowhere (store_of new) empty;
+    };
+    state = subst (IsState has_key order) (sym seen_cleared) (IsState-cleared has_key order (seen old max writes) was.state);
+    narrow = was.narrow;
+    numbered = next;
+    added = let before = was.added in omega arith;
+  }

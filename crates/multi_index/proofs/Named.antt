@@ -1,0 +1,122 @@
+-- The node that a handle names, in the list of an index of a container: the list answers of it what the index answers of the handle.
+use Rattle.std.proofs.Common.{◌≡◌, ◌≢◌, ℕ, ◌<◌, Bool, true, false, cond, List, ◌∷◌, ◌++◌, length, map, Option, Some, None, Ok, Err, refl, sym, ap, ◌∙◌, ⊎_elim, arith}
+use Rattle.std.specs.Prelude.{IsTrue, not, option_map, is_some, count_by}
+use Rattle.std.specs.List.{AllByRecursion}
+use Rattle.std.specs.declared.cmp.Ordering.{Ordering}
+use Rattle.std.proofs.lemmas.Bool.{false_from_ne_true}
+use Rattle.std.proofs.lemmas.Option.{same_Some}
+use Rattle.list_model.specs.Walk.{place_of, next, prev}
+use Rattle.list_model.proofs.InOrder.{All-map}
+use Rattle.list_model.proofs.Permuted.{split_at, count_by-permutation}
+use Rattle.container_model.specs.declared.handle.Entry.{Entry}
+use Rattle.container_model.specs.declared.handle.Handle.{Handle}
+use Rattle.container_model.specs.declared.handle.Kind.TheVariants.{Sequenced}
+use Rattle.container_model.specs.declared.handle.Spec.{Spec}
+use Rattle.container_model.specs.declared.refusal.Why.TheVariants.{Stale}
+use Rattle.container_model.specs.State.{State, AreIndices, is_handle, list_at, row_of}
+use Rattle.container_model.specs.Find.{is_live}
+use Rattle.container_model.proofs.Found.{is_handle_same, count_live}
+use Rattle.node_store.specs.declared.Node.{Node}
+use Rattle.node_store.specs.Nodes.{Holds}
+use Rattle.node_store.specs.Store.{IsNodeOf}
+use Rattle.node_store.specs.ByNode.{same_node}
+use Rattle.node_store.proofs.ByNode.{node_cases, same_node-refl, same_node-true}
+use Rattle.slot_table.specs.Slots.{item_at}
+use Rattle.index_set.specs.declared.set.IndexSet.{IndexSet}
+use Rattle.index_set.specs.Set.{store_of, keys_of, specs_of, contents, record_of, list_of, lists_of}
+use Rattle.index_set.proofs.Members.{nodes_held_at}
+use Rattle.multi_index.specs.declared.by_row.ByRow.{ByRow}
+use Rattle.multi_index.specs.Linked.{handle_of, entries_in, handles_in}
+use Rattle.multi_index.specs.Seen.{IsLinked}
+use Rattle.multi_index.proofs.Contents.{has_record}
+use Rattle.multi_index.proofs.Indices.{index_here}
+use Rattle.multi_index.proofs.LeadsTo.{row_of_live, row_of_stale, row_of_free}
+use Rattle.multi_index.proofs.Mapped.{place_mapped, next_mapped, prev_mapped}
+use Rattle.multi_index.proofs.Reading.{list_seen}
+use Rattle.multi_index.proofs.Sides.{count_mapped}
+
+-- ---- what a call answers of a handle
+
+pub answered_live : {E R A : Type 0} (h : Handle) (answer : State E R → A) {s t : State E R} (a : A) → s ≡ t → is_live s h ≡ true → a ≡ answer s → Ok a ≡ cond (is_live t h) (Ok (answer t)) (Err Stale)
+answered_live h answer {s} {t} a same live is = ap Ok (is ∙ ap answer same) ∙ ap (λ b. cond b (Ok (answer t)) (Err Stale)) (sym live ∙ ap (λ u. is_live u h) same)
+
+pub answered_stale : {E R A : Type 0} (h : Handle) (answer : A) {s t : State E R} → s ≡ t → is_live s h ≡ false → Err Stale ≡ cond (is_live t h) (Ok answer) (Err Stale)
+answered_stale h answer {s} {t} same stale = ap (λ b. cond b (Ok answer) (Err Stale)) (sym stale ∙ ap (λ u. is_live u h) same)
+
+is_not : (b : Bool) → IsTrue (not b) → b ≡ false
+is_not false h = refl
+is_not true h = cc
+
+module _ {E R : Type 0} {has_key : E → ℕ → Bool} {order : E → ℕ → R → R → Ordering} {hash : E → ℕ → R → ℕ} (set : IndexSet (Entry R) (ByRow E)) (slots : List (Option Node)) (linked : IsLinked has_key order hash set slots) (h : Handle) where
+  abbrev handle : Node → Handle
+  handle = handle_of (record_of set)
+
+  abbrev entries : List (Entry R)
+  entries = entries_in (contents set)
+
+  -- a handle that its slot's node does not have names no record
+  pub stale_seen : ((n : Node) → item_at slots h.slot ≡ Some n → IsTrue (not (is_handle h (handle n)))) → is_some (row_of entries h) ≡ false
+  stale_seen none =
+      ap is_some (elim (item_at slots h.slot) as (λ (o : Option Node). item_at slots h.slot ≡ o → row_of entries h ≡ None) [
+        | None ↦ λ free. row_of_free (store_of set) slots linked.sound.nodes linked.leads h free
+        | Some n ↦ λ at. row_of_stale (store_of set) slots linked.sound.nodes linked.leads h n at (is_not _ (none n at))
+      ] refl)
+
+  module _ (n : Node) (at : item_at slots h.slot ≡ Some n) (named : is_handle h (handle n) ≡ true) where
+    node_here : IsNodeOf (store_of set) n
+    node_here = (linked.leads.slot_of h.slot n at).0
+
+    -- the handle names a record
+    pub live_seen : is_some (row_of entries h) ≡ true
+    live_seen =
+        let p = has_record (store_of set) n node_here in
+        ap is_some (row_of_live (store_of set) slots linked.sound.nodes linked.leads linked.apart h n p.0 at named p.1)
+
+    -- and no other node has it
+    one_named : (m : Node) → IsNodeOf (store_of set) m → same_node n m ≡ is_handle h (handle m)
+    one_named m is =
+        ⊎_elim
+        (λ (one : n ≡ m). ap (same_node n) (sym one) ∙ (same_node-refl n ∙ (sym named ∙ ap (λ x. is_handle h (handle x)) one)))
+        (λ (other : n ≢ m).
+        let here : is_handle h (handle m) ≡ true → n ≡ m =
+        (λ t. same_Some n m (sym at ∙ (ap (λ (g : Handle). item_at slots g.slot) (is_handle_same h (handle m) t) ∙ linked.leads.node_at m is))) in
+        false_from_ne_true _ (λ t. other (same_node-true n m t)) ∙ sym (false_from_ne_true _ (λ t. other (here t))))
+        (node_cases n m)
+
+    module _ (index : ℕ) (within : index < length (specs_of set)) where
+      abbrev list : List Node
+      list = list_of set index
+
+      abbrev handles : List Handle
+      handles = list_at (handles_in (record_of set) (lists_of set)) index
+
+      seen_here : map handle list ≡ handles
+      seen_here = list_seen set slots linked index within
+
+      named_all : AllByRecursion (λ m. same_node n m ≡ is_handle h (handle m)) list
+      named_all = All-map (IsNodeOf (store_of set)) _ one_named list (nodes_held_at set linked.sound index within)
+
+      -- its place
+      pub place_seen : place_of (same_node n) list ≡ place_of (is_handle h) handles
+      place_seen = place_mapped handle (same_node n) (is_handle h) list named_all ∙ ap (place_of (is_handle h)) seen_here
+
+      -- the record after it
+      pub next_seen : option_map handle (next (same_node n) list) ≡ next (is_handle h) handles
+      next_seen = next_mapped handle (same_node n) (is_handle h) list named_all ∙ ap (next (is_handle h)) seen_here
+
+      -- the record before it
+      pub prev_seen : option_map handle (prev (same_node n) list) ≡ prev (is_handle h) handles
+      prev_seen = prev_mapped handle (same_node n) (is_handle h) list named_all ∙ ap (prev (is_handle h)) seen_here
+
+      -- each index has the node
+      pub held_here : AreIndices (order (keys_of set).keys) entries 0 (specs_of set) (handles_in (record_of set) (lists_of set)) → Holds list n
+      held_here indices =
+          let some_spec : Spec = record { kind = Sequenced; unique = false } in
+          let members = (index_here (order (keys_of set).keys) entries 0 index (specs_of set) (handles_in (record_of set) (lists_of set)) some_spec indices within).1.members in
+          let once : count_by (same_node n) list ≡ 1 =
+          count_mapped handle (same_node n) (is_handle h) list named_all
+          ∙ (ap (count_by (is_handle h)) seen_here
+          ∙ (count_by-permutation (is_handle h) (map (λ e. e.handle) entries) handles members ∙ count_live entries h linked.apart live_seen)) in
+          let s = split_at (same_node n) list (omega (arith, once)) in
+          let one : n ≡ s.member = same_node-true n s.member s.here in
+          record { before = s.front; after = s.back; is = s.whole ∙ ap (λ m. s.front ++ m ∷ s.back) (sym one) }

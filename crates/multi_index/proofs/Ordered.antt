@@ -1,0 +1,281 @@
+-- A sequence of nodes put into another order, and what that makes of a container.
+use Rattle.std.proofs.Common.{◌≡◌, ℕ, ◌+◌, ◌-◌, ◌<◌, ◌≤◌, ◌^◌, Bool, true, false, cond, not, List, [], ◌∷◌, ◌++◌, length, map, reverse, set, Option, Some, None, refl, sym, ap, ◌∙◌, subst, ⊎_elim, arith, ◌==◌, eq-eqb}
+use Rattle.std.specs.Prelude.{insert, nat_le, is_some, IsTrue, IsPermutation}
+use Rattle.std.specs.List.{AllByRecursion, list_all}
+use Rattle.std.specs.declared.cmp.Ordering.{Ordering}
+use Rattle.std.proofs.lemmas.Bool.{false_from_ne_true}
+use Rattle.std.proofs.lemmas.Bool.Decides.{nat_tests}
+use Rattle.std.proofs.lemmas.List.{map-set, map-append, length-map, reverse-append}
+use Rattle.std.proofs.lemmas.Option.{same_Some}
+use Rattle.list_model.specs.Order.{EachPair}
+use Rattle.list_model.specs.Walk.{place_of, without, relocated}
+use Rattle.list_model.proofs.InOrder.{All-map}
+use Rattle.list_model.proofs.Permuted.{count_by-permutation}
+use Rattle.node_store.specs.declared.Node.{Node}
+use Rattle.node_store.specs.Nodes.{Holds}
+use Rattle.node_store.specs.Store.{Store, IsStore, IsNodeOf}
+use Rattle.node_store.specs.ByNode as node
+use Rattle.node_store.specs.ByNode.{same_node}
+use Rattle.node_store.proofs.ByNode.{node_cases, same_node-refl, same_node-true, added_kept}
+use Rattle.slot_table.specs.Slots.{item_at}
+use Rattle.container_model.specs.declared.handle.Handle.{Handle}
+use Rattle.container_model.specs.declared.handle.Entry.{Entry}
+use Rattle.container_model.specs.declared.handle.Spec.{Spec}
+use Rattle.container_model.specs.declared.handle.Kind.TheVariants.{Sequenced}
+use Rattle.container_model.specs.declared.refusal.Why.{Why}
+use Rattle.container_model.specs.declared.refusal.Why.TheVariants.{Kind, Stale, Place, Order, Spent}
+use Rattle.container_model.specs.State.{State, IsState, is_handle, is_sequence_kind, list_at, row_of}
+use Rattle.container_model.specs.Find.{kind_at, is_live}
+use Rattle.container_model.specs.Sequence.{with_list, has_each_once, relocate_refusal, rearrange_refusal, sequence_refusal}
+use Rattle.container_model.proofs.Found.{is_handle_itself, is_handle_same, count_live, stands_once}
+use Rattle.index_set.specs.declared.set.IndexSet.{IndexSet}
+use Rattle.index_set.specs.Set as set
+use Rattle.index_set.specs.Set.{store_of, keys_of, specs_of, contents, record_of, list_of, lists_of, IsSound, IsKeyed, IsOfSame}
+use Rattle.index_set.proofs.Members.{nodes_held_at}
+use Rattle.index_set.proofs.StaysUnique.{unique_after_move}
+use Rattle.multi_index.specs.declared.by_row.ByRow.{ByRow}
+use Rattle.multi_index.specs.LeadsTo.{LeadsTo}
+use Rattle.multi_index.specs.Linked.{handle_of, entries_in, handles_in}
+use Rattle.multi_index.specs.Seen.{seen, IsContainer}
+use Rattle.multi_index.proofs.Contents.{entries_kept, handles_kept, has_record}
+use Rattle.multi_index.proofs.Entered.{map-insert}
+use Rattle.multi_index.proofs.Indices.{index_here, as_many_each}
+use Rattle.multi_index.proofs.LeadsTo.{row_of_live, row_of_stale, row_of_free, leads_kept}
+use Rattle.multi_index.proofs.Reading.{list_seen}
+
+-- ---- lists
+
+-- a member that moves in a list moves in what a function makes of the list, where both are named alike
+module _ {X Y : Type 0} (f : X → Y) (is : X → Bool) (named : Y → Bool) where
+  taken_by : (b : Bool) (x : X) (xs : List X) (ys : List Y) → map f xs ≡ ys → map f (cond (not b) (x ∷ xs) xs) ≡ cond (not b) (f x ∷ ys) ys
+  taken_by true x xs ys e = e
+  taken_by false x xs ys e = ap (λ l. f x ∷ l) e
+
+  map-without : (xs : List X) → AllByRecursion (λ x. is x ≡ named (f x)) xs → map f (without is xs) ≡ without named (map f xs)
+  map-without [] same = refl
+  map-without (x ∷ xs) same =
+      taken_by (is x) x (without is xs) (without named (map f xs)) (map-without xs same.1)
+      ∙ ap (λ b. cond (not b) (f x ∷ without named (map f xs)) (without named (map f xs))) same.0
+
+  place_of-map : (xs : List X) → AllByRecursion (λ x. is x ≡ named (f x)) xs → place_of is xs ≡ place_of named (map f xs)
+  place_of-map [] same = refl
+  place_of-map (x ∷ xs) same = (λ i. cond (not (same.0 i)) (1 + place_of-map xs same.1 i) 0)
+
+  pub map-relocated : (x : X) (p : ℕ) (xs : List X) → AllByRecursion (λ x. is x ≡ named (f x)) xs → map f (relocated is x p xs) ≡ relocated named (f x) p (map f xs)
+  map-relocated x p xs same =
+      map-insert f (without is xs) (cond (nat_le p (place_of is xs)) p (p - 1)) x
+      ∙ (λ i. insert (map-without xs same i) (cond (nat_le p (place_of-map xs same i)) p (p - 1)) (f x))
+
+pub map-reverse : {X Y : Type 0} (f : X → Y) (xs : List X) → map f (reverse xs) ≡ reverse (map f xs)
+map-reverse f [] = refl
+map-reverse f (x ∷ xs) =
+    ap (map f) (reverse-append (x ∷ []) xs)
+    ∙ (map-append f (reverse xs) (x ∷ []) ∙ (ap (λ l. l ++ f x ∷ []) (map-reverse f xs) ∙ sym (reverse-append (f x ∷ []) (map f xs))))
+
+-- a member of a list that a function makes this member of another list
+pub record StandsFor {X Y : Type 0} (f : X → Y) (xs : List X) (y : Y) : Type 0 where
+  pub member : X
+  pub before : List X
+  pub after : List X
+  pub whole : xs ≡ before ++ member ∷ after
+  pub image : f member ≡ y
+
+pub stands_for : {X Y : Type 0} (f : X → Y) (xs : List X) (front : List Y) (y : Y) (back : List Y) → map f xs ≡ front ++ y ∷ back → StandsFor f xs y
+stands_for f [] [] y back e = absurd (cc)
+stands_for f [] (z ∷ front) y back e = absurd (cc)
+stands_for f (x ∷ xs) [] y back e = record { member = x; before = []; after = xs; whole = refl; image = cc }
+stands_for f (x ∷ xs) (z ∷ front) y back e = let rest : map f xs ≡ front ++ y ∷ back = cc in one_before x (stands_for f xs front y back rest)
+  where
+    one_before : {X Y : Type 0} {f : X → Y} {xs : List X} {y : Y} (x : X) → StandsFor f xs y → StandsFor f (x ∷ xs) y
+    one_before x p = record { member = p.member; before = x ∷ p.before; after = p.after; whole = ap (λ l. x ∷ l) p.whole; image = p.image }
+
+-- a number that is not the greatest has a next one
+pub next_fits : (n : ℕ) → n < 2 ^ 64 → (n == 2 ^ 64 - 1) ≡ false → n + 1 < 2 ^ 64
+next_fits n less other = grind (arith, nat_tests)
+
+some_spec : Spec
+some_spec = record { kind = Sequenced; unique = false }
+
+-- ---- nodes and their handles
+
+module _ {R : Type 0} (s : Store (Entry R)) (slots : List (Option Node)) (leads : LeadsTo s slots) where
+  -- nodes of one handle are one
+  pub one_node : (n m : Node) → IsNodeOf s n → IsNodeOf s m → handle_of (node.record_of s) n ≡ handle_of (node.record_of s) m → n ≡ m
+  one_node n m is has e = same_Some n m (sym (leads.node_at n is) ∙ (ap (λ (h : Handle). item_at slots h.slot) e ∙ leads.node_at m has))
+
+  -- the test of nodes answers as that of their handles
+  pub same_handle : (n m : Node) → IsNodeOf s n → IsNodeOf s m → same_node n m ≡ is_handle (handle_of (node.record_of s) n) (handle_of (node.record_of s) m)
+  same_handle n m is has =
+      let f = handle_of (node.record_of s) in
+      ⊎_elim
+      (λ (same : n ≡ m). ap (λ x. same_node x m) same ∙ (same_node-refl m ∙ sym (ap (λ x. is_handle (f x) (f m)) same ∙ is_handle_itself (f m))))
+      (λ apart.
+      false_from_ne_true _ (λ t. apart (same_node-true n m t))
+      ∙ sym (false_from_ne_true _ (λ t. apart (one_node n m is has (is_handle_same (f n) (f m) t)))))
+      (node_cases n m)
+
+  -- a node whose handle stands in a list of handles stands in the list of their nodes
+  pub held_by_handle : (n : Node) (xs : List Node) (front back : List Handle) → IsNodeOf s n → AllByRecursion (IsNodeOf s) xs → map (handle_of (node.record_of s)) xs ≡ front ++ handle_of (node.record_of s) n ∷ back → Holds xs n
+  held_by_handle n xs front back is nodes e =
+      let p = stands_for (handle_of (node.record_of s)) xs front (handle_of (node.record_of s) n) back e in
+      let one : p.member ≡ n = one_node p.member n (middle_of (IsNodeOf s) p.before p.member p.after (subst (AllByRecursion (IsNodeOf s)) p.whole nodes)) is p.image in
+      record { before = p.before; after = p.after; is = p.whole ∙ ap (λ x. p.before ++ x ∷ p.after) one }
+    where
+      middle_of : {X : Type 0} (P : X → Type 0) (before : List X) (x : X) (after : List X) → AllByRecursion P (before ++ x ∷ after) → P x
+      middle_of P [] x after all = all.0
+      middle_of P (y ∷ before) x after all = middle_of P before x after all.1
+
+-- ---- the container
+
+module _ {E R : Type 0} (old new : IndexSet (Entry R) (ByRow E)) (index max writes : ℕ) (xs : List Node) (list : List Handle) (handles : map (handle_of (record_of old)) xs ≡ list)
+    (same : IsOfSame old new) (lists : lists_of new ≡ set (lists_of old) index xs) (kept : contents new ≡ contents old) where
+  abbrev make : E → List Spec → List (Entry R) → List (List Handle) → State E R
+  make keys specs entries lists = record { keys = keys; specs = specs; max = max; writes = writes + 1; entries = entries; lists = lists }
+
+  handles_listed : handles_in (record_of new) (lists_of new) ≡ set (handles_in (record_of old) (lists_of old)) index list
+  handles_listed =
+      handles_kept (store_of old) (store_of new) (lists_of new) kept
+      ∙ (ap (handles_in (record_of old)) lists ∙ (map-set (map (handle_of (record_of old))) (lists_of old) index xs ∙ ap (set (handles_in (record_of old) (lists_of old)) index) handles))
+
+  -- the container is the one with the handles of those nodes as the list of the index
+  pub seen_listed : seen new max (writes + 1) ≡ with_list (seen old max writes) index list
+  seen_listed = (λ i. make (same.keys i).keys (same.specs i) (entries_kept (store_of old) (store_of new) kept i) (handles_listed i))
+
+  -- and stays one
+  pub IsContainer_listed : (has_key : E → ℕ → Bool) (order : E → ℕ → R → R → Ordering) (hash : E → ℕ → R → ℕ) (slots : _) → IsContainer has_key order hash old slots max writes →
+      index < length (specs_of old) → IsTrue (is_sequence_kind (set.kind_at old index)) → (writes == 2 ^ 64 - 1) ≡ false → IsState has_key order (with_list (seen old max writes) index list) →
+      IsSound (λ by. has_key by.keys) new → IsKeyed (λ by index a b. order by.keys index a.row b.row) (λ by index a. hash by.keys index a.row) new →
+      IsContainer has_key order hash new slots max (writes + 1)
+  IsContainer_listed has_key order hash slots was within sequence more state sound keyed = record {
+    linked = record {
+      sound = sound;
+      keyed = keyed;
+      unique = unique_after_move (λ by index a b. order by.keys index a.row b.row) old new was.linked.sound same index xs None within sequence lists kept was.linked.unique;
+      apart = subst (EachPair _) (sym (entries_kept (store_of old) (store_of new) kept)) was.linked.apart;
+      leads = leads_kept (store_of old) (store_of new) slots kept was.linked.leads;
+    };
+    state = subst (IsState has_key order) (sym seen_listed) state;
+    narrow = was.narrow;
+    numbered = let fits = was.numbered in next_fits writes fits more;
+    added = let before = was.added in let count = added_kept (store_of old) (store_of new) kept in omega (arith, before, count);
+  }
+
+-- ---- a record that moves
+
+module _ {E R : Type 0} {has_key : E → ℕ → Bool} {order : E → ℕ → R → R → Ordering} {hash : E → ℕ → R → ℕ} (old : IndexSet (Entry R) (ByRow E)) (slots : List (Option Node)) (max writes : ℕ) (was : IsContainer has_key order hash old slots max writes)
+    (index : ℕ) (within : index < length (specs_of old)) where
+  -- each sequence has as many nodes as there are records
+  pub as_many_nodes : length (list_of old index) ≡ length (entries_in (contents old))
+  as_many_nodes =
+      sym (length-map (list_of old index) (handle_of (record_of old)))
+      ∙ (ap length (list_seen old slots was.linked index within)
+      ∙ as_many_each (order (keys_of old).keys) (entries_in (contents old)) index (specs_of old) (handles_in (record_of old) (lists_of old)) some_spec was.state.indices within)
+
+  -- and the nodes of all of them
+  pub members_here : IsPermutation (map (λ e. e.handle) (entries_in (contents old))) (list_at (handles_in (record_of old) (lists_of old)) index)
+  members_here = (index_here (order (keys_of old).keys) (entries_in (contents old)) 0 index (specs_of old) (handles_in (record_of old) (lists_of old)) some_spec was.state.indices within).1.members
+
+  module _ (n : Node) (h : Handle) (is : IsNodeOf (store_of old) n) (handle : handle_of (record_of old) n ≡ h) where
+    -- it stands in the list of the index
+    pub stands_in : is_live (seen old max writes) h ≡ true → Holds (list_of old index) n
+    stands_in live =
+        let entries = entries_in (contents old) in
+        let list = list_at (handles_in (record_of old) (lists_of old)) index in
+        let once = stands_once h list (count_by-permutation (is_handle h) _ list members_here ∙ count_live entries h was.state.slots live) in
+        held_by_handle (store_of old) slots was.linked.leads n (list_of old index) once.front once.back is (nodes_held_at old was.linked.sound index within)
+        (list_seen old slots was.linked index within ∙ (once.whole ∙ ap (λ g. once.front ++ g ∷ once.back) (sym handle)))
+
+    -- its handle moves as it does
+    pub relocated_seen : (place : ℕ) → map (handle_of (record_of old)) (relocated (same_node n) n place (list_of old index)) ≡ relocated (is_handle h) h place (list_at (handles_in (record_of old) (lists_of old)) index)
+    relocated_seen place =
+        map-relocated (handle_of (record_of old)) (same_node n) (is_handle (handle_of (record_of old) n)) n place (list_of old index)
+        (All-map _ _ (λ m has. same_handle (store_of old) slots was.linked.leads n m is has) (list_of old index) (nodes_held_at old was.linked.sound index within))
+        ∙ (λ i. relocated (is_handle (handle i)) (handle i) place (list_seen old slots was.linked index within i))
+
+-- ---- live handles
+
+is_not : (b : Bool) → IsTrue (not b) → b ≡ false
+is_not false h = refl
+is_not true h = cc
+
+module _ {R : Type 0} (s : Store (Entry R)) (slots : List (Option Node)) (store : IsStore s) (leads : LeadsTo s slots) (h : Handle) where
+  -- a handle that names no node names no record
+  pub not_live : ((n : Node) → item_at slots h.slot ≡ Some n → IsTrue (not (is_handle h (handle_of (node.record_of s) n)))) → is_some (row_of (entries_in (node.contents s)) h) ≡ false
+  not_live none = ap is_some (elim (item_at slots h.slot) as (λ (o : Option Node). item_at slots h.slot ≡ o → row_of (entries_in (node.contents s)) h ≡ None) [
+    | None ↦ λ free. row_of_free s slots store leads h free
+    | Some n ↦ λ at. row_of_stale s slots store leads h n at (is_not _ (none n at))
+  ] refl)
+
+  -- and one that names a node is the handle of its record
+  pub is_live_by : EachPair (λ a b. (b.handle.slot == a.handle.slot) ≡ false) (entries_in (node.contents s)) → (n : Node) → item_at slots h.slot ≡ Some n → IsTrue (is_handle h (handle_of (node.record_of s) n)) → is_some (row_of (entries_in (node.contents s)) h) ≡ true
+  is_live_by apart n at same =
+      let p = has_record s n (leads.slot_of h.slot n at).0 in
+      ap is_some (row_of_live s slots store leads apart h n p.0 at same p.1)
+
+-- ---- refusals
+
+nat_le_true : (m n : ℕ) → m ≤ n → nat_le m n ≡ true
+nat_le_true m n e = grind (arith, nat_tests)
+
+nat_le_false : (m n : ℕ) → n < m → nat_le m n ≡ false
+nat_le_false m n e = grind (arith, nat_tests)
+
+module _ {E R : Type 0} (s : State E R) (index place : ℕ) (h : Handle) (sequence : is_sequence_kind (kind_at s index) ≡ true) where
+  abbrev by_tests : Bool → Bool → Bool → Bool → Option Why
+  by_tests a b c d = cond a (cond b (cond c (cond d (Some Spent) None) (Some Place)) (Some Stale)) (Some Kind)
+
+  pub relocate_stale : is_live s h ≡ false → relocate_refusal s index place h ≡ Some Stale
+  relocate_stale live = λ i. by_tests (sequence i) (live i) (nat_le place (length s.entries)) (s.writes == 2 ^ 64 - 1)
+
+  pub relocate_place : is_live s h ≡ true → length s.entries < place → relocate_refusal s index place h ≡ Some Place
+  relocate_place live past = λ i. by_tests (sequence i) (live i) (nat_le_false place (length s.entries) past i) (s.writes == 2 ^ 64 - 1)
+
+  pub relocate_spent : is_live s h ≡ true → place ≤ length s.entries → s.writes ≡ 2 ^ 64 - 1 → relocate_refusal s index place h ≡ Some Spent
+  relocate_spent live within last = λ i. by_tests (sequence i) (live i) (nat_le_true place (length s.entries) within i) (eq-eqb s.writes (2 ^ 64 - 1) last i)
+
+  pub relocate_allowed : is_live s h ≡ true → place ≤ length s.entries → (s.writes == 2 ^ 64 - 1) ≡ false → relocate_refusal s index place h ≡ None
+  relocate_allowed live within more = λ i. by_tests (sequence i) (live i) (nat_le_true place (length s.entries) within i) (more i)
+
+-- a move that nothing refuses is of a live record in a sequence, before a place that is not past the end, and not the last write
+pub record MayRelocate {E R : Type 0} (s : State E R) (index place : ℕ) (h : Handle) : Type 0 where
+  pub sequence : is_sequence_kind (kind_at s index) ≡ true
+  pub live : is_live s h ≡ true
+  pub within : place ≤ length s.entries
+  pub more : (s.writes == 2 ^ 64 - 1) ≡ false
+
+pub may_relocate : {E R : Type 0} (s : State E R) (index place : ℕ) (h : Handle) → relocate_refusal s index place h ≡ None → MayRelocate s index place h
+may_relocate s index place h e = from_tests (is_sequence_kind (kind_at s index)) (is_live s h) (nat_le place (length s.entries)) (s.writes == 2 ^ 64 - 1) refl refl refl refl e
+  where
+    from_tests : (a b c d : Bool) → is_sequence_kind (kind_at s index) ≡ a → is_live s h ≡ b → nat_le place (length s.entries) ≡ c → (s.writes == 2 ^ 64 - 1) ≡ d →
+        cond a (cond b (cond c (cond d (Some Spent) None) (Some Place)) (Some Stale)) (Some Kind) ≡ None → MayRelocate s index place h
+    from_tests false b c d p q r t e = absurd (cc)
+    from_tests true false c d p q r t e = absurd (cc)
+    from_tests true true false d p q r t e = absurd (cc)
+    from_tests true true true true p q r t e = absurd (cc)
+    from_tests true true true false p q r t e = record { sequence = p; live = q; within = grind (arith, nat_tests); more = t }
+
+-- a change of order that nothing refuses is one of a sequence, and not the last write
+pub may_order : {E R : Type 0} (s : State E R) (index : ℕ) → sequence_refusal s index ≡ None → (is_sequence_kind (kind_at s index) ≡ true) × ((s.writes == 2 ^ 64 - 1) ≡ false)
+may_order s index e = from_tests (is_sequence_kind (kind_at s index)) (s.writes == 2 ^ 64 - 1) e
+  where
+    from_tests : (a d : Bool) → cond a (cond d (Some Spent) None) (Some Kind) ≡ None → (a ≡ true) × (d ≡ false)
+    from_tests false d e = absurd (cc)
+    from_tests true true e = absurd (cc)
+    from_tests true false e = (refl, refl)
+
+-- an order that nothing refuses is of each record once in a sequence, and not the last write
+pub record MayRearrange {E R : Type 0} (s : State E R) (index : ℕ) (handles : List Handle) : Type 0 where
+  pub sequence : is_sequence_kind (kind_at s index) ≡ true
+  pub once : has_each_once s.entries handles ≡ true
+  pub more : (s.writes == 2 ^ 64 - 1) ≡ false
+
+pub may_rearrange : {E R : Type 0} (s : State E R) (index : ℕ) (handles : List Handle) → rearrange_refusal s index handles ≡ None → MayRearrange s index handles
+may_rearrange s index handles e = from_tests (is_sequence_kind (kind_at s index)) (list_all (λ h. is_live s h) handles) (has_each_once s.entries handles) (s.writes == 2 ^ 64 - 1) refl refl refl e
+  where
+    from_tests : (a b c d : Bool) → is_sequence_kind (kind_at s index) ≡ a → has_each_once s.entries handles ≡ c → (s.writes == 2 ^ 64 - 1) ≡ d →
+        cond a (cond b (cond c (cond d (Some Spent) None) (Some Order)) (Some Stale)) (Some Kind) ≡ None → MayRearrange s index handles
+    from_tests false b c d p r t e = absurd (cc)
+    from_tests true false c d p r t e = absurd (cc)
+    from_tests true true false d p r t e = absurd (cc)
+    from_tests true true true true p r t e = absurd (cc)
+    from_tests true true true false p r t e = record { sequence = p; once = r; more = t }

@@ -1,0 +1,104 @@
+-- What a replacement makes of a container, and why one is refused.
+use Rattle.std.proofs.Common.{◌≡◌, ℕ, Option, ◌+◌, ◌-◌, ◌<◌, ◌^◌, ◌==◌, Bool, true, false, cond, List, Some, None, refl, sym, ap, subst, arith}
+use Rattle.std.specs.Prelude.{IsTrue, is_some, not}
+use Rattle.std.specs.Cmp.{IsTotalOrder}
+use Rattle.std.specs.Option.{option_map_or}
+use Rattle.std.specs.declared.cmp.Ordering.{Ordering}
+use Rattle.std.proofs.lemmas.Bool.Decides.{nat_tests}
+use Rattle.node_store.specs.declared.Node.{Node}
+use Rattle.node_store.specs.Store.{Store, IsNodeOf}
+use Rattle.node_store.specs.ByNode as store
+use Rattle.slot_table.specs.Slots.{item_at}
+use Rattle.container_model.specs.declared.handle.Handle.{Handle}
+use Rattle.container_model.specs.declared.handle.Entry.{Entry}
+use Rattle.container_model.specs.declared.handle.Spec.{Spec}
+use Rattle.container_model.specs.declared.refusal.Why.{Why}
+use Rattle.container_model.specs.declared.refusal.Why.TheVariants.{Banned, Spent, Stale}
+use Rattle.container_model.specs.State.{State, IsState, is_handle, row_of}
+use Rattle.container_model.specs.Insert.{ban}
+use Rattle.container_model.specs.Change.{replace_refusal, settled_from, spent, with_replaced, with_row}
+use Rattle.container_model.proofs.Found.{is_handle_same}
+use Rattle.container_model.proofs.Replaced.{IsState-replaced}
+use Rattle.index_set.specs.declared.set.IndexSet.{IndexSet}
+use Rattle.index_set.specs.Set.{store_of, keys_of, specs_of, contents, record_of, lists_of, IsOfSame}
+use Rattle.multi_index.specs.declared.by_row.ByRow.{ByRow}
+use Rattle.multi_index.specs.Linked.{handle_of, entries_in, handles_in}
+use Rattle.multi_index.specs.Seen.{seen, IsLinked, IsContainer}
+use Rattle.multi_index.proofs.Contents.{has_record}
+use Rattle.multi_index.proofs.LeadsTo.{row_of_live, row_of_stale, row_of_free}
+
+not_so : (b : Bool) → IsTrue (not b) → b ≡ false
+not_so false h = refl
+not_so true h = absurd (cc)
+
+-- a record more may be written where the last write has not the greatest number
+pub next_write : (n : ℕ) → n < 2 ^ 64 → (n == 2 ^ 64 - 1) ≡ false → n + 1 < 2 ^ 64
+next_write n less other = grind (arith, nat_tests)
+
+-- ---- what a handle names
+
+-- the node of a live handle, with its record
+pub record IsNamed {R : Type 0} (s : Store (Entry R)) (h : Handle) (n : Node) : Type 0 where
+  pub node : IsNodeOf s n
+  pub own : handle_of (store.record_of s) n ≡ h
+  pub entry : Entry R
+  pub has : store.record_of s n ≡ Some entry
+  pub row : row_of (entries_in (store.contents s)) h ≡ Some entry.row
+
+module _ {E R : Type 0} {has_key : E → ℕ → Bool} {order : E → ℕ → R → R → Ordering} {hash : E → ℕ → R → ℕ} (set : IndexSet (Entry R) (ByRow E)) (slots : List (Option Node)) (linked : IsLinked has_key order hash set slots) (h : Handle) where
+  pub named : (n : Node) → (item_at slots h.slot ≡ Some n) × IsTrue (is_handle h (handle_of (record_of set) n)) → IsNamed (store_of set) h n
+  named n found =
+      let s = store_of set in
+      let is = (linked.leads.slot_of h.slot n found.0).0 in
+      let p = has_record s n is in
+      record { node = is; own = sym (is_handle_same h _ found.1); entry = p.0; has = p.1; row = row_of_live s slots linked.sound.nodes linked.leads linked.apart h n p.0 found.0 found.1 p.1 }
+
+  -- where the node of its slot has another handle, it names nothing
+  pub none_named : ((n : Node) → item_at slots h.slot ≡ Some n → IsTrue (not (is_handle h (handle_of (record_of set) n)))) → row_of (entries_in (contents set)) h ≡ None
+  none_named other =
+      elim (item_at slots h.slot) as (λ (o : Option Node). item_at slots h.slot ≡ o → row_of (entries_in (contents set)) h ≡ None) [
+        | None ↦ λ free. row_of_free (store_of set) slots linked.sound.nodes linked.leads h free
+        | Some n ↦ λ at. row_of_stale (store_of set) slots linked.sound.nodes linked.leads h n at (not_so _ (other n at))
+      ] refl
+
+-- ---- why a replacement is refused
+
+pub not_banned : (o : Option (ℕ × Handle)) (rest : Option Why) → option_map_or (λ at. Some (Banned at.0 at.1)) o rest ≡ None → (o ≡ None) × (rest ≡ None)
+not_banned None rest e = (refl, e)
+not_banned (Some at) rest e = absurd (cc)
+
+pub not_spent : (b : Bool) → cond b (Some Spent) None ≡ None → b ≡ false
+not_spent false e = refl
+not_spent true e = absurd (cc)
+
+module _ {E R : Type 0} (order : E → ℕ → R → R → Ordering) (s : State E R) (h : Handle) (row : R) where
+  -- a handle that names nothing
+  pub refused_stale : row_of s.entries h ≡ None → replace_refusal order s h row ≡ Some Stale
+  refused_stale none = ap (λ o. cond (is_some o) (option_map_or (λ at. Some (Banned at.0 at.1)) (ban order s (Some h) row) (spent s)) (Some Stale)) none
+
+  -- a live one
+  pub refused_live : (old : R) → row_of s.entries h ≡ Some old → replace_refusal order s h row ≡ option_map_or (λ at. Some (Banned at.0 at.1)) (ban order s (Some h) row) (spent s)
+  refused_live old live = ap (λ o. cond (is_some o) (option_map_or (λ at. Some (Banned at.0 at.1)) (ban order s (Some h) row) (spent s)) (Some Stale)) live
+
+-- ---- what it leaves
+
+module _ {E R : Type 0} (order : E → ℕ → R → R → Ordering) (old new : IndexSet (Entry R) (ByRow E)) (h : Handle) (row : R) (max writes : ℕ) (same : IsOfSame old new) (entries : entries_in (contents new) ≡ with_row h row (entries_in (contents old)))
+    (lists : handles_in (record_of new) (lists_of new) ≡ settled_from (order (keys_of old).keys) (entries_in (contents old)) h row 0 (specs_of old) (handles_in (record_of old) (lists_of old))) where
+  abbrev make : E → List Spec → List (Entry R) → List (List Handle) → State E R
+  make keys specs entries lists = record { keys = keys; specs = specs; max = max; writes = writes + 1; entries = entries; lists = lists }
+
+  -- the container is the one with the row changed
+  pub seen_replaced : seen new max (writes + 1) ≡ with_replaced order (seen old max writes) h row
+  seen_replaced = λ i. make (same.keys i).keys (same.specs i) (entries i) (lists i)
+
+  -- and stays one
+  pub IsContainer_replaced : (has_key : E → ℕ → Bool) (hash : E → ℕ → R → ℕ) (slots : List (Option Node)) → ((keys : E) (i : ℕ) → IsTrue (has_key keys i) → IsTotalOrder (order keys i)) → (was_row : R) → row_of (entries_in (contents old)) h ≡ Some was_row →
+      ban order (seen old max writes) (Some h) row ≡ None → (store_of new).added ≡ (store_of old).added → writes + 1 < 2 ^ 64 →
+      IsContainer has_key order hash old slots max writes → IsLinked has_key order hash new slots → IsContainer has_key order hash new slots max (writes + 1)
+  IsContainer_replaced has_key hash slots total was_row live allowed added next was linked = record {
+    linked = linked;
+    state = subst (IsState has_key order) (sym seen_replaced) (IsState-replaced has_key order total (seen old max writes) h row was.state (ap is_some live) allowed);
+    narrow = was.narrow;
+    numbered = next;
+    added = let before = was.added in omega arith;
+  }

@@ -1,0 +1,50 @@
+use Rattle.std.proofs.Common.{◌≡◌, ◌+◌, ◌<◌, ◌∙◌, length, ap, sym, subst, arith}
+use Rattle.std.specs.Prelude.{filter}
+use Rattle.node_store.specs.Store.{len_of}
+use Rattle.container_model.specs.Change.{erase_key_refusal, erased_count, with_key_erased}
+use Rattle.index_set.specs.Set.{store_of, specs_of, contents}
+use Rattle.multi_index.specs.Held.{has_other_key}
+use Rattle.multi_index.specs.Linked.{entries_in}
+use Rattle.multi_index.specs.Seen.{seen}
+use Rattle.multi_index.proofs.Contents.{length-entries}
+use Rattle.multi_index.proofs.HeldByAll.{held_by_all}
+use Rattle.multi_index.proofs.Shrunk.{key_allowed, next_number, seen_only, IsContainer_only}
+use Rattle.multi_index.proofs.Thinned.{left_and_erased}
+use Rattle.multi_index.proofs.container.MultiIndex.erase_key.Goals as goal
+
+pub take_key-count-requires-clause-held : goal.take_key-count-requires-clause-held
+take_key-count-requires-clause-held g c = record { each = held_by_all c.self.inside.set c.self.inside.slots.items c.self.inside.max c.self.inside.writes c.self.invariant }
+
+pub invariant_of-self : goal.invariant_of-self
+invariant_of-self g c =
+    let inside = c.self.inside in
+    let taken = c.take_key-count.ensures in
+    let s = seen inside.set inside.max inside.writes in
+    let next = next_number inside.writes c.self.invariant.numbered (key_allowed s c.args.index (ap (λ t. erase_key_refusal t c.args.index) c.self.view_is ∙ (sym c.erase_key_refusal.ensures ∙ c.in_default.is))) in
+    IsContainer_only inside.set c.take_key-count.new.set (has_other_key g.E.Extract.probe_order_of inside.set c.args.index c.args.probe.now) inside.max inside.writes taken.same taken.entries taken.lists
+    g.E.Extract.has_key g.E.Extract.order_of g.E.Extract.hash_of inside.slots.items c.take_key-count.new.slots.items taken.added next c.self.invariant taken.linked
+
+pub returns-clause-count : goal.returns-clause-count
+returns-clause-count g c =
+    let inside = c.self.inside in
+    let new = c.take_key-count.new.set in
+    let taken = c.take_key-count.ensures in
+    let s = seen inside.set inside.max inside.writes in
+    let order = g.E.Extract.probe_order_of in
+    let index = c.args.index in
+    let probe = c.args.probe.now in
+    let entries = entries_in (contents inside.set) in
+    let within : index < length (specs_of inside.set) = subst (λ t. index < length t.specs) (sym c.self.view_is) c.requires.in_range in
+    let left : length (filter (λ e. has_other_key order inside.set index probe e.handle) entries) ≡ len_of (store_of new) = ap length (sym taken.entries) ∙ length-entries (store_of new) taken.linked.sound.nodes in
+    let all : length entries ≡ len_of (store_of inside.set) = length-entries (store_of inside.set) c.self.invariant.linked.sound.nodes in
+    let both : length (filter (λ e. has_other_key order inside.set index probe e.handle) entries) + erased_count order s index probe ≡ length entries =
+    left_and_erased (g.E.Extract.order_of s.keys) order s index probe c.self.invariant.state.indices within in
+    let counted : c.take_key-count.result ≡ erased_count order s index probe = omega (arith, both, left, all, taken.count) in
+    counted ∙ ap (λ t. erased_count order t index probe) c.self.view_is
+
+pub returns-clause-ok : goal.returns-clause-ok
+returns-clause-ok g c =
+    let inside = c.self.inside in
+    let taken = c.take_key-count.ensures in
+    seen_only inside.set c.take_key-count.new.set (has_other_key g.E.Extract.probe_order_of inside.set c.args.index c.args.probe.now) inside.max inside.writes taken.same taken.entries taken.lists
+    ∙ ap (λ s. with_key_erased g.E.Extract.probe_order_of s c.args.index c.args.probe.now) c.self.view_is

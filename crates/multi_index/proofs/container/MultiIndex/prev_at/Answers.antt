@@ -1,0 +1,39 @@
+use Rattle.std.proofs.Common.{◌<◌, length, ◌∙◌, ap, sym, subst}
+use Rattle.std.specs.Prelude.{option_map}
+use Rattle.list_model.specs.Walk.{prev}
+use Rattle.list_model.proofs.Neighbours.{some_prev}
+use Rattle.container_model.specs.State.{is_handle, list_at}
+use Rattle.node_store.specs.ByNode.{same_node}
+use Rattle.node_store.specs.Store.{IsNodeOf}
+use Rattle.index_set.specs.Set.{store_of, record_of, list_of}
+use Rattle.index_set.proofs.Members.{nodes_held_at}
+use Rattle.multi_index.specs.Linked.{handle_of}
+use Rattle.multi_index.proofs.Named.{answered_live, answered_stale, held_here, live_seen, stale_seen, prev_seen}
+use Rattle.multi_index.proofs.container.MultiIndex.prev_at.Goals as goal
+
+pub prev-requires-clause-held : goal.prev-requires-clause-held
+prev-requires-clause-held g c =
+    let found = c.node_at.ensures.found c.in-Some.node c.in-Some.is in
+    let within = subst (λ s. c.args.index < length s.specs) (sym c.self.view_is) c.requires.in_range in
+    held_here c.self.inside.set c.self.inside.slots.items c.self.invariant.linked c.args.handle c.in-Some.node found.0 found.1 c.args.index within c.self.invariant.state.indices
+
+pub position_at-requires : goal.position_at-requires
+position_at-requires g c m found =
+    let set = c.self.inside.set in
+    let within = subst (λ s. c.args.index < length s.specs) (sym c.self.view_is) c.requires.in_range in
+    some_prev (IsNodeOf (store_of set)) (same_node c.in-Some.node) (list_of set c.args.index) (nodes_held_at set c.self.invariant.linked.sound c.args.index within) m (sym c.prev.ensures ∙ found)
+
+pub returns-in-Some : goal.returns-in-Some
+returns-in-Some g c =
+    let set = c.self.inside.set in
+    let slots = c.self.inside.slots.items in
+    let linked = c.self.invariant.linked in
+    let found = c.node_at.ensures.found c.in-Some.node c.in-Some.is in
+    let within = subst (λ s. c.args.index < length s.specs) (sym c.self.view_is) c.requires.in_range in
+    answered_live c.args.handle (λ s. prev (is_handle c.args.handle) (list_at s.lists c.args.index)) c.position_at.result c.self.view_is (live_seen set slots linked c.args.handle c.in-Some.node found.0 found.1)
+    (c.position_at.ensures ∙ (ap (option_map (handle_of (record_of set))) c.prev.ensures ∙ prev_seen set slots linked c.args.handle c.in-Some.node found.0 found.1 c.args.index within))
+
+pub returns-in-None : goal.returns-in-None
+returns-in-None g c =
+    answered_stale c.args.handle (prev (is_handle c.args.handle) (list_at c.args.self.now.lists c.args.index)) c.self.view_is
+    (stale_seen c.self.inside.set c.self.inside.slots.items c.self.invariant.linked c.args.handle (λ n at. c.node_at.ensures.none n c.in-None.is at))

@@ -1,0 +1,187 @@
+//! Changes of the order of one sequence that take memory.
+ghost use Rattle.std.specs.Prelude.{◌≡◌, ◌==◌, ◌⊎◌, ◌<◌, IsTrue, None, Some, IfErr, IfOk, OnErr, OnOk, false, is_some, length, map, nat_eq};
+ghost use Rattle.std.specs.List.{AllByRecursion, IsDistinct, list_all};
+ghost use Rattle.list_model.specs.Order.{EachPair};
+ghost use Rattle.container_model.specs.Find.{is_live};
+ghost use Rattle.container_model.specs.Sequence.{has_each_once, rearrange_refusal, with_list};
+ghost use Rattle.node_store.specs.Store.{IsNodeOf};
+ghost use Rattle.index_set.specs.Set.{store_of, specs_of, contents, record_of, IsSound};
+ghost use Rattle.multi_index.specs.Linked.{handle_of, entries_in};
+ghost use Rattle.multi_index.specs.Rearranged.{is_after_memory};
+ghost use Rattle.multi_index.specs.Seen.{seen, IsLinked};
+
+use crate::by_row::ByRow;
+use crate::container::MultiIndex;
+use crate::linked::node_at;
+use crate::order::is_sequence;
+use container_model::{Entry, Handle, Refused, Why};
+use index_set::IndexSet;
+use key_extract::Extract;
+use node_store::Node;
+use slot_table::SlotTable;
+use std::alloc::{AllocError, Global};
+use std::collections::BTreeSet;
+
+impl<R: Drop, E: Extract<R> + Drop> MultiIndex<R, E> {
+    /// Puts the records of a sequence into the order of their handles. A refused order changes nothing: `Kind`, where the
+    /// index is no sequence, comes before `Stale`, that before `Order`, where the handles are not each record's once, and that
+    /// before `Spent`. It takes memory for a number and a node for each record, and may be refused it before `Order` or
+    /// `Spent` is seen. O(n log n).
+    pub fn rearrange(&mut self, index: usize, handles: &[Handle]) -> Result<(), Refused<R>>
+        requires { index < length self.old.specs }
+        ensures allowed { OnOk result (rearrange_refusal self.old index handles.now ≡ None) }
+        ensures ok { OnOk result (self.new ≡ with_list self.old index handles.now) }
+        ensures why { IfErr result (λ refused. (Some refused.why ≡ rearrange_refusal self.old index handles.now) ⊎ ((refused.why ≡ Why.Memory) × IsTrue (is_after_memory (rearrange_refusal self.old index handles.now)))) }
+        ensures handed_back { IfErr result (λ refused. refused.row ≡ None) }
+        ensures unchanged { OnErr result (self.new ≡ self.old) }
+    {
+        match arrangement(
+            self.alloc,
+            &self.set,
+            &self.slots,
+            self.writes,
+            index,
+            handles,
+        ) {
+            Ok(nodes) => {
+                self.set.rearrange(index, &nodes);
+                self.writes += 1;
+                Ok(())
+            }
+            Err(why) => Err(Refused { why, row: None }),
+        }
+    }
+}
+
+// The nodes of handles that may be the new order of the index, or why they may not.
+fn arrangement<R, E: Extract<R>>(
+    alloc: Global,
+    set: &IndexSet<Entry<R>, ByRow<E>>,
+    slots: &SlotTable<Node>,
+    writes: u64,
+    index: usize,
+    handles: &[Handle],
+) -> Result<Vec<Node>, Why>
+    requires linked { IsLinked E.has_key E.order_of E.hash_of set.now slots.now.items }
+    requires index { index < length (specs_of set.now) }
+    ensures allowed { OnOk result (rearrange_refusal (seen set.now 0 writes) index handles.now ≡ None) }
+    ensures nodes { IfOk result (λ nodes. AllByRecursion (IsNodeOf (store_of set.now)) nodes.items) }
+    ensures handles { IfOk result (λ nodes. map (handle_of (record_of set.now)) nodes.items ≡ handles.now) }
+    ensures why { IfErr result (λ why. (Some why ≡ rearrange_refusal (seen set.now 0 writes) index handles.now) ⊎ ((why ≡ Why.Memory) × IsTrue (is_after_memory (rearrange_refusal (seen set.now 0 writes) index handles.now)))) }
+{
+    if !is_sequence(set, index) {
+        return Err(Why::Kind);
+    }
+    if !all_live(set, slots, handles) {
+        return Err(Why::Stale);
+    }
+    let Ok(each_once) = has_each_once(alloc, set, handles) else {
+        return Err(Why::Memory);
+    };
+    if !each_once {
+        return Err(Why::Order);
+    }
+    if writes == u64::MAX {
+        return Err(Why::Spent);
+    }
+    let Ok(nodes) = nodes_of(alloc, set, slots, handles) else {
+        return Err(Why::Memory);
+    };
+    Ok(nodes)
+}
+
+// Whether the handle names a record.
+fn is_live<R, E: Extract<R>>(
+    set: &IndexSet<Entry<R>, ByRow<E>>,
+    slots: &SlotTable<Node>,
+    handle: Handle,
+) -> bool
+    requires { IsLinked E.has_key E.order_of E.hash_of set.now slots.now.items }
+    ensures { result ≡ is_live (seen set.now 0 0) handle }
+{
+    match node_at(set, slots, handle) {
+        Some(_) => true,
+        None => false,
+    }
+}
+
+// Whether each of the handles names a record.
+fn all_live<R, E: Extract<R>>(
+    set: &IndexSet<Entry<R>, ByRow<E>>,
+    slots: &SlotTable<Node>,
+    handles: &[Handle],
+) -> bool
+    requires { IsLinked E.has_key E.order_of E.hash_of set.now slots.now.items }
+    ensures { result ≡ list_all (λ h. is_live (seen set.now 0 0) h) handles.now }
+{
+    for handle in handles {
+        if !is_live(set, slots, *handle) {
+            return false;
+        }
+    }
+    true
+}
+
+// Whether handles that all name records are each record's once.
+fn has_each_once<R, E: Extract<R>>(
+    alloc: Global,
+    set: &IndexSet<Entry<R>, ByRow<E>>,
+    handles: &[Handle],
+) -> Result<bool, AllocError>
+    requires sound { IsSound (λ by. E.has_key by.keys) set.now }
+    requires apart { EachPair (λ a b. (b.handle.slot == a.handle.slot) ≡ false) (entries_in (contents set.now)) }
+    requires live { IsTrue (list_all (λ h. is_live (seen set.now 0 0) h) handles.now) }
+    ensures { IfOk result (λ once. once ≡ has_each_once (entries_in (contents set.now)) handles.now) }
+{
+    if handles.len() != set.len() {
+        return Ok(false);
+    }
+    are_apart(alloc, handles)
+}
+
+// Whether no two of the handles have one slot.
+fn are_apart(alloc: Global, handles: &[Handle]) -> Result<bool, AllocError>
+    ensures apart { IfOk result (λ apart. IsTrue apart → IsDistinct nat_eq (map (λ h. h.slot) handles.now)) }
+    ensures twice { IfOk result (λ apart. apart ≡ false → ¬ IsDistinct nat_eq (map (λ h. h.slot) handles.now)) }
+{
+    let mut seen = BTreeSet::new(alloc);
+    for handle in handles {
+        if !seen.insert(handle.slot)? {
+            return Ok(false);
+        }
+    }
+    Ok(true)
+}
+
+// The nodes of handles that all name records.
+fn nodes_of<R, E: Extract<R>>(
+    alloc: Global,
+    set: &IndexSet<Entry<R>, ByRow<E>>,
+    slots: &SlotTable<Node>,
+    handles: &[Handle],
+) -> Result<Vec<Node>, AllocError>
+    requires linked { IsLinked E.has_key E.order_of E.hash_of set.now slots.now.items }
+    requires live { IsTrue (list_all (λ h. is_live (seen set.now 0 0) h) handles.now) }
+    ensures nodes { IfOk result (λ nodes. AllByRecursion (IsNodeOf (store_of set.now)) nodes.items) }
+    ensures handles { IfOk result (λ nodes. map (handle_of (record_of set.now)) nodes.items ≡ handles.now) }
+{
+    let mut nodes = Vec::with_capacity(alloc, handles.len())?;
+    for handle in handles {
+        nodes.push(live_node(set, slots, *handle))?;
+    }
+    Ok(nodes)
+}
+
+// The node of a handle that names a record.
+fn live_node<R, E: Extract<R>>(
+    set: &IndexSet<Entry<R>, ByRow<E>>,
+    slots: &SlotTable<Node>,
+    handle: Handle,
+) -> Node
+    requires linked { IsLinked E.has_key E.order_of E.hash_of set.now slots.now.items }
+    requires live { IsTrue (is_live (seen set.now 0 0) handle) }
+    ensures node { IsNodeOf (store_of set.now) result }
+    ensures handle { handle_of (record_of set.now) result ≡ handle }
+{
+    node_at(set, slots, handle).unwrap()
+}

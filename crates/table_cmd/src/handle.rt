@@ -1,0 +1,58 @@
+//! Handles and their spelling.
+
+ghost use Rattle.std.specs.Prelude.{◌≡◌, IfSome, IsSomeAnd, bytes_eq};
+ghost use Rattle.container_model.specs.declared.handle.Handle.{Handle as Named};
+ghost use Rattle.table_cmd.specs.Spelling.{HandleFits, spelling, handle_said};
+
+use crate::command::HandleText;
+use arrayvec::ArrayString;
+use container_model::Handle;
+use itoa::Buffer;
+
+/// Room for a slot of 10 digits, a colon, and a stamp of 20 digits.
+pub(crate) const SPELLING_LEN: usize = 31;
+
+// A handle's text.
+#[tactic(auto, unfolding(crate::specs::Spelling::spelling))]
+pub(crate) fn spelling(handle: Handle) -> ArrayString<SPELLING_LEN>
+    ensures { result.bytes ≡ spelling handle }
+{
+    let mut text = ArrayString::new();
+    let mut digits = Buffer::new();
+    text.push_str(digits.format(handle.slot));
+    text.push_str(":");
+    text.push_str(digits.format(handle.stamp));
+    text
+}
+
+// The handle that a text spells.
+pub(crate) fn handle_said(text: &str) -> HandleText
+    ensures { result ≡ handle_said text.now }
+{
+    match numbers_of(text) {
+        Some(handle) => if is_spelling(text, handle) {
+            HandleText::Handle(handle)
+        } else {
+            HandleText::Bad
+        },
+        None => HandleText::Bad,
+    }
+}
+
+fn is_spelling(text: &str, handle: Handle) -> bool
+    ensures { result ≡ bytes_eq text.now (spelling handle) }
+{
+    text == spelling(handle).as_str()
+}
+
+// The numbers around the first colon; they may be written otherwise than a handle is spelled.
+fn numbers_of(text: &str) -> Option<Handle>
+    ensures spelled { (h : Named) → HandleFits h → text.now ≡ spelling h → IsSomeAnd result (λ k. k ≡ h) }
+    ensures fits { IfSome result HandleFits }
+{
+    let (slot, stamp) = text.split_once(':')?;
+    match (slot.parse(), stamp.parse()) {
+        (Ok(slot), Ok(stamp)) => Some(Handle { slot, stamp }),
+        _ => None,
+    }
+}

@@ -1,0 +1,151 @@
+//! Reads the parts of a command from its JSON object.
+
+ghost use Rattle.std.specs.Prelude.{◌≡◌, IfOk, Some, option_map, codes};
+ghost use Rattle.serde_json.specs.Find.{get};
+ghost use Rattle.serde_json.specs.View.{view, items_view, members_view};
+ghost use Rattle.table_cmd.specs.Parts.{Gives, value_of, values_of, fields_of, text_at, key_at, row_at, handle_at, end_at, count_at, text_if_given, position_at, or_fault};
+
+use crate::command::{Field, Fields, HandleText, Key, Position, Value};
+use crate::fault::CommandFault;
+use crate::handle::handle_said;
+use key_extract::{Cell, Text};
+use serde_json::{Map, Value as Json};
+use std::alloc::{AllocError, Global};
+
+fn value_of(alloc: Global, json: &Json) -> Result<Value, AllocError>
+    ensures { IfOk result (λ value. value ≡ value_of (view json.now)) }
+{
+    match json {
+        Json::Bool(truth) => Ok(Value::Cell(Cell::Bool(*truth))),
+        Json::Number(number) => Ok(match number.as_i64() {
+            Some(number) => Value::Cell(Cell::Int(number)),
+            None => Value::Other,
+        }),
+        Json::String(text) => Ok(Value::Cell(Cell::Text(Text::new(text.clone()?)))),
+        Json::Null | Json::Array(_) | Json::Object(_) => Ok(Value::Other),
+    }
+}
+
+fn values_of(alloc: Global, values: &Vec<Json>) -> Result<Key, AllocError>
+    ensures { IfOk result (λ key. key ≡ values_of (items_view values.now.items)) }
+{
+    let mut key = Vec::with_capacity(alloc, values.len())?;
+    for value in values {
+        key.push(value_of(alloc, value)?)?;
+    }
+    Ok(Key::new(key))
+}
+
+fn fields_of(alloc: Global, members: &Map<String, Json>) -> Result<Fields, AllocError>
+    ensures { IfOk result (λ row. row ≡ fields_of (members_view members.now.entries)) }
+{
+    let mut row = Vec::with_capacity(alloc, members.len())?;
+    for (name, value) in members {
+        row.push(Field {
+            name: Text::new(name.clone()?),
+            value: value_of(alloc, value)?,
+        })?;
+    }
+    Ok(Fields::new(row))
+}
+
+// The text under a name.
+pub(crate) fn text_at<'a>(value: &'a Json, name: &str) -> Option<&'a str>
+    ensures { option_map (λ s. s.now) result ≡ text_at name.now (view value.now) }
+{
+    value.get(name).and_then(Json::as_str)
+}
+
+// The text under a name, where a command needs one.
+pub(crate) fn text_of(alloc: Global, value: &Json, name: &str) -> Result<Text, CommandFault>
+    ensures { Gives result (or_fault (text_at name.now (view value.now))) }
+{
+    match text_at(value, name) {
+        Some(text) => Ok(Text::copy_of(alloc, text)?),
+        None => Err(CommandFault::Command),
+    }
+}
+
+pub(crate) fn key_of(alloc: Global, value: &Json) -> Result<Key, CommandFault>
+    ensures { Gives result (or_fault (key_at (view value.now))) }
+{
+    match value.get("k").and_then(Json::as_array) {
+        Some(values) => Ok(values_of(alloc, values)?),
+        None => Err(CommandFault::Command),
+    }
+}
+
+pub(crate) fn row_of(alloc: Global, value: &Json) -> Result<Fields, CommandFault>
+    ensures { Gives result (or_fault (row_at (view value.now))) }
+{
+    match value.get("r").and_then(Json::as_object) {
+        Some(members) => Ok(fields_of(alloc, members)?),
+        None => Err(CommandFault::Command),
+    }
+}
+
+pub(crate) fn handle_of(value: &Json) -> Result<HandleText, CommandFault>
+    ensures { Gives result (or_fault (handle_at (view value.now))) }
+{
+    match text_at(value, "h") {
+        Some(text) => Ok(handle_said(text)),
+        None => Err(CommandFault::Command),
+    }
+}
+
+// A handle, or null for the end.
+pub(crate) fn end_of(value: &Json) -> Result<Option<HandleText>, CommandFault>
+    ensures { Gives result (or_fault (end_at (view value.now))) }
+{
+    match value.get("h") {
+        Some(Json::Null) => Ok(None),
+        Some(Json::String(text)) => Ok(Some(handle_said(text.as_str()))),
+        _ => Err(CommandFault::Command),
+    }
+}
+
+// The whole number under a name, where a command needs one.
+pub(crate) fn count_of(value: &Json, name: &str) -> Result<u64, CommandFault>
+    ensures { Gives result (or_fault (count_at name.now (view value.now))) }
+{
+    match value.get(name).and_then(Json::as_u64) {
+        Some(count) => Ok(count),
+        None => Err(CommandFault::Command),
+    }
+}
+
+// The name of an index, which the object may leave out.
+pub(crate) fn index_if_given(alloc: Global, value: &Json) -> Result<Option<Text>, CommandFault>
+    ensures { Gives result (or_fault (text_if_given (get (codes "i") (view value.now)))) }
+{
+    match value.get("i") {
+        Some(_) => Ok(Some(text_of(alloc, value, "i")?)),
+        None => Ok(None),
+    }
+}
+
+// Where an insertion is to go; `Err` where only one of index and place is given, or one is of another type.
+pub(crate) fn position_of(alloc: Global, value: &Json) -> Result<Option<Position>, CommandFault>
+    ensures { Gives result (or_fault (position_at (get (codes "i") (view value.now)) (get (codes "p") (view value.now)))) }
+{
+    match (value.get("i"), value.get("p")) {
+        (None, None) => Ok(None),
+        (Some(index), Some(place)) => position_at(alloc, index, place),
+        (None, Some(_)) | (Some(_), None) => Err(CommandFault::Command),
+    }
+}
+
+fn position_at(alloc: Global, index: &Json, place: &Json) -> Result<Option<Position>, CommandFault>
+    ensures { Gives result (or_fault (position_at (Some (view index.now)) (Some (view place.now)))) }
+{
+    let Some(index) = index.as_str() else {
+        return Err(CommandFault::Command);
+    };
+    let Some(place) = place.as_u64() else {
+        return Err(CommandFault::Command);
+    };
+    Ok(Some(Position {
+        index: Text::copy_of(alloc, index)?,
+        place,
+    }))
+}

@@ -1,0 +1,60 @@
+//! Texts that should spell handles.
+
+ghost use Rattle.std.specs.Prelude.{◌≡◌, ◌<◌, IfOk, length};
+ghost use Rattle.table_step.specs.Table.{end_or_handle, handle_for, position_for, record_for};
+
+use crate::indices::place_for;
+use crate::kinds::Kinds;
+use table_cmd::{Fault, Handle, HandleText};
+use table_schema::IndexSpec;
+
+/// The handle that a text spells.
+pub(crate) fn handle_for(text: HandleText) -> Result<Handle, Fault>
+    ensures { result ≡ handle_for text }
+{
+    match text {
+        HandleText::Handle(handle) => Ok(handle),
+        HandleText::Bad => Err(Fault::Handle),
+    }
+}
+
+// The position that is asked for, where no text is the end.
+fn end_or_handle(text: Option<HandleText>) -> Result<Option<Handle>, Fault>
+    ensures { result ≡ end_or_handle text }
+{
+    match text {
+        None => Ok(None),
+        Some(HandleText::Handle(handle)) => Ok(Some(handle)),
+        Some(HandleText::Bad) => Err(Fault::Handle),
+    }
+}
+
+/// The place of the index of a name, where it is of one of the kinds, and the handle that a text spells.
+pub(crate) fn record_for(
+    indices: &[IndexSpec],
+    kinds: Kinds,
+    name: &str,
+    text: HandleText,
+) -> Result<(usize, Handle), Fault>
+    ensures record { result ≡ record_for kinds indices.now name.now text }
+    ensures within { IfOk result (λ at. at.0 < length indices.now) }
+{
+    let place = place_for(indices, kinds, name)?;
+    let handle = handle_for(text)?;
+    Ok((place, handle))
+}
+
+/// The place of the index of a name, where it is of one of the kinds, and the position that is asked for there.
+pub(crate) fn position_for(
+    indices: &[IndexSpec],
+    kinds: Kinds,
+    name: &str,
+    text: Option<HandleText>,
+) -> Result<(usize, Option<Handle>), Fault>
+    ensures position { result ≡ position_for kinds indices.now name.now text }
+    ensures within { IfOk result (λ at. at.0 < length indices.now) }
+{
+    let place = place_for(indices, kinds, name)?;
+    let position = end_or_handle(text)?;
+    Ok((place, position))
+}

@@ -1,0 +1,34 @@
+//! Search keys at named indices.
+
+ghost use Rattle.std.specs.Prelude.{◌≡◌, Err, IfOk, Ok};
+ghost use Rattle.table_step.specs.Table.{key_for};
+ghost use Rattle.table_step.specs.Told.{IsKeyAt};
+
+use crate::indices::place_for;
+use crate::kinds::Kinds;
+use crate::values::probe_from;
+use key_extract::Probe;
+use std::alloc::{AllocError, Global};
+use table_cmd::{Fault, Value};
+use table_schema::TableSpec;
+
+/// The place of the index of a name, where it is of one of the kinds, and the search key that the values are there.
+pub(crate) fn key_for(
+    alloc: Global,
+    spec: &TableSpec,
+    kinds: Kinds,
+    name: &str,
+    values: &[Value],
+) -> Result<Result<(usize, Probe), Fault>, AllocError>
+    ensures key { IfOk result (λ key. key ≡ key_for spec.now kinds name.now values.now) }
+    ensures searches { IfOk result (λ key. IfOk key (λ at. IsKeyAt spec.now at.0 at.1)) }
+{
+    let place = match place_for(spec.indices(), kinds, name) {
+        Ok(place) => place,
+        Err(why) => return Ok(Err(why)),
+    };
+    match probe_from(alloc, spec.columns(), &spec.indices()[place], values)? {
+        Some(probe) => Ok(Ok((place, probe))),
+        None => Ok(Err(Fault::Key)),
+    }
+}
