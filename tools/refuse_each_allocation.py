@@ -2,7 +2,7 @@
 
 python3 refuse_each_allocation.py PROGRAM REFUSING_MALLOC STORED_INPUT STORED_OUTPUT ROOM
 
-The stored run and some more lines go to the built-in table, and insertions, searches and lists to a table with eight indices.
+The stored run and some more lines go to the built-in table, and all other ops to a table with eight indices.
 A run of lines ends in one of two ways: status 1 with the text `memory` and no answer, or status 0 with one answer to each
 line: the memory line, and then the line changed nothing, or what the plain machine answers. A run with wrong words or
 files ends with its own status and text, or with status 1 and `memory`.
@@ -52,6 +52,54 @@ INTO_EIGHT = b"".join(
 {"op":"find","t":"p","i":"x","k":["a",1]}
 {"op":"count","t":"p","i":"c","k":["a"]}
 {"op":"size","t":"p"}
+"""
+
+# Each stands twice for the same reason; the second of an accepted erasure finds no record.
+CHANGES = b"".join(it + b"\n" + it + b"\n" for it in b"""\
+{"op":"replace","t":"p","h":"2:3","r":{"id":2,"g":"b","n":7}}
+{"op":"replace","t":"p","h":"2:3","r":{"id":1,"g":"b","n":7}}
+{"op":"replace","t":"p","h":"2:9","r":{"id":2,"g":"b","n":7}}
+{"op":"replace","t":"p","h":"2:3","r":{"id":2,"g":"b"}}
+{"op":"move","t":"p","i":"v","h":"0:1","p":4}
+{"op":"move","t":"p","i":"w","h":"1:2","p":9}
+{"op":"move","t":"p","i":"w","h":"1","p":0}
+{"op":"reverse","t":"p","i":"q"}
+{"op":"reverse","t":"p","i":"u"}
+{"op":"erase","t":"p","h":"1:2"}
+{"op":"erase","t":"p","h":"0:1","i":"w"}
+{"op":"erase","t":"p","h":"3:4","i":"h"}
+{"op":"insert","t":"p","r":{"id":7,"g":"c","n":7}}
+{"op":"erase_key","t":"p","i":"c","k":["b",7]}
+{"op":"erase_key","t":"p","i":"x","k":["b"]}
+{"op":"erase_key","t":"p","i":"h","k":["b"]}""".split(b"\n"))
+
+READS = b"""\
+{"op":"get","t":"p","h":"4:5"}
+{"op":"get","t":"p","h":"1:2"}
+{"op":"lower","t":"p","i":"c","k":["a",1]}
+{"op":"upper","t":"p","i":"u","k":[9]}
+{"op":"nth","t":"p","i":"r","n":0}
+{"op":"nth","t":"p","i":"v","n":9}
+{"op":"rank","t":"p","i":"r","h":"4:5"}
+{"op":"rank","t":"p","i":"r","h":null}
+{"op":"place","t":"p","i":"v","h":"4:5"}
+{"op":"find_rank","t":"p","i":"r","k":[2]}
+{"op":"lower_rank","t":"p","i":"r","k":[2]}
+{"op":"upper_rank","t":"p","i":"r","k":[2]}
+{"op":"next","t":"p","i":"w","h":"4:5"}
+{"op":"prev","t":"p","i":"c","h":null}
+{"op":"next","t":"p","i":"x","h":null}
+{"op":"lower","t":"p","i":"h","k":["a"]}
+"""
+
+CHANGE_EIGHT = INTO_EIGHT + READS + CHANGES + READS + b"".join(
+    b'{"op":"list","t":"p","i":"%c"}\n' % it for it in b"qvurchxw"
+) + b"""\
+{"op":"clear","t":"p"}
+{"op":"clear","t":"p"}
+{"op":"insert","t":"p","r":{"id":1,"g":"a","n":1}}
+{"op":"insert","t":"p","r":{"id":1,"g":"a","n":1}}
+{"op":"list","t":"p","i":"x"}
 """
 
 Outcome = collections.namedtuple("Outcome", "status said complained")
@@ -142,14 +190,14 @@ def self_test(text, program):
 
 def cases_of(path, library, room, text):
     """Yields the words and input of each sweep, with what judges an outcome."""
-    files = {"lines": INTO_EIGHT, "schema": EIGHT.encode(), "broken": b"a = "}
+    files = {"lines": CHANGE_EIGHT, "schema": EIGHT.encode(), "broken": b"a = "}
     for name, content in files.items():
         with open(f"{room}/{name}", "wb") as file:
             file.write(content)
     program = lambda words, given=b"": Program(path, library, room, words, given)
     yield program([], text), lambda outcome, was_refused: judge_lines(text, outcome, was_refused)
-    into_eight = lambda outcome, was_refused: judge_lines(INTO_EIGHT, outcome, was_refused, EIGHT)
-    yield program(["run", "--schema", "schema", "--commands", "lines"]), into_eight
+    change_eight = lambda outcome, was_refused: judge_lines(CHANGE_EIGHT, outcome, was_refused, EIGHT)
+    yield program(["run", "--schema", "schema", "--commands", "lines"]), change_eight
     for words in (["run", "--schema", "broken"], ["run", "--commands", "absent"], ["fly"], ["run", "--help"]):
         refuser = program(words)
         yield refuser, judge_fault(refuser.run(0)[0])

@@ -2,7 +2,7 @@
 
 use crate::report::Report;
 use std::alloc::AllocError;
-use table_cmd::{Cell, Command, Fields, Key, Position, Text, Value};
+use table_cmd::{Cell, Command, Fields, HandleText, Key, Position, Text, Value};
 
 /// The longest text that is shown whole, in bytes.
 const MAX_SHOWN: usize = 64;
@@ -11,19 +11,76 @@ const MAX_SHOWN: usize = 64;
 #[derive(Clone, Copy)]
 enum Parts<'a> {
     Table,
+    Handle(HandleText),
     Row(&'a Fields, Option<&'a Position>),
+    NewRow(HandleText, &'a Fields),
     Index(&'a Text),
     Key(&'a Text, &'a Key),
+    // A record, or the end.
+    At(&'a Text, Option<HandleText>),
+    Place(&'a Text, u64),
+    Move(&'a Text, HandleText, u64),
 }
 
-// The op of a command, and the rest.
-fn parts_of(command: &Command) -> (&'static str, Parts<'_>) {
-    match command {
+// The op of a change, and the rest.
+fn parts_of_change(command: &Command) -> Option<(&'static str, Parts<'_>)> {
+    Some(match command {
         Command::Insert { row, position, .. } => ("insert", Parts::Row(row, position.as_ref())),
+        Command::Replace { handle, row, .. } => ("replace", Parts::NewRow(*handle, row)),
+        Command::Erase {
+            handle,
+            index: None,
+            ..
+        } => ("erase", Parts::Handle(*handle)),
+        Command::Erase {
+            handle,
+            index: Some(index),
+            ..
+        } => ("erase", Parts::At(index, Some(*handle))),
+        Command::EraseKey { index, key, .. } => ("erase_key", Parts::Key(index, key)),
+        Command::Clear { .. } => ("clear", Parts::Table),
+        Command::Move {
+            index,
+            handle,
+            place,
+            ..
+        } => ("move", Parts::Move(index, *handle, *place)),
+        Command::Reverse { index, .. } => ("reverse", Parts::Index(index)),
+        _ => return None,
+    })
+}
+
+// The op of any other command, and the rest.
+fn parts_of_read(command: &Command) -> (&'static str, Parts<'_>) {
+    match command {
+        Command::Get { handle, .. } => ("get", Parts::Handle(*handle)),
         Command::Find { index, key, .. } => ("find", Parts::Key(index, key)),
         Command::Count { index, key, .. } => ("count", Parts::Key(index, key)),
-        Command::Size { .. } => ("size", Parts::Table),
+        Command::Lower { index, key, .. } => ("lower", Parts::Key(index, key)),
+        Command::Upper { index, key, .. } => ("upper", Parts::Key(index, key)),
+        Command::Nth { index, place, .. } => ("nth", Parts::Place(index, *place)),
+        Command::Rank {
+            index,
+            position,
+            ..
+        } => ("rank", Parts::At(index, *position)),
+        Command::Place { index, handle, .. } => ("place", Parts::At(index, Some(*handle))),
+        Command::FindRank { index, key, .. } => ("find_rank", Parts::Key(index, key)),
+        Command::LowerRank { index, key, .. } => ("lower_rank", Parts::Key(index, key)),
+        Command::UpperRank { index, key, .. } => ("upper_rank", Parts::Key(index, key)),
+        Command::Next {
+            index,
+            position,
+            ..
+        } => ("next", Parts::At(index, *position)),
+        Command::Prev {
+            index,
+            position,
+            ..
+        } => ("prev", Parts::At(index, *position)),
         Command::List { index, .. } => ("list", Parts::Index(index)),
+        Command::Size { .. } => ("size", Parts::Table),
+        _ => ("another op", Parts::Table),
     }
 }
 
@@ -70,6 +127,19 @@ fn tell_key(key: &Key, report: &mut Report) -> Result<(), AllocError> {
     Ok(())
 }
 
+fn tell_handle(handle: Option<HandleText>, report: &mut Report) -> Result<(), AllocError> {
+    match handle {
+        None => report.text(" end"),
+        Some(HandleText::Bad) => report.text(" no handle"),
+        Some(HandleText::Handle(handle)) => {
+            report.text(" ")?;
+            report.number(handle.slot)?;
+            report.text(":")?;
+            report.number(handle.stamp)
+        }
+    }
+}
+
 fn tell_place(place: u64, report: &mut Report) -> Result<(), AllocError> {
     report.text(" ")?;
     report.number(place)
@@ -78,6 +148,7 @@ fn tell_place(place: u64, report: &mut Report) -> Result<(), AllocError> {
 fn tell_parts(parts: Parts, report: &mut Report) -> Result<(), AllocError> {
     match parts {
         Parts::Table => Ok(()),
+        Parts::Handle(handle) => tell_handle(Some(handle), report),
         Parts::Row(row, None) => tell_row(row, report),
         Parts::Row(row, Some(position)) => {
             tell_row(row, report)?;
@@ -85,17 +156,37 @@ fn tell_parts(parts: Parts, report: &mut Report) -> Result<(), AllocError> {
             tell_word(position.index.as_str(), report)?;
             tell_place(position.place, report)
         }
+        Parts::NewRow(handle, row) => {
+            tell_handle(Some(handle), report)?;
+            tell_row(row, report)
+        }
         Parts::Index(index) => tell_word(index.as_str(), report),
         Parts::Key(index, key) => {
             tell_word(index.as_str(), report)?;
             tell_key(key, report)
+        }
+        Parts::At(index, handle) => {
+            tell_word(index.as_str(), report)?;
+            tell_handle(handle, report)
+        }
+        Parts::Place(index, place) => {
+            tell_word(index.as_str(), report)?;
+            tell_place(place, report)
+        }
+        Parts::Move(index, handle, place) => {
+            tell_word(index.as_str(), report)?;
+            tell_handle(Some(handle), report)?;
+            tell_place(place, report)
         }
     }
 }
 
 /// Adds the command in short: its op, its names, and its values.
 pub fn tell_command(command: &Command, report: &mut Report) -> Result<(), AllocError> {
-    let (op, parts) = parts_of(command);
+    let (op, parts) = match parts_of_change(command) {
+        Some(change) => change,
+        None => parts_of_read(command),
+    };
     report.text(op)?;
     tell_word(command.table(), report)?;
     tell_parts(parts, report)
