@@ -76,6 +76,36 @@ fn only(alloc: Global, told: Told) -> Result<Vec<Told>, AllocError> {
     Ok(all)
 }
 
+// Adds a command in short, and gives what it is told.
+fn meant_and_told(
+    alloc: Global,
+    tables: &mut [Table],
+    command: &Command,
+    report: &mut Report,
+) -> Result<Vec<Told>, AllocError> {
+    tell_command(command, report)?;
+    carried_out(alloc, tables, command)
+}
+
+// Adds the fault of a line that is no command, and gives what it is told.
+fn fault_told(
+    alloc: Global,
+    fault: CommandFault,
+    report: &mut Report,
+) -> Result<Vec<Told>, AllocError> {
+    match fault {
+        CommandFault::Json => {
+            report.text("json")?;
+            only(alloc, refused(alloc, Fault::Json)?)
+        }
+        CommandFault::Command => {
+            report.text("command")?;
+            only(alloc, refused(alloc, Fault::Command)?)
+        }
+        CommandFault::Memory => Err(AllocError),
+    }
+}
+
 // Adds what a line is read as, and gives what it is told.
 fn read_and_told(
     alloc: Global,
@@ -84,19 +114,8 @@ fn read_and_told(
     report: &mut Report,
 ) -> Result<Vec<Told>, AllocError> {
     match read_command(alloc, line) {
-        Ok(command) => {
-            tell_command(&command, report)?;
-            carried_out(alloc, tables, &command)
-        }
-        Err(CommandFault::Json) => {
-            report.text("json")?;
-            only(alloc, refused(alloc, Fault::Json)?)
-        }
-        Err(CommandFault::Command) => {
-            report.text("command")?;
-            only(alloc, refused(alloc, Fault::Command)?)
-        }
-        Err(CommandFault::Memory) => Err(AllocError),
+        Ok(command) => meant_and_told(alloc, tables, &command, report),
+        Err(fault) => fault_told(alloc, fault, report),
     }
 }
 
