@@ -65,6 +65,10 @@ CHANGES = b"".join(it + b"\n" + it + b"\n" for it in b"""\
 {"op":"move","t":"p","i":"w","h":"1","p":0}
 {"op":"reverse","t":"p","i":"q"}
 {"op":"reverse","t":"p","i":"u"}
+{"op":"rearrange","t":"p","i":"w","hs":["4:5","0:1","3:4","1:2","2:3"]}
+{"op":"rearrange","t":"p","i":"v","hs":["4:5","0:1","3:4","1:2","1:2"]}
+{"op":"sort","t":"p","i":"v","by":["-n","id"]}
+{"op":"sort","t":"p","i":"q","by":["zz"]}
 {"op":"erase","t":"p","h":"1:2"}
 {"op":"erase","t":"p","h":"0:1","i":"w"}
 {"op":"erase","t":"p","h":"3:4","i":"h"}

@@ -34,9 +34,8 @@ use Rattle.multi_index.proofs.Sides.{count_mapped, row_known}
 
 module _ {R : Type 0} (s : Store (Entry R)) (slots : List (Option Node)) (leads : LeadsTo s slots) where
   -- nodes of one handle are one
-  one_node : (n m : Node) → IsNodeOf s n → IsNodeOf s m → is_handle (handle_of (record_of s) n) (handle_of (record_of s) m) ≡ true → n ≡ m
-  one_node n m is there same =
-      same_Some n m (sym (leads.node_at n is) ∙ (ap (λ (g : Handle). item_at slots g.slot) (is_handle_same _ _ same) ∙ leads.node_at m there))
+  pub one_node : (n m : Node) → IsNodeOf s n → IsNodeOf s m → handle_of (record_of s) n ≡ handle_of (record_of s) m → n ≡ m
+  one_node n m is there same = same_Some n m (sym (leads.node_at n is) ∙ (ap (λ (g : Handle). item_at slots g.slot) same ∙ leads.node_at m there))
 
   -- the tests of nodes and of their handles say the same
   pub same_by_handle : (n m : Node) → IsNodeOf s n → IsNodeOf s m → same_node n m ≡ is_handle (handle_of (record_of s) n) (handle_of (record_of s) m)
@@ -44,7 +43,7 @@ module _ {R : Type 0} (s : Store (Entry R)) (slots : List (Option Node)) (leads 
       let h : Handle = handle_of (record_of s) n in
       ⊎_elim
       (λ (e : n ≡ m). ap (same_node n) (sym e) ∙ (same_node-refl n ∙ sym (ap (λ z. is_handle h (handle_of (record_of s) z)) (sym e) ∙ is_handle_itself h)))
-      (λ (ne : n ≢ m). same_node-false n m ne ∙ sym (false_from_ne_true _ (λ one. ne (one_node n m is there one))))
+      (λ (ne : n ≢ m). same_node-false n m ne ∙ sym (false_from_ne_true _ (λ one. ne (one_node n m is there (is_handle_same _ _ one)))))
       (node_cases n m)
 
   module _ (n : Node) (is : IsNodeOf s n) where
@@ -59,7 +58,7 @@ module _ {R : Type 0} (s : Store (Entry R)) (slots : List (Option Node)) (leads 
         let test : Node → Bool = λ m. is_handle h (handle_of (record_of s) m) in
         let at = split_at test xs (omega (arith, once, count_mapped (handle_of (record_of s)) test (is_handle h) xs (all_alike h xs))) in
         let there = (All-split (IsNodeOf s) at.front (at.member ∷ at.back) (subst (AllByRecursion (IsNodeOf s)) at.whole are)).1.0 in
-        record { before = at.front; after = at.back; is = at.whole ∙ ap (λ m. at.front ++ m ∷ at.back) (sym (one_node n at.member is there at.here)) }
+        record { before = at.front; after = at.back; is = at.whole ∙ ap (λ m. at.front ++ m ∷ at.back) (sym (one_node n at.member is there (is_handle_same _ _ at.here))) }
 
     -- so have all lists of indices
     held_by_lists : (order : ℕ → R → R → Ordering) (entries : List (Entry R)) → EachPair (λ a b. (b.handle.slot == a.handle.slot) ≡ false) entries → is_some (row_of entries (handle_of (record_of s) n)) ≡ true →

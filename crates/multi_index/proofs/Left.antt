@@ -76,7 +76,7 @@ module _ {R : Type 0} (s t : Store (Entry R)) (slots : List (Option Node)) (stor
   passes m kept e = let bad = sym kept ∙ (ap (λ z. not (same_node n z)) e ∙ ap not (same_node-refl n)) in cc
 
   -- the records that are left
-  entries_left : t.added ≡ s.added → entries_in (contents t) ≡ filter (λ e. not (is_handle its e.handle)) (entries_in (contents s))
+  pub entries_left : t.added ≡ s.added → entries_in (contents t) ≡ filter (λ e. not (is_handle its e.handle)) (entries_in (contents s))
   unfolding contents
   entries_left count =
       ap (filter_map (record_of t)) (nodes_of-removed s t n store is count removes)
@@ -89,7 +89,7 @@ module _ {R : Type 0} (s t : Store (Entry R)) (slots : List (Option Node)) (stor
       )) (nodes_of s) (recursion_from_All _ (nodes_of s) (all_nodes_of s store)))
 
   -- and their handles
-  handles_left : (lists : List (List Node)) → AllByRecursion (AllByRecursion (IsNodeOf s)) lists → handles_in (record_of t) (map (without (same_node n)) lists) ≡ map (λ list. filter (λ g. not (is_handle its g)) list) (handles_in (record_of s) lists)
+  pub handles_left : (lists : List (List Node)) → AllByRecursion (AllByRecursion (IsNodeOf s)) lists → handles_in (record_of t) (map (without (same_node n)) lists) ≡ map (λ list. filter (λ g. not (is_handle its g)) list) (handles_in (record_of s) lists)
   handles_left [] are = refl
   handles_left (xs ∷ lists) are =
       let first = map_left (handle_of (record_of s)) (handle_of (record_of t)) (λ m. not (same_node n m)) (λ g. not (is_handle its g)) xs (All-map (IsNodeOf s) _ (λ m there. (ap not (same_by_handle s slots leads n m is there), (λ kept. handle_stays m (passes m kept)))) xs are.0) in

@@ -1,5 +1,6 @@
 pub mod Ages
 pub mod Bans
+pub mod Changed
 pub mod Cleared
 pub mod Contents
 pub mod Entered
@@ -14,15 +15,19 @@ pub mod LeadsTo
 pub mod Left
 pub mod Made
 pub mod Mapped
-pub mod MappedWalks
 pub mod Named
 pub mod Ordered
 pub mod Places
+pub mod Ranges
 pub mod Reading
 pub mod Rearranged
 pub mod Replaced
 pub mod Rewritten
+pub mod Rising
+pub mod Settling
 pub mod Shrunk
 pub mod Sides
+pub mod Sorted
+pub mod StableSort
 pub mod Thinned
 pub mod Walks

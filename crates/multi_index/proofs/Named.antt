@@ -31,6 +31,7 @@ use Rattle.multi_index.specs.Seen.{IsLinked}
 use Rattle.multi_index.proofs.Contents.{has_record}
 use Rattle.multi_index.proofs.Indices.{index_here}
 use Rattle.multi_index.proofs.LeadsTo.{row_of_live, row_of_stale, row_of_free}
+use Rattle.multi_index.proofs.HeldByAll.{same_by_handle}
 use Rattle.multi_index.proofs.Mapped.{place_mapped, next_mapped, prev_mapped}
 use Rattle.multi_index.proofs.Reading.{list_seen}
 use Rattle.multi_index.proofs.Sides.{count_mapped}
@@ -55,12 +56,15 @@ module _ {E R : Type 0} {has_key : E → ℕ → Bool} {order : E → ℕ → R 
   entries = entries_in (contents set)
 
   -- a handle that its slot's node does not have names no record
-  pub stale_seen : ((n : Node) → item_at slots h.slot ≡ Some n → IsTrue (not (is_handle h (handle n)))) → is_some (row_of entries h) ≡ false
-  stale_seen none =
-      ap is_some (elim (item_at slots h.slot) as (λ (o : Option Node). item_at slots h.slot ≡ o → row_of entries h ≡ None) [
+  pub none_seen : ((n : Node) → item_at slots h.slot ≡ Some n → IsTrue (not (is_handle h (handle n)))) → row_of entries h ≡ None
+  none_seen none =
+      elim (item_at slots h.slot) as (λ (o : Option Node). item_at slots h.slot ≡ o → row_of entries h ≡ None) [
         | None ↦ λ free. row_of_free (store_of set) slots linked.sound.nodes linked.leads h free
         | Some n ↦ λ at. row_of_stale (store_of set) slots linked.sound.nodes linked.leads h n at (is_not _ (none n at))
-      ] refl)
+      ] refl
+
+  pub stale_seen : ((n : Node) → item_at slots h.slot ≡ Some n → IsTrue (not (is_handle h (handle n)))) → is_some (row_of entries h) ≡ false
+  stale_seen none = ap is_some (none_seen none)
 
   module _ (n : Node) (at : item_at slots h.slot ≡ Some n) (named : is_handle h (handle n) ≡ true) where
     node_here : IsNodeOf (store_of set) n
@@ -75,13 +79,7 @@ module _ {E R : Type 0} {has_key : E → ℕ → Bool} {order : E → ℕ → R 
     -- and no other node has it
     one_named : (m : Node) → IsNodeOf (store_of set) m → same_node n m ≡ is_handle h (handle m)
     one_named m is =
-        ⊎_elim
-        (λ (one : n ≡ m). ap (same_node n) (sym one) ∙ (same_node-refl n ∙ (sym named ∙ ap (λ x. is_handle h (handle x)) one)))
-        (λ (other : n ≢ m).
-        let here : is_handle h (handle m) ≡ true → n ≡ m =
-        (λ t. same_Some n m (sym at ∙ (ap (λ (g : Handle). item_at slots g.slot) (is_handle_same h (handle m) t) ∙ linked.leads.node_at m is))) in
-        false_from_ne_true _ (λ t. other (same_node-true n m t)) ∙ sym (false_from_ne_true _ (λ t. other (here t))))
-        (node_cases n m)
+        same_by_handle (store_of set) slots linked.leads n m node_here is ∙ ap (λ g. is_handle g (handle m)) (sym (is_handle_same h (handle n) named))
 
     module _ (index : ℕ) (within : index < length (specs_of set)) where
       abbrev list : List Node

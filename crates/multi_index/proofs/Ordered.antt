@@ -39,32 +39,13 @@ use Rattle.multi_index.specs.Linked.{handle_of, entries_in, handles_in}
 use Rattle.multi_index.specs.Seen.{seen, IsContainer}
 use Rattle.multi_index.proofs.Contents.{entries_kept, handles_kept, has_record}
 use Rattle.multi_index.proofs.Entered.{map-insert}
+use Rattle.multi_index.proofs.HeldByAll.{one_node, same_by_handle}
 use Rattle.multi_index.proofs.Indices.{index_here, as_many_each}
 use Rattle.multi_index.proofs.LeadsTo.{row_of_live, row_of_stale, row_of_free, leads_kept}
 use Rattle.multi_index.proofs.Reading.{list_seen}
+use Rattle.multi_index.proofs.Settling.{relocated_mapped}
 
 -- ---- lists
-
--- a member that moves in a list moves in what a function makes of the list, where both are named alike
-module _ {X Y : Type 0} (f : X → Y) (is : X → Bool) (named : Y → Bool) where
-  taken_by : (b : Bool) (x : X) (xs : List X) (ys : List Y) → map f xs ≡ ys → map f (cond (not b) (x ∷ xs) xs) ≡ cond (not b) (f x ∷ ys) ys
-  taken_by true x xs ys e = e
-  taken_by false x xs ys e = ap (λ l. f x ∷ l) e
-
-  map-without : (xs : List X) → AllByRecursion (λ x. is x ≡ named (f x)) xs → map f (without is xs) ≡ without named (map f xs)
-  map-without [] same = refl
-  map-without (x ∷ xs) same =
-      taken_by (is x) x (without is xs) (without named (map f xs)) (map-without xs same.1)
-      ∙ ap (λ b. cond (not b) (f x ∷ without named (map f xs)) (without named (map f xs))) same.0
-
-  place_of-map : (xs : List X) → AllByRecursion (λ x. is x ≡ named (f x)) xs → place_of is xs ≡ place_of named (map f xs)
-  place_of-map [] same = refl
-  place_of-map (x ∷ xs) same = (λ i. cond (not (same.0 i)) (1 + place_of-map xs same.1 i) 0)
-
-  pub map-relocated : (x : X) (p : ℕ) (xs : List X) → AllByRecursion (λ x. is x ≡ named (f x)) xs → map f (relocated is x p xs) ≡ relocated named (f x) p (map f xs)
-  map-relocated x p xs same =
-      map-insert f (without is xs) (cond (nat_le p (place_of is xs)) p (p - 1)) x
-      ∙ (λ i. insert (map-without xs same i) (cond (nat_le p (place_of-map xs same i)) p (p - 1)) (f x))
 
 pub map-reverse : {X Y : Type 0} (f : X → Y) (xs : List X) → map f (reverse xs) ≡ reverse (map f xs)
 map-reverse f [] = refl
@@ -99,26 +80,11 @@ some_spec = record { kind = Sequenced; unique = false }
 -- ---- nodes and their handles
 
 module _ {R : Type 0} (s : Store (Entry R)) (slots : List (Option Node)) (leads : LeadsTo s slots) where
-  -- nodes of one handle are one
-  pub one_node : (n m : Node) → IsNodeOf s n → IsNodeOf s m → handle_of (node.record_of s) n ≡ handle_of (node.record_of s) m → n ≡ m
-  one_node n m is has e = same_Some n m (sym (leads.node_at n is) ∙ (ap (λ (h : Handle). item_at slots h.slot) e ∙ leads.node_at m has))
-
-  -- the test of nodes answers as that of their handles
-  pub same_handle : (n m : Node) → IsNodeOf s n → IsNodeOf s m → same_node n m ≡ is_handle (handle_of (node.record_of s) n) (handle_of (node.record_of s) m)
-  same_handle n m is has =
-      let f = handle_of (node.record_of s) in
-      ⊎_elim
-      (λ (same : n ≡ m). ap (λ x. same_node x m) same ∙ (same_node-refl m ∙ sym (ap (λ x. is_handle (f x) (f m)) same ∙ is_handle_itself (f m))))
-      (λ apart.
-      false_from_ne_true _ (λ t. apart (same_node-true n m t))
-      ∙ sym (false_from_ne_true _ (λ t. apart (one_node n m is has (is_handle_same (f n) (f m) t)))))
-      (node_cases n m)
-
   -- a node whose handle stands in a list of handles stands in the list of their nodes
   pub held_by_handle : (n : Node) (xs : List Node) (front back : List Handle) → IsNodeOf s n → AllByRecursion (IsNodeOf s) xs → map (handle_of (node.record_of s)) xs ≡ front ++ handle_of (node.record_of s) n ∷ back → Holds xs n
   held_by_handle n xs front back is nodes e =
       let p = stands_for (handle_of (node.record_of s)) xs front (handle_of (node.record_of s) n) back e in
-      let one : p.member ≡ n = one_node p.member n (middle_of (IsNodeOf s) p.before p.member p.after (subst (AllByRecursion (IsNodeOf s)) p.whole nodes)) is p.image in
+      let one : p.member ≡ n = one_node s slots leads p.member n (middle_of (IsNodeOf s) p.before p.member p.after (subst (AllByRecursion (IsNodeOf s)) p.whole nodes)) is p.image in
       record { before = p.before; after = p.after; is = p.whole ∙ ap (λ x. p.before ++ x ∷ p.after) one }
     where
       middle_of : {X : Type 0} (P : X → Type 0) (before : List X) (x : X) (after : List X) → AllByRecursion P (before ++ x ∷ after) → P x
@@ -188,8 +154,8 @@ module _ {E R : Type 0} {has_key : E → ℕ → Bool} {order : E → ℕ → R 
     -- its handle moves as it does
     pub relocated_seen : (place : ℕ) → map (handle_of (record_of old)) (relocated (same_node n) n place (list_of old index)) ≡ relocated (is_handle h) h place (list_at (handles_in (record_of old) (lists_of old)) index)
     relocated_seen place =
-        map-relocated (handle_of (record_of old)) (same_node n) (is_handle (handle_of (record_of old) n)) n place (list_of old index)
-        (All-map _ _ (λ m has. same_handle (store_of old) slots was.linked.leads n m is has) (list_of old index) (nodes_held_at old was.linked.sound index within))
+        relocated_mapped (handle_of (record_of old)) (same_node n) (is_handle (handle_of (record_of old) n)) n place (list_of old index)
+        (All-map _ _ (λ m has. same_by_handle (store_of old) slots was.linked.leads n m is has) (list_of old index) (nodes_held_at old was.linked.sound index within))
         ∙ (λ i. relocated (is_handle (handle i)) (handle i) place (list_seen old slots was.linked index within i))
 
 -- ---- live handles

@@ -1,6 +1,7 @@
 -- What the list of an index of a container answers of its nodes is what the index answers of their handles.
-use Rattle.std.proofs.Common.{◌≡◌, ℕ, ◌<◌, Bool, true, cond, List, [], ◌∷◌, length, map, slice_get, Option, Some, None, Ok, Err, sym, ap, ◌∙◌}
-use Rattle.std.specs.Prelude.{option_map}
+use Rattle.std.proofs.Common.{◌≡◌, ℕ, ◌<◌, Bool, true, cond, List, [], ◌∷◌, length, map, slice_get, Option, Some, None, Result, Ok, Err, sym, ap, ◌∙◌, subst, rules}
+use Rattle.std.specs.Prelude.{IfOk, option_map}
+use Rattle.std.specs.Result.{is_ok, MatchResult}
 use Rattle.std.specs.List.{AllByRecursion, list_any}
 use Rattle.std.specs.Ordering.{is_eq}
 use Rattle.std.specs.declared.cmp.Ordering.{Ordering}
@@ -35,6 +36,12 @@ pub answered_end : {E R A : Type 0} (kinds : IndexKind → Bool) (index : ℕ) (
     Ok a ≡ at_position kinds t index position (answer t position)
 answered_end kinds index answer {s} {t} a same kind end is =
     answered kinds index (λ u. answer u None) a same kind is ∙ ap (λ p. at_position kinds t index p (answer t p)) (sym end)
+
+-- what a success keeps where only an error is replaced
+pub if_mapped : {A B C : Type 0} (P : A → Type 0) (r : Result A B) (q : Result A C) (G : B → Type 0) → MatchResult r (λ x. q ≡ Ok x) G → is_ok q ≡ is_ok r → IfOk r P → IfOk q P
+if_mapped P (Ok x) q G cases same p = subst (λ z. IfOk z P) (sym cases) p
+if_mapped P (Err e) (Ok y) G cases same p = absurd (search rules)
+if_mapped P (Err e) (Err f) G cases same p = tt
 
 -- what holds of each member holds of the last
 pub some_last : {X : Type 0} (P : X → Type 0) (xs : List X) → AllByRecursion P xs → (x : X) → last xs ≡ Some x → P x

@@ -1,10 +1,9 @@
 -- What a replacement makes of a container, and why one is refused.
-use Rattle.std.proofs.Common.{◌≡◌, ℕ, Option, ◌+◌, ◌-◌, ◌<◌, ◌^◌, ◌==◌, Bool, true, false, cond, List, Some, None, refl, sym, ap, subst, arith}
-use Rattle.std.specs.Prelude.{IsTrue, is_some, not}
+use Rattle.std.proofs.Common.{◌≡◌, ℕ, Option, ◌+◌, ◌<◌, ◌^◌, Bool, true, false, cond, List, Some, None, refl, sym, ap, subst, arith}
+use Rattle.std.specs.Prelude.{IsTrue, is_some}
 use Rattle.std.specs.Cmp.{IsTotalOrder}
 use Rattle.std.specs.Option.{option_map_or}
 use Rattle.std.specs.declared.cmp.Ordering.{Ordering}
-use Rattle.std.proofs.lemmas.Bool.Decides.{nat_tests}
 use Rattle.node_store.specs.declared.Node.{Node}
 use Rattle.node_store.specs.Store.{Store, IsNodeOf}
 use Rattle.node_store.specs.ByNode as store
@@ -25,15 +24,7 @@ use Rattle.multi_index.specs.declared.by_row.ByRow.{ByRow}
 use Rattle.multi_index.specs.Linked.{handle_of, entries_in, handles_in}
 use Rattle.multi_index.specs.Seen.{seen, IsLinked, IsContainer}
 use Rattle.multi_index.proofs.Contents.{has_record}
-use Rattle.multi_index.proofs.LeadsTo.{row_of_live, row_of_stale, row_of_free}
-
-not_so : (b : Bool) → IsTrue (not b) → b ≡ false
-not_so false h = refl
-not_so true h = absurd (cc)
-
--- a record more may be written where the last write has not the greatest number
-pub next_write : (n : ℕ) → n < 2 ^ 64 → (n == 2 ^ 64 - 1) ≡ false → n + 1 < 2 ^ 64
-next_write n less other = grind (arith, nat_tests)
+use Rattle.multi_index.proofs.LeadsTo.{row_of_live}
 
 -- ---- what a handle names
 
@@ -52,14 +43,6 @@ module _ {E R : Type 0} {has_key : E → ℕ → Bool} {order : E → ℕ → R 
       let is = (linked.leads.slot_of h.slot n found.0).0 in
       let p = has_record s n is in
       record { node = is; own = sym (is_handle_same h _ found.1); entry = p.0; has = p.1; row = row_of_live s slots linked.sound.nodes linked.leads linked.apart h n p.0 found.0 found.1 p.1 }
-
-  -- where the node of its slot has another handle, it names nothing
-  pub none_named : ((n : Node) → item_at slots h.slot ≡ Some n → IsTrue (not (is_handle h (handle_of (record_of set) n)))) → row_of (entries_in (contents set)) h ≡ None
-  none_named other =
-      elim (item_at slots h.slot) as (λ (o : Option Node). item_at slots h.slot ≡ o → row_of (entries_in (contents set)) h ≡ None) [
-        | None ↦ λ free. row_of_free (store_of set) slots linked.sound.nodes linked.leads h free
-        | Some n ↦ λ at. row_of_stale (store_of set) slots linked.sound.nodes linked.leads h n at (not_so _ (other n at))
-      ] refl
 
 -- ---- why a replacement is refused
 

@@ -40,7 +40,7 @@ use Rattle.multi_index.specs.Linked.{handle_of, entries_in, handles_in}
 use Rattle.multi_index.proofs.Contents.{has_record, handle_of-is, known}
 use Rattle.multi_index.proofs.Entered.{order_known}
 use Rattle.multi_index.proofs.HeldByAll.{same_by_handle}
-use Rattle.multi_index.proofs.MappedWalks.{settled-map}
+use Rattle.multi_index.proofs.Settling.{settled_mapped}
 
 -- ---- lists
 
@@ -61,7 +61,7 @@ module _ {R : Type 0} (s u : Store (Entry R)) (n : Node) (h : Handle) (row : R) 
   abbrev entry : Entry R
   entry = record { handle = h; row = row }
 
-  same_nodes : nodes u ≡ nodes s
+  pub same_nodes : nodes u ≡ nodes s
   same_nodes = nodes_kept (with_record s n entry) u after ∙ nodes_with_record s n entry
 
   pub same_count : u.added ≡ s.added
@@ -74,7 +74,7 @@ module _ {R : Type 0} (s u : Store (Entry R)) (n : Node) (h : Handle) (row : R) 
   other_records m ne = ap (λ (f : Node → Option (Entry R)). f m) (records_kept (with_record s n entry) u after) ∙ others_written s n entry is m ne
 
   -- each node keeps its handle
-  handle_kept : (m : Node) → handle_of (record_of u) m ≡ handle_of (record_of s) m
+  pub handle_kept : (m : Node) → handle_of (record_of u) m ≡ handle_of (record_of s) m
   handle_kept m =
       ⊎_elim
       (λ (e : m ≡ n). ap (handle_of (record_of u)) e ∙ (handle_of-is (record_of u) n entry its_record ∙ (sym own ∙ ap (handle_of (record_of s)) (sym e))))
@@ -133,7 +133,7 @@ module _ {R : Type 0} (s u : Store (Entry R)) (n : Node) (h : Handle) (row : R) 
 
   -- ---- the lists
 
-  handles_same : (lists : List (List Node)) → handles_in (record_of u) lists ≡ handles_in (record_of s) lists
+  pub handles_same : (lists : List (List Node)) → handles_in (record_of u) lists ≡ handles_in (record_of s) lists
   handles_same lists = ap (λ (f : Node → Handle). map (map f) lists) (λ i m. handle_kept m i)
 
   module _ (order : R → R → Ordering) where
@@ -163,7 +163,7 @@ module _ {R : Type 0} (s u : Store (Entry R)) (n : Node) (h : Handle) (row : R) 
         ap (map f)
         (subst (λ l. settled (same_node n) (λ m. order_at (record_of u) by_row m n) n l ≡ settled (same_node n) (λ m. side (f m)) n l) (sym held.is)
         (settled_same (same_node n) (λ m. order_at (record_of u) by_row m n) (λ m. side (f m)) held.before n held.after before (same_node-refl n) behind (alike held.before before there.0) (alike held.after behind there.1.1)))
-        ∙ (settled-map f (same_node n) (is_handle h) side n xs (All-map _ _ (λ m node. its_name m node ∙ ap (is_handle h) (sym (handle_kept m))) xs are)
+        ∙ (settled_mapped f (same_node n) (is_handle h) side n xs (All-map _ _ (λ m node. its_name m node ∙ ap (is_handle h) (sym (handle_kept m))) xs are)
         ∙ ap (λ g. settled (is_handle h) side g (map f xs)) (handle_of-is (record_of u) n entry its_record))
 
     one_settled : (kind : Kind) (xs : List Node) → Holds xs n → IsDistinct xs → AllByRecursion (IsNodeOf s) xs →

@@ -11,7 +11,7 @@ use Rattle.container_model.specs.declared.handle.Spec.{Spec}
 use Rattle.container_model.specs.declared.refusal.Why.TheVariants.{Kind, Spent, Stale}
 use Rattle.container_model.specs.State.{State, IsState, has_key_kind, is_handle, is_hashed_kind}
 use Rattle.container_model.specs.Find.{is_live, kind_at}
-use Rattle.container_model.specs.Change.{erase_key_refusal, erase_refusal, next_in, with_only}
+use Rattle.container_model.specs.Change.{spent, erase_key_refusal, erase_refusal, next_in, with_only}
 use Rattle.container_model.proofs.Erased.{IsState-only}
 use Rattle.node_store.specs.declared.Node.{Node}
 use Rattle.node_store.specs.ByNode.{same_node}
@@ -41,6 +41,14 @@ key_allowed s index e = by_tests (has_key_kind (kind_at s index)) (s.writes == 2
     by_tests false last e = absurd (cc)
     by_tests true true e = absurd (cc)
     by_tests true false e = refl
+
+-- so where nothing refuses a write
+pub write_allowed : {E R : Type 0} (s : State E R) → spent s ≡ None → (s.writes == 2 ^ 64 - 1) ≡ false
+write_allowed s e = by_test (s.writes == 2 ^ 64 - 1) e
+  where
+    by_test : (last : Bool) → cond last (Some Spent) None ≡ None → last ≡ false
+    by_test true e = absurd (cc)
+    by_test false e = refl
 
 -- then there is a next write number
 pub next_number : (n : ℕ) → n < 2 ^ 64 → (n == 2 ^ 64 - 1) ≡ false → n + 1 < 2 ^ 64

@@ -7,7 +7,7 @@ use container_model::{Refused, Why};
 use key_extract::Extract;
 
 impl<R: Drop, E: Extract<R> + Drop> MultiIndex<R, E> {
-    /// Takes every record out. `Spent` alone refuses, and then nothing is changed. It takes no memory. O(records).
+    /// Takes every record out. `Spent` alone refuses, and then nothing is changed. It takes no memory. O(records + slots).
     pub fn clear(&mut self) -> Result<(), Refused<R>>
         ensures allowed { OnOk result (spent self.old ≡ None) }
         ensures ok { OnOk result (self.new ≡ cleared self.old) }
@@ -15,15 +15,23 @@ impl<R: Drop, E: Extract<R> + Drop> MultiIndex<R, E> {
         ensures handed_back { IfErr result (λ refused. refused.row ≡ None) }
         ensures unchanged { OnErr result (self.new ≡ self.old) }
     {
-        if self.writes == u64::MAX {
-            return Err(Refused {
-                why: Why::Spent,
-                row: None,
-            });
+        if let Some(why) = self.spent() {
+            return Err(Refused { why, row: None });
         }
         self.set.clear();
         self.slots.clear();
         self.writes += 1;
         Ok(())
+    }
+
+    // Why no write may take place.
+    pub(crate) fn spent(&self) -> Option<Why>
+        ensures { result ≡ spent self.now }
+    {
+        if self.writes == u64::MAX {
+            Some(Why::Spent)
+        } else {
+            None
+        }
     }
 }

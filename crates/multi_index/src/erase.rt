@@ -62,10 +62,7 @@ impl<R: Drop, E: Extract<R> + Drop> MultiIndex<R, E> {
         if self.get(handle).is_err() {
             return Some(Why::Stale);
         }
-        if self.writes == u64::MAX {
-            return Some(Why::Spent);
-        }
-        None
+        self.spent()
     }
 
     // Takes out a record that nothing keeps in.

@@ -50,10 +50,7 @@ impl<R: Drop, E: Extract<R> + Drop> MultiIndex<R, E> {
         if !self.has_key(index) {
             return Some(Why::Kind);
         }
-        if self.writes == u64::MAX {
-            return Some(Why::Spent);
-        }
-        None
+        self.spent()
     }
 }
 

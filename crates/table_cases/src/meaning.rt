@@ -2,7 +2,7 @@
 
 use crate::report::Report;
 use std::alloc::AllocError;
-use table_cmd::{Cell, Command, Fields, HandleText, Key, Position, Text, Value};
+use table_cmd::{Cell, Command, Fields, HandleText, Handles, Key, Names, Position, Text, Value};
 
 /// The longest text that is shown whole, in bytes.
 const MAX_SHOWN: usize = 64;
@@ -20,6 +20,8 @@ enum Parts<'a> {
     At(&'a Text, Option<HandleText>),
     Place(&'a Text, u64),
     Move(&'a Text, HandleText, u64),
+    Order(&'a Text, &'a Handles),
+    By(&'a Text, &'a Names),
 }
 
 // The op of a change, and the rest.
@@ -45,7 +47,9 @@ fn parts_of_change(command: &Command) -> Option<(&'static str, Parts<'_>)> {
             place,
             ..
         } => ("move", Parts::Move(index, *handle, *place)),
+        Command::Rearrange { index, handles, .. } => ("rearrange", Parts::Order(index, handles)),
         Command::Reverse { index, .. } => ("reverse", Parts::Index(index)),
+        Command::Sort { index, by, .. } => ("sort", Parts::By(index, by)),
         _ => return None,
     })
 }
@@ -140,6 +144,21 @@ fn tell_handle(handle: Option<HandleText>, report: &mut Report) -> Result<(), Al
     }
 }
 
+fn tell_order(handles: &Handles, report: &mut Report) -> Result<(), AllocError> {
+    for handle in handles.as_slice() {
+        tell_handle(Some(*handle), report)?;
+    }
+    Ok(())
+}
+
+fn tell_names(names: &Names, report: &mut Report) -> Result<(), AllocError> {
+    for name in names.as_slice() {
+        report.text(" ")?;
+        tell_text(name, report)?;
+    }
+    Ok(())
+}
+
 fn tell_place(place: u64, report: &mut Report) -> Result<(), AllocError> {
     report.text(" ")?;
     report.number(place)
@@ -177,6 +196,14 @@ fn tell_parts(parts: Parts, report: &mut Report) -> Result<(), AllocError> {
             tell_word(index.as_str(), report)?;
             tell_handle(Some(handle), report)?;
             tell_place(place, report)
+        }
+        Parts::Order(index, handles) => {
+            tell_word(index.as_str(), report)?;
+            tell_order(handles, report)
+        }
+        Parts::By(index, names) => {
+            tell_word(index.as_str(), report)?;
+            tell_names(names, report)
         }
     }
 }

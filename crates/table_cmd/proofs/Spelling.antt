@@ -1,6 +1,6 @@
 -- A handle's spelling, and what is read of it.
-use Rattle.std.proofs.Common.{◌≡◌, ℕ, ◌+◌, ◌<◌, ◌^◌, ◌==◌, ◌&&◌, List, [], ◌∷◌, ◌++◌, Bool, true, false, cond, Option, MatchOption, Result, IsOkAnd, Bor, drop, length, decimal, nat_lt, bytes_eq, refl, sym, ap, subst, ◌∙◌, arith, length-append, append-nil, get_or}
-use Rattle.std.proofs.lemmas.Bool.{ltb-true, lt-ltb, ne_eqb, eq-eqb, cases_Bool, and_from, and_parts}
+use Rattle.std.proofs.Common.{◌≡◌, ℕ, ◌+◌, ◌<◌, ◌^◌, ◌==◌, ◌&&◌, List, ◌∷◌, ◌++◌, Bool, true, false, cond, Option, MatchOption, Result, IsOkAnd, Bor, drop, length, decimal, nat_lt, bytes_eq, refl, sym, ap, subst, ◌∙◌, arith, length-append, append-nil, get_or}
+use Rattle.std.proofs.lemmas.Bool.{ltb-true, lt-ltb, ne_eqb, eq-eqb, and_from, and_parts}
 use Rattle.std.proofs.lemmas.Slice.Eq.{bytes_eq-Decides}
 use Rattle.std.proofs.lemmas.List.{take_at}
 use Rattle.std.proofs.lemmas.List.Sums.{position_or_len_is}

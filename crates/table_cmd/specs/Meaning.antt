@@ -1,5 +1,5 @@
 -- What a line asks for: the command, or the fault.
-use Rattle.std.specs.Prelude.{ℕ, List, if◌then◌else◌, Option, Some, None, option_and_then, Result, Ok, Err, codes}
+use Rattle.std.specs.Prelude.{ℕ, List, if◌then◌else◌, Option, Some, None, option_and_then, Result, Err, codes}
 use Rattle.std.specs.Str.{is_utf8}
 use Rattle.serde_json.specs.Data.{Data, object, Members}
 use Rattle.serde_json.specs.Find.{get, as_object}
@@ -21,7 +21,7 @@ use Rattle.table_cmd.specs.declared.command.HandleText.{HandleText}
 use Rattle.table_cmd.specs.declared.fault.CommandFault.{CommandFault}
 use Rattle.table_cmd.specs.declared.fault.CommandFault.TheVariants as faults
 use Rattle.table_cmd.specs.Op.{op_of, keys_of}
-use Rattle.table_cmd.specs.Parts.{◌>>=◌, has_only, text_at, key_at, row_at, handle_at, end_at, count_at, text_if_given, position_at, or_fault}
+use Rattle.table_cmd.specs.Parts.{◌>>=◌, has_only, text_at, key_at, row_at, handle_at, end_at, count_at, handles_at, names_at, text_if_given, position_at, or_fault}
 
 -- an insertion: a table and a row, and perhaps where it goes at an index
 unfoldable pub insert_of : Data → Option Command
@@ -55,6 +55,22 @@ move_of d = do
   handle ← handle_at d
   place ← count_at (codes "p") d
   Some (commands.Move table index handle place)
+
+-- a rearrangement: a table, an index and handles
+unfoldable pub rearrange_of : Data → Option Command
+rearrange_of d = do
+  table ← text_at (codes "t") d
+  index ← text_at (codes "i") d
+  handles ← handles_at d
+  Some (commands.Rearrange table index handles)
+
+-- a sorting: a table, an index and names of columns
+unfoldable pub sort_of : Data → Option Command
+sort_of d = do
+  table ← text_at (codes "t") d
+  index ← text_at (codes "i") d
+  by ← names_at d
+  Some (commands.Sort table index by)
 
 -- a look-up by handle: a table and a handle
 unfoldable pub get_of : Data → Option Command
@@ -137,6 +153,8 @@ shaped ops.Insert d = insert_of d
 shaped ops.Replace d = replace_of d
 shaped ops.Erase d = erase_of d
 shaped ops.Move d = move_of d
+shaped ops.Rearrange d = rearrange_of d
+shaped ops.Sort d = sort_of d
 shaped ops.Get d = get_of d
 shaped ops.Nth d = nth_of d
 shaped ops.Place d = place_of d

@@ -16,7 +16,9 @@ op_names =
     ∷ (codes "erase_key", ops.OnKey EraseKey)
     ∷ (codes "clear", ops.OnTable Clear)
     ∷ (codes "move", ops.Move)
+    ∷ (codes "rearrange", ops.Rearrange)
     ∷ (codes "reverse", ops.OnIndex Reverse)
+    ∷ (codes "sort", ops.Sort)
     ∷ (codes "get", ops.Get)
     ∷ (codes "size", ops.OnTable Size)
     ∷ (codes "find", ops.OnKey Find)
@@ -49,6 +51,8 @@ keys_of ops.Insert = codes "op" ∷ codes "t" ∷ codes "r" ∷ codes "i" ∷ co
 keys_of ops.Replace = codes "op" ∷ codes "t" ∷ codes "h" ∷ codes "r" ∷ []
 keys_of ops.Erase = codes "op" ∷ codes "t" ∷ codes "h" ∷ codes "i" ∷ []
 keys_of ops.Move = codes "op" ∷ codes "t" ∷ codes "i" ∷ codes "h" ∷ codes "p" ∷ []
+keys_of ops.Rearrange = codes "op" ∷ codes "t" ∷ codes "i" ∷ codes "hs" ∷ []
+keys_of ops.Sort = codes "op" ∷ codes "t" ∷ codes "i" ∷ codes "by" ∷ []
 keys_of ops.Get = codes "op" ∷ codes "t" ∷ codes "h" ∷ []
 keys_of ops.Nth = codes "op" ∷ codes "t" ∷ codes "i" ∷ codes "n" ∷ []
 keys_of ops.Place = codes "op" ∷ codes "t" ∷ codes "i" ∷ codes "h" ∷ []

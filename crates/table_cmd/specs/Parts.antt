@@ -84,6 +84,26 @@ handle_or_end (object ms) = None
 abbrev pub end_at : Data → Option (Option HandleText)
 end_at d = option_and_then handle_or_end (get (codes "h") d)
 
+-- what is read of each of an array's values, where each is read
+abbrev pub each_read : {X : Type 0} → (Data → Option X) → Items → Option (List X)
+each_read f no_items = Some []
+each_read f (element d ds) = do
+  x ← f d
+  xs ← each_read f ds
+  Some (x ∷ xs)
+
+-- a text as a handle
+abbrev pub as_handle : Data → Option HandleText
+as_handle d = option_map handle_said (as_str d)
+
+-- the handles: an array of texts
+abbrev pub handles_at : Data → Option (List HandleText)
+handles_at d = option_and_then (each_read as_handle) (option_and_then as_array (get (codes "hs") d))
+
+-- the names to sort by: an array of texts
+abbrev pub names_at : Data → Option (List (List ℕ))
+names_at d = option_and_then (each_read as_str) (option_and_then as_array (get (codes "by") d))
+
 -- a text that may be left out
 abbrev pub text_if_given : Option Data → Option (Option (List ℕ))
 text_if_given None = Some None

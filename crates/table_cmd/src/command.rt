@@ -88,14 +88,75 @@ impl Key {
     }
 }
 
-/// What a text that should spell a handle says: `slot:stamp`, both decimal, with no sign and no leading zeros, the slot at
-/// most 4294967295 and the stamp at most 18446744073709551615.
+/// What a text that should spell a handle says: `slot:stamp`, both decimal, with no sign and no leading zeros, the slot
+/// at most 4294967295 and the stamp at most 18446744073709551615.
 #[derive(Clone, Copy, Debug, PartialEq, Eq)]
 pub enum HandleText {
     /// The handle that it spells, which may be that of no record.
     Handle(Handle),
     /// The text spells no handle.
     Bad,
+}
+
+/// Handles in an order, as texts say them.
+#[derive(Debug, Drop)]
+pub struct Handles {
+    handles: Vec<HandleText>,
+}
+
+impl Model for Handles {
+    ghost use Rattle.std.specs.Prelude.{List};
+    ghost use Rattle.table_cmd.specs.declared.command.HandleText.{HandleText as Said};
+
+    ghost Value = { List Said };
+
+    ghost view = { λ h. h.handles.items };
+}
+
+impl Handles {
+    /// These handles, in this order. O(1).
+    pub fn new(handles: Vec<HandleText>) -> Handles
+        ensures { result ≡ handles.items }
+    {
+        Handles { handles }
+    }
+
+    /// The handles, as long as they are borrowed. O(1).
+    pub fn as_slice(&self) -> &[HandleText]
+        ensures { result.now ≡ self.now }
+    {
+        &self.handles
+    }
+}
+
+/// Names of columns in an order, each perhaps with a `-` before it.
+#[derive(Debug, Drop)]
+pub struct Names {
+    names: Vec<Text>,
+}
+
+impl Model for Names {
+    ghost use Rattle.std.specs.Prelude.{List, ℕ};
+
+    ghost Value = { List (List ℕ) };
+
+    ghost view = { λ n. n.names.items };
+}
+
+impl Names {
+    /// These names, in this order. O(1).
+    pub fn new(names: Vec<Text>) -> Names
+        ensures { result ≡ names.items }
+    {
+        Names { names }
+    }
+
+    /// The names, as long as they are borrowed. O(1).
+    pub fn as_slice(&self) -> &[Text]
+        ensures { result.now ≡ self.now }
+    {
+        &self.names
+    }
 }
 
 /// Where an insertion goes at one index: before the record of a place.
@@ -138,17 +199,31 @@ pub enum Command {
     Clear {
         table: Text,
     },
-    /// A record goes before the record that is then at a place of a sequence, counted from 0, or last.
+    /// A record of a sequence goes before the record that is at a place, counted from 0. The place may be past the last
+    /// record.
     Move {
         table: Text,
         index: Text,
         handle: HandleText,
         place: u64,
     },
+    /// The records of a sequence in the order of their handles here, each of which must be named once.
+    Rearrange {
+        table: Text,
+        index: Text,
+        handles: Handles,
+    },
     /// The records of a sequence in the opposite order.
     Reverse {
         table: Text,
         index: Text,
+    },
+    /// The records of a sequence in ascending order of these columns, or descending where a name has a `-`. Records that
+    /// are equal in all of them stay as they stand.
+    Sort {
+        table: Text,
+        index: Text,
+        by: Names,
     },
     /// The record of a handle.
     Get {
@@ -189,7 +264,7 @@ pub enum Command {
         index: Text,
         place: u64,
     },
-    /// How many records stand before a record at the index, or how many there are: before the end.
+    /// How many records stand before a record at the index; before the end all do.
     Rank {
         table: Text,
         index: Text,
@@ -201,31 +276,31 @@ pub enum Command {
         index: Text,
         handle: HandleText,
     },
-    /// How many records stand before what `Find` answers.
+    /// How many records stand before the one that `Find` answers; all where it answers none.
     FindRank {
         table: Text,
         index: Text,
         key: Key,
     },
-    /// How many records stand before what `Lower` answers.
+    /// How many records stand before the one that `Lower` answers; all where it answers none.
     LowerRank {
         table: Text,
         index: Text,
         key: Key,
     },
-    /// How many records stand before what `Upper` answers.
+    /// How many records stand before the one that `Upper` answers; all where it answers none.
     UpperRank {
         table: Text,
         index: Text,
         key: Key,
     },
-    /// The record after another at the index, or after the end: the first.
+    /// The record after another at the index. After the last comes the end, and after the end the end.
     Next {
         table: Text,
         index: Text,
         position: Option<HandleText>,
     },
-    /// The record before another at the index, or before the end: the last.
+    /// The record before another at the index. Before the end comes the last, and before the first the end.
     Prev {
         table: Text,
         index: Text,
@@ -250,7 +325,9 @@ impl Command {
             | Command::EraseKey { table, .. }
             | Command::Clear { table }
             | Command::Move { table, .. }
+            | Command::Rearrange { table, .. }
             | Command::Reverse { table, .. }
+            | Command::Sort { table, .. }
             | Command::Get { table, .. }
             | Command::Size { table }
             | Command::Find { table, .. }

@@ -11,7 +11,7 @@ mod print;
 mod read;
 mod reply;
 
-pub use command::{Command, Field, Fields, HandleText, Key, Position, Value};
+pub use command::{Command, Field, Fields, HandleText, Handles, Key, Names, Position, Value};
 pub use container_model::Handle;
 pub use fault::{CommandFault, Fault};
 pub use key_extract::{Cell, Row, Text};

@@ -1,11 +1,11 @@
 //! Reads the parts of a command from its JSON object.
 
 ghost use Rattle.std.specs.Prelude.{◌≡◌, IfOk, Some, option_map, codes};
-ghost use Rattle.serde_json.specs.Find.{get};
+ghost use Rattle.serde_json.specs.Find.{get, as_str};
 ghost use Rattle.serde_json.specs.View.{view, items_view, members_view};
-ghost use Rattle.table_cmd.specs.Parts.{Gives, value_of, values_of, fields_of, text_at, key_at, row_at, handle_at, end_at, count_at, text_if_given, position_at, or_fault};
+ghost use Rattle.table_cmd.specs.Parts.{Gives, value_of, values_of, fields_of, text_at, key_at, row_at, handle_at, end_at, count_at, each_read, as_handle, handles_at, names_at, text_if_given, position_at, or_fault};
 
-use crate::command::{Field, Fields, HandleText, Key, Position, Value};
+use crate::command::{Field, Fields, HandleText, Handles, Key, Names, Position, Value};
 use crate::fault::CommandFault;
 use crate::handle::handle_said;
 use key_extract::{Cell, Text};
@@ -101,6 +101,52 @@ pub(crate) fn end_of(value: &Json) -> Result<Option<HandleText>, CommandFault>
         Some(Json::Null) => Ok(None),
         Some(Json::String(text)) => Ok(Some(handle_said(text.as_str()))),
         _ => Err(CommandFault::Command),
+    }
+}
+
+// The handles that texts say, in their order.
+fn handles_said(alloc: Global, values: &Vec<Json>) -> Result<Handles, CommandFault>
+    ensures { Gives result (or_fault (each_read as_handle (items_view values.now.items))) }
+{
+    let mut handles = Vec::with_capacity(alloc, values.len())?;
+    for value in values {
+        let Some(text) = value.as_str() else {
+            return Err(CommandFault::Command);
+        };
+        handles.push(handle_said(text))?;
+    }
+    Ok(Handles::new(handles))
+}
+
+pub(crate) fn handles_of(alloc: Global, value: &Json) -> Result<Handles, CommandFault>
+    ensures { Gives result (or_fault (handles_at (view value.now))) }
+{
+    match value.get("hs").and_then(Json::as_array) {
+        Some(values) => handles_said(alloc, values),
+        None => Err(CommandFault::Command),
+    }
+}
+
+// The names that texts say, in their order.
+fn names_said(alloc: Global, values: &Vec<Json>) -> Result<Names, CommandFault>
+    ensures { Gives result (or_fault (each_read as_str (items_view values.now.items))) }
+{
+    let mut names = Vec::with_capacity(alloc, values.len())?;
+    for value in values {
+        let Some(text) = value.as_str() else {
+            return Err(CommandFault::Command);
+        };
+        names.push(Text::copy_of(alloc, text)?)?;
+    }
+    Ok(Names::new(names))
+}
+
+pub(crate) fn names_of(alloc: Global, value: &Json) -> Result<Names, CommandFault>
+    ensures { Gives result (or_fault (names_at (view value.now))) }
+{
+    match value.get("by").and_then(Json::as_array) {
+        Some(values) => names_said(alloc, values),
+        None => Err(CommandFault::Command),
     }
 }
 

@@ -4,13 +4,14 @@ ghost use Rattle.std.specs.Prelude.{◌≡◌, map, bytes_eq};
 ghost use Rattle.std.specs.List.{list_any};
 ghost use Rattle.serde_json.specs.View.{view, members_view};
 ghost use Rattle.table_cmd.specs.Parts.{Gives, has_only, or_fault};
-ghost use Rattle.table_cmd.specs.Meaning.{insert_of, replace_of, erase_of, move_of, get_of, nth_of, place_of, on_table, table_command, on_index, index_command, on_key, key_command, on_position, position_command, shaped, command_of, meaning};
+ghost use Rattle.table_cmd.specs.Meaning.{insert_of, replace_of, erase_of, move_of, rearrange_of, sort_of, get_of, nth_of, place_of, on_table, table_command, on_index, index_command, on_key, key_command, on_position, position_command, shaped, command_of, meaning};
 
 use crate::command::{Command, HandleText, Key};
 use crate::fault::CommandFault;
 use crate::op::{IndexOp, KeyOp, Op, PositionOp, TableOp};
 use crate::parts::{
-    count_of, end_of, handle_of, index_if_given, key_of, position_of, row_of, text_at, text_of,
+    count_of, end_of, handle_of, handles_of, index_if_given, key_of, names_of, position_of, row_of,
+    text_at, text_of,
 };
 use key_extract::Text;
 use serde_json::{Map, Value as Json};
@@ -100,6 +101,30 @@ fn move_of(alloc: Global, value: &Json) -> Result<Command, CommandFault>
         handle,
         place,
     })
+}
+
+#[tactic(auto, unfolding(crate::specs::Meaning::rearrange_of))]
+fn rearrange_of(alloc: Global, value: &Json) -> Result<Command, CommandFault>
+    ensures { Gives result (or_fault (rearrange_of (view value.now))) }
+{
+    let table = text_of(alloc, value, "t")?;
+    let index = text_of(alloc, value, "i")?;
+    let handles = handles_of(alloc, value)?;
+    Ok(Command::Rearrange {
+        table,
+        index,
+        handles,
+    })
+}
+
+#[tactic(auto, unfolding(crate::specs::Meaning::sort_of))]
+fn sort_of(alloc: Global, value: &Json) -> Result<Command, CommandFault>
+    ensures { Gives result (or_fault (sort_of (view value.now))) }
+{
+    let table = text_of(alloc, value, "t")?;
+    let index = text_of(alloc, value, "i")?;
+    let by = names_of(alloc, value)?;
+    Ok(Command::Sort { table, index, by })
 }
 
 #[tactic(auto, unfolding(crate::specs::Meaning::get_of))]
@@ -244,6 +269,8 @@ fn shaped(alloc: Global, op: Op, value: &Json) -> Result<Command, CommandFault>
         Op::Replace => replace_of(alloc, value),
         Op::Erase => erase_of(alloc, value),
         Op::Move => move_of(alloc, value),
+        Op::Rearrange => rearrange_of(alloc, value),
+        Op::Sort => sort_of(alloc, value),
         Op::Get => get_of(alloc, value),
         Op::Nth => nth_of(alloc, value),
         Op::Place => place_of(alloc, value),

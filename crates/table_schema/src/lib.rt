@@ -19,5 +19,6 @@ pub use fault::SchemaFault;
 pub use key_extract::{KeySpec, Part, Text};
 pub use preset::builtin;
 pub use read::read_schema;
+pub use resolve::key_of_texts;
 pub use schema::Schema;
 pub use table::TableSpec;

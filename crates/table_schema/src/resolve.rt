@@ -120,8 +120,10 @@ fn resolved_key(columns: &[Column], key: &Option<Vec<Text>>) -> Option<Option<Ke
     }
 }
 
+/// The key whose parts the texts name: a column each, falling where a `-` stands before it. None where a text names no
+/// column. O(texts · columns).
 #[tactic(auto, using(crate::proofs::Trees::reads))]
-fn key_of_texts(columns: &[Column], texts: &[Text]) -> Option<KeySpec>
+pub fn key_of_texts(columns: &[Column], texts: &[Text]) -> Option<KeySpec>
     requires some { 1 ≤ length texts.now }
     requires few { length texts.now ≤ 4 }
     ensures { result ≡ all_of (map (part_of columns.now) texts.now) }

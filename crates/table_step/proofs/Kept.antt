@@ -7,7 +7,7 @@ use Rattle.container_model.specs.declared.refusal.Why.{Why}
 use Rattle.container_model.specs.Find.{nth, place as the_place, rank}
 use Rattle.container_model.specs.Change.{erase_key_refusal, erase_refusal, replace_refusal, spent}
 use Rattle.container_model.specs.Insert.{At}
-use Rattle.container_model.specs.Sequence.{relocate_refusal, sequence_refusal}
+use Rattle.container_model.specs.Sequence.{rearrange_refusal, relocate_refusal, sequence_refusal}
 use Rattle.container_model.specs.State.{State, row_of}
 use Rattle.table_cmd.specs.Answer.{Answer}
 use Rattle.table_cmd.specs.Command.{table_in}
@@ -29,12 +29,12 @@ use Rattle.table_step.specs.declared.search.Number.{Number}
 use Rattle.table_step.specs.declared.search.Number.TheVariants as numbers
 use Rattle.table_step.specs.declared.search.Search.{Search}
 use Rattle.table_step.specs.declared.search.Search.TheVariants as searches
-use Rattle.table_step.specs.Moves.{move_record, move_step, reverse_in, reverse_step}
+use Rattle.table_step.specs.Moves.{move_record, move_step, parts_named, rearrange_in, rearrange_step, reverse_in, reverse_step, sort_in, sort_step, spelled}
 use Rattle.table_step.specs.Positions.{walk_step, walked}
 use Rattle.table_step.specs.Reads.{count_probe, count_step, counted_by, find_probe, find_step, found_by, get_record, list_in}
 use Rattle.table_step.specs.Searches.{number_by, number_kinds, search_kinds, searched}
 use Rattle.table_step.specs.Step.{step_at, step_of}
-use Rattle.table_step.specs.Table.{TableState, Cells, Keys, Step, at_key, changed, handle_for, key_for, place_for, position_for, record_for, refused, row_order, then_step, told}
+use Rattle.table_step.specs.Table.{TableState, Cells, Keys, Step, at_key, changed, handle_for, key_for, or_fault, place_for, position_for, record_for, refused, row_order, then_step, told}
 
 -- the table is the same unless it was written to, and of the same shape
 pub record KeepsUnlessWritten (t : TableState) (step : Step) : Type 0 where
@@ -125,6 +125,18 @@ module _ (t : TableState) where
   unfolding move_record
   move_keeps name text place = after_keeps (record_for kinds.Sequence t.shape.indices name text) _ (λ at. changed_keeps (relocate_refusal t.records at.0 place at.1) _ _)
 
+  rearrange_keeps : (name : List ℕ) (texts : List HandleText) → KeepsUnlessWritten t (rearrange_step t name texts)
+  unfolding rearrange_in
+  rearrange_keeps name texts =
+      after_keeps (place_for kinds.Sequence t.shape.indices name) _ (λ index.
+      after_keeps (or_fault faults.Handle (spelled texts)) _ (λ handles. changed_keeps (rearrange_refusal t.records index handles) _ _))
+
+  sort_keeps : (name : List ℕ) (names : List (List ℕ)) → KeepsUnlessWritten t (sort_step t name names)
+  unfolding sort_in
+  sort_keeps name names =
+      after_keeps (place_for kinds.Sequence t.shape.indices name) _ (λ index.
+      after_keeps (or_fault faults.Key (parts_named t.shape.columns names)) _ (λ parts. changed_keeps (sequence_refusal t.records index) _ _))
+
   reverse_keeps : (name : List ℕ) → KeepsUnlessWritten t (reverse_step t name)
   unfolding reverse_in
   reverse_keeps name = after_keeps (place_for kinds.Sequence t.shape.indices name) _ (λ index. changed_keeps (sequence_refusal t.records index) _ _)
@@ -141,6 +153,8 @@ module _ (t : TableState) where
   at_keeps (commands.Clear table) = clear_keeps
   at_keeps (commands.Get table handle) = after_keeps (handle_for handle) _ get_keeps
   at_keeps (commands.Move table index handle place) = move_keeps index handle place
+  at_keeps (commands.Rearrange table index handles) = rearrange_keeps index handles
+  at_keeps (commands.Sort table index by) = sort_keeps index by
   at_keeps (commands.Reverse table index) = reverse_keeps index
   at_keeps (commands.Find table index key) = find_keeps searches.Find index key
   at_keeps (commands.Count table index key) = count_keeps numbers.Count index key

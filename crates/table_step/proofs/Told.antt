@@ -1,5 +1,5 @@
 -- Steps from what was told.
-use Rattle.std.proofs.Common.{◌≡◌, ℕ, ◌++◌, inl, inr, List, Option, Some, None, sym, subst, refl, ◌∙◌}
+use Rattle.std.proofs.Common.{◌≡◌, ℕ, ◌++◌, ◌⊎◌, inl, inr, List, Option, Some, None, ap, sym, subst, refl, ◌∙◌}
 use Rattle.std.specs.Prelude.{unwrap_or}
 use Rattle.container_model.specs.declared.refusal.Why.{Why}
 use Rattle.container_model.specs.declared.refusal.Why.TheVariants as whys
@@ -26,7 +26,8 @@ module _ (outcome : Outcome) (before after : List ℕ) (t : TableState) where
   refused_by_container why (inl told_it) = subst (λ o. Steps o before after t t (refused_by t why)) (sym told_it.0) (record { kind = refl; line = told_it.1; table = refl })
   refused_by_container why (inr no_memory) = steps_memory (refused_by t why) no_memory.0 no_memory.1
 
-  out_of_memory : (step : Step) (answer : Answer) → outcome ≡ outcomes.Memory → Answers outcome before after outcomes.Refusal answer → Steps outcome before after t t step
+  -- a call that was refused memory
+  pub out_of_memory : (step : Step) (answer : Answer) → outcome ≡ outcomes.Memory → Answers outcome before after outcomes.Refusal answer → Steps outcome before after t t step
   out_of_memory step answer e (inl told_it) = let k : outcomes.Memory ≡ outcomes.Refusal = sym e ∙ told_it.0 in cc
   out_of_memory step answer e (inr no_memory) = steps_memory step e no_memory.1
 
@@ -41,3 +42,13 @@ pub steps_unchanged : (outcome : Outcome) (before after : List ℕ) (shape : Tab
     Steps outcome before after (table_of shape old) (table_of shape new) (changed (table_of shape old) refusal answer records)
 steps_unchanged outcome before after shape old new refusal why answer records same why_is told =
     subst (λ s. Steps outcome before after (table_of shape s) (table_of shape new) (changed (table_of shape s) refusal answer records)) same (told refusal answer records why_is)
+
+-- and where memory may have been refused before
+pub steps_unchanged_or_memory : (outcome : Outcome) (before after : List ℕ) (shape : TableShape) (old new : State Keys Cells) (refusal : Option Why) (why : Why) (answer : Answer) (records : State Keys Cells) (early : Type 0) → new ≡ old → (Some why ≡ refusal) ⊎ ((why ≡ whys.Memory) × early) →
+    ((refusal : Option Why) → (reply : Answer) → (later : State Keys Cells) → why ≡ unwrap_or refusal whys.Memory → Steps outcome before after (table_of shape new) (table_of shape new) (changed (table_of shape new) refusal reply later)) →
+    (why ≡ whys.Memory → (step : Step) → Steps outcome before after (table_of shape new) (table_of shape new) step) →
+    Steps outcome before after (table_of shape old) (table_of shape new) (changed (table_of shape old) refusal answer records)
+steps_unchanged_or_memory outcome before after shape old new refusal why answer records early same (inl is) told memory =
+    steps_unchanged outcome before after shape old new refusal why answer records same (ap (λ o. unwrap_or o whys.Memory) is) told
+steps_unchanged_or_memory outcome before after shape old new refusal why answer records early same (inr is) told memory =
+    subst (λ s. Steps outcome before after (table_of shape s) (table_of shape new) (changed (table_of shape s) refusal answer records)) same (memory is.0 _)

@@ -11,7 +11,7 @@ use Rattle.table_step.specs.declared.positions.Walk.TheVariants as walks
 use Rattle.table_step.specs.declared.search.Number.TheVariants as numbers
 use Rattle.table_step.specs.declared.search.Search.TheVariants as searches
 use Rattle.table_step.specs.Changes.{clear_step, erase_key_step, erase_step, insert_step, replace_step}
-use Rattle.table_step.specs.Moves.{move_step, reverse_step}
+use Rattle.table_step.specs.Moves.{move_step, rearrange_step, reverse_step, sort_step}
 use Rattle.table_step.specs.Positions.{nth_step, place_step, rank_step, walk_step}
 use Rattle.table_step.specs.Reads.{count_step, find_step, get_step, list_step, size_step}
 use Rattle.table_step.specs.Table.{refused}
@@ -25,6 +25,8 @@ step_at t (commands.Erase table handle index) = erase_step t handle index
 step_at t (commands.EraseKey table index key) = erase_key_step t index key
 step_at t (commands.Clear table) = clear_step t
 step_at t (commands.Move table index handle place) = move_step t index handle place
+step_at t (commands.Rearrange table index handles) = rearrange_step t index handles
+step_at t (commands.Sort table index by) = sort_step t index by
 step_at t (commands.Reverse table index) = reverse_step t index
 step_at t (commands.Get table handle) = get_step t handle
 step_at t (commands.Size table) = size_step t

@@ -118,9 +118,12 @@ abbrev pub at_key : TableState → Kinds → List ℕ → List Value → (ℕ �
 at_key t kinds name values step = then_step t (key_for t.shape kinds name values) (λ key. step key.0 key.1)
 
 -- the handle that a text spells
+abbrev pub spelled_by : HandleText → Option Handle
+spelled_by (texts.Handle h) = Some h
+spelled_by texts.Bad = None
+
 abbrev pub handle_for : HandleText → Result Handle Fault
-handle_for (texts.Handle h) = Ok h
-handle_for texts.Bad = Err faults.Handle
+handle_for text = or_fault faults.Handle (spelled_by text)
 
 -- the position that is asked for: null is the end
 abbrev pub end_or_handle : Option HandleText → Result (Option Handle) Fault

@@ -1,10 +1,12 @@
 //! Texts that should spell handles.
 
-ghost use Rattle.std.specs.Prelude.{◌≡◌, ◌<◌, IfOk, length};
+ghost use Rattle.std.specs.Prelude.{◌≡◌, ◌<◌, IfOk, length, option_map};
+ghost use Rattle.table_step.specs.Moves.{spelled};
 ghost use Rattle.table_step.specs.Table.{end_or_handle, handle_for, position_for, record_for};
 
 use crate::indices::place_for;
 use crate::kinds::Kinds;
+use std::alloc::{AllocError, Global};
 use table_cmd::{Fault, Handle, HandleText};
 use table_schema::IndexSpec;
 
@@ -27,6 +29,23 @@ fn end_or_handle(text: Option<HandleText>) -> Result<Option<Handle>, Fault>
         Some(HandleText::Handle(handle)) => Ok(Some(handle)),
         Some(HandleText::Bad) => Err(Fault::Handle),
     }
+}
+
+/// The handles that texts spell, where each spells one.
+pub(crate) fn handles_for(
+    alloc: Global,
+    texts: &[HandleText],
+) -> Result<Option<Vec<Handle>>, AllocError>
+    ensures { IfOk result (λ handles. option_map (λ hs. hs.items) handles ≡ spelled texts.now) }
+{
+    let mut handles = Vec::with_capacity(alloc, texts.len())?;
+    for text in texts {
+        let HandleText::Handle(handle) = *text else {
+            return Ok(None);
+        };
+        handles.push(handle)?;
+    }
+    Ok(Some(handles))
 }
 
 /// The place of the index of a name, where it is of one of the kinds, and the handle that a text spells.

@@ -7,7 +7,7 @@ ghost use Rattle.container_model.specs.declared.refusal.Why.TheVariants as whys;
 ghost use Rattle.table_cmd.specs.Answer.{Answer};
 ghost use Rattle.table_cmd.specs.Buffer.{Keeps};
 ghost use Rattle.table_step.specs.Step.{IsShort, Steps};
-ghost use Rattle.table_step.specs.Table.{Cells, Keys, TableState, changed, refusal_answer, refused_by};
+ghost use Rattle.table_step.specs.Table.{Cells, Keys, Step, TableState, changed, refusal_answer, refused_by};
 ghost use Rattle.table_step.specs.Told.{Answers, table_of};
 
 use crate::indices::index_name;
@@ -29,6 +29,7 @@ pub(crate) fn tell_refusal(
     requires { READY_ROOM ≤ out.old.room }
     ensures answer { let t = table_of spec.now records.now in Steps result out.old.bytes out.new.bytes t t (refused_by t why) }
     ensures unchanged { let t = table_of spec.now records.now in (refusal : Option WhyValue) → (reply : Answer) → (after : State Keys Cells) → why ≡ unwrap_or refusal whys.Memory → Steps result out.old.bytes out.new.bytes t t (changed t refusal reply after) }
+    ensures memory { let t = table_of spec.now records.now in why ≡ whys.Memory → (step : Step) → Steps result out.old.bytes out.new.bytes t t step }
     ensures short { IsShort result out.old.bytes out.new.bytes }
     ensures kept { Keeps out.old out.new }
 {

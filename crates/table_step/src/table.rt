@@ -9,7 +9,7 @@ use crate::headings::headings_of;
 use crate::indices::{keys_of, specs_of};
 use crate::insert::insert;
 use crate::list::list;
-use crate::moves::{move_before, reverse};
+use crate::moves::{move_before, rearrange, reverse, sort};
 use crate::outcome::Outcome;
 use crate::positions::{Walk, neighbour, nth, place, rank};
 use crate::search::{Number, Search, count, find, size};
@@ -127,6 +127,21 @@ impl Table {
                 index.as_str(),
                 *handle,
                 *place,
+                out,
+            ),
+            Command::Rearrange { index, handles, .. } => rearrange(
+                self.alloc,
+                &self.spec,
+                &mut self.records,
+                index.as_str(),
+                handles.as_slice(),
+                out,
+            ),
+            Command::Sort { index, by, .. } => sort(
+                &self.spec,
+                &mut self.records,
+                index.as_str(),
+                by.as_slice(),
                 out,
             ),
             Command::Reverse { index, .. } => {

@@ -1,4 +1,4 @@
-use Rattle.std.proofs.Common.{◌≡◌, Some, None, Ok, Err, IsOkAnd, subst, arith}
+use Rattle.std.proofs.Common.{◌≡◌, Some, None, Err, IsOkAnd, subst, arith}
 use Rattle.table_cmd.proofs.Spelling.{split_spelling, number_read}
 use Rattle.table_cmd.proofs.handle.numbers_of.Goals as goal
 

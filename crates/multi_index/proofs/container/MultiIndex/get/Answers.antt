@@ -2,7 +2,7 @@ use Rattle.std.proofs.Common.{◌∙◌, ap, sym}
 use Rattle.container_model.specs.State.{row_of}
 use Rattle.index_set.specs.Set.{store_of}
 use Rattle.multi_index.proofs.LeadsTo.{row_of_live}
-use Rattle.multi_index.proofs.Replaced.{none_named}
+use Rattle.multi_index.proofs.Named.{none_seen}
 use Rattle.multi_index.proofs.container.MultiIndex.get.Goals as goal
 
 pub returns-in-Some-clause-row : goal.returns-in-Some-clause-row
@@ -15,4 +15,4 @@ returns-in-Some-clause-row g c =
 pub returns-in-None-clause-none : goal.returns-in-None-clause-none
 returns-in-None-clause-none g c =
     ap (λ s. row_of s.entries c.args.handle) (sym c.self.view_is)
-    ∙ none_named c.self.inside.set c.self.inside.slots.items c.self.invariant.linked c.args.handle (λ n at. c.node_at.ensures.none n c.in-None.is at)
+    ∙ none_seen c.self.inside.set c.self.inside.slots.items c.self.invariant.linked c.args.handle (λ n at. c.node_at.ensures.none n c.in-None.is at)

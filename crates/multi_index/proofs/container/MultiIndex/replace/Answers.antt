@@ -5,13 +5,15 @@ use Rattle.container_model.specs.Change.{replace_refusal}
 use Rattle.container_model.specs.State.{row_of}
 use Rattle.multi_index.specs.Seen.{seen}
 use Rattle.multi_index.proofs.HeldByAll.{held_by_all}
-use Rattle.multi_index.proofs.Replaced.{named, none_named, refused_stale, refused_live, not_banned, not_spent, next_write, IsContainer_replaced}
+use Rattle.multi_index.proofs.Named.{none_seen}
+use Rattle.multi_index.proofs.Replaced.{named, refused_stale, refused_live, not_banned, not_spent, IsContainer_replaced}
+use Rattle.multi_index.proofs.Shrunk.{next_number}
 use Rattle.multi_index.proofs.container.MultiIndex.replace.Goals as goal
 
 pub returns-in_default-clause-why : goal.returns-in_default-clause-why
 returns-in_default-clause-why g c =
     let order = g.E.Extract.order_of in
-    let none = none_named c.self.inside.set c.self.inside.slots.items c.self.invariant.linked c.args.handle (λ n at. c.node_at.ensures.none n c.in_default.is at) in
+    let none = none_seen c.self.inside.set c.self.inside.slots.items c.self.invariant.linked c.args.handle (λ n at. c.node_at.ensures.none n c.in_default.is at) in
     sym (ap (λ s. replace_refusal order s c.args.handle c.args.row) (sym c.self.view_is) ∙ refused_stale order (seen c.self.inside.set c.self.inside.max c.self.inside.writes) c.args.handle c.args.row none)
 
 pub keeps_out-requires-clause-node : goal.keeps_out-requires-clause-node
@@ -46,7 +48,7 @@ invariant_of-self g c =
     let put = c.rewrite.ensures in
     IsContainer_replaced g.E.Extract.order_of set c.rewrite.new.set c.args.handle c.args.row c.self.inside.max c.self.inside.writes put.same put.entries put.lists
     g.E.Extract.has_key g.E.Extract.hash_of c.self.inside.slots.items g.met.E.Extract.order_total name.entry.row name.row free.0 put.count
-    (next_write c.self.inside.writes c.self.invariant.numbered (not_spent _ free.1)) c.self.invariant put.linked
+    (next_number c.self.inside.writes c.self.invariant.numbered (not_spent _ free.1)) c.self.invariant put.linked
 
 pub returns-clause-old : goal.returns-clause-old
 returns-clause-old g c =

@@ -1,6 +1,5 @@
-use Rattle.std.proofs.Common.{◌≡◌, ◌<◌, ◌∙◌, true, false, length, Result, Ok, Err, ap, sym, subst, rules}
+use Rattle.std.proofs.Common.{◌≡◌, ◌<◌, ◌∙◌, true, false, length, Result, Ok, Err, ap, sym, subst}
 use Rattle.std.specs.Prelude.{IfOk}
-use Rattle.std.specs.Result.{is_ok, MatchResult}
 use Rattle.container_model.specs.declared.handle.Kind.TheVariants.{Sequenced}
 use Rattle.container_model.specs.declared.handle.Spec.{Spec}
 use Rattle.container_model.specs.State.{is_hashed_kind, list_at}
@@ -10,13 +9,8 @@ use Rattle.index_set.specs.Set.{store_of, specs_of}
 use Rattle.multi_index.specs.Seen.{seen}
 use Rattle.multi_index.proofs.Contents.{handles_by_age}
 use Rattle.multi_index.proofs.Indices.{index_here}
+use Rattle.multi_index.proofs.Places.{if_mapped}
 use Rattle.multi_index.proofs.container.MultiIndex.view.Goals as goal
-
--- what a success keeps where only an error is replaced
-if_mapped : {A B C : Type 0} (P : A → Type 0) (r : Result A B) (q : Result A C) (G : B → Type 0) → MatchResult r (λ x. q ≡ Ok x) G → is_ok q ≡ is_ok r → IfOk r P → IfOk q P
-if_mapped P (Ok x) q G cases same p = subst (λ z. IfOk z P) (sym cases) p
-if_mapped P (Err e) (Ok y) G cases same p = absurd (search rules)
-if_mapped P (Err e) (Err f) G cases same p = tt
 
 -- the items of a success are those of an equal list
 if_more : {B : Type 0} {A : Type 0} {X : Type 0} (items : A → X) {xs ys : X} (r : Result A B) → xs ≡ ys → IfOk r (λ a. items a ≡ xs) → IfOk r (λ a. items a ≡ ys)

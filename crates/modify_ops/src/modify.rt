@@ -1,0 +1,73 @@
+//! Changes of the record of a node.
+ghost use Rattle.std.specs.Prelude.{◌≡◌, ◌<◌, map, length, IsTrue, Some, None};
+ghost use Rattle.std.specs.Option.{option_map_or};
+ghost use Rattle.std.specs.declared.cmp.Ordering.TheVariants.{Equal};
+ghost use Rattle.list_model.specs.Walk.{without};
+ghost use Rattle.node_store.specs.ByNode.{same_node};
+ghost use Rattle.container_model.specs.State.{has_key_kind};
+ghost use Rattle.index_set.specs.Each.{changed_from};
+ghost use Rattle.index_set.specs.Indices.{HoldIt};
+ghost use Rattle.index_set.specs.Lists.{ban_from, settled_at};
+ghost use Rattle.index_set.specs.Set.{keys_of, specs_of, kind_at, contents, record_of, lists_of, with_record, IsSound, IsKeyed, IsKeyedBut, IsUniqueExcept, IsOfSame};
+
+use crate::edit::Edit;
+use index_set::IndexSet;
+use key_extract::Extract;
+use node_store::Node;
+
+/// Settles a node whose record was written in each index. Where another record has its key in a unique index, the node
+/// leaves every index, and the first such index is answered, with the node of that record. It takes no memory. O(log n) for
+/// each index, but O(the nodes behind it) to leave one with places.
+pub fn settle_or_leave<R, E: Extract<R>>(
+    set: &mut IndexSet<R, E>,
+    node: Node,
+) -> Option<(usize, Node)>
+    requires sound { IsSound E.has_key set.old }
+    requires held { HoldIt (lists_of set.old) node }
+    requires keyed { IsKeyedBut E.order_of E.hash_of set.old node }
+    requires unique { IsUniqueExcept E.order_of set.old (Some node) }
+    ensures ban { (r : R) → record_of set.old node ≡ Some r →
+        result ≡ ban_from (E.order_of (keys_of set.old)) (record_of set.old) (lists_of set.old) (Some node) r 0 (specs_of set.old) }
+    ensures lists { lists_of set.new ≡ option_map_or (λ by. map (without (same_node node)) (lists_of set.old)) result
+        (changed_from (settled_at (E.order_of (keys_of set.old)) (record_of set.old) node) 0 (specs_of set.old) (lists_of set.old)) }
+    ensures sound { IsSound E.has_key set.new }
+    ensures same { IsOfSame set.old set.new }
+    ensures contents { contents set.new ≡ contents set.old }
+    ensures keyed { IsKeyed E.order_of E.hash_of set.new }
+    ensures unique { IsUniqueExcept E.order_of set.new None }
+{
+    let banned = set.bans(set.get(node), Some(node));
+    if banned.is_some() {
+        set.leave(node);
+    } else {
+        set.settle(node);
+    }
+    banned
+}
+
+/// Changes the record of a node that stands in every index, and settles the node in each. Where another record has the new
+/// one's key in a unique index, the node leaves every index, and the first such index is answered, with the node of that
+/// record. It takes no memory. O(log n) for each index, but O(the nodes behind it) to leave one with places.
+pub fn modify_node<R, E: Extract<R>, T: Edit<R>>(
+    set: &mut IndexSet<R, E>,
+    node: Node,
+    edit: &mut T,
+) -> Option<(usize, Node)>
+    requires sound { IsSound E.has_key set.old }
+    requires held { HoldIt (lists_of set.old) node }
+    requires keyed { IsKeyed E.order_of E.hash_of set.old }
+    requires unique { IsUniqueExcept E.order_of set.old None }
+    ensures edit { (r : R) → record_of set.old node ≡ Some r → edit.new ≡ T.after_apply edit.old r }
+    ensures ban { (r : R) → record_of set.old node ≡ Some r →
+        result ≡ ban_from (E.order_of (keys_of set.old)) (record_of set.old) (lists_of set.old) (Some node) (T.applied edit.old r) 0 (specs_of set.old) }
+    ensures contents { (r : R) → record_of set.old node ≡ Some r → contents set.new ≡ contents (with_record set.old node (T.applied edit.old r)) }
+    ensures lists { lists_of set.new ≡ option_map_or (λ by. map (without (same_node node)) (lists_of set.old)) result
+        (changed_from (settled_at (E.order_of (keys_of set.old)) (record_of set.new) node) 0 (specs_of set.old) (lists_of set.old)) }
+    ensures sound { IsSound E.has_key set.new }
+    ensures same { IsOfSame set.old set.new }
+    ensures keyed { IsKeyed E.order_of E.hash_of set.new }
+    ensures unique { IsUniqueExcept E.order_of set.new None }
+{
+    edit.apply(set.get_mut(node));
+    settle_or_leave(set, node)
+}
