@@ -1,8 +1,11 @@
 //! The container and its first version, side by side.
 ghost use Rattle.std.specs.Prelude.{◌≡◌, ◌<◌, IsTrue, is_some, length};
-ghost use Rattle.container_model.specs.State.{KeysMatch, has_key_kind, is_hashed_kind};
+ghost use Rattle.container_model.specs.State.{KeysMatch, has_key_kind, is_hashed_kind, is_sorted_kind, is_ranked_kind};
 ghost use Rattle.container_model.specs.Find.{kind_at};
 ghost use Rattle.key_extract.specs.Keys.{key_at, parts_at, probe_fits, probe_is_whole};
+
+mod changes;
+mod reads;
 
 use crate::indices::Indices;
 use crate::plain::PlainIndex;
@@ -10,6 +13,7 @@ use crate::tally::Tally;
 use container_model::{Handle, Kind, Refused, Spec, Why};
 use key_extract::{Extract, Probe, Row, RowKeys};
 use multi_index::MultiIndex;
+pub(crate) use reads::{Search, Step};
 use std::alloc::{AllocError, Global};
 use std::marker::Model;
 
@@ -19,7 +23,7 @@ pub(crate) struct Pair {
     keys: RowKeys,
     specs: Vec<Spec>,
     container: MultiIndex<Row, RowKeys>,
-    plain: PlainIndex<Row, RowKeys>,
+    plain: PlainIndex,
 }
 
 impl Model for Pair {
@@ -114,6 +118,13 @@ impl Pair {
         }))
     }
 
+    /// How many indices there are.
+    pub(crate) fn indices(&self) -> usize
+        ensures { result ≡ length self.now.specs }
+    {
+        self.specs.len()
+    }
+
     pub(crate) fn len(&self) -> u64 {
         self.plain.len()
     }
@@ -191,30 +202,12 @@ impl Pair {
         tally.call(wanted.err(), same);
     }
 
-    /// Compares the first records that have the key, where the index can be searched by it.
-    pub(crate) fn find(&self, index: usize, probe: &Probe, tally: &mut Tally) {
-        if self.may_search(index, probe) {
-            let wanted = self.plain.find(index, probe);
-            tally.search(matches!(wanted, Ok(Some(_))));
-            let same = self.container.find(index, probe) == wanted;
-            tally.call(wanted.err(), same);
-        }
-    }
-
-    /// Compares how many records have the key, where the index can be searched by it.
-    pub(crate) fn count(&self, index: usize, probe: &Probe, tally: &mut Tally) {
-        if self.may_search(index, probe) {
-            let wanted = self.plain.count(index, probe);
-            tally.search(matches!(wanted, Ok(1..)));
-            let same = self.container.count(index, probe) == wanted;
-            tally.call(wanted.err(), same);
-        }
-    }
-
     // Whether the index can be searched by the probe; one that has no key refuses each.
     fn may_search(&self, index: usize, probe: &Probe) -> bool
         ensures in_range { IsTrue result → index < length self.now.specs }
         ensures fits { IsTrue result → IsTrue (has_key_kind (kind_at self.now index)) → IsTrue (probe_fits (parts_at self.now.keys index) probe.now) }
+        ensures sorted { IsTrue result → IsTrue (is_sorted_kind (kind_at self.now index)) → IsTrue (probe_fits (parts_at self.now.keys index) probe.now) }
+        ensures ranked { IsTrue result → IsTrue (is_ranked_kind (kind_at self.now index)) → IsTrue (probe_fits (parts_at self.now.keys index) probe.now) }
         ensures whole { IsTrue result → IsTrue (is_hashed_kind (kind_at self.now index)) → IsTrue (probe_is_whole (parts_at self.now.keys index) probe.now) }
     {
         if index >= self.specs.len() {

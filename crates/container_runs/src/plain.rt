@@ -1,29 +1,32 @@
 //! The container's first version, over plain lists: a reference that shares no code with the container. It looks at
 //! every record, and asks at run time for what the container's contracts promise.
 
+mod changes;
+mod positions;
 mod scan;
 
 use container_model::{Entry, Handle, Kind, Refused, Spec, Why};
-use key_extract::Extract;
-use scan::{count_equal, first_equal, first_same, upper_place};
+use key_extract::{Extract, Probe, Row, RowKeys};
+use scan::{count_sided, entry_of, first_equal, first_same, upper_place};
 use std::alloc::{AllocError, Global};
+use std::cmp::Ordering;
 
-/// Records under several indices, each of which is a list of all handles.
+/// Records under several indices, each of which is a list of all handles. The entries are numbered by their slots.
 #[derive(Drop)]
-pub(crate) struct PlainIndex<R: Drop, E: Extract<R> + Drop> {
-    keys: E,
+pub(crate) struct PlainIndex {
+    keys: RowKeys,
     specs: Vec<Spec>,
     max: u32,
     writes: u64,
-    entries: Vec<Entry<R>>,
+    entries: Vec<Option<Entry<Row>>>,
     lists: Vec<Vec<Handle>>,
 }
 
-impl<R: Drop, E: Extract<R> + Drop> PlainIndex<R, E> {
+impl PlainIndex {
     pub(crate) fn new(
         alloc: Global,
         specs: Vec<Spec>,
-        keys: E,
+        keys: RowKeys,
         max: u32,
         first_write: u64,
     ) -> Result<Self, AllocError> {
@@ -42,18 +45,18 @@ impl<R: Drop, E: Extract<R> + Drop> PlainIndex<R, E> {
     }
 
     pub(crate) fn len(&self) -> u64 {
-        self.entries.len() as u64
+        self.view(0).len() as u64
     }
 
     pub(crate) fn is_empty(&self) -> bool {
-        self.entries.is_empty()
+        self.view(0).is_empty()
     }
 
     pub(crate) fn writes(&self) -> u64 {
         self.writes
     }
 
-    pub(crate) fn insert(&mut self, row: R) -> Result<Handle, Refused<R>> {
+    pub(crate) fn insert(&mut self, row: Row) -> Result<Handle, Refused<Row>> {
         match self.insert_refusal(&row) {
             Some(why) => Err(refused(why, row)),
             None => self.put(None, row),
@@ -64,29 +67,36 @@ impl<R: Drop, E: Extract<R> + Drop> PlainIndex<R, E> {
         &mut self,
         index: usize,
         place: u64,
-        row: R,
-    ) -> Result<Handle, Refused<R>> {
+        row: Row,
+    ) -> Result<Handle, Refused<Row>> {
         match self.insert_at_refusal(index, place, &row) {
             Some(why) => Err(refused(why, row)),
             None => self.put(Some((index, place)), row),
         }
     }
 
-    pub(crate) fn get(&self, handle: Handle) -> Result<&R, Why> {
-        match self.entries.get(handle.slot as usize) {
-            Some(entry) if entry.handle == handle => Ok(&entry.row),
-            _ => Err(Why::Stale),
+    pub(crate) fn get(&self, handle: Handle) -> Result<&Row, Why> {
+        match entry_of(&self.entries, handle) {
+            Some(entry) => Ok(&entry.row),
+            None => Err(Why::Stale),
         }
     }
 
-    pub(crate) fn find(&self, index: usize, probe: &E::Probe) -> Result<Option<Handle>, Why> {
+    pub(crate) fn find(&self, index: usize, probe: &Probe) -> Result<Option<Handle>, Why> {
         let list = self.keyed_list(index)?;
         Ok(first_equal(&self.keys, index, &self.entries, list, probe))
     }
 
-    pub(crate) fn count(&self, index: usize, probe: &E::Probe) -> Result<u64, Why> {
+    pub(crate) fn count(&self, index: usize, probe: &Probe) -> Result<u64, Why> {
         let list = self.keyed_list(index)?;
-        Ok(count_equal(&self.keys, index, &self.entries, list, probe))
+        Ok(count_sided(
+            &self.keys,
+            index,
+            &self.entries,
+            list,
+            probe,
+            Ordering::Equal,
+        ))
     }
 
     pub(crate) fn view(&self, index: usize) -> &[Handle] {
@@ -110,12 +120,22 @@ impl<R: Drop, E: Extract<R> + Drop> PlainIndex<R, E> {
         }
     }
 
+    // The least slot that no record has.
+    fn free_slot(&self) -> usize {
+        for (slot, entry) in self.entries.iter().enumerate() {
+            if entry.is_none() {
+                return slot;
+            }
+        }
+        self.entries.len()
+    }
+
     // Puts a record in that nothing keeps out: where it is asked for, and elsewhere at its usual places.
-    fn put(&mut self, at: Option<(usize, u64)>, row: R) -> Result<Handle, Refused<R>> {
+    fn put(&mut self, at: Option<(usize, u64)>, row: Row) -> Result<Handle, Refused<Row>> {
         let Some(stamp) = self.writes.checked_add(1) else {
             return Err(refused(Why::Spent, row));
         };
-        let Ok(slot) = u32::try_from(self.entries.len()) else {
+        let Ok(slot) = u32::try_from(self.free_slot()) else {
             return Err(refused(Why::Full, row));
         };
         let handle = Handle { slot, stamp };
@@ -126,9 +146,24 @@ impl<R: Drop, E: Extract<R> + Drop> PlainIndex<R, E> {
             }
         }
         self.writes = stamp;
-        match self.entries.push(Entry { handle, row }) {
-            Ok(()) => Ok(handle),
-            Err(failed) => Err(refused(Why::Memory, failed.value.row)),
+        self.keep(Entry { handle, row })
+    }
+
+    // Keeps an entry at its slot.
+    fn keep(&mut self, entry: Entry<Row>) -> Result<Handle, Refused<Row>> {
+        let handle = entry.handle;
+        match self.entries.get_mut(handle.slot as usize) {
+            Some(place) => {
+                *place = Some(entry);
+                Ok(handle)
+            }
+            None => match self.entries.push(Some(entry)) {
+                Ok(()) => Ok(handle),
+                Err(_) => Err(Refused {
+                    why: Why::Memory,
+                    row: None,
+                }),
+            },
         }
     }
 
@@ -140,20 +175,21 @@ impl<R: Drop, E: Extract<R> + Drop> PlainIndex<R, E> {
     }
 
     // Where a new record goes in an index's list.
-    fn entry_place(&self, index: usize, at: Option<(usize, u64)>, row: &R) -> usize {
+    fn entry_place(&self, index: usize, at: Option<(usize, u64)>, row: &Row) -> usize {
+        let list = self.view(index);
         match self.kind(index) {
             Kind::Ordered | Kind::Ranked => {
-                upper_place(&self.keys, index, &self.entries, self.view(index), row)
+                upper_place(&self.keys, index, &self.entries, list, row)
             }
-            Kind::Hashed => self.entries.len(),
+            Kind::Hashed => list.len(),
             Kind::Sequenced | Kind::Random => match at {
                 Some((asked, place)) if asked == index => place as usize,
-                _ => self.entries.len(),
+                _ => list.len(),
             },
         }
     }
 
-    fn insert_at_refusal(&self, index: usize, place: u64, row: &R) -> Option<Why> {
+    fn insert_at_refusal(&self, index: usize, place: u64, row: &Row) -> Option<Why> {
         match self.kind(index) {
             Kind::Ordered | Kind::Ranked | Kind::Hashed => Some(Why::Kind),
             Kind::Sequenced | Kind::Random => if place > self.len() {
@@ -164,25 +200,30 @@ impl<R: Drop, E: Extract<R> + Drop> PlainIndex<R, E> {
         }
     }
 
-    fn insert_refusal(&self, row: &R) -> Option<Why> {
-        if let Some((index, by)) = self.first_ban(row) {
+    fn insert_refusal(&self, row: &Row) -> Option<Why> {
+        if let Some((index, by)) = self.first_ban(row, None) {
             return Some(Why::Banned { index, by });
         }
         if self.len() == u64::from(self.max) {
             return Some(Why::Full);
         }
-        if self.writes == u64::MAX {
-            return Some(Why::Spent);
-        }
-        None
+        self.spent()
     }
 
-    // The first unique index in which a record has the row's key, with that record.
-    fn first_ban(&self, row: &R) -> Option<(usize, Handle)> {
+    fn spent(&self) -> Option<Why> {
+        if self.writes == u64::MAX {
+            Some(Why::Spent)
+        } else {
+            None
+        }
+    }
+
+    // The first unique index in which a record other than the excepted one has the row's key, with that record.
+    fn first_ban(&self, row: &Row, except: Option<Handle>) -> Option<(usize, Handle)> {
         for (index, spec) in self.specs.iter().enumerate() {
             if spec.unique {
                 let list = self.view(index);
-                if let Some(by) = first_same(&self.keys, index, &self.entries, list, row) {
+                if let Some(by) = first_same(&self.keys, index, &self.entries, list, row, except) {
                     return Some((index, by));
                 }
             }
@@ -191,7 +232,7 @@ impl<R: Drop, E: Extract<R> + Drop> PlainIndex<R, E> {
     }
 }
 
-fn refused<R>(why: Why, row: R) -> Refused<R> {
+fn refused(why: Why, row: Row) -> Refused<Row> {
     Refused {
         why,
         row: Some(row),

@@ -1,9 +1,11 @@
 //! Drawn scripts.
+ghost use Rattle.std.specs.Prelude.{◌<◌, length};
 
 use crate::draw::Draw;
 use crate::indices::Indices;
-use crate::pair::Pair;
+use crate::pair::{Pair, Search, Step};
 use crate::tally::Tally;
+use key_extract::Probe;
 use std::alloc::{AllocError, Global};
 
 // How many records the containers may have, most often more than a script puts in.
@@ -60,6 +62,7 @@ pub(crate) fn run_script(
     Ok(())
 }
 
+// Draws a call and makes it on both containers.
 fn call(
     alloc: Global,
     indices: &Indices,
@@ -70,35 +73,101 @@ fn call(
 ) -> Result<(), AllocError> {
     let count = u32::try_from(indices.specs.len()).unwrap_or(0);
     let index = draw.below(count) as usize;
+    if index >= pair.indices() {
+        return Ok(());
+    }
     match draw.below(16) {
-        0..=4 => pair.insert(None, &draw.row(alloc, range)?, tally),
-        5..=7 => {
+        0..=3 => pair.insert(None, &draw.row(alloc, range)?, tally),
+        4..=5 => {
             let place = drawn_place(draw, pair.len());
             pair.insert(Some((index, place)), &draw.row(alloc, range)?, tally)
         }
-        8..=13 => {
-            let key = match indices.keys.get(index) {
-                Some(key) => key.as_ref(),
-                None => None,
-            };
-            let probe = draw.probe(alloc, key, range)?;
-            if draw.once_in(2) {
-                pair.find(index, &probe, tally);
-            } else {
-                pair.count(index, &probe, tally);
+        6..=7 => {
+            let handle = draw.handle(pair.handles());
+            pair.replace(handle, &draw.row(alloc, range)?, tally)
+        }
+        8 => {
+            change(draw, index, pair, tally);
+            Ok(())
+        }
+        9 => {
+            let probe = drawn_probe(alloc, indices, draw, range, index)?;
+            if draw.once_in(4) {
+                pair.erase_key(index, &probe, tally);
             }
             Ok(())
         }
-        14 => {
-            let handle = draw.handle(pair.handles());
-            pair.get(handle, tally);
+        10..=13 => {
+            let probe = drawn_probe(alloc, indices, draw, range, index)?;
+            pair.search(drawn_search(draw), index, &probe, tally);
             Ok(())
         }
         _ => {
-            pair.sizes(tally);
+            read(draw, index, pair, tally);
             Ok(())
         }
     }
+}
+
+// Draws a change of a record or of a sequence.
+fn change(draw: &mut Draw, index: usize, pair: &mut Pair, tally: &mut Tally)
+    requires { index < length pair.old.specs }
+{
+    let handle = draw.handle(pair.handles());
+    match draw.below(32) {
+        0..=9 => pair.erase(handle, Some(index), tally),
+        10..=13 => pair.erase(handle, None, tally),
+        14..=26 => {
+            let place = drawn_place(draw, pair.len());
+            pair.relocate(index, place, handle, tally);
+        }
+        27..=30 => pair.reverse(index, tally),
+        _ => pair.clear(tally),
+    }
+}
+
+// Draws a question about a record, a place or the sizes.
+fn read(draw: &mut Draw, index: usize, pair: &Pair, tally: &mut Tally)
+    requires { index < length pair.now.specs }
+{
+    let handle = draw.handle(pair.handles());
+    let position = if draw.once_in(8) { None } else { Some(handle) };
+    match draw.below(8) {
+        0 => pair.get(handle, tally),
+        1 => pair.sizes(tally),
+        2 => pair.nth(index, drawn_place(draw, pair.len()), tally),
+        3 => pair.place_of(index, handle, tally),
+        4 => pair.step(Step::Rank, index, position, tally),
+        5 | 6 => pair.step(Step::Next, index, position, tally),
+        _ => pair.step(Step::Prev, index, position, tally),
+    }
+}
+
+fn drawn_search(draw: &mut Draw) -> Search {
+    match draw.below(7) {
+        0 => Search::Find,
+        1 => Search::Count,
+        2 => Search::Lower,
+        3 => Search::Upper,
+        4 => Search::FindRank,
+        5 => Search::LowerRank,
+        _ => Search::UpperRank,
+    }
+}
+
+// A search by the key of an index.
+fn drawn_probe(
+    alloc: Global,
+    indices: &Indices,
+    draw: &mut Draw,
+    range: u32,
+    index: usize,
+) -> Result<Probe, AllocError> {
+    let key = match indices.keys.get(index) {
+        Some(key) => key.as_ref(),
+        None => None,
+    };
+    draw.probe(alloc, key, range)
 }
 
 // A place of a sequence of so many, its end, or one past it.

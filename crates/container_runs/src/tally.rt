@@ -9,6 +9,7 @@ pub(crate) struct Tally {
     scripts: u64,
     calls: u64,
     inserted: u64,
+    changed: u64,
     found: u64,
     kind: u64,
     stale: u64,
@@ -38,6 +39,13 @@ impl Tally {
     pub(crate) fn insertion(&mut self, inserted: bool) {
         if inserted {
             self.inserted = self.inserted.wrapping_add(1);
+        }
+    }
+
+    /// Counts another change, where it was one.
+    pub(crate) fn change(&mut self, changed: bool) {
+        if changed {
+            self.changed = self.changed.wrapping_add(1);
         }
     }
 
@@ -71,6 +79,7 @@ impl Tally {
         self.scripts = self.scripts.wrapping_add(more.scripts);
         self.calls = self.calls.wrapping_add(more.calls);
         self.inserted = self.inserted.wrapping_add(more.inserted);
+        self.changed = self.changed.wrapping_add(more.changed);
         self.found = self.found.wrapping_add(more.found);
         self.kind = self.kind.wrapping_add(more.kind);
         self.stale = self.stale.wrapping_add(more.stale);
@@ -88,10 +97,11 @@ impl Tally {
 
     pub(crate) fn print(&self, rt: &HostRuntime, group: &str) -> io::Result<()> {
         println!(rt;
-            "{group}: {} scripts, {} calls: {} inserted, {} found; refused: {} kind, {} stale, {} place, {} banned, {} full, {} spent, {} others; {} differences",
+            "{group}: {} scripts, {} calls: {} inserted, {} changed, {} found; refused: {} kind, {} stale, {} place, {} banned, {} full, {} spent, {} others; {} differences",
             self.scripts,
             self.calls,
             self.inserted,
+            self.changed,
             self.found,
             self.kind,
             self.stale,
