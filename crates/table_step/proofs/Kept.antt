@@ -9,7 +9,7 @@ use Rattle.container_model.specs.Change.{erase_key_refusal, erase_refusal, repla
 use Rattle.container_model.specs.Insert.{At}
 use Rattle.container_model.specs.Sequence.{rearrange_refusal, relocate_refusal, sequence_refusal}
 use Rattle.container_model.specs.State.{State, row_of}
-use Rattle.table_cmd.specs.Answer.{Answer}
+use Rattle.table_reply.specs.Answer.{Answer}
 use Rattle.table_cmd.specs.Command.{table_in}
 use Rattle.table_cmd.specs.declared.command.Command.{Command}
 use Rattle.table_cmd.specs.declared.command.Command.TheVariants as commands
@@ -17,8 +17,8 @@ use Rattle.table_cmd.specs.declared.command.Field.{Field}
 use Rattle.table_cmd.specs.declared.command.HandleText.{HandleText}
 use Rattle.table_cmd.specs.declared.command.Position.{Position}
 use Rattle.table_cmd.specs.declared.command.Value.{Value}
-use Rattle.table_cmd.specs.declared.fault.Fault.{Fault}
-use Rattle.table_cmd.specs.declared.fault.Fault.TheVariants as faults
+use Rattle.table_reply.specs.declared.fault.Fault.{Fault}
+use Rattle.table_reply.specs.declared.fault.Fault.TheVariants as faults
 use Rattle.table_step.specs.declared.kinds.Kinds.{Kinds}
 use Rattle.table_step.specs.declared.kinds.Kinds.TheVariants as kinds
 use Rattle.table_step.specs.declared.outcome.Outcome.TheVariants as outcomes

@@ -4,7 +4,7 @@ use Rattle.std.specs.Prelude.{slice_get, option_map, option_and_then, IsTrue}
 use Rattle.container_model.specs.State.{is_hashed_kind}
 use Rattle.key_extract.specs.Keys.{parts_at, probe_fits, probe_is_whole}
 use Rattle.table_cmd.specs.declared.command.Value.{Value}
-use Rattle.table_cmd.specs.declared.fault.Fault.TheVariants as faults
+use Rattle.table_reply.specs.declared.fault.Fault.TheVariants as faults
 use Rattle.table_schema.specs.declared.column.IndexSpec.{IndexSpec}
 use Rattle.table_schema.specs.Shape.{TableShape}
 use Rattle.table_step.specs.declared.kinds.Kinds.{Kinds}

@@ -4,7 +4,7 @@ use Rattle.std.specs.Prelude.{unwrap_or}
 use Rattle.container_model.specs.declared.refusal.Why.{Why}
 use Rattle.container_model.specs.declared.refusal.Why.TheVariants as whys
 use Rattle.container_model.specs.State.{State}
-use Rattle.table_cmd.specs.Answer.{Answer, answer_text}
+use Rattle.table_reply.specs.Answer.{Answer, answer_text}
 use Rattle.table_schema.specs.Shape.{TableShape}
 use Rattle.table_step.specs.declared.outcome.Outcome.{Outcome}
 use Rattle.table_step.specs.declared.outcome.Outcome.TheVariants as outcomes

@@ -8,8 +8,8 @@ use Rattle.table_cmd.specs.declared.command.Field.{Field}
 use Rattle.table_cmd.specs.declared.command.HandleText.{HandleText}
 use Rattle.table_cmd.specs.declared.command.Position.{Position}
 use Rattle.table_cmd.specs.declared.command.Value.{Value}
-use Rattle.table_cmd.specs.declared.fault.Fault.TheVariants as faults
-use Rattle.table_cmd.specs.Answer.{Answer, after, counted, done, found}
+use Rattle.table_reply.specs.declared.fault.Fault.TheVariants as faults
+use Rattle.table_reply.specs.Answer.{Answer, after, counted, done, found}
 use Rattle.table_step.specs.declared.kinds.Kinds.TheVariants as kinds
 use Rattle.table_step.specs.Table.{TableState, Cells, Step, at_key, changed, handle_for, or_fault, place_for, probe_order, row_order, then_step}
 use Rattle.table_step.specs.Values.{row_from}

@@ -5,8 +5,8 @@ use Rattle.container_model.specs.Sequence.{rearrange_refusal, relocate_refusal, 
 use Rattle.key_extract.specs.declared.key.Part.{Part}
 use Rattle.key_extract.specs.Keys.{key_cmp}
 use Rattle.table_cmd.specs.declared.command.HandleText.{HandleText}
-use Rattle.table_cmd.specs.declared.fault.Fault.TheVariants as faults
-use Rattle.table_cmd.specs.Answer.{done}
+use Rattle.table_reply.specs.declared.fault.Fault.TheVariants as faults
+use Rattle.table_reply.specs.Answer.{done}
 use Rattle.table_schema.specs.declared.column.Column.{Column}
 use Rattle.table_schema.specs.Draft.{all_of}
 use Rattle.table_schema.specs.Resolved.{part_of}

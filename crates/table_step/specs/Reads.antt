@@ -4,10 +4,10 @@ use Rattle.std.specs.Option.{option_map_or}
 use Rattle.container_model.specs.declared.handle.Handle.{Handle}
 use Rattle.container_model.specs.declared.refusal.Why.{Why}
 use Rattle.container_model.specs.State.{row_of, list_at}
-use Rattle.table_cmd.specs.Answer.{found, counted, listed, shown, Listed, named}
+use Rattle.table_reply.specs.Answer.{found, counted, listed, shown, Listed, named}
 use Rattle.table_cmd.specs.declared.command.HandleText.{HandleText}
 use Rattle.table_cmd.specs.declared.command.Value.{Value}
-use Rattle.table_cmd.specs.declared.fault.Fault.TheVariants as faults
+use Rattle.table_reply.specs.declared.fault.Fault.TheVariants as faults
 use Rattle.table_step.specs.declared.kinds.Kinds.TheVariants as kinds
 use Rattle.table_step.specs.declared.search.Number.{Number}
 use Rattle.table_step.specs.declared.search.Search.{Search}

@@ -2,9 +2,9 @@
 use Rattle.std.specs.Prelude.{◌≡◌, ℕ, ◌+◌, ◌≤◌, if◌then◌else◌, List, length, ◌++◌, bytes_eq}
 use Rattle.table_cmd.specs.declared.command.Command.{Command}
 use Rattle.table_cmd.specs.declared.command.Command.TheVariants as commands
-use Rattle.table_cmd.specs.declared.fault.Fault.TheVariants as faults
+use Rattle.table_reply.specs.declared.fault.Fault.TheVariants as faults
 use Rattle.table_cmd.specs.Command.{table_in}
-use Rattle.table_cmd.specs.Answer.{fault, answer_text}
+use Rattle.table_reply.specs.Answer.{fault, answer_text}
 use Rattle.table_step.specs.declared.outcome.Outcome.{Outcome}
 use Rattle.table_step.specs.declared.outcome.Outcome.TheVariants as outcomes
 use Rattle.table_step.specs.declared.positions.Walk.TheVariants as walks

@@ -13,10 +13,10 @@ use Rattle.key_extract.specs.Keys.{parts_at, key_cmp, probe_cmp}
 use Rattle.table_cmd.specs.declared.command.HandleText.{HandleText}
 use Rattle.table_cmd.specs.declared.command.HandleText.TheVariants as texts
 use Rattle.table_cmd.specs.declared.command.Value.{Value}
-use Rattle.table_cmd.specs.declared.fault.Fault.{Fault}
-use Rattle.table_cmd.specs.declared.fault.Fault.TheVariants as faults
-use Rattle.table_cmd.specs.Answer.{Answer, banned, fault}
-use Rattle.table_cmd.specs.declared.reply.Heading.{Heading}
+use Rattle.table_reply.specs.declared.fault.Fault.{Fault}
+use Rattle.table_reply.specs.declared.fault.Fault.TheVariants as faults
+use Rattle.table_reply.specs.Answer.{Answer, banned, fault}
+use Rattle.table_reply.specs.declared.reply.Heading.{Heading}
 use Rattle.table_schema.specs.declared.column.IndexSpec.{IndexSpec}
 use Rattle.table_schema.specs.Shape.{TableShape}
 use Rattle.table_step.specs.declared.kinds.Kinds.{Kinds}

@@ -5,8 +5,8 @@ use Rattle.container_model.specs.declared.handle.Entry.{Entry}
 use Rattle.container_model.specs.Find.{kind_at}
 use Rattle.container_model.specs.State.{State, row_of, is_hashed_kind}
 use Rattle.key_extract.specs.Keys.{parts_at, probe_fits, probe_is_whole}
-use Rattle.table_cmd.specs.declared.reply.Record.{Record}
-use Rattle.table_cmd.specs.Answer.{Answer, answer_text}
+use Rattle.table_reply.specs.declared.reply.Record.{Record}
+use Rattle.table_reply.specs.Answer.{Answer, answer_text}
 use Rattle.table_schema.specs.Shape.{TableShape}
 use Rattle.table_step.specs.declared.outcome.Outcome.{Outcome}
 use Rattle.table_step.specs.declared.outcome.Outcome.TheVariants as outcomes

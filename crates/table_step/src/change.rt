@@ -2,7 +2,7 @@
 
 ghost use Rattle.std.specs.Prelude.{◌≡◌, ◌≤◌, ◌<◌, IfSome, length};
 ghost use Rattle.std.specs.Option.{option_copied};
-ghost use Rattle.table_cmd.specs.Buffer.{Keeps};
+ghost use Rattle.table_reply.specs.Buffer.{Keeps};
 ghost use Rattle.table_step.specs.Changes.{clear_step, erase_key_step, erase_probe, erase_record, erase_step, erase_text, replace_row, replace_step};
 ghost use Rattle.table_step.specs.Step.{IsShort, Steps};
 ghost use Rattle.table_step.specs.Told.{HasIndices, IsKeyAt, table_of};
@@ -19,7 +19,8 @@ use container_model::Handle;
 use key_extract::{Probe, Row, RowKeys, Text};
 use multi_index::MultiIndex;
 use std::alloc::Global;
-use table_cmd::{Fault, Field, HandleText, Out, READY_ROOM, Value};
+use table_cmd::{Field, HandleText, Value};
+use table_reply::{Fault, Out, READY_ROOM};
 use table_schema::TableSpec;
 
 /// Puts the row of the fields in the place of the row of a record.

@@ -7,7 +7,8 @@ ghost use Rattle.table_step.specs.Table.{end_or_handle, handle_for, position_for
 use crate::indices::place_for;
 use crate::kinds::Kinds;
 use std::alloc::{AllocError, Global};
-use table_cmd::{Fault, Handle, HandleText};
+use table_cmd::{Handle, HandleText};
+use table_reply::Fault;
 use table_schema::IndexSpec;
 
 /// The handle that a text spells.

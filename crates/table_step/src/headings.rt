@@ -7,7 +7,7 @@ ghost use Rattle.list_model.specs.Place.{not_above};
 ghost use Rattle.table_step.specs.Headings.{headings_of};
 
 use std::alloc::{AllocError, Global};
-use table_cmd::Heading;
+use table_reply::Heading;
 use table_schema::Column;
 
 // How many headings do not come after the name.

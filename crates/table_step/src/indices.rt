@@ -9,7 +9,7 @@ use crate::kinds::Kinds;
 use container_model::Spec;
 use key_extract::RowKeys;
 use std::alloc::{AllocError, Global};
-use table_cmd::Fault;
+use table_reply::Fault;
 use table_schema::{IndexSpec, TableSpec};
 
 /// The keys of the indices in their order.

@@ -4,7 +4,7 @@ ghost use Rattle.std.specs.Prelude.{◌≡◌, ◌≤◌, ◌<◌, None, IfErr, 
 ghost use Rattle.std.specs.Option.{option_copied};
 ghost use Rattle.container_model.specs.Insert.{new_handle, with_inserted};
 ghost use Rattle.container_model.specs.declared.refusal.Why.TheVariants as whys;
-ghost use Rattle.table_cmd.specs.Buffer.{Keeps};
+ghost use Rattle.table_reply.specs.Buffer.{Keeps};
 ghost use Rattle.table_step.specs.Changes.{insert_fields, insert_row, insert_step, refusal_at};
 ghost use Rattle.table_step.specs.Step.{IsShort, Steps};
 ghost use Rattle.table_step.specs.Table.{row_order};
@@ -20,7 +20,8 @@ use container_model::{Handle, Why};
 use key_extract::{Row, RowKeys};
 use multi_index::MultiIndex;
 use std::alloc::Global;
-use table_cmd::{Fault, Field, Out, Position, READY_ROOM, Reply};
+use table_cmd::{Field, Position};
+use table_reply::{Fault, Out, READY_ROOM, Reply};
 use table_schema::TableSpec;
 
 /// Puts the row of the fields in, before the position where there is one. Memory is refused before anything is changed.

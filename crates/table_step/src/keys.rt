@@ -9,7 +9,8 @@ use crate::kinds::Kinds;
 use crate::values::probe_from;
 use key_extract::Probe;
 use std::alloc::{AllocError, Global};
-use table_cmd::{Fault, Value};
+use table_cmd::Value;
+use table_reply::Fault;
 use table_schema::TableSpec;
 
 /// The place of the index of a name, where it is of one of the kinds, and the search key that the values are there.

@@ -3,7 +3,7 @@
 ghost use Rattle.std.specs.Prelude.{◌≡◌, ◌<◌, ◌≤◌, IfOk, length, true};
 ghost use Rattle.std.specs.List.{AllByRecursion};
 ghost use Rattle.container_model.specs.Find.{is_live};
-ghost use Rattle.table_cmd.specs.Buffer.{Keeps};
+ghost use Rattle.table_reply.specs.Buffer.{Keeps};
 ghost use Rattle.table_step.specs.Headings.{headings_of};
 ghost use Rattle.table_step.specs.Reads.{list_in, list_step};
 ghost use Rattle.table_step.specs.Step.{IsShort, Steps};
@@ -17,7 +17,7 @@ use container_model::Handle;
 use key_extract::{Row, RowKeys};
 use multi_index::MultiIndex;
 use std::alloc::{AllocError, Global};
-use table_cmd::{Heading, Out, READY_ROOM, Record, Reply};
+use table_reply::{Heading, Out, READY_ROOM, Record, Reply};
 use table_schema::TableSpec;
 
 /// Tells the records of the named index, in its order.

@@ -1,7 +1,7 @@
 //! Changing the order of a sequence.
 
 ghost use Rattle.std.specs.Prelude.{◌≡◌, ◌≤◌, ◌<◌, length};
-ghost use Rattle.table_cmd.specs.Buffer.{Keeps};
+ghost use Rattle.table_reply.specs.Buffer.{Keeps};
 ghost use Rattle.table_step.specs.Moves.{move_record, move_step, parts_named, rearrange_in, rearrange_step, reverse_in, reverse_step, sort_in, sort_named, sort_step};
 ghost use Rattle.table_step.specs.Step.{IsShort, Steps};
 ghost use Rattle.table_step.specs.Told.{HasIndices, table_of};
@@ -16,7 +16,8 @@ use container_model::Handle;
 use key_extract::{KeySpec, Row, RowKeys, RowSort, Text};
 use multi_index::MultiIndex;
 use std::alloc::Global;
-use table_cmd::{Fault, HandleText, Out, READY_ROOM};
+use table_cmd::HandleText;
+use table_reply::{Fault, Out, READY_ROOM};
 use table_schema::{Column, TableSpec, key_of_texts};
 
 /// Moves a record before a place of the named sequence.

@@ -1,7 +1,7 @@
 //! Places and neighbours of records.
 
 ghost use Rattle.std.specs.Prelude.{◌≡◌, ◌≤◌, ◌<◌, length};
-ghost use Rattle.table_cmd.specs.Buffer.{Keeps};
+ghost use Rattle.table_reply.specs.Buffer.{Keeps};
 ghost use Rattle.table_step.specs.Positions.{nth_step, place_step, rank_step, walk_step, walked};
 ghost use Rattle.table_step.specs.Step.{IsShort, Steps};
 ghost use Rattle.table_step.specs.Told.{HasIndices, table_of};
@@ -15,7 +15,8 @@ use crate::tell::refuse;
 use container_model::{Handle, Why};
 use key_extract::{Row, RowKeys};
 use multi_index::MultiIndex;
-use table_cmd::{HandleText, Out, READY_ROOM};
+use table_cmd::HandleText;
+use table_reply::{Out, READY_ROOM};
 use table_schema::TableSpec;
 
 /// Which neighbour of a position is asked for.

@@ -4,8 +4,8 @@ ghost use Rattle.std.specs.Prelude.{◌≡◌, ◌≤◌, Option, unwrap_or};
 ghost use Rattle.container_model.specs.State.{State};
 ghost use Rattle.container_model.specs.declared.refusal.Why.{Why as WhyValue};
 ghost use Rattle.container_model.specs.declared.refusal.Why.TheVariants as whys;
-ghost use Rattle.table_cmd.specs.Answer.{Answer};
-ghost use Rattle.table_cmd.specs.Buffer.{Keeps};
+ghost use Rattle.table_reply.specs.Answer.{Answer};
+ghost use Rattle.table_reply.specs.Buffer.{Keeps};
 ghost use Rattle.table_step.specs.Step.{IsShort, Steps};
 ghost use Rattle.table_step.specs.Table.{Cells, Keys, Step, TableState, changed, refusal_answer, refused_by};
 ghost use Rattle.table_step.specs.Told.{Answers, table_of};
@@ -16,7 +16,7 @@ use crate::tell::{refuse, refuse_memory, tell_short};
 use container_model::Why;
 use key_extract::{Row, RowKeys};
 use multi_index::MultiIndex;
-use table_cmd::{Fault, Out, READY_ROOM, Reply};
+use table_reply::{Fault, Out, READY_ROOM, Reply};
 use table_schema::TableSpec;
 
 /// Tells why the container refused a call, which left its records.

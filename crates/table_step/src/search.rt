@@ -4,7 +4,7 @@ ghost use Rattle.std.specs.Prelude.{◌≡◌, ◌≤◌, ◌<◌, IsTrue, lengt
 ghost use Rattle.container_model.specs.Find.{kind_at};
 ghost use Rattle.container_model.specs.State.{is_hashed_kind};
 ghost use Rattle.key_extract.specs.Keys.{parts_at, probe_fits, probe_is_whole};
-ghost use Rattle.table_cmd.specs.Buffer.{Keeps};
+ghost use Rattle.table_reply.specs.Buffer.{Keeps};
 ghost use Rattle.table_step.specs.Reads.{count_probe, count_step, counted_by, find_probe, find_step, found_by, size_step};
 ghost use Rattle.table_step.specs.Searches.{number_by, number_kinds, search_kinds, searched};
 ghost use Rattle.table_step.specs.Step.{IsShort, Steps};
@@ -20,7 +20,8 @@ use container_model::{Handle, Why};
 use key_extract::{Probe, Row, RowKeys};
 use multi_index::MultiIndex;
 use std::alloc::Global;
-use table_cmd::{Out, READY_ROOM, Reply, Value};
+use table_cmd::Value;
+use table_reply::{Out, READY_ROOM, Reply};
 use table_schema::TableSpec;
 
 /// Which record a search by a key tells.

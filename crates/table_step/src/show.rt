@@ -1,7 +1,7 @@
 //! Showing a record.
 
 ghost use Rattle.std.specs.Prelude.{◌≡◌, ◌≤◌};
-ghost use Rattle.table_cmd.specs.Buffer.{Keeps};
+ghost use Rattle.table_reply.specs.Buffer.{Keeps};
 ghost use Rattle.table_step.specs.Headings.{headings_of};
 ghost use Rattle.table_step.specs.Reads.{get_record, get_step};
 ghost use Rattle.table_step.specs.Step.{IsShort, Steps};
@@ -13,7 +13,8 @@ use crate::tell::{refuse, tell_read};
 use container_model::Handle;
 use key_extract::{Row, RowKeys};
 use multi_index::MultiIndex;
-use table_cmd::{Fault, HandleText, Heading, Out, READY_ROOM, Record, Reply};
+use table_cmd::HandleText;
+use table_reply::{Fault, Heading, Out, READY_ROOM, Record, Reply};
 
 /// Tells the record of the handle that a text spells.
 pub(crate) fn get(

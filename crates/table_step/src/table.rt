@@ -1,7 +1,7 @@
 //! A table and one step of it.
 
 ghost use Rattle.std.specs.Prelude.{◌≡◌, ◌≤◌, IfOk};
-ghost use Rattle.table_cmd.specs.Buffer.{Keeps};
+ghost use Rattle.table_reply.specs.Buffer.{Keeps};
 ghost use Rattle.table_step.specs.Step.{IsShort, Steps, new_table, step_of};
 
 use crate::change::{clear, erase, erase_key, replace};
@@ -19,7 +19,8 @@ use key_extract::{Row, RowKeys};
 use multi_index::MultiIndex;
 use std::alloc::{AllocError, Global};
 use std::marker::Model;
-use table_cmd::{Command, Fault, Heading, Out, READY_ROOM};
+use table_cmd::Command;
+use table_reply::{Fault, Heading, Out, READY_ROOM};
 use table_schema::TableSpec;
 
 /// A table: its records under the indices that its schema declares.

@@ -1,13 +1,13 @@
 //! Answers that are appended, or the memory line in their place.
 
 ghost use Rattle.std.specs.Prelude.{◌≡◌, ◌≤◌, ◌+◌, ◌++◌, IsTrue, false, length};
-ghost use Rattle.table_cmd.specs.Answer.{answer, answer_text, counted, done, fault, after};
-ghost use Rattle.table_cmd.specs.Buffer.{Keeps};
+ghost use Rattle.table_reply.specs.Answer.{answer, answer_text, counted, done, fault, after};
+ghost use Rattle.table_reply.specs.Buffer.{Keeps};
 ghost use Rattle.table_step.specs.Step.{IsShort, memory_line};
 ghost use Rattle.table_step.specs.Told.{Answers};
 
 use crate::outcome::Outcome;
-use table_cmd::{Fault, Handle, Out, READY_ROOM, Reply, write_reply};
+use table_reply::{Fault, Handle, Out, READY_ROOM, Reply, write_reply};
 
 /// The answer where memory is refused.
 const MEMORY_LINE: &[u8] = b"{\"err\":\"memory\"}\n";
@@ -39,7 +39,7 @@ pub(crate) fn tell_short(reply: &Reply, out: &mut Out)
 }
 
 // Appends the line of a write that has nothing to tell.
-#[tactic(auto, using(table_cmd::proofs::Short::done_is_short))]
+#[tactic(auto, using(table_reply::proofs::Short::done_is_short))]
 pub(crate) fn tell_done(at: u64, out: &mut Out) -> Outcome
     requires { READY_ROOM ≤ out.old.room }
     ensures line { out.new.bytes ≡ out.old.bytes ++ answer_text (done at) }
@@ -52,7 +52,7 @@ pub(crate) fn tell_done(at: u64, out: &mut Out) -> Outcome
 }
 
 // Appends the line of an erasure that tells the next record.
-#[tactic(auto, using(table_cmd::proofs::Short::after_is_short))]
+#[tactic(auto, using(table_reply::proofs::Short::after_is_short))]
 pub(crate) fn tell_next(at: u64, next: Option<Handle>, out: &mut Out) -> Outcome
     requires { READY_ROOM ≤ out.old.room }
     ensures line { out.new.bytes ≡ out.old.bytes ++ answer_text (after at next) }
@@ -65,7 +65,7 @@ pub(crate) fn tell_next(at: u64, next: Option<Handle>, out: &mut Out) -> Outcome
 }
 
 // Appends the line of an erasure of so many records.
-#[tactic(auto, using(table_cmd::proofs::Short::counted_is_short))]
+#[tactic(auto, using(table_reply::proofs::Short::counted_is_short))]
 pub(crate) fn tell_erased(at: u64, number: u64, out: &mut Out) -> Outcome
     requires { READY_ROOM ≤ out.old.room }
     ensures line { out.new.bytes ≡ out.old.bytes ++ answer_text (counted at number) }
@@ -92,7 +92,7 @@ pub(crate) fn tell_read(reply: &Reply, out: &mut Out) -> Outcome
 }
 
 /// Appends the line of a fault, which takes no memory.
-#[tactic(auto, using(table_cmd::proofs::Short::fault_is_short))]
+#[tactic(auto, using(table_reply::proofs::Short::fault_is_short))]
 pub fn refuse(why: Fault, out: &mut Out) -> Outcome
     requires { READY_ROOM ≤ out.old.room }
     ensures line { out.new.bytes ≡ out.old.bytes ++ answer_text (fault why) }

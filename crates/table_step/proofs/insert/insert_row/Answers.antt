@@ -1,7 +1,7 @@
 use Rattle.std.proofs.Common.{◌+◌, Some, sym, subst, rules}
 use Rattle.container_model.specs.Insert.{new_handle, with_inserted}
-use Rattle.table_cmd.specs.Answer.{found}
-use Rattle.table_cmd.proofs.Short.{found_is_short}
+use Rattle.table_reply.specs.Answer.{found}
+use Rattle.table_reply.proofs.Short.{found_is_short}
 use Rattle.table_step.specs.Changes.{insert_row, refusal_at}
 use Rattle.table_step.specs.Step.{Steps}
 use Rattle.table_step.specs.Table.{row_order}

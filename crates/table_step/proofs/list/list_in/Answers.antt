@@ -2,7 +2,7 @@ use Rattle.std.proofs.Common.{◌≡◌, true, map, sym, ap, subst, ◌∙◌}
 use Rattle.std.specs.List.{AllByRecursion}
 use Rattle.container_model.specs.Find.{is_live}
 use Rattle.container_model.specs.State.{list_at}
-use Rattle.table_cmd.specs.Answer.{listed, listed_of}
+use Rattle.table_reply.specs.Answer.{listed, listed_of}
 use Rattle.table_step.specs.declared.outcome.Outcome.TheVariants as outcomes
 use Rattle.table_step.specs.Reads.{list_in, listed_handle}
 use Rattle.table_step.specs.Told.{Answers, entries_of, shown_entries, table_of}

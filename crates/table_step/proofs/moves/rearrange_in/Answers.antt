@@ -1,6 +1,6 @@
 use Rattle.std.proofs.Common.{◌+◌}
 use Rattle.container_model.specs.Sequence.{rearrange_refusal, with_list}
-use Rattle.table_cmd.specs.Answer.{done}
+use Rattle.table_reply.specs.Answer.{done}
 use Rattle.table_step.specs.Moves.{rearrange_in}
 use Rattle.table_step.proofs.Told.{steps_unchanged_or_memory}
 use Rattle.table_step.proofs.moves.rearrange_in.Goals as goal

@@ -1,5 +1,5 @@
 use Rattle.std.proofs.Common.{◌≤◌, length, sym, subst, inl, arith, rules}
-use Rattle.table_cmd.proofs.Short.{banned_is_short}
+use Rattle.table_reply.proofs.Short.{banned_is_short}
 use Rattle.table_step.proofs.Declared.{index_name_is_short}
 use Rattle.table_step.proofs.refusal.tell_why.Goals as goal
 
