@@ -39,8 +39,10 @@ impl Records {
         ensures leaves { Leaves result self.old self.new (sequence_refusal self.old.records index) (with_sorted (key_cmp order.now) self.old.records index) }
         ensures why { IfErr result (λ why. why ≡ unwrap_or (sequence_refusal self.old.records index) whys.Memory) }
     {
-        let sorted = self.container.sort(index, order);
-        sorted.map_err(|refused| refused.why)
+        match self.container.sort(index, order) {
+            Ok(()) => Ok(()),
+            Err(refused) => Err(refused.why),
+        }
     }
 
     /// Turns the order of a sequence round. Costs what `MultiIndex::reverse` does.

@@ -57,8 +57,10 @@ impl Records {
         ensures leaves { Leaves result self.old self.new (erase_key_refusal self.old.records place) (with_key_erased probe_order self.old.records place probe.now) }
         ensures why { IfErr result (λ why. Some why ≡ erase_key_refusal self.old.records place) }
     {
-        let erased = self.container.erase_key(place, probe);
-        erased.map_err(|refused| refused.why)
+        match self.container.erase_key(place, probe) {
+            Ok(number) => Ok(number),
+            Err(refused) => Err(refused.why),
+        }
     }
 
     /// Takes all records out. O(records).
