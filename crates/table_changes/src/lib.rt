@@ -1,10 +1,10 @@
 //! What each change does to a table.
 #![tactic(auto)]
 
-mod change;
 mod erase;
 mod insert;
 mod moves;
 mod replace;
+mod step;
 
-pub use change::{change, is_change};
+pub use step::{change, is_change};

@@ -3,9 +3,9 @@
 
 mod list;
 mod positions;
-mod read;
 mod search;
 mod show;
+mod step;
 mod tell;
 
-pub use read::read;
+pub use step::read;
