@@ -9,9 +9,10 @@ use crate::resolve;
 use crate::schema::Schema;
 use std::alloc::Global;
 
-/// The schema that the drafts say, with the columns of each key found by their names. `Limit`, `Name` and `Key` are each
-/// tested over all tables before the next. O(length of the drafts, and columns · parts of each table); names are compared
-/// only within the limits.
+/// The schema that the drafts say, with a column's place for each name in a key. `Limit`, `Name` and `Key` are each tested over
+/// all drafts before the next.
+///
+/// O(length of the drafts); names and keys are compared only within the limits.
 #[tactic(auto, unfolding(crate::specs::Meaning::tested))]
 pub fn schema_of_drafts(alloc: Global, drafts: &[DraftTable]) -> Result<Schema, SchemaFault>
     ensures { GivesSchema result (tested drafts.now) }
