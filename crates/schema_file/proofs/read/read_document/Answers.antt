@@ -1,6 +1,6 @@
 use Rattle.std.proofs.Common.{rules}
-use Rattle.table_schema.proofs.Documents.{document, no_document}
-use Rattle.table_schema.proofs.read.read_document.Goals as goal
+use Rattle.schema_file.proofs.Documents.{document, no_document}
+use Rattle.schema_file.proofs.read.read_document.Goals as goal
 
 pub returns-in-Ok : goal.returns-in-Ok
 returns-in-Ok c = document c.args.bytes.now _ c.in-Ok.ensures.ok.0 c.in-Ok.ensures.ok.1

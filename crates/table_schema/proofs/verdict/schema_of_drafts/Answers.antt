@@ -3,7 +3,7 @@ use Rattle.std.specs.Prelude.{IsTrue}
 use Rattle.table_schema.specs.Resolved.{tables_for}
 use Rattle.table_schema.specs.Tests.{is_within_limits, have_good_names}
 use Rattle.table_schema.proofs.Validity.{valid_schema}
-use Rattle.table_schema.proofs.read.tested.Goals as goal
+use Rattle.table_schema.proofs.verdict.schema_of_drafts.Goals as goal
 
 pub new-requires : goal.new-requires
 new-requires c =

@@ -1,7 +1,7 @@
 use Rattle.std.proofs.Common.{◌≡◌, map}
 use Rattle.toml.specs.View.{members_view}
-use Rattle.table_schema.specs.Draft.{has_only}
-use Rattle.table_schema.proofs.shape.has_only.Given as goal
+use Rattle.schema_file.specs.Tree.{has_only}
+use Rattle.schema_file.proofs.shape.has_only.Given as goal
 
 abbrev pub invariant-loop-key : goal.invariant-loop-key
 invariant-loop-key l =

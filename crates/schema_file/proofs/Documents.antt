@@ -4,7 +4,7 @@ use Rattle.std.proofs.lemmas.Str.{IsUtf8-from_is_utf8, is_utf8-from_IsUtf8}
 use Rattle.std.specs.Str.{IsUtf8, is_utf8}
 use Rattle.toml.specs.Data.{Members}
 use Rattle.toml.specs.Parse.{parse_document}
-use Rattle.table_schema.specs.Meaning.{document_of}
+use Rattle.schema_file.specs.Meaning.{document_of}
 
 no_document_at : (b : Bool) (bytes : List ℕ) → is_utf8 bytes ≡ b → (IsUtf8 bytes → parse_document bytes ≡ None) → None ≡ cond b (parse_document bytes) None
 no_document_at true bytes e h = rw (h (IsUtf8-from_is_utf8 bytes e)) refl

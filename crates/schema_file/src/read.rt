@@ -1,16 +1,12 @@
 //! Reads a schema file.
 ghost use Rattle.std.specs.Prelude.{◌≡◌, IfOk, option_map};
 ghost use Rattle.toml.specs.View.{table_view};
-ghost use Rattle.table_schema.specs.Meaning.{GivesSchema, document_of, tested, schema_of};
+ghost use Rattle.table_schema.specs.Meaning.{GivesSchema};
+ghost use Rattle.schema_file.specs.Meaning.{document_of, schema_of};
 
-use crate::draft::DraftTable;
-use crate::fault::SchemaFault;
-use crate::limits::is_within_limits;
-use crate::names::have_good_names;
-use crate::resolve;
-use crate::schema::Schema;
 use crate::shape::drafts_of;
 use std::alloc::{AllocError, Global};
+use table_schema::{Schema, SchemaFault, schema_of_drafts};
 use toml::Table;
 
 /// Reads a schema file: TOML with one key `table`, an array of tables. A table has a `name`, a `max`
@@ -31,7 +27,7 @@ pub fn read_schema(alloc: Global, bytes: &[u8]) -> Result<Schema, SchemaFault>
     let Some(drafts) = drafts_of(alloc, &document)? else {
         return Err(SchemaFault::Shape);
     };
-    tested(alloc, &drafts)
+    schema_of_drafts(alloc, &drafts)
 }
 
 // The document that the bytes are; none where `toml` refuses them.
@@ -45,21 +41,5 @@ fn read_document(alloc: Global, bytes: &[u8]) -> Result<Option<Table>, AllocErro
         } else {
             Ok(None)
         },
-    }
-}
-
-#[tactic(auto, unfolding(crate::specs::Meaning::tested))]
-fn tested(alloc: Global, drafts: &[DraftTable]) -> Result<Schema, SchemaFault>
-    ensures { GivesSchema result (tested drafts.now) }
-{
-    if !is_within_limits(drafts) {
-        return Err(SchemaFault::Limit);
-    }
-    if !have_good_names(drafts) {
-        return Err(SchemaFault::Name);
-    }
-    match resolve::tables(alloc, drafts)? {
-        Some(tables) => Ok(Schema::new(tables)),
-        None => Err(SchemaFault::Key),
     }
 }

@@ -1,27 +1,17 @@
--- Items of a tree, one after another.
+-- Items read one after another, each of which may fail.
 use Rattle.std.proofs.Common.{◌≡◌, ℕ, ◌+◌, ◌<◌, ◌≤◌, List, [], ◌∷◌, ◌++◌, length, get_or, drop, map, Bool, ◌||◌, ◌&&◌, Option, Some, None, refl, ap, sym, ◌∙◌, append_assoc}
 use Rattle.std.specs.Prelude.{option_map, option_and_then}
 use Rattle.std.specs.List.{list_any, list_all}
 use Rattle.std.proofs.lemmas.List.{drop_more, drop_all, append-nil}
-use Rattle.std.proofs.Common.{Vec, Global}
-use Rattle.toml.proofs.Views.{view-Array}
-use Rattle.toml.specs.Data.{Data, as_array}
-use Rattle.toml.specs.View.{view, items_view}
-use Rattle.toml.specs.declared.value.Value.{Value, Array}
-use Rattle.table_schema.specs.Draft.{all_of, list_of, each_of}
+use Rattle.table_schema.specs.Draft.{all_of}
 
 pub list_any_map : {X Y : Type 0} (p : Y → Bool) (f : X → Y) (xs : List X) → list_any p (map f xs) ≡ list_any (λ x. p (f x)) xs
 list_any_map p f [] = refl
 list_any_map p f (x ∷ xs) = ap (λ b. p (f x) || b) (list_any_map p f xs)
 
--- the items of a view
-pub list_of-view : (vs : List Value) → list_of (items_view vs) ≡ map view vs
-list_of-view [] = refl
-list_of-view (v ∷ vs) = ap (λ ds. view v ∷ ds) (list_of-view vs)
-
-pub map_map : {X Y Z : Type 0} (f : Y → Z) (g : X → Y) (xs : List X) → map f (map g xs) ≡ map (λ x. f (g x)) xs
-map_map f g [] = refl
-map_map f g (x ∷ xs) = ap (λ ys. f (g x) ∷ ys) (map_map f g xs)
+pub list_all_map : {X Y : Type 0} (p : Y → Bool) (f : X → Y) (xs : List X) → list_all p (map f xs) ≡ list_all (λ x. p (f x)) xs
+list_all_map p f [] = refl
+list_all_map p f (x ∷ xs) = ap (λ b. p (f x) && b) (list_all_map p f xs)
 
 -- what was read, before what is still to be read
 abbrev pub after : {X : Type 0} → List X → Option (List X) → Option (List X)
@@ -62,15 +52,5 @@ module _ {V X : Type 0} (read : V → Option X) (vs : List V) where
       ap Some (sym (append-nil done))
       ∙ (ap (λ ws. after done (all_of (map read ws))) (sym (drop_all i vs l)) ∙ h)
 
--- an array is read item by item
-pub each_of-Array : {X : Type 0} (read : Data → Option X) (v : Vec Value Global) → each_of read (view (Array v)) ≡ all_of (map (λ x. read (view x)) v.items)
-each_of-Array read v =
-    ap (option_and_then (λ ds. all_of (map read (list_of ds)))) (ap as_array (view-Array v))
-    ∙ (ap (λ ds. all_of (map read ds)) (list_of-view v.items) ∙ ap all_of (map_map read view v.items))
-
 -- the steps of such a walk
-pub ruleset reads = (read_none, read_one, read_fails, read_all, each_of-Array)
-
-pub list_all_map : {X Y : Type 0} (p : Y → Bool) (f : X → Y) (xs : List X) → list_all p (map f xs) ≡ list_all (λ x. p (f x)) xs
-list_all_map p f [] = refl
-list_all_map p f (x ∷ xs) = ap (λ b. p (f x) && b) (list_all_map p f xs)
+pub ruleset reads = (read_none, read_one, read_fails, read_all)
