@@ -2,7 +2,7 @@
 
 use crate::by_hand::ByHand;
 use crate::record::{Record, looked_for, nth_record};
-use crate::report::Report;
+use bench_report::Report;
 use std::alloc::Global;
 use std::io;
 use std::rt::Runtime;
@@ -59,7 +59,7 @@ fn run<R: Runtime>(
     for (name, call) in calls {
         let start = Instant::now(rt)?;
         let met = each(*call, &mut kept, count);
-        report.line(rt, start, name, count, count, met)?;
+        report.line(start.elapsed(rt)?, name, count, count, met)?;
     }
     Ok(())
 }

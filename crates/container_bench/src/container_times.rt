@@ -2,7 +2,7 @@
 
 use crate::book::{Book, INDICES};
 use crate::record::{looked_for, nth_record};
-use crate::report::Report;
+use bench_report::Report;
 use std::alloc::Global;
 use std::io;
 use std::rt::Runtime;
@@ -87,7 +87,7 @@ fn run<R: Runtime>(
     for (name, call) in script.calls {
         let start = Instant::now(rt)?;
         let met = each(*call, &mut book, count);
-        report.line(rt, start, name, count, count, met)?;
+        report.line(start.elapsed(rt)?, name, count, count, met)?;
     }
     Ok(())
 }

@@ -11,12 +11,11 @@ mod container_times;
 mod keys;
 mod memory;
 mod record;
-mod report;
 
+use bench_report::Report;
 use book::Book;
 use by_hand::ByHand;
 use by_hand_times::Call;
-use report::Report;
 use std::alloc::Global;
 use std::rt::Runtime;
 use std::{env, io};
@@ -47,6 +46,9 @@ fn print_answers<R: Runtime>(rt: &R, alloc: Global, count: u64) -> io::Result<()
     Ok(())
 }
 
+// Each size with its rounds.
+const SIZES: [(u64, u64); 3] = [(1_000, 9), (100_000, 3), (1_000_000, 1)];
+
 // The times of all calls at a size.
 fn print_times<R: Runtime>(
     rt: &R,
@@ -59,7 +61,8 @@ fn print_times<R: Runtime>(
         container_times::times(rt, alloc, report, count)?;
         by_hand_times::times(rt, alloc, report, count)?;
     }
-    report.print(rt, count)
+    report.print(rt, count)?;
+    Ok(())
 }
 
 fn main(rt: HostRuntime) -> io::Result<()> {
@@ -69,8 +72,8 @@ fn main(rt: HostRuntime) -> io::Result<()> {
     }
     memory::record_bytes(&rt, rt.alloc(), 100_000)?;
     let mut report = Report::new(rt.alloc());
-    print_times(&rt, rt.alloc(), &mut report, 1_000, 9)?;
-    print_times(&rt, rt.alloc(), &mut report, 100_000, 3)?;
-    print_times(&rt, rt.alloc(), &mut report, 1_000_000, 1)?;
-    println!(rt; "sum of the answers: {}", report.met())
+    for (count, rounds) in &SIZES {
+        print_times(&rt, rt.alloc(), &mut report, *count, *rounds)?;
+    }
+    println!(rt; "sum of the answers: {}", report.met)
 }

@@ -3,19 +3,10 @@
 use crate::book::Book;
 use crate::by_hand::ByHand;
 use crate::{by_hand_times, container_times};
+use bench_report::resident;
 use std::alloc::Global;
+use std::io;
 use std::rt::Runtime;
-use std::{fs, io};
-
-// The bytes of the process that are in memory, as Linux counts them in pages of 4096 bytes.
-fn resident<R: Runtime>(rt: &R) -> io::Result<u64> {
-    let text = fs::read_to_string(rt, "/proc/self/statm")?;
-    let pages = text
-        .split_whitespace()
-        .nth(1)
-        .and_then(|word| word.parse::<u64>().ok());
-    Ok(pages.unwrap_or(0).saturating_mul(4096))
-}
 
 fn print<R: Runtime>(rt: &R, name: &str, before: u64, count: u64) -> io::Result<()> {
     let taken = resident(rt)?.saturating_sub(before);
