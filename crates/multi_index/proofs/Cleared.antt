@@ -15,10 +15,11 @@ use Rattle.container_model.specs.Change.{cleared}
 use Rattle.container_model.proofs.Erased.{IsState-cleared}
 use Rattle.index_set.specs.declared.set.IndexSet.{IndexSet}
 use Rattle.index_set.specs.Set.{store_of, specs_of, contents, record_of, lists_of, IsSound, IsKeyed, IsUniqueExcept, IsOfSame}
-use Rattle.multi_index.specs.declared.by_row.ByRow.{ByRow}
-use Rattle.multi_index.specs.LeadsTo.{LeadsTo}
-use Rattle.multi_index.specs.Linked.{entries_in, handles_in}
-use Rattle.multi_index.specs.Seen.{seen, IsContainer}
+use Rattle.linked_set.specs.declared.by_row.ByRow.{ByRow}
+use Rattle.linked_set.specs.LeadsTo.{LeadsTo}
+use Rattle.linked_set.specs.Linked.{entries_in, handles_in}
+use Rattle.linked_set.specs.Seen.{seen}
+use Rattle.multi_index.specs.Container.{IsContainer}
 use Rattle.multi_index.proofs.Made.{no_handles}
 
 no_records : {R : Type 0} (s : Store (Entry R)) → nodes_of s ≡ [] → entries_in (node.contents s) ≡ []

@@ -14,12 +14,13 @@ use Rattle.index_set.specs.declared.set.IndexSet.{IndexSet}
 use Rattle.index_set.specs.Lists.{AreUniqueFrom}
 use Rattle.index_set.proofs.Keys.{unique_empty}
 use Rattle.index_set.specs.Set.{store_of, keys_of, specs_of, contents, record_of, lists_of, IsSound, IsKeyed}
-use Rattle.multi_index.specs.declared.by_row.ByRow.{ByRow}
-use Rattle.multi_index.specs.LeadsTo.{LeadsTo}
-use Rattle.multi_index.specs.Linked.{entries_in, handles_in}
-use Rattle.multi_index.specs.Seen.{seen, IsContainer}
-use Rattle.multi_index.proofs.Contents.{entries-empty}
-use Rattle.multi_index.proofs.LeadsTo.{leads-empty}
+use Rattle.linked_set.specs.declared.by_row.ByRow.{ByRow}
+use Rattle.linked_set.specs.LeadsTo.{LeadsTo}
+use Rattle.linked_set.specs.Linked.{entries_in, handles_in}
+use Rattle.linked_set.specs.Seen.{seen}
+use Rattle.multi_index.specs.Container.{IsContainer}
+use Rattle.linked_set.proofs.Contents.{entries-empty}
+use Rattle.linked_set.proofs.LeadsTo.{leads-empty}
 
 pub no_handles : {R : Type 0} (records : Node → Option (Entry R)) (specs : List Spec) → handles_in records (map (λ _. []) specs) ≡ map (λ _. []) specs
 no_handles records [] = refl

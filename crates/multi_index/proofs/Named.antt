@@ -1,10 +1,8 @@
 -- The node that a handle names, in the list of an index of a container: the list answers of it what the index answers of the handle.
-use Rattle.std.proofs.Common.{◌≡◌, ◌≢◌, ℕ, ◌<◌, Bool, true, false, cond, List, ◌∷◌, ◌++◌, length, map, Option, Some, None, Ok, Err, refl, sym, ap, ◌∙◌, ⊎_elim, arith}
+use Rattle.std.proofs.Common.{◌≡◌, ℕ, ◌<◌, Bool, true, false, cond, List, ◌∷◌, ◌++◌, length, map, Option, Some, None, Ok, Err, refl, sym, ap, ◌∙◌, ⊎_elim, arith}
 use Rattle.std.specs.Prelude.{IsTrue, not, option_map, is_some, count_by}
 use Rattle.std.specs.List.{AllByRecursion}
 use Rattle.std.specs.declared.cmp.Ordering.{Ordering}
-use Rattle.std.proofs.lemmas.Bool.{false_from_ne_true}
-use Rattle.std.proofs.lemmas.Option.{same_Some}
 use Rattle.list_model.specs.Walk.{place_of, next, prev}
 use Rattle.list_model.proofs.InOrder.{All-map}
 use Rattle.list_model.proofs.Permuted.{split_at, count_by-permutation}
@@ -20,21 +18,21 @@ use Rattle.node_store.specs.declared.Node.{Node}
 use Rattle.node_store.specs.Nodes.{Holds}
 use Rattle.node_store.specs.Store.{IsNodeOf}
 use Rattle.node_store.specs.ByNode.{same_node}
-use Rattle.node_store.proofs.ByNode.{node_cases, same_node-refl, same_node-true}
+use Rattle.node_store.proofs.ByNode.{same_node-true}
 use Rattle.slot_table.specs.Slots.{item_at}
 use Rattle.index_set.specs.declared.set.IndexSet.{IndexSet}
 use Rattle.index_set.specs.Set.{store_of, keys_of, specs_of, contents, record_of, list_of, lists_of}
 use Rattle.index_set.proofs.Members.{nodes_held_at}
-use Rattle.multi_index.specs.declared.by_row.ByRow.{ByRow}
-use Rattle.multi_index.specs.Linked.{handle_of, entries_in, handles_in}
-use Rattle.multi_index.specs.Seen.{IsLinked}
-use Rattle.multi_index.proofs.Contents.{has_record}
-use Rattle.multi_index.proofs.Indices.{index_here}
-use Rattle.multi_index.proofs.LeadsTo.{row_of_live, row_of_stale, row_of_free}
-use Rattle.multi_index.proofs.HeldByAll.{same_by_handle}
-use Rattle.multi_index.proofs.Mapped.{place_mapped, next_mapped, prev_mapped}
-use Rattle.multi_index.proofs.Reading.{list_seen}
-use Rattle.multi_index.proofs.Sides.{count_mapped}
+use Rattle.linked_set.specs.declared.by_row.ByRow.{ByRow}
+use Rattle.linked_set.specs.Linked.{handle_of, entries_in, handles_in}
+use Rattle.linked_set.specs.Seen.{IsLinked}
+use Rattle.linked_set.proofs.Contents.{has_record}
+use Rattle.linked_set.proofs.Indices.{index_here}
+use Rattle.linked_set.proofs.LeadsTo.{row_of_live, row_of_stale, row_of_free}
+use Rattle.linked_set.proofs.ByHandle.{same_by_handle}
+use Rattle.linked_set.proofs.Mapped.{place_mapped, next_mapped, prev_mapped}
+use Rattle.linked_set.proofs.Reading.{list_seen}
+use Rattle.linked_set.proofs.Sides.{count_mapped}
 
 -- ---- what a call answers of a handle
 

@@ -1,9 +1,10 @@
 use Rattle.std.proofs.Common.{◌≡◌, length, sym, ◌∙◌, arith, ne_eqb}
 use Rattle.index_set.specs.Set.{store_of, contents}
-use Rattle.multi_index.specs.Linked.{entries_in}
-use Rattle.multi_index.specs.Seen.{seen}
-use Rattle.multi_index.proofs.Contents.{length-entries}
-use Rattle.multi_index.proofs.Ordered.{not_live, is_live_by, relocate_stale, relocate_place, relocate_spent, relocate_allowed}
+use Rattle.linked_set.specs.Linked.{entries_in}
+use Rattle.linked_set.specs.Seen.{seen}
+use Rattle.linked_set.proofs.Contents.{length-entries}
+use Rattle.linked_set.proofs.Live.{not_live, is_live_by}
+use Rattle.multi_index.proofs.Ordered.{relocate_stale, relocate_place, relocate_spent, relocate_allowed}
 use Rattle.multi_index.proofs.order.movable.Goals as goal
 
 pub returns-in_default-clause-why : goal.returns-in_default-clause-why
