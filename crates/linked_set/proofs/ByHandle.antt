@@ -20,7 +20,6 @@ use Rattle.container_model.specs.declared.handle.Spec.{Spec}
 use Rattle.container_model.specs.State.{AreIndices, is_handle, row_of}
 use Rattle.container_model.proofs.Found.{count_live, is_handle_itself, is_handle_same}
 use Rattle.index_set.specs.Indices.{HoldIt}
-use Rattle.index_set.specs.Set as set
 use Rattle.slot_table.specs.Slots.{item_at}
 use Rattle.linked_set.specs.LeadsTo.{LeadsTo}
 use Rattle.linked_set.specs.Linked.{handle_of, handles_in}

@@ -39,9 +39,8 @@ use Rattle.linked_set.proofs.Contents.{handle_of-is}
 use Rattle.linked_set.proofs.Excepted.{told_some}
 use Rattle.linked_set.proofs.Left.{entries_left, handles_left, leads_left}
 use Rattle.linked_set.proofs.Reading.{known_all}
-use Rattle.linked_set.proofs.Seen.{seen_replaced}
+use Rattle.linked_set.proofs.Seen.{seen_replaced, seen_only}
 use Rattle.linked_set.proofs.Rewritten.{same_nodes, same_count, its_record, handles_same, handle_kept, entries_rewritten, apart_rewritten, leads_rewritten, lists_rewritten}
-use Rattle.linked_set.proofs.Seen.{seen_only}
 
 -- the records but for one are as before its row was changed
 filter-with_row : {R : Type 0} (h : Handle) (row : R) (es : List (Entry R)) → filter (λ e. not (is_handle h e.handle)) (with_row h row es) ≡ filter (λ e. not (is_handle h e.handle)) es

@@ -41,6 +41,8 @@ use Rattle.linked_set.proofs.Indices.{index_here, as_many_each}
 use Rattle.linked_set.proofs.LeadsTo.{leads_kept}
 use Rattle.linked_set.proofs.Reading.{list_seen}
 use Rattle.linked_set.proofs.Settling.{relocated_mapped}
+use Rattle.multi_index.proofs.Shrunk.{next_number}
+use Rattle.linked_set.proofs.Seen.{state_with}
 
 -- ---- lists
 
@@ -67,10 +69,6 @@ stands_for f (x ∷ xs) (z ∷ front) y back e = let rest : map f xs ≡ front +
     one_before : {X Y : Type 0} {f : X → Y} {xs : List X} {y : Y} (x : X) → StandsFor f xs y → StandsFor f (x ∷ xs) y
     one_before x p = record { member = p.member; before = x ∷ p.before; after = p.after; whole = ap (λ l. x ∷ l) p.whole; image = p.image }
 
--- a number that is not the greatest has a next one
-pub next_fits : (n : ℕ) → n < 2 ^ 64 → (n == 2 ^ 64 - 1) ≡ false → n + 1 < 2 ^ 64
-next_fits n less other = grind (arith, nat_tests)
-
 some_spec : Spec
 some_spec = record { kind = Sequenced; unique = false }
 
@@ -92,9 +90,6 @@ module _ {R : Type 0} (s : Store (Entry R)) (slots : List (Option Node)) (leads 
 
 module _ {E R : Type 0} (old new : IndexSet (Entry R) (ByRow E)) (index max writes : ℕ) (xs : List Node) (list : List Handle) (handles : map (handle_of (record_of old)) xs ≡ list)
     (same : IsOfSame old new) (lists : lists_of new ≡ set (lists_of old) index xs) (kept : contents new ≡ contents old) where
-  abbrev make : E → List Spec → List (Entry R) → List (List Handle) → State E R
-  make keys specs entries lists = record { keys = keys; specs = specs; max = max; writes = writes + 1; entries = entries; lists = lists }
-
   handles_listed : handles_in (record_of new) (lists_of new) ≡ set (handles_in (record_of old) (lists_of old)) index list
   handles_listed =
       handles_kept (store_of old) (store_of new) (lists_of new) kept
@@ -102,7 +97,7 @@ module _ {E R : Type 0} (old new : IndexSet (Entry R) (ByRow E)) (index max writ
 
   -- the container is the one with the handles of those nodes as the list of the index
   pub seen_listed : seen new max (writes + 1) ≡ with_list (seen old max writes) index list
-  seen_listed = (λ i. make (same.keys i).keys (same.specs i) (entries_kept (store_of old) (store_of new) kept i) (handles_listed i))
+  seen_listed = (λ i. state_with max (writes + 1) (same.keys i).keys (same.specs i) (entries_kept (store_of old) (store_of new) kept i) (handles_listed i))
 
   -- and stays one
   pub IsContainer_listed : (has_key : E → ℕ → Bool) (order : E → ℕ → R → R → Ordering) (hash : E → ℕ → R → ℕ) (slots : _) → IsContainer has_key order hash old slots max writes →
@@ -119,7 +114,7 @@ module _ {E R : Type 0} (old new : IndexSet (Entry R) (ByRow E)) (index max writ
     };
     state = subst (IsState has_key order) (sym seen_listed) state;
     narrow = was.narrow;
-    numbered = let fits = was.numbered in next_fits writes fits more;
+    numbered = let fits = was.numbered in next_number writes fits more;
     added = let before = was.added in let count = added_kept (store_of old) (store_of new) kept in omega (arith, before, count);
   }
 

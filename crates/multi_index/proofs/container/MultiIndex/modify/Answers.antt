@@ -8,7 +8,7 @@ use Rattle.linked_set.specs.Modified.{told}
 use Rattle.linked_set.specs.Seen.{seen}
 use Rattle.multi_index.proofs.Modified.{change_stale, change_live, IsContainer_modified}
 use Rattle.multi_index.proofs.HeldByAll.{held_by_all}
-use Rattle.multi_index.proofs.Named.{none_seen}
+use Rattle.linked_set.proofs.Live.{none_seen}
 use Rattle.multi_index.proofs.Replaced.{named}
 use Rattle.multi_index.proofs.Shrunk.{next_number}
 use Rattle.multi_index.proofs.container.MultiIndex.modify.Goals as goal

@@ -5,7 +5,7 @@ use Rattle.container_model.specs.Change.{replace_refusal}
 use Rattle.container_model.specs.State.{row_of}
 use Rattle.linked_set.specs.Seen.{seen}
 use Rattle.multi_index.proofs.HeldByAll.{held_by_all}
-use Rattle.multi_index.proofs.Named.{none_seen}
+use Rattle.linked_set.proofs.Live.{none_seen}
 use Rattle.multi_index.proofs.Replaced.{named, refused_stale, refused_live, not_banned, not_spent, IsContainer_replaced}
 use Rattle.multi_index.proofs.Shrunk.{next_number}
 use Rattle.multi_index.proofs.container.MultiIndex.replace.Goals as goal
