@@ -99,7 +99,7 @@ pub fn put_in<R: Drop, E: Extract<R>>(
     slots: &mut SlotTable<Node>,
     at: Option<(usize, u64)>,
     entry: Entry<R>,
-) -> Result<Node, NoRoom<Entry<R>>>
+) -> Result<(), NoRoom<Entry<R>>>
     requires linked { IsLinked E.has_key E.order_of E.hash_of set.old slots.old.items }
     requires count { (store_of set.old).added + 1 < 2 ^ 64 }
     requires slot { entry.handle.slot ≡ first_free slots.old.items }
@@ -121,5 +121,5 @@ pub fn put_in<R: Drop, E: Extract<R>>(
     let node = set.add(entry)?;
     set.enter(node, at);
     slots.take(node);
-    Ok(node)
+    Ok(())
 }

@@ -232,7 +232,7 @@ impl<R: Drop, E: Extract<R> + Drop> MultiIndex<R, E> {
     {
         let handle = entry.handle;
         match put_in(&mut self.set, &mut self.slots, at, entry) {
-            Ok(_) => {
+            Ok(()) => {
                 self.writes = handle.stamp;
                 Ok(handle)
             }

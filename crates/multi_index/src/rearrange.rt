@@ -1,7 +1,7 @@
 //! Changes of the order of one sequence that take memory.
 ghost use Rattle.std.specs.Prelude.{◌≡◌, ◌==◌, ◌⊎◌, ◌<◌, IsTrue, None, Some, IfErr, IfOk, OnErr, OnOk, length, map};
 ghost use Rattle.std.specs.List.{AllByRecursion};
-ghost use Rattle.container_model.specs.Sequence.{has_each_once, rearrange_refusal, with_list};
+ghost use Rattle.container_model.specs.Sequence.{rearrange_refusal, with_list};
 ghost use Rattle.node_store.specs.Store.{IsNodeOf};
 ghost use Rattle.index_set.specs.Set.{store_of, specs_of, record_of};
 ghost use Rattle.linked_set.specs.Linked.{handle_of};
