@@ -180,29 +180,32 @@ module _ {X Y : Type 0} (f : X → Y) (low high : Edge X) (xs : List X) where
         within = tt;
       })
 
-  module _ (met : List Y) (x : X) (walked : HasWalked f low high xs met (Some x)) where
+  module _ (met : List Y) (now : Option X) (x : X) (is : now ≡ Some x) (walked : HasWalked f low high xs met now) where
+    come : option_and_then (λ y. cond (is_to high y) (Some y) None) (slice_get xs (before low xs + length met)) ≡ Some x
+    come = sym walked.place ∙ is
+
     -- the member that it came to
     pub walk_at : slice_get xs (before low xs + length met) ≡ Some x
-    walk_at = (passed_is (is_to high) (slice_get xs (before low xs + length met)) x (sym walked.place)).0
+    walk_at = (passed_is (is_to high) (slice_get xs (before low xs + length met)) x come).0
 
     pub walk_goes_on : (more : List Y) (next after : Option X) → more ≡ met ++ f x ∷ [] → after ≡ slice_get xs ((before low xs + length met) + 1) → next ≡ option_and_then (λ y. cond (is_to high y) (Some y) None) after → HasWalked f low high xs more next
-    walk_goes_on more next after pushed here is =
+    walk_goes_on more next after pushed here comes =
         let ys = drop (before low xs) xs in
-        let p = passed_is (is_to high) (slice_get xs (before low xs + length met)) x (sym walked.place) in
+        let p = passed_is (is_to high) (slice_get xs (before low xs + length met)) x come in
         let longer : length (met ++ f x ∷ []) ≡ length met + 1 = length-append met (f x ∷ []) in
         let next_place : (before low xs + length met) + 1 ≡ before low xs + length (met ++ f x ∷ []) = omega (arith, longer) in
         let one_more : suc (length met) ≡ length (met ++ f x ∷ []) = omega (arith, longer) in
         let there : slice_get ys (length met) ≡ Some x = slice_get-drop (before low xs) (length met) xs ∙ p.0 in
         subst (λ l. HasWalked f low high xs l next) (sym pushed) (record {
-          place = is ∙ ap (option_and_then (λ y. cond (is_to high y) (Some y) None)) (here ∙ ap (slice_get xs) next_place);
+          place = comes ∙ ap (option_and_then (λ y. cond (is_to high y) (Some y) None)) (here ∙ ap (slice_get xs) next_place);
           passed = one_met f ys met x there walked.passed;
           within = subst (λ k. AllByRecursion (λ y. is_to high y ≡ true) (take k ys)) one_more (All-take_more (λ y. is_to high y ≡ true) ys (length met) x there p.1 walked.within);
         })
 
   -- at its end all between the bounds have been met
-  pub walk_ended : (met : List Y) → Rises low xs → Rises high xs → HasWalked f low high xs met None → met ≡ map f (range low high xs)
-  walk_ended met rises falls walked =
+  pub walk_ended : (met : List Y) (now : Option X) → Rises low xs → Rises high xs → now ≡ None → HasWalked f low high xs met now → met ≡ map f (range low high xs)
+  walk_ended met now rises falls over walked =
       let ys = drop (before low xs) xs in
-      let past = ap (option_and_then (λ x. cond (is_to high x) (Some x) None)) (slice_get-drop (before low xs) (length met) xs) ∙ sym walked.place in
+      let past = ap (option_and_then (λ x. cond (is_to high x) (Some x) None)) (slice_get-drop (before low xs) (length met) xs) ∙ (sym walked.place ∙ over) in
       walked.passed ∙ ap (map f) (sym (skipped (is_from low) (is_to high) xs (from_rises low xs rises)
       ∙ kept (is_to high) ys (length met) (EachPair-drop _ (before low xs) xs (to_falls high xs falls)) walked.within past))
