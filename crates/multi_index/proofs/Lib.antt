@@ -1,8 +1,8 @@
 pub mod Cleared
 pub mod HeldByAll
+pub mod InPlace
 pub mod Inserted
 pub mod Made
-pub mod Modified
 pub mod Named
 pub mod Ordered
 pub mod Places

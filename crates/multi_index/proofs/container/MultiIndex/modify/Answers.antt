@@ -6,7 +6,7 @@ use Rattle.container_model.specs.Insert.{ban}
 use Rattle.container_model.specs.State.{row_of}
 use Rattle.linked_set.specs.Modified.{told}
 use Rattle.linked_set.specs.Seen.{seen}
-use Rattle.multi_index.proofs.Modified.{change_stale, change_live, IsContainer_modified}
+use Rattle.multi_index.proofs.InPlace.{change_stale, change_live, IsContainer_modified}
 use Rattle.multi_index.proofs.HeldByAll.{held_by_all}
 use Rattle.linked_set.proofs.Live.{none_seen}
 use Rattle.multi_index.proofs.Replaced.{named}
