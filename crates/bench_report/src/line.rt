@@ -55,7 +55,11 @@ impl fmt::Display for Unit {
 
 impl fmt::Display for Line {
     fn fmt<W: fmt::Write>(&self, f: &mut fmt::Formatter<W>) -> fmt::Result {
-        write!(f, "{:<44}{:>9}{:>12} {}", self.name, self.count, self.value, self.unit)?;
+        write!(
+            f,
+            "{:<44}{:>9}{:>12} {}",
+            self.name, self.count, self.value, self.unit
+        )?;
         match self.before {
             None => Ok(()),
             Some(before) => {

@@ -57,10 +57,22 @@ fn run<R: Runtime>(
 ) -> io::Result<()> {
     let mut kept = ByHand::new(alloc, indices);
     for (name, call) in calls {
-        let start = Instant::now(rt)?;
-        let met = each(*call, &mut kept, count);
-        report.line(start.elapsed(rt)?, name, count, count, met)?;
+        time(rt, report, name, *call, &mut kept, count)?;
     }
+    Ok(())
+}
+
+fn time<R: Runtime>(
+    rt: &R,
+    report: &mut Report,
+    name: &'static str,
+    call: Call,
+    kept: &mut ByHand,
+    count: u64,
+) -> io::Result<()> {
+    let start = Instant::now(rt)?;
+    let met = each(call, kept, count);
+    report.line(start.elapsed(rt)?, name, count, count, met)?;
     Ok(())
 }
 

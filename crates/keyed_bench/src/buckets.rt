@@ -5,8 +5,8 @@ ghost use Rattle.node_store.specs.ByNode.{column_of};
 ghost use Rattle.hash_index.specs.Spelled.{IsSound, spelled, Holds};
 ghost use Rattle.keyed_bench.specs.Keyed.{IsKeyed};
 
-use bench_report::{Report, Unit, scattered};
 use crate::words::Words;
+use bench_report::{Report, Unit, scattered};
 use hash_index::HashIndex;
 use node_store::{Node, NodeStore};
 use std::alloc::Global;
@@ -46,7 +46,13 @@ pub(crate) fn times<R: Runtime>(
         };
         let start = Instant::now(rt)?;
         let met = each(*call, &mut store, &mut index, from, to);
-        report.line(start.elapsed(rt)?, name, count, to.saturating_sub(from), met)?;
+        report.line(
+            start.elapsed(rt)?,
+            name,
+            count,
+            to.saturating_sub(from),
+            met,
+        )?;
         if let Call::Link = call {
             fullness(report, &store, &index, count)?;
         }
@@ -64,7 +70,12 @@ fn fullness(
     requires { IsKeyed store.now index.now }
 {
     let buckets = index.buckets() as u64;
-    report.number("hash_index: size of the table", Unit::Buckets, count, buckets)?;
+    report.number(
+        "hash_index: size of the table",
+        Unit::Buckets,
+        count,
+        buckets,
+    )?;
     let longest = index.longest_chain(store) as u64;
     report.number("hash_index: longest chain", Unit::Nodes, count, longest)?;
     Ok(())

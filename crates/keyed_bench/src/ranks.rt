@@ -4,8 +4,8 @@ ghost use Rattle.node_store.specs.ByNode.{column_of};
 ghost use Rattle.rank_tree.specs.Spelled.{IsSound};
 ghost use Rattle.keyed_bench.specs.Ranks.{IsRanked};
 
-use bench_report::{Report, scattered};
 use crate::words::Words;
+use bench_report::{Report, scattered};
 use node_store::NodeStore;
 use rank_tree::RankTree;
 use std::alloc::Global;

@@ -7,8 +7,8 @@ ghost use Rattle.node_store.specs.ByNode.{column_of};
 ghost use Rattle.ord_tree.specs.Spelled.{IsSound, spelled, Holds};
 ghost use Rattle.keyed_bench.specs.Trees.{IsSorted};
 
-use bench_report::{Report, scattered};
 use crate::words::Words;
+use bench_report::{Report, scattered};
 use node_store::{Node, NodeStore};
 use ord_tree::{NoTally, OrdTree};
 use std::alloc::Global;
@@ -52,7 +52,13 @@ pub(crate) fn times<R: Runtime>(
         };
         let start = Instant::now(rt)?;
         let met = each(*call, &mut store, &mut tree, from, to);
-        report.line(start.elapsed(rt)?, name, count, to.saturating_sub(from), met)?;
+        report.line(
+            start.elapsed(rt)?,
+            name,
+            count,
+            to.saturating_sub(from),
+            met,
+        )?;
     }
     Ok(())
 }

@@ -35,7 +35,13 @@ pub(crate) fn times<R: Runtime>(
     let mut store = NodeStore::new(alloc);
     let start = Instant::now(rt)?;
     let nodes = add_each(&mut store, alloc, count);
-    report.line(start.elapsed(rt)?, "store: add", count, count, nodes.len() as u64)?;
+    report.line(
+        start.elapsed(rt)?,
+        "store: add",
+        count,
+        count,
+        nodes.len() as u64,
+    )?;
     for (name, call) in &CALLS {
         let start = Instant::now(rt)?;
         let met = each(*call, &mut store, &nodes);

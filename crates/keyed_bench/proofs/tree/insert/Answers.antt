@@ -24,3 +24,8 @@ returns c =
     let h = subst (λ z. IsSorted c.args.store.now z) (sym c.reserve_one.ensures.same) c.requires in
     sorted_linked c.add.new.self c.link.new.store c.reserve_one.new.self c.link.new.self c.in-Ok.n
     (sorted_added c.args.store.now c.add.new.self c.in-Ok.n c.args.word c.reserve_one.new.self c.in-Ok.ensures.added h) c.link.ensures.contents c.link.ensures.list
+
+pub returns-in_default : goal.returns-in_default
+returns-in_default c =
+    subst (λ z. IsSorted z c.reserve_one.new.self) (sym c.in_default.ensures.unchanged)
+    (subst (λ z. IsSorted c.args.store.now z) (sym c.reserve_one.ensures.same) c.requires)
