@@ -56,15 +56,25 @@ pub(crate) fn place_of(
     if !kinds.contains(&kind) {
         return Err(Why::Kind);
     }
-    let Some(handle) = position else {
-        return Ok(list.len());
-    };
+    match position {
+        Some(handle) => place_in(list, handle).ok_or(Why::Stale),
+        None => Ok(list.len()),
+    }
+}
+
+/// The place of a record in a list.
+pub(crate) fn place_in(list: &[Handle], handle: Handle) -> Option<usize> {
     for (place, it) in list.iter().enumerate() {
         if *it == handle {
-            return Ok(place);
+            return Some(place);
         }
     }
-    Err(Why::Stale)
+    None
+}
+
+/// The number of a place.
+pub(crate) fn number(place: Result<usize, Why>) -> Result<u64, Why> {
+    Ok(place? as u64)
 }
 
 /// The record at a place, if it is not the end.
@@ -73,22 +83,20 @@ pub(crate) fn at(list: &[Handle], place: usize) -> Option<Handle> {
 }
 
 /// The record after a place.
-pub(crate) fn after(list: &[Handle], place: usize) -> Option<Handle> {
-    at(list, place.saturating_add(1))
+pub(crate) fn after(list: &[Handle], place: Result<usize, Why>) -> Result<Option<Handle>, Why> {
+    Ok(at(list, place?.saturating_add(1)))
 }
 
 /// The record before a place.
-pub(crate) fn before(list: &[Handle], place: usize) -> Option<Handle> {
-    at(list, place.checked_sub(1)?)
+pub(crate) fn before(list: &[Handle], place: Result<usize, Why>) -> Result<Option<Handle>, Why> {
+    let place = place?;
+    Ok(if place > 0 { at(list, place - 1) } else { None })
 }
 
-/// Whether a list has each record of another one once.
-pub(crate) fn is_order_of(handles: &[Handle], list: &[Handle]) -> bool {
-    if handles.len() != list.len() {
-        return false;
-    }
-    for handle in list {
-        if !handles.contains(handle) {
+/// Whether each of the handles is in the list.
+pub(crate) fn has_all(list: &[Handle], handles: &[Handle]) -> bool {
+    for handle in handles {
+        if !list.contains(handle) {
             return false;
         }
     }

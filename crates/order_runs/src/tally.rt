@@ -109,7 +109,12 @@ impl Tallies {
     }
 
     pub(crate) fn are_clean(&self) -> bool {
-        self.counts.iter().all(|tally| tally.differences == 0)
+        for tally in &self.counts {
+            if tally.differences != 0 {
+                return false;
+            }
+        }
+        true
     }
 
     pub(crate) fn print(&self, rt: &HostRuntime) -> io::Result<()> {

@@ -8,6 +8,7 @@ mod orders;
 mod positions;
 mod searches;
 
+use crate::lists::place_in;
 use crate::tally::{Call, Tallies};
 use arrayvec::ArrayVec;
 use container_model::{Handle, Kind, Spec, Why};
@@ -121,7 +122,10 @@ impl Watched {
     pub(crate) fn view(&self, index: usize) -> Result<Vec<Handle>, AllocError>
         requires { index < length self.now.specs }
     {
-        self.container.view(index).map_err(|_| AllocError)
+        match self.container.view(index) {
+            Ok(view) => Ok(view),
+            Err(_) => Err(AllocError),
+        }
     }
 
     fn views(&self) -> Result<Vec<Vec<Handle>>, AllocError> {
@@ -199,7 +203,11 @@ impl Watched {
 // Takes a record out of each list.
 fn take_out(views: &mut [Vec<Handle>], handle: Handle) {
     for view in views {
-        view.retain(|it| *it != handle);
+        if let Some(place) = place_in(view, handle) {
+            if place < view.len() {
+                view.remove(place);
+            }
+        }
     }
 }
 

@@ -3,7 +3,7 @@ ghost use Rattle.std.specs.Prelude.{◌<◌, length};
 
 use super::Watched;
 use crate::lists::{
-    NOT_HASHED, ROWS, WITH_PLACES, WITH_RANKS, after, answer_of, at, before, place_of,
+    NOT_HASHED, ROWS, WITH_PLACES, WITH_RANKS, after, answer_of, at, before, number, place_of,
 };
 use crate::tally::{Call, Tallies};
 use container_model::Handle;
@@ -51,7 +51,7 @@ impl Watched {
         tallies.compare_numbers(
             Call::PlaceOf,
             self.container.place_of(index, handle),
-            wanted.map(|place| place as u64),
+            number(wanted),
         );
         Ok(())
     }
@@ -72,17 +72,17 @@ impl Watched {
             Step::Rank => tallies.compare_numbers(
                 Call::Rank,
                 container.rank(index, position),
-                place_of(&WITH_RANKS, kind, &list, position).map(|place| place as u64),
+                number(place_of(&WITH_RANKS, kind, &list, position)),
             ),
             Step::Next => tallies.compare_records(
                 Call::ProjectNext,
                 container.project_next(index, position),
-                place_of(&NOT_HASHED, kind, &list, position).map(|place| after(&list, place)),
+                after(&list, place_of(&NOT_HASHED, kind, &list, position)),
             ),
             Step::Prev => tallies.compare_records(
                 Call::ProjectPrev,
                 container.project_prev(index, position),
-                place_of(&NOT_HASHED, kind, &list, position).map(|place| before(&list, place)),
+                before(&list, place_of(&NOT_HASHED, kind, &list, position)),
             ),
         }
         Ok(())
