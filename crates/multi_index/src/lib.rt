@@ -2,12 +2,10 @@
 #![tactic(auto)]
 
 mod bounds;
-mod by_row;
 mod clear;
 mod container;
 mod erase;
 mod erase_key;
-mod linked;
 mod modify;
 mod order;
 mod positions;
@@ -15,9 +13,8 @@ mod range;
 mod rearrange;
 mod replace;
 mod sort;
-mod walk;
 
 pub use container::MultiIndex;
 pub use container_model::{Entry, Handle, Kind, Refused, Spec, Why};
 pub use erase::Erased;
-pub use modify::Modified;
+pub use linked_set::Modified;
