@@ -1,5 +1,5 @@
 -- The container that is seen in a set with other entries and lists.
-use Rattle.std.proofs.Common.{◌≡◌, ℕ, ◌+◌, ◌-◌, Bool, List, map}
+use Rattle.std.proofs.Common.{◌≡◌, ℕ, ◌+◌, Bool, List, map}
 use Rattle.std.specs.Prelude.{filter}
 use Rattle.std.specs.declared.cmp.Ordering.{Ordering}
 use Rattle.container_model.specs.declared.handle.Handle.{Handle}

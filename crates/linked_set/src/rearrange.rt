@@ -1,5 +1,5 @@
 //! Handles that stand for each record once, and their nodes.
-ghost use Rattle.std.specs.Prelude.{◌≡◌, ◌==◌, ◌<◌, IsTrue, None, Some, IfOk, false, map, nat_eq};
+ghost use Rattle.std.specs.Prelude.{◌≡◌, ◌==◌, IsTrue, None, Some, IfOk, false, map, nat_eq};
 ghost use Rattle.std.specs.List.{AllByRecursion, IsDistinct, list_all};
 ghost use Rattle.list_model.specs.Order.{EachPair};
 ghost use Rattle.container_model.specs.Find.{is_live};

@@ -1,5 +1,5 @@
 //! Giving a record another row.
-ghost use Rattle.std.specs.Prelude.{◌≡◌, ◌-◌, option_map, None, Some};
+ghost use Rattle.std.specs.Prelude.{◌≡◌, option_map, None, Some};
 ghost use Rattle.container_model.specs.Insert.{ban_from};
 ghost use Rattle.container_model.specs.Change.{settled_from, with_row};
 ghost use Rattle.index_set.specs.Indices.{HoldIt};

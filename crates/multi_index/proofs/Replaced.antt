@@ -74,7 +74,7 @@ module _ {E R : Type 0} (order : E → ℕ → R → R → Ordering) (old new : 
       IsContainer has_key order hash old slots max writes → IsLinked has_key order hash new slots → IsContainer has_key order hash new slots max (writes + 1)
   IsContainer_replaced has_key hash slots total was_row live allowed added next was linked = record {
     linked = linked;
-    state = subst (IsState has_key order) (sym seen_replaced) (IsState-replaced has_key order total (seen old max writes) h row was.state (ap is_some live) allowed);
+    state = subst (IsState has_key order) (sym (seen_replaced order old new h row max writes same entries lists)) (IsState-replaced has_key order total (seen old max writes) h row was.state (ap is_some live) allowed);
     narrow = was.narrow;
     numbered = next;
     added = let before = was.added in omega arith;

@@ -63,7 +63,7 @@ module _ {E R : Type 0} (old new : IndexSet (Entry R) (ByRow E)) (keep : Handle 
       IsContainer has_key order hash old old_slots max writes → IsLinked has_key order hash new slots → IsContainer has_key order hash new slots max (writes + 1)
   IsContainer_only has_key order hash old_slots slots count next was linked = record {
     linked = linked;
-    state = subst (IsState has_key order) (sym seen_only) (IsState-only has_key order (seen old max writes) was.state keep);
+    state = subst (IsState has_key order) (sym (seen_only old new keep max writes same entries lists)) (IsState-only has_key order (seen old max writes) was.state keep);
     narrow = was.narrow;
     numbered = next;
     added = let before = was.added in omega arith;

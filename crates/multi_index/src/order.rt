@@ -1,5 +1,5 @@
 //! Changes of the order of one sequence that take no memory.
-ghost use Rattle.std.specs.Prelude.{◌≡◌, ◌<◌, ◌-◌, ◌==◌, None, Some, IfErr, IfOk, OnErr, OnOk, length, false};
+ghost use Rattle.std.specs.Prelude.{◌≡◌, ◌<◌, ◌==◌, None, Some, IfErr, IfOk, OnErr, OnOk, length, false};
 ghost use Rattle.container_model.specs.State.{is_sequence_kind};
 ghost use Rattle.container_model.specs.Sequence.{relocate_refusal, sequence_refusal, with_relocated, with_reversed};
 ghost use Rattle.node_store.specs.Store.{IsNodeOf};
