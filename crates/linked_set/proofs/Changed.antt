@@ -27,9 +27,9 @@ use Rattle.index_set.specs.Set.{store_of, keys_of, specs_of, lists_of, IsSound, 
 use Rattle.index_set.proofs.Keys.{lacks_left}
 use Rattle.index_set.proofs.Members.{nodes_held, distinct}
 use Rattle.index_set.proofs.StaysUnique.{unique_after_remove}
-use Rattle.index_set.proofs.Written.{lists_written, others_written}
+use Rattle.index_set.proofs.Written.{lists_written}
 use Rattle.modify_ops.proofs.Held.{node_of_all}
-use Rattle.modify_ops.proofs.Others.{ban_others}
+use Rattle.modify_ops.proofs.Others.{ban_written}
 use Rattle.linked_set.specs.declared.by_row.ByRow.{ByRow}
 use Rattle.linked_set.specs.LeadsTo.{LeadsTo}
 use Rattle.linked_set.specs.Linked.{handle_of, entries_in, handles_in}
@@ -80,10 +80,7 @@ module _ {E R : Type 0} {has_key : E → ℕ → Bool} {order : E → ℕ → R 
       (max writes : ℕ) → option_map (λ at. (at.0, handle_of (set.record_of old) at.1)) result ≡ ban order (seen old max writes) (Some h) row
   ban_changed result found max writes =
       let told = told_some (store_of old) slots w.linked.leads n w.is (lists_of old) (nodes_held old w.linked.sound) in
-      let here : result ≡ ban_from (orders (keys_of old)) (set.record_of old) (lists_of old) (Some n) entry 0 (specs_of old) =
-      found
-      ∙ (ban_others (set.record_of old) (set.record_of (set.with_record old n entry)) n (others_written (store_of old) n entry w.is) (orders (keys_of old)) (lists_of (set.with_record old n entry)) entry 0 (specs_of old)
-      ∙ ap (λ ls. ban_from (orders (keys_of old)) (set.record_of old) ls (Some n) entry 0 (specs_of old)) (lists_written old n entry)) in
+      let here : result ≡ ban_from (orders (keys_of old)) (set.record_of old) (lists_of old) (Some n) entry 0 (specs_of old) = found ∙ ban_written old n entry w.is (orders (keys_of old)) entry in
       ap (option_map (λ at. (at.0, handle_of (set.record_of old) at.1))) here
       ∙ (sym (ban_known (order (keys_of old).keys) (set.record_of old) (entries_in (set.contents old)) (lists_of old) (Some n) (known_all old slots w.linked) told entry 0 (specs_of old))
       ∙ ap (λ g. ban order (seen old max writes) (Some g) row) w.own)
@@ -99,6 +96,16 @@ module _ {E R : Type 0} {has_key : E → ℕ → Bool} {order : E → ℕ → R 
   -- its record is the new one
   pub record_changed : set.record_of mid n ≡ Some entry
   record_changed = its_record (store_of old) (store_of mid) n h row slots w.linked.sound.nodes w.linked.leads w.linked.apart w.is w.own w.after
+
+  -- a set that is sound again is linked as before
+  pub IsLinked_changed : IsSound (λ by. has_key by.keys) mid → IsKeyed orders hashes mid → IsUniqueExcept orders mid None → IsLinked has_key order hash mid slots
+  IsLinked_changed sound keyed unique = record {
+    sound = sound;
+    keyed = keyed;
+    unique = unique;
+    apart = apart_rewritten (store_of old) (store_of mid) n h row slots w.linked.sound.nodes w.linked.leads w.linked.apart w.is w.own w.after;
+    leads = leads_rewritten (store_of old) (store_of mid) n h row slots w.linked.sound.nodes w.linked.leads w.linked.apart w.is w.own w.after;
+  }
 
   module _ (result : Option (ℕ × Node)) (listed : lists_of mid ≡ option_map_or (λ by. map (without (same_node n)) (lists_of (set.with_record old n entry))) result
       (changed_from (settled_at (orders (keys_of old)) (set.record_of (set.with_record old n entry)) n) 0 (specs_of old) (lists_of (set.with_record old n entry)))) where
@@ -126,15 +133,6 @@ module _ {E R : Type 0} {has_key : E → ℕ → Bool} {order : E → ℕ → R 
     pub seen_settled : (max writes : ℕ) → seen mid max (writes + 1) ≡ with_replaced order (seen old max writes) h row
     seen_settled max writes =
         seen_replaced order old mid h row max writes w.same (entries_rewritten (store_of old) (store_of mid) n h row slots w.linked.sound.nodes w.linked.leads w.linked.apart w.is w.own w.after) lists_settled
-
-    pub IsLinked_settled : IsSound (λ by. has_key by.keys) mid → IsKeyed orders hashes mid → IsUniqueExcept orders mid None → IsLinked has_key order hash mid slots
-    IsLinked_settled sound keyed unique = record {
-      sound = sound;
-      keyed = keyed;
-      unique = unique;
-      apart = apart_rewritten (store_of old) (store_of mid) n h row slots w.linked.sound.nodes w.linked.leads w.linked.apart w.is w.own w.after;
-      leads = leads_rewritten (store_of old) (store_of mid) n h row slots w.linked.sound.nodes w.linked.leads w.linked.apart w.is w.own w.after;
-    }
 
   -- where it left, and was taken out
   leads_mid : LeadsTo (store_of mid) slots

@@ -23,4 +23,5 @@ pub mod Sides
 pub mod Sorted
 pub mod StableSort
 pub mod Thinned
+pub mod Undoing
 pub mod Walks

@@ -7,6 +7,8 @@ pub mod Named
 pub mod Ordered
 pub mod Places
 pub mod Rearranged
+pub mod Refusing
 pub mod Replaced
 pub mod Rising
 pub mod Shrunk
+pub mod Undone

@@ -7,6 +7,7 @@ mod container;
 mod erase;
 mod erase_key;
 mod modify;
+mod modify_or_undo;
 mod order;
 mod positions;
 mod range;

@@ -20,7 +20,7 @@ use Rattle.linked_set.specs.Modified.{told}
 use Rattle.linked_set.specs.declared.modify.Modified.TheVariants.{Erased}
 use Rattle.linked_set.specs.Seen.{seen, IsLinked}
 use Rattle.linked_set.proofs.Bans.{ban_of}
-use Rattle.linked_set.proofs.Changed.{changed_set, settled_then, taken_then, ban_changed, count_changed, handle_changed, record_changed, seen_settled, IsLinked_settled, there_mid, is_mid, slot_taken, seen_taken, IsLinked_taken}
+use Rattle.linked_set.proofs.Changed.{changed_set, settled_then, taken_then, ban_changed, count_changed, handle_changed, record_changed, seen_settled, IsLinked_changed, there_mid, is_mid, slot_taken, seen_taken, IsLinked_taken}
 use Rattle.linked_set.proofs.modify.change.Goals as goal
 
 pub get_mut-requires : goal.get_mut-requires
@@ -52,7 +52,7 @@ returns-in_default-clause-linked g c =
     let set = c.args.set.now in
     let made = c.settle_or_leave.ensures in
     let w = changed_set set c.settle_or_leave.new.set c.args.slots.now.items c.args.node c.get_mut.result.now c.apply.new.row c.requires.linked c.requires.held c.get_mut.ensures.value made.contents made.same in
-    IsLinked_settled w (settled_then w c.settle_or_leave.result made.lists c.in_default.is) made.sound made.keyed made.unique
+    IsLinked_changed w made.sound made.keyed made.unique
 
 pub returns-in_default-clause-count : goal.returns-in_default-clause-count
 returns-in_default-clause-count g c =
