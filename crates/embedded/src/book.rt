@@ -119,17 +119,15 @@ impl Book {
     }
 
     /// Takes out all orders of an owner, and says how many they were. O(log n) for each.
-    pub fn cancel_all(&mut self, owner: u64) -> Result<u64, Why>
+    pub fn cancel_all(&mut self, owner: u64) -> Result<u64, Refused<Order>>
         ensures count { IfOk result (λ count. count ≡ erased_count to_field self.old 2 owner) }
         ensures allowed { OnOk result (erase_key_refusal self.old 2 ≡ None) }
         ensures cancelled { OnOk result (self.new ≡ with_key_erased to_field self.old 2 owner) }
-        ensures why { IfErr result (λ why. Some why ≡ erase_key_refusal self.old 2) }
+        ensures why { IfErr result (λ refused. Some refused.why ≡ erase_key_refusal self.old 2) }
+        ensures handed_back { IfErr result (λ refused. refused.row ≡ None) }
         ensures unchanged { OnErr result (self.new ≡ self.old) }
     {
-        match self.orders.erase_key(2, &owner) {
-            Ok(count) => Ok(count),
-            Err(refused) => Err(refused.why),
-        }
+        self.orders.erase_key(2, &owner)
     }
 
     /// The first order of those that bid this price. O(log n).

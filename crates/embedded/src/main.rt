@@ -48,6 +48,7 @@ fn main(rt: HostRuntime) -> io::Result<()> {
     for handle in book.between(300, 400).unwrap_or(Vec::new(rt.alloc())) {
         print::renumbered(&rt, 6, book.renumber(handle, 6))?;
     }
-    println!(rt; "of owner 71 are cancelled: {:?}", book.cancel_all(71))?;
+    let cancelled = book.cancel_all(71).unwrap_or(0);
+    println!(rt; "{cancelled} orders of owner 71 are cancelled")?;
     print::orders(&rt, &book, book.by_price())
 }
