@@ -5,7 +5,7 @@ ghost use Rattle.container_model.specs.State.{empty, list_at, row_of};
 ghost use Rattle.container_model.specs.Find.{counted, found, found_range, probe_side};
 ghost use Rattle.container_model.specs.Insert.{ban, insert_refusal, new_handle, with_inserted};
 ghost use Rattle.container_model.specs.Change.{erase_key_refusal, erase_refusal, erased_count, modify_refusal, replace_refusal, with_erased, with_key_erased, with_modified, with_replaced};
-ghost use Rattle.multi_index.specs.Modified.{told};
+ghost use Rattle.linked_set.specs.Modified.{told};
 ghost use Rattle.embedded.specs.Fields.{by_field, to_field, indices};
 
 use crate::order::{Fields, Order};
