@@ -1,5 +1,5 @@
 -- Handles that name a record, and those that name none.
-use Rattle.std.proofs.Common.{◌≡◌, ℕ, Bool, true, false, List, Option, Some, None, refl, ap, ⊎_elim}
+use Rattle.std.proofs.Common.{◌≡◌, ℕ, Bool, true, false, List, Option, Some, None, refl, ap}
 use Rattle.std.specs.Prelude.{IsTrue, not, is_some}
 use Rattle.std.specs.declared.cmp.Ordering.{Ordering}
 use Rattle.container_model.specs.declared.handle.Entry.{Entry}

@@ -1,10 +1,9 @@
 -- Each index of a container has each node.
-use Rattle.std.proofs.Common.{ℕ, Bool, List, [], Option, ap, ⊎_elim}
+use Rattle.std.proofs.Common.{ℕ, Bool, List, Option, ap}
 use Rattle.std.specs.Prelude.{is_some}
 use Rattle.std.specs.declared.cmp.Ordering.{Ordering}
 use Rattle.node_store.specs.declared.Node.{Node}
 use Rattle.node_store.specs.Store.{IsNodeOf}
-use Rattle.node_store.specs.ByNode.{record_of}
 use Rattle.container_model.specs.declared.handle.Entry.{Entry}
 use Rattle.index_set.specs.declared.set.IndexSet.{IndexSet}
 use Rattle.index_set.specs.Indices.{HoldIt}
