@@ -1,7 +1,7 @@
 //! Replies at the ends of their ranges, rows under headings, and the buffer.
 
 use std::alloc::{AllocError, Global};
-use table_cmd::{
+use table_reply::{
     Cell, Fault, Handle, Heading, Out, READY_ROOM, Record, Reply, Row, Text, write_reply,
 };
 

@@ -2,8 +2,8 @@
 ghost use Rattle.std.specs.Prelude.{◌<◌};
 
 use std::alloc::{AllocError, Global};
-use table_cmd::Out;
 use table_engine::Engine;
+use table_reply::Out;
 use table_schema::Schema;
 
 /// The longest stream that is read at once.

@@ -3,8 +3,8 @@ ghost use Rattle.std.specs.Prelude.{◌≡◌, ◌<◌, length};
 
 use crate::sent::Sent;
 use std::alloc::{AllocError, Global};
-use table_cmd::Out;
 use table_engine::{Engine, Event, run_events, serve_stream};
+use table_reply::Out;
 
 /// The stream is served by the last of 16 sessions. Gives the length of the answers where they are others.
 pub fn is_served_alike(sent: Sent) -> Result<Option<usize>, AllocError> {

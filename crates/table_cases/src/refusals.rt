@@ -3,7 +3,7 @@
 use crate::report::Report;
 use crate::steps::{kind_of, ready_out};
 use std::alloc::{AllocError, Global};
-use table_cmd::{Fault, Out};
+use table_reply::{Fault, Out};
 use table_step::{refuse, refuse_memory};
 
 /// Adds each fault as it is told without a table.

@@ -4,7 +4,8 @@ ghost use Rattle.std.specs.Prelude.{◌≤◌, IfOk};
 use crate::meaning::tell_command;
 use crate::report::Report;
 use std::alloc::{AllocError, Global};
-use table_cmd::{Command, CommandFault, Fault, Out, READY_ROOM, read_command};
+use table_cmd::{Command, CommandFault, read_command};
+use table_reply::{Fault, Out, READY_ROOM};
 use table_schema::Schema;
 use table_step::{Outcome, Table, refuse};
 

@@ -13,7 +13,8 @@ use Rattle.std.specs.Str.Parse.{ParsesUnsigned}
 use Rattle.std.specs.List.{position_or_len, before_first, after_first}
 use Rattle.container_model.specs.declared.handle.Handle.{Handle}
 use Rattle.table_cmd.specs.declared.command.HandleText.TheVariants.{Handle as Said, Bad}
-use Rattle.table_cmd.specs.Spelling.{HandleFits, spelling, numbers_in, handle_said}
+use Rattle.table_reply.specs.Spelling.{HandleFits, spelling}
+use Rattle.table_cmd.specs.Spelling.{numbers_in, handle_said}
 
 -- a handle's text is its slot's digits, a colon and its stamp's
 pub spelling_parts : (h : Handle) → spelling h ≡ decimal h.slot ++ (58 ∷ decimal h.stamp)

@@ -3,5 +3,3 @@ pub mod Op
 pub mod Spelling
 pub mod Parts
 pub mod Meaning
-pub mod Buffer
-pub mod Answer

@@ -1,19 +1,11 @@
--- How handles are spelled: slot, colon and stamp.
-use Rattle.std.specs.Prelude.{ℕ, ◌<◌, ◌^◌, ◌==◌, ◌&&◌, List, [], ◌∷◌, if◌then◌else◌, nat_lt, codes, decimal, bytes_eq}
+-- What a text says of a handle.
+use Rattle.std.specs.Prelude.{ℕ, ◌^◌, ◌==◌, ◌&&◌, List, if◌then◌else◌, nat_lt, bytes_eq}
 use Rattle.std.specs.List.{before_first, after_first}
 use Rattle.std.specs.Str.Parse.{digits_value}
 use Rattle.container_model.specs.declared.handle.Handle.{Handle}
+use Rattle.table_reply.specs.Spelling.{spelling}
 use Rattle.table_cmd.specs.declared.command.HandleText.{HandleText}
 use Rattle.table_cmd.specs.declared.command.HandleText.TheVariants as texts
-use Rattle.table_cmd.specs.Buffer.{joined}
-
--- the numbers of a handle fit their types
-abbrev pub HandleFits : Handle → Type 0
-HandleFits h = (h.slot < 2 ^ 32) × (h.stamp < 2 ^ 64)
-
--- a handle's text: both numbers in decimal, with a colon between
-unfoldable pub spelling : Handle → List ℕ
-spelling h = joined (decimal h.slot ∷ codes ":" ∷ decimal h.stamp ∷ [])
 
 -- the numbers that the digits before and after a text's first colon write
 abbrev pub numbers_in : List ℕ → Handle

@@ -1,71 +1,10 @@
-//! Why a line is refused.
+//! Why a line is no command.
 
 ghost use Rattle.std.specs.Prelude.{◌≡◌};
 ghost use Rattle.table_cmd.specs.declared.fault.CommandFault.TheVariants.{Memory};
-ghost use Rattle.table_cmd.specs.Answer.{fault_name};
 
 use std::alloc::{AllocError, AllocFailed};
 use thiserror::Error;
-
-/// Why a line is answered by nothing but a name. A banned insertion has an answer of its own, `Reply::Banned`.
-#[derive(Clone, Copy, Debug, PartialEq, Eq)]
-pub enum Fault {
-    /// The line is too long.
-    Line,
-    /// The line is not JSON.
-    Json,
-    /// The line is JSON, and no command.
-    Command,
-    /// No table has the name.
-    Table,
-    /// No index of the table has the name.
-    Index,
-    /// The index is of a kind that has no such operation.
-    Kind,
-    /// A row does not have the table's columns with cells of their types.
-    Row,
-    /// A key does not fit the index.
-    Key,
-    /// A text is no handle, or the handle is stale.
-    Handle,
-    /// A place is past the end.
-    Place,
-    /// A list of handles does not hold each live record once.
-    Order,
-    /// A sum leaves the range of 64 bits.
-    Overflow,
-    /// The table holds as many records as it may.
-    Full,
-    /// The table's write number has no successor.
-    Spent,
-    /// A growth was refused.
-    Memory,
-}
-
-impl Fault {
-    /// The name that the answer line gives. O(1).
-    pub fn name(self) -> &'static str
-        ensures { result.now ≡ fault_name self }
-    {
-        match self {
-            Fault::Line => "line",
-            Fault::Json => "json",
-            Fault::Command => "command",
-            Fault::Table => "table",
-            Fault::Index => "index",
-            Fault::Kind => "kind",
-            Fault::Row => "row",
-            Fault::Key => "key",
-            Fault::Handle => "handle",
-            Fault::Place => "place",
-            Fault::Order => "order",
-            Fault::Overflow => "overflow",
-            Fault::Full => "full",
-            Fault::Spent => "spent",
-            Fault::Memory => "memory",
-        }
-    }
-}
 
 /// Why a line is no command.
 #[derive(Clone, Copy, Debug, PartialEq, Eq, Error)]

@@ -1,29 +1,13 @@
-//! Handles and their spelling.
+//! What a text that should spell a handle says.
 
 ghost use Rattle.std.specs.Prelude.{◌≡◌, IfSome, IsSomeAnd, bytes_eq};
 ghost use Rattle.container_model.specs.declared.handle.Handle.{Handle as Named};
-ghost use Rattle.table_cmd.specs.Spelling.{HandleFits, spelling, handle_said};
+ghost use Rattle.table_reply.specs.Spelling.{HandleFits, spelling};
+ghost use Rattle.table_cmd.specs.Spelling.{handle_said};
 
 use crate::command::HandleText;
-use arrayvec::ArrayString;
 use container_model::Handle;
-use itoa::Buffer;
-
-/// Room for a slot of 10 digits, a colon, and a stamp of 20 digits.
-pub(crate) const SPELLING_LEN: usize = 31;
-
-// A handle's text.
-#[tactic(auto, unfolding(crate::specs::Spelling::spelling))]
-pub(crate) fn spelling(handle: Handle) -> ArrayString<SPELLING_LEN>
-    ensures { result.bytes ≡ spelling handle }
-{
-    let mut text = ArrayString::new();
-    let mut digits = Buffer::new();
-    text.push_str(digits.format(handle.slot));
-    text.push_str(":");
-    text.push_str(digits.format(handle.stamp));
-    text
-}
+use table_reply::spelling;
 
 // The handle that a text spells.
 pub(crate) fn handle_said(text: &str) -> HandleText

@@ -2,7 +2,7 @@
 use Rattle.std.proofs.Common.{◌≡◌, ℕ, ◌<◌, List, [], ◌∷◌, ◌++◌, length, take, drop, Result, Ok, Err, refl, sym, ap, ◌∙◌, append-nil, append_assoc}
 use Rattle.std.proofs.lemmas.List.{map-append, take-append-drop, take-map}
 use Rattle.std.proofs.lemmas.List.Elements.{All-nil}
-use Rattle.table_cmd.specs.Buffer.{joined}
+use Rattle.table_reply.specs.Buffer.{joined}
 use Rattle.table_engine.specs.declared.event.Stop.{Stop}
 use Rattle.table_engine.specs.Events.{taken_of}
 use Rattle.table_engine.specs.Run.{Machine, Run, byte, bytes_of, end}

@@ -4,7 +4,7 @@ use Rattle.std.proofs.lemmas.List.{map-set, map_more, get_or-map, length-map}
 use Rattle.std.proofs.lemmas.Option.{slice_get-get_or, slice_get-map}
 use Rattle.std.proofs.lemmas.Grind.{flat_map-append}
 use Rattle.std.proofs.Math.Seq.{map-set_same}
-use Rattle.table_cmd.specs.Buffer.{joined}
+use Rattle.table_reply.specs.Buffer.{joined}
 use Rattle.table_step.specs.Step.{TableState}
 use Rattle.table_engine.specs.Lines.{Cutter, Unfinished, short}
 use Rattle.table_engine.specs.Run.{Machine, Signal, byte, session_of, Answers, Takes, Run, Waits, line_of, bytes_of, forgotten, needs_answer, ready_room}

@@ -4,8 +4,8 @@ use Rattle.std.proofs.lemmas.List.{set-get_or}
 use Rattle.std.proofs.lemmas.Option.{slice_get_read}
 use Rattle.std.proofs.lemmas.List.Quantifiers.{position-Some}
 use Rattle.table_cmd.specs.declared.command.Command.{Command}
-use Rattle.table_step.specs.declared.outcome.Outcome.{Outcome}
-use Rattle.table_step.specs.declared.outcome.Outcome.TheVariants as outcomes
+use Rattle.table_terms.specs.declared.outcome.Outcome.{Outcome}
+use Rattle.table_terms.specs.declared.outcome.Outcome.TheVariants as outcomes
 use Rattle.table_cmd.specs.Command.{table_in}
 use Rattle.table_step.specs.Step.{TableState, Step, Steps, Took, step_of}
 use Rattle.table_engine.specs.Tables.{Replies, carried, stepped, table_at}

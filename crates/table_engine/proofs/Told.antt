@@ -4,7 +4,7 @@ use Rattle.std.proofs.lemmas.Bool.{eq-eqb, ne_eqb}
 use Rattle.std.proofs.lemmas.Bool.Decides.{eqb_tells}
 use Rattle.std.proofs.lemmas.List.{get_or-set_same, get_or-set_other, length-set, get_or_default}
 use Rattle.std.proofs.lemmas.Option.{get_or_from_slice_get, slice_get_within}
-use Rattle.table_cmd.specs.Buffer.{Buffer, joined}
+use Rattle.table_reply.specs.Buffer.{Buffer, joined}
 use Rattle.table_engine.specs.Run.{Machine, Signal, session_of, Run, told_to, bytes_of, bytes_at, room_at, Tells, Waits}
 use Rattle.table_engine.specs.declared.event.Stop.{Stop}
 use Rattle.table_engine.specs.Events.{taken_of}

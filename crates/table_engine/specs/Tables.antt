@@ -5,10 +5,10 @@ use Rattle.std.specs.Option.{option_map_or}
 use Rattle.table_cmd.specs.declared.command.Command.{Command}
 use Rattle.table_cmd.specs.declared.fault.CommandFault.{CommandFault}
 use Rattle.table_cmd.specs.declared.fault.CommandFault.TheVariants as command_faults
-use Rattle.table_cmd.specs.declared.fault.Fault.{Fault}
-use Rattle.table_cmd.specs.declared.fault.Fault.TheVariants as faults
+use Rattle.table_reply.specs.declared.fault.Fault.{Fault}
+use Rattle.table_reply.specs.declared.fault.Fault.TheVariants as faults
 use Rattle.table_cmd.specs.Meaning.{meaning}
-use Rattle.table_cmd.specs.Answer.{Answer, fault, answer_text}
+use Rattle.table_reply.specs.Answer.{Answer, fault, answer_text}
 use Rattle.table_cmd.specs.Command.{table_in}
 use Rattle.table_step.specs.Step.{TableState, Step, step_of, memory_line}
 use Rattle.table_engine.specs.Lines.{Unfinished, short, long, is_blank}

@@ -1,7 +1,7 @@
 -- A whole stream as its lines.
 use Rattle.std.specs.Prelude.{◌≡◌, ℕ, ◌==◌, List, [], ◌∷◌, ◌++◌, length, nat_le, if◌then◌else◌}
 use Rattle.std.specs.List.{slice_split}
-use Rattle.table_cmd.specs.Buffer.{joined}
+use Rattle.table_reply.specs.Buffer.{joined}
 use Rattle.table_step.specs.Step.{TableState}
 use Rattle.table_engine.specs.Lines.{Unfinished, short, long, max_line}
 use Rattle.table_engine.specs.Tables.{AnswersLine}

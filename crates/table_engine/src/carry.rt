@@ -1,12 +1,13 @@
 //! Lines carried out on the tables.
 
 ghost use Rattle.std.specs.Prelude.{◌≡◌, ◌≤◌};
-ghost use Rattle.table_cmd.specs.Buffer.{Keeps};
+ghost use Rattle.table_reply.specs.Buffer.{Keeps};
 ghost use Rattle.table_cmd.specs.Meaning.{meaning};
 ghost use Rattle.table_engine.specs.Tables.{Replies, answer_to, carried, table_at};
 
 use std::alloc::Global;
-use table_cmd::{Command, CommandFault, Fault, Out, READY_ROOM, read_command};
+use table_cmd::{Command, CommandFault, read_command};
+use table_reply::{Fault, Out, READY_ROOM};
 use table_step::{Table, refuse};
 
 // Answers a line that is neither blank nor too long.

@@ -1,7 +1,7 @@
 //! The tables of a schema behind several sessions.
 
 ghost use Rattle.std.specs.Prelude.{◌≡◌, ◌≤◌, ◌<◌, ◌++◌, [], ◌∷◌, List, ℕ, IsOk, OnErr, IfOk, IfErr, Some, length, map, replicate, slice_get};
-ghost use Rattle.table_cmd.specs.Buffer.{joined, Keeps};
+ghost use Rattle.table_reply.specs.Buffer.{joined, Keeps};
 ghost use Rattle.table_step.specs.Step.{new_table};
 ghost use Rattle.table_engine.specs.Events.{taken_of};
 ghost use Rattle.table_engine.specs.Lines.{short};
@@ -12,7 +12,7 @@ use crate::event::Stop;
 use crate::session::{take_end, take_piece};
 use std::alloc::{AllocError, Global};
 use std::marker::Model;
-use table_cmd::{Out, READY_ROOM};
+use table_reply::{Out, READY_ROOM};
 use table_schema::Schema;
 use table_step::Table;
 

@@ -6,7 +6,7 @@ ghost use Rattle.table_engine.specs.Run.{Run, Tells, Waits, room_at};
 
 use crate::engine::Engine;
 use crate::event::{Event, Stop};
-use table_cmd::Out;
+use table_reply::Out;
 
 /// Carries out the events one after another, and appends to each session's buffer what the session is answered:
 /// however the streams are cut and interleaved, each line as one machine would answer the lines in the order of their

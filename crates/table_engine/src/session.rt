@@ -1,7 +1,7 @@
 //! One session's stream.
 
 ghost use Rattle.std.specs.Prelude.{◌≡◌, ◌≤◌, ◌<◌, ◌++◌, ◌==◌, ◌&&◌, List, ℕ, IsTrue, IsOk, OnOk, OnErr, IfErr, length, slice_get};
-ghost use Rattle.table_cmd.specs.Buffer.{joined, Keeps};
+ghost use Rattle.table_reply.specs.Buffer.{joined, Keeps};
 ghost use Rattle.table_engine.specs.Events.{taken_of};
 ghost use Rattle.table_engine.specs.Lines.{has_answer};
 ghost use Rattle.table_engine.specs.Run.{Run, TakesByte, TakesEnd, Waits, bytes_of};
@@ -11,7 +11,7 @@ use crate::carry::answer_line;
 use crate::cutter::{Cut, LineCutter};
 use crate::event::Stop;
 use std::alloc::Global;
-use table_cmd::{Fault, Out, OutOfRoom, READY_ROOM};
+use table_reply::{Fault, Out, OutOfRoom, READY_ROOM};
 use table_step::{Table, refuse};
 
 // Takes the next byte of a session, and answers the line that it completes.

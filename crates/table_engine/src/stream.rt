@@ -2,14 +2,14 @@
 
 ghost use Rattle.std.specs.Prelude.{◌≡◌, ◌<◌, ◌≤◌, ◌++◌, [], ◌∷◌, List, ℕ, length, Err, OnOk, OnErr, IfErr};
 ghost use Rattle.std.specs.Io.KnownBytes.{Consumes, Appends, IsAtEnd};
-ghost use Rattle.table_cmd.specs.Buffer.{joined};
+ghost use Rattle.table_reply.specs.Buffer.{joined};
 ghost use Rattle.table_engine.specs.Run.{Run, Signal, bytes_of, end};
 ghost use Rattle.table_engine.specs.Whole.{BreaksOff, IsFront, Serves};
 
 use crate::engine::Engine;
 use std::alloc::Global;
 use std::io::{Read, Write};
-use table_cmd::{Out, READY_ROOM};
+use table_reply::{Out, READY_ROOM};
 
 /// The most bytes that are read at a time.
 const PIECE: usize = 4096;

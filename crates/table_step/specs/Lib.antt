@@ -1,11 +1,1 @@
-pub mod Values
-pub mod Headings
-pub mod Kinds
-pub mod Table
-pub mod Changes
-pub mod Moves
-pub mod Searches
-pub mod Reads
-pub mod Positions
 pub mod Step
-pub mod Told

@@ -1,7 +1,7 @@
 use Rattle.std.proofs.Common.{◌∙◌, sym, ap}
 use Rattle.std.proofs.lemmas.Bool.{both_ways}
 use Rattle.std.proofs.lemmas.Slice.Eq.{bytes_eq-Decides}
-use Rattle.table_cmd.specs.Spelling.{spelling}
+use Rattle.table_reply.specs.Spelling.{spelling}
 use Rattle.table_cmd.proofs.Spelling.{handle_said-spelling, handle_said-bad}
 use Rattle.table_cmd.proofs.handle.handle_said.Goals as goal
 

@@ -1,5 +1,5 @@
 use Rattle.std.proofs.Common.{◌≡◌, ◌++◌, sym, subst}
-use Rattle.table_cmd.specs.Buffer.{Buffer, joined}
+use Rattle.table_reply.specs.Buffer.{Buffer, joined}
 use Rattle.table_engine.specs.Run.{bytes_of}
 use Rattle.table_engine.specs.Events.{taken_of}
 use Rattle.table_engine.proofs.Told.{Run-length, AllOf-bytes, AllOf-taken, Tells-one, Waits-each}

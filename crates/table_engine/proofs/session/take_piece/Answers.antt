@@ -1,6 +1,6 @@
 use Rattle.std.proofs.Common.{◌≡◌, ◌<◌, ◌∷◌, [], ◌++◌, length, take, get_or, slice_get, slice_set, Some, sym, ap, subst, ◌∙◌, append_assoc, arith}
 use Rattle.std.proofs.lemmas.List.{take-map, length-set}
-use Rattle.table_cmd.specs.Buffer.{joined}
+use Rattle.table_reply.specs.Buffer.{joined}
 use Rattle.table_engine.specs.Run.{Run, bytes_of, byte}
 use Rattle.table_engine.specs.State.{machine}
 use Rattle.table_engine.proofs.Sessions.{taken_by, left_by, waits_at, joined-more, Run-byte, next_byte}

@@ -1,5 +1,5 @@
 use Rattle.std.proofs.Common.{◌≡◌, ℕ, ◌++◌, List, take, length}
-use Rattle.table_cmd.specs.Buffer.{joined, Keeps}
+use Rattle.table_reply.specs.Buffer.{joined, Keeps}
 use Rattle.table_engine.specs.Run.{Run, bytes_of}
 use Rattle.table_engine.specs.State.{machine}
 use Rattle.table_engine.proofs.session.take_piece.Given as goal

@@ -3,7 +3,7 @@ use Rattle.std.proofs.KnownBytes.{Appends-nil, Appends-trans}
 use Rattle.std.proofs.lemmas.Grind.{flat_map-append}
 use Rattle.std.proofs.lemmas.List.{map-append, take-append-drop, take-map}
 use Rattle.std.specs.Io.KnownBytes.{Appends}
-use Rattle.table_cmd.specs.Buffer.{joined}
+use Rattle.table_reply.specs.Buffer.{joined}
 use Rattle.table_engine.specs.Run.{Run, bytes_of, byte}
 use Rattle.table_engine.proofs.Runs.{Run-append}
 use Rattle.table_engine.proofs.Serving.{fed_front}

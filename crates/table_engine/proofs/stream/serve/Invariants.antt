@@ -1,6 +1,6 @@
 use Rattle.std.proofs.Common.{◌≡◌, ◌≤◌, ℕ, [], List, length}
 use Rattle.std.specs.Io.KnownBytes.{Consumes, Appends}
-use Rattle.table_cmd.specs.Buffer.{joined}
+use Rattle.table_reply.specs.Buffer.{joined}
 use Rattle.table_engine.specs.Run.{Run, bytes_of}
 use Rattle.table_engine.proofs.stream.serve.Given as goal
 

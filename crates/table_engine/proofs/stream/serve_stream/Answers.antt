@@ -1,5 +1,5 @@
 use Rattle.std.proofs.Common.{refl}
-use Rattle.table_cmd.specs.Buffer.{joined}
+use Rattle.table_reply.specs.Buffer.{joined}
 use Rattle.table_engine.proofs.stream.serve_stream.Goals as goal
 
 pub returns-in-Err-clause-read : goal.returns-in-Err-clause-read

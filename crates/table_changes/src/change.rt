@@ -1,0 +1,66 @@
+//! One change of a table.
+
+ghost use Rattle.std.specs.Prelude.{◌≡◌, ◌≤◌};
+ghost use Rattle.table_changes.specs.Change.{change_step, is_change};
+ghost use Rattle.table_reply.specs.Buffer.{Keeps};
+ghost use Rattle.table_terms.specs.Step.{IsShort, Steps};
+
+use crate::erase::{clear, erase, erase_key};
+use crate::insert::insert;
+use crate::moves::{move_before, rearrange, reverse, sort};
+use crate::replace::replace;
+use std::alloc::Global;
+use table_cmd::Command;
+use table_records::Records;
+use table_reply::{Fault, Out, READY_ROOM};
+use table_terms::{Outcome, refuse};
+
+/// Whether a command changes the table, where it is not refused. O(1).
+pub fn is_change(command: &Command) -> bool
+    ensures { result ≡ is_change command.now }
+{
+    matches!(
+        command,
+        Command::Insert { .. }
+            | Command::Replace { .. }
+            | Command::Erase { .. }
+            | Command::EraseKey { .. }
+            | Command::Clear { .. }
+            | Command::Move { .. }
+            | Command::Rearrange { .. }
+            | Command::Sort { .. }
+            | Command::Reverse { .. }
+    )
+}
+
+/// Carries out a command that changes the table, and appends the line of its answer, or that of a refusal. A command that
+/// changes none is refused as `command`. A refused command changes nothing. Where memory is refused nothing is changed and
+/// the memory line is appended; an accepted write is always answered.
+///
+/// An insertion and a replacement read their row in O(columns · fields), besides what the container's own call costs.
+pub fn change(alloc: Global, records: &mut Records, command: &Command, out: &mut Out) -> Outcome
+    requires { READY_ROOM ≤ out.old.room }
+    ensures answer { Steps result out.old.bytes out.new.bytes records.old records.new (change_step records.old command.now) }
+    ensures short { IsShort result out.old.bytes out.new.bytes }
+    ensures kept { Keeps out.old out.new }
+{
+    match command {
+        Command::Insert { row, position, .. } => {
+            insert(alloc, records, row, position.as_ref(), out)
+        }
+        Command::Replace { handle, row, .. } => replace(alloc, records, *handle, row, out),
+        Command::Erase { handle, index, .. } => erase(records, *handle, index.as_ref(), out),
+        Command::EraseKey { index, key, .. } => erase_key(alloc, records, index, key, out),
+        Command::Clear { .. } => clear(records, out),
+        Command::Move {
+            index,
+            handle,
+            place,
+            ..
+        } => move_before(records, index, *handle, *place, out),
+        Command::Rearrange { index, handles, .. } => rearrange(alloc, records, index, handles, out),
+        Command::Sort { index, by, .. } => sort(records, index, by, out),
+        Command::Reverse { index, .. } => reverse(records, index, out),
+        _ => refuse(Fault::Command, out),
+    }
+}

@@ -1,0 +1,47 @@
+//! One read of a table.
+
+ghost use Rattle.std.specs.Prelude.{◌≤◌};
+ghost use Rattle.table_reads.specs.Read.{read_step};
+ghost use Rattle.table_reply.specs.Buffer.{Keeps};
+ghost use Rattle.table_terms.specs.Step.{IsShort, Steps};
+
+use crate::list::list;
+use crate::positions::read_position;
+use crate::search::{Number, Search, count, find, size};
+use crate::show::get;
+use std::alloc::Global;
+use table_cmd::Command;
+use table_records::Records;
+use table_reply::{Out, READY_ROOM};
+use table_terms::Outcome;
+
+/// Carries out a command that reads the table, and appends the line of its answer, or that of a refusal, or the memory line.
+/// A command that would change the table is refused as `command`.
+///
+/// A record is shown in O(columns) and a listing in O(records · columns), besides what the container's own call costs.
+pub fn read(alloc: Global, records: &Records, command: &Command, out: &mut Out) -> Outcome
+    requires { READY_ROOM ≤ out.old.room }
+    ensures answer { Steps result out.old.bytes out.new.bytes records.now records.now (read_step records.now command.now) }
+    ensures short { IsShort result out.old.bytes out.new.bytes }
+    ensures kept { Keeps out.old out.new }
+{
+    match command {
+        Command::Get { handle, .. } => get(records, *handle, out),
+        Command::Size { .. } => size(records, out),
+        Command::Find { index, key, .. } => find(alloc, records, Search::Find, index, key, out),
+        Command::Count { index, key, .. } => count(alloc, records, Number::Count, index, key, out),
+        Command::Lower { index, key, .. } => find(alloc, records, Search::Lower, index, key, out),
+        Command::Upper { index, key, .. } => find(alloc, records, Search::Upper, index, key, out),
+        Command::FindRank { index, key, .. } => {
+            count(alloc, records, Number::FindRank, index, key, out)
+        }
+        Command::LowerRank { index, key, .. } => {
+            count(alloc, records, Number::LowerRank, index, key, out)
+        }
+        Command::UpperRank { index, key, .. } => {
+            count(alloc, records, Number::UpperRank, index, key, out)
+        }
+        Command::List { index, .. } => list(alloc, records, index, out),
+        _ => read_position(records, command, out),
+    }
+}

@@ -1,0 +1,3 @@
+pub mod Headings
+pub mod Fits
+pub mod Changes

@@ -1,0 +1,12 @@
+//! The records of a table, under the indices that its schema declares.
+#![tactic(auto)]
+
+mod headings;
+mod indices;
+mod order;
+mod records;
+mod refusal;
+mod writes;
+
+pub use records::Records;
+pub use refusal::tell_refusal;

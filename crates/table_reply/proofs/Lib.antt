@@ -1,0 +1,4 @@
+pub mod Cells
+pub mod Room
+pub mod Short
+pub mod Texts

@@ -1,0 +1,15 @@
+//! Replies to commands as lines of JSON.
+#![tactic(auto)]
+
+mod fault;
+mod handle;
+mod out;
+mod print;
+mod reply;
+
+pub use container_model::Handle;
+pub use fault::Fault;
+pub use handle::{SPELLING_LEN, spelling};
+pub use key_extract::{Cell, Row, Text};
+pub use out::{Out, OutOfRoom, READY_ROOM};
+pub use reply::{Heading, Record, Reply, write_reply};

@@ -1,0 +1,111 @@
+//! What is answered to a command.
+
+ghost use Rattle.table_reply.specs.Buffer.{Adds, AddsWhole};
+ghost use Rattle.table_reply.specs.Answer.{answer, answer_text};
+
+use crate::fault::Fault;
+use crate::out::{Out, OutOfRoom};
+use crate::print::{
+    push_after, push_banned, push_counted, push_done, push_fault, push_found, push_listed,
+    push_shown,
+};
+use container_model::Handle;
+use key_extract::{Row, Text};
+
+/// A column of an answer's rows: its name, and the place of its cell in a row.
+#[derive(Drop)]
+pub struct Heading {
+    /// The name, as it is printed.
+    pub name: Text,
+    /// The place of the cell, from 0. Where a row has none there, it prints as null.
+    pub place: usize,
+}
+
+/// A record that an answer shows.
+#[derive(Clone, Copy)]
+pub struct Record<'a> {
+    /// The record's name.
+    pub handle: Handle,
+    /// Its cells.
+    pub row: &'a Row,
+}
+
+/// What is answered to a command. `at` is the table's write number after it.
+#[derive(Clone, Copy)]
+pub enum Reply<'a> {
+    /// That a write is carried out.
+    Done {
+        at: u64,
+    },
+    /// A record, or nothing, which prints as null.
+    Found {
+        at: u64,
+        handle: Option<Handle>,
+    },
+    /// A number of records, or a place.
+    Counted {
+        at: u64,
+        number: u64,
+    },
+    /// The record after one that went, or the end, which prints as null.
+    Next {
+        at: u64,
+        next: Option<Handle>,
+    },
+    /// A record, whose row shows the cells of the headings in their order.
+    Shown {
+        at: u64,
+        headings: &'a [Heading],
+        record: Record<'a>,
+    },
+    /// A unique index has a record with the new key. The index's name is printed as it stands: it must need no escape.
+    Banned {
+        at: u64,
+        index: &'a str,
+        by: Handle,
+    },
+    /// Records, whose rows show the cells of the headings in their order.
+    Listed {
+        at: u64,
+        headings: &'a [Heading],
+        records: &'a [Record<'a>],
+    },
+    /// Nothing but the name of the fault.
+    Fault(Fault),
+}
+
+/// Appends the line of a reply, with its newline. At an `Err` nothing is appended: memory was refused, and the room
+/// was less than the line. O(length of the line).
+pub fn write_reply(reply: &Reply, out: &mut Out) -> Result<(), OutOfRoom>
+    ensures { AddsWhole result out.old out.new (answer_text (answer reply.now)) }
+{
+    let start = out.bytes().len();
+    if let Err(error) = push_reply(reply, out) {
+        out.truncate(start);
+        return Err(error);
+    }
+    Ok(())
+}
+
+fn push_reply(reply: &Reply, out: &mut Out) -> Result<(), OutOfRoom>
+    ensures { Adds result out.old out.new (answer_text (answer reply.now)) }
+{
+    match *reply {
+        Reply::Done { at } => push_done(out, at),
+        Reply::Found { at, handle } => push_found(out, at, handle),
+        Reply::Counted { at, number } => push_counted(out, at, number),
+        Reply::Next { at, next } => push_after(out, at, next),
+        Reply::Shown {
+            at,
+            headings,
+            record,
+        } => push_shown(out, at, headings, &record),
+        Reply::Banned { at, index, by } => push_banned(out, at, index, by),
+        Reply::Listed {
+            at,
+            headings,
+            records,
+        } => push_listed(out, at, headings, records),
+        Reply::Fault(fault) => push_fault(out, fault),
+    }
+}

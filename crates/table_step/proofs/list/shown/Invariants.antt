@@ -1,6 +1,0 @@
-use Rattle.std.proofs.Common.{◌≡◌, take}
-use Rattle.table_step.specs.Told.{entries_of, shown_entries}
-use Rattle.table_step.proofs.list.shown.Given as goal
-
-abbrev pub invariant-loop-handle : goal.invariant-loop-handle
-invariant-loop-handle l = shown_entries l.shown.items ≡ entries_of l.records.entries (take l.handle-index l.handles)

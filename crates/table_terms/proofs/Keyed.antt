@@ -1,0 +1,32 @@
+-- Search keys at the indices of a table.
+use Rattle.std.proofs.Common.{◌≡◌, ℕ, ◌<◌, List, length, Option, Some, Ok, ap, sym, subst, ◌∙◌}
+use Rattle.std.specs.Prelude.{slice_get, option_map, option_and_then, IsTrue}
+use Rattle.container_model.specs.State.{is_hashed_kind}
+use Rattle.key_extract.specs.Keys.{parts_at, probe_fits, probe_is_whole}
+use Rattle.table_cmd.specs.declared.command.Value.{Value}
+use Rattle.table_reply.specs.declared.fault.Fault.TheVariants as faults
+use Rattle.table_schema.specs.declared.column.IndexSpec.{IndexSpec}
+use Rattle.table_schema.specs.Shape.{TableShape}
+use Rattle.table_terms.specs.declared.kinds.Kinds.{Kinds}
+use Rattle.table_terms.specs.Table.{Cells}
+use Rattle.table_terms.specs.Words.{IsKeyAt, key_for, key_of_place, or_fault, place_for}
+use Rattle.table_terms.specs.Values.{probe_from}
+use Rattle.table_terms.proofs.Declared.{kind_at_place, parts_at_place}
+use Rattle.table_terms.proofs.Rows.{probe_fits_key, probe_is_whole_key}
+
+-- values that are a search key at a declared index
+pub is_key : (shape : TableShape) (values : List Value) (place : ℕ) (index : IndexSpec) (probe : Cells) → place < length shape.indices → slice_get shape.indices place ≡ Some index → probe_from shape.columns index values ≡ Some probe → IsKeyAt shape place probe
+is_key shape values place index probe within there is_probe = record {
+  within = within;
+  fits = subst (λ parts. IsTrue (probe_fits parts probe)) (sym (parts_at_place shape place index there)) (probe_fits_key shape.columns index values probe is_probe);
+  whole = λ records declared hashed.
+      subst (λ parts. IsTrue (probe_is_whole parts probe)) (sym (ap (λ keys. parts_at keys place) declared.keys ∙ parts_at_place shape place index there))
+      (probe_is_whole_key shape.columns index values probe is_probe (subst (λ kind. IsTrue (is_hashed_kind kind)) (kind_at_place shape place index records there declared.specs) hashed));
+}
+
+pub key_for_is : (shape : TableShape) (kinds : Kinds) (name : List ℕ) (values : List Value) (place : ℕ) (index : IndexSpec) (probe : Option Cells) → place_for kinds shape.indices name ≡ Ok place → slice_get shape.indices place ≡ Some index → probe_from shape.columns index values ≡ probe →
+    key_for shape kinds name values ≡ or_fault faults.Key (option_map (λ p. (place, p)) probe)
+key_for_is shape kinds name values place index probe placed there is_probe =
+    ap (key_of_place shape values) placed
+    ∙ (ap (λ o. or_fault faults.Key (option_map (λ p. (place, p)) (option_and_then (λ i. probe_from shape.columns i values) o))) there
+    ∙ ap (λ o. or_fault faults.Key (option_map (λ p. (place, p)) o)) is_probe)

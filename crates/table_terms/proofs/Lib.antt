@@ -1,0 +1,4 @@
+pub mod Declared
+pub mod Keyed
+pub mod Rows
+pub mod Told

@@ -1,0 +1,35 @@
+-- Steps from what was told.
+use Rattle.std.proofs.Common.{◌≡◌, ℕ, ◌++◌, ◌⊎◌, inl, inr, List, Option, Some, None, ap, sym, subst, refl, ◌∙◌}
+use Rattle.std.specs.Prelude.{unwrap_or}
+use Rattle.container_model.specs.declared.refusal.Why.{Why}
+use Rattle.container_model.specs.declared.refusal.Why.TheVariants as whys
+use Rattle.container_model.specs.State.{State}
+use Rattle.table_reply.specs.Answer.{Answer, answer_text}
+use Rattle.table_terms.specs.declared.outcome.Outcome.{Outcome}
+use Rattle.table_terms.specs.declared.outcome.Outcome.TheVariants as outcomes
+use Rattle.table_terms.specs.Step.{Answers, Step, Steps, changed, memory_line, refusal_answer, refused_by, told}
+use Rattle.table_terms.specs.Table.{Cells, Keys, TableState}
+
+module _ (outcome : Outcome) (before after : List ℕ) (t : TableState) where
+  -- memory may be refused at any step
+  steps_memory : (step : Step) → outcome ≡ outcomes.Memory → after ≡ before ++ memory_line → Steps outcome before after t t step
+  steps_memory step e line = subst (λ o. Steps o before after t t step) (sym e) (line, refl)
+
+  pub steps_told : (answer : Answer) → Answers outcome before after outcomes.Read answer → Steps outcome before after t t (told t answer)
+  steps_told answer (inl told_it) = subst (λ o. Steps o before after t t (told t answer)) (sym told_it.0) (record { kind = refl; line = told_it.1; table = refl })
+  steps_told answer (inr no_memory) = steps_memory (told t answer) no_memory.0 no_memory.1
+
+  -- a call that the container refused for this reason
+  pub refused_by_container : (why : Why) → Answers outcome before after outcomes.Refusal (refusal_answer t why) → Steps outcome before after t t (refused_by t why)
+  refused_by_container why (inl told_it) = subst (λ o. Steps o before after t t (refused_by t why)) (sym told_it.0) (record { kind = refl; line = told_it.1; table = refl })
+  refused_by_container why (inr no_memory) = steps_memory (refused_by t why) no_memory.0 no_memory.1
+
+  -- a call that was refused memory
+  pub out_of_memory : (step : Step) (answer : Answer) → outcome ≡ outcomes.Memory → Answers outcome before after outcomes.Refusal answer → Steps outcome before after t t step
+  out_of_memory step answer e (inl told_it) = let k : outcomes.Memory ≡ outcomes.Refusal = sym e ∙ told_it.0 in cc
+  out_of_memory step answer e (inr no_memory) = steps_memory step e no_memory.1
+
+  -- a change that the container refused for this reason, or where it has none for want of memory
+  pub steps_kept : (refusal : Option Why) (answer : Answer) (records : State Keys Cells) (why : Why) → why ≡ unwrap_or refusal whys.Memory → Answers outcome before after outcomes.Refusal (refusal_answer t why) → (why ≡ whys.Memory → outcome ≡ outcomes.Memory) → Steps outcome before after t t (changed t refusal answer records)
+  steps_kept None answer records why e answers memory = out_of_memory (changed t None answer records) (refusal_answer t why) (memory e) answers
+  steps_kept (Some w) answer records why e answers memory = subst (λ x. Steps outcome before after t t (refused_by t x)) e (refused_by_container why answers)

@@ -1,0 +1,20 @@
+//! The words of a command in a table, and what is told of a step.
+#![tactic(auto)]
+
+mod handles;
+mod indices;
+mod keys;
+mod kinds;
+mod outcome;
+mod refusal;
+mod tell;
+mod values;
+
+pub use handles::{handle_for, handles_for, position_for, record_for};
+pub use indices::place_for;
+pub use keys::key_for;
+pub use kinds::Kinds;
+pub use outcome::Outcome;
+pub use refusal::tell_why;
+pub use tell::{refuse, refuse_memory, tell_done, tell_erased, tell_next, tell_read, tell_short};
+pub use values::row_from;
