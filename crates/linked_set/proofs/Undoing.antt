@@ -1,12 +1,9 @@
 -- What becomes of a container when the row of one record was changed in place, and the change was undone.
-use Rattle.std.proofs.Common.{◌≡◌, ℕ, ◌+◌, ◌-◌, ◌<◌, ◌^◌, ◌==◌, Bool, true, false, cond, List, length, map, Option, Some, None, refl, sym, ap, ◌∙◌, subst}
+use Rattle.std.proofs.Common.{◌≡◌, ℕ, ◌-◌, ◌^◌, ◌==◌, Bool, cond, List, Option, Some, None, refl, ap, ◌∙◌}
 use Rattle.std.specs.Prelude.{option_map}
 use Rattle.std.specs.Option.{option_map_or}
 use Rattle.std.specs.declared.cmp.Ordering.{Ordering}
-use Rattle.std.specs.declared.cmp.Ordering.TheVariants.{Equal}
-use Rattle.std.proofs.lemmas.Option.{same_Some}
 use Rattle.node_store.specs.declared.Node.{Node}
-use Rattle.node_store.specs.Store.{IsNodeOf}
 use Rattle.container_model.specs.declared.handle.Handle.{Handle}
 use Rattle.container_model.specs.declared.handle.Entry.{Entry}
 use Rattle.container_model.specs.declared.refusal.Why.{Why}
@@ -18,7 +15,6 @@ use Rattle.index_set.specs.Indices.{HoldIt}
 use Rattle.index_set.specs.Lists.{ban_from}
 use Rattle.index_set.specs.Set as set
 use Rattle.index_set.specs.Set.{store_of, keys_of, specs_of, lists_of}
-use Rattle.index_set.proofs.Written.{lists_written}
 use Rattle.modify_ops.proofs.Undone.{undone_is}
 use Rattle.linked_set.specs.declared.by_row.ByRow.{ByRow}
 use Rattle.linked_set.specs.Linked.{handle_of, entries_in, handles_in}

@@ -43,8 +43,8 @@ pub fn change_or_undo<R, E: Extract<R>, T: Edit<R>>(
         result ≡ option_map_or (λ at. Some (Why.Banned at.0 at.1)) (ban E.order_of (seen set.old max writes) (Some (handle_of (record_of set.old) node)) (T.applied edit.old r)) (spent (seen set.old max writes)) }
     ensures left { (r : R) (max : ℕ) → option_map (λ e. e.row) (record_of set.old node) ≡ Some r →
         seen set.new max (option_map_or (λ why. writes) result (writes + 1)) ≡
-            option_map_or (λ why. record (seen set.old max writes) { entries = with_row (handle_of (record_of set.old) node) (T.undone (T.after_apply edit.old r) (T.applied edit.old r)) (entries_in (contents set.old)) })
-            result (with_replaced E.order_of (seen set.old max writes) (handle_of (record_of set.old) node) (T.applied edit.old r)) }
+        option_map_or (λ why. record (seen set.old max writes) { entries = with_row (handle_of (record_of set.old) node) (T.undone (T.after_apply edit.old r) (T.applied edit.old r)) (entries_in (contents set.old)) })
+        result (with_replaced E.order_of (seen set.old max writes) (handle_of (record_of set.old) node) (T.applied edit.old r)) }
     ensures edit { (r : R) → option_map (λ e. e.row) (record_of set.old node) ≡ Some r →
         edit.new ≡ option_map_or (λ why. T.after_undo (T.after_apply edit.old r) (T.applied edit.old r)) result (T.after_apply edit.old r) }
 {
@@ -70,8 +70,8 @@ fn changed_refusal<R, E: Extract<R>>(
     requires unique { IsUniqueExcept (λ by index a b. E.order_of by.keys index a.row b.row) set.now (Some node) }
     ensures { (e : Entry R) → record_of set.now node ≡ Some e →
         result ≡ option_map_or (λ at. Some (Why.Banned at.0 (handle_of (record_of set.now) at.1)))
-            (ban_from (λ index a b. E.order_of (keys_of set.now).keys index a.row b.row) (record_of set.now) (lists_of set.now) (Some node) e 0 (specs_of set.now))
-            (cond (writes == 2 ^ 64 - 1) (Some Why.Spent) None) }
+        (ban_from (λ index a b. E.order_of (keys_of set.now).keys index a.row b.row) (record_of set.now) (lists_of set.now) (Some node) e 0 (specs_of set.now))
+        (cond (writes == 2 ^ 64 - 1) (Some Why.Spent) None) }
 {
     if let Some((index, by)) = set.bans(set.get(node), Some(node)) {
         return Some(Why::Banned {

@@ -1,4 +1,4 @@
-use Rattle.std.proofs.Common.{◌≡◌, ℕ, ◌+◌, ◌<◌, length, Option, Some, None, refl, sym, ap, ◌∙◌, subst}
+use Rattle.std.proofs.Common.{◌≡◌, ℕ, ◌<◌, length, Some, refl, sym, ap, ◌∙◌, subst}
 use Rattle.std.specs.Prelude.{option_map, IsTrue}
 use Rattle.std.specs.Option.{option_map_or}
 use Rattle.std.specs.declared.cmp.Ordering.TheVariants.{Equal}
@@ -6,21 +6,20 @@ use Rattle.std.proofs.lemmas.Cmp.{on_total}
 use Rattle.std.proofs.lemmas.Option.{same_Some}
 use Rattle.container_model.specs.declared.handle.Entry.{Entry}
 use Rattle.container_model.specs.declared.handle.Handle.{Handle}
-use Rattle.container_model.specs.declared.refusal.Why.{Why}
 use Rattle.container_model.specs.declared.refusal.Why.TheVariants.{Banned}
 use Rattle.container_model.specs.State.{has_key_kind}
 use Rattle.container_model.specs.Insert.{ban}
 use Rattle.container_model.specs.Change.{spent, with_replaced, with_row}
 use Rattle.index_set.specs.Indices.{HoldIt}
 use Rattle.index_set.specs.declared.set.IndexSet.{IndexSet}
-use Rattle.index_set.specs.Set.{IsSound, store_of, keys_of, kind_at, specs_of, contents, record_of, lists_of, with_record}
+use Rattle.index_set.specs.Set.{IsSound, keys_of, kind_at, specs_of, contents, lists_of, with_record}
 use Rattle.index_set.proofs.Keys.{but_from}
 use Rattle.index_set.proofs.StaysUnique.{unique_after_write, unique_after_settle}
 use Rattle.index_set.proofs.Written.{lists_written, sound_written, keyed_but_written, record_written, node_written}
 use Rattle.modify_ops.proofs.Held.{node_of_all}
-use Rattle.modify_ops.proofs.Undone.{undone_is, keys_undone, restored_undone, unique_before}
-use Rattle.linked_set.specs.Linked.{handle_of, entries_in}
-use Rattle.linked_set.specs.Seen.{seen, IsLinked}
+use Rattle.modify_ops.proofs.Undone.{keys_undone, restored_undone, unique_before}
+use Rattle.linked_set.specs.Linked.{entries_in}
+use Rattle.linked_set.specs.Seen.{seen}
 use Rattle.linked_set.proofs.Changed.{changed_set, count_changed, seen_settled, IsLinked_changed}
 use Rattle.linked_set.proofs.Undoing.{undone_set, none_bans, why_changed, seen_undone}
 use Rattle.linked_set.proofs.modify_or_undo.change_or_undo.Goals as goal

@@ -1,4 +1,4 @@
-use Rattle.std.proofs.Common.{◌-◌, ◌^◌, ◌==◌, true, false, cond, Some, None, eq-eqb, ne_eqb, sym, ap, ◌∙◌, subst}
+use Rattle.std.proofs.Common.{◌-◌, ◌^◌, ◌==◌, cond, Some, None, eq-eqb, ne_eqb, sym, ap, ◌∙◌, subst}
 use Rattle.std.proofs.lemmas.Option.{same_Some}
 use Rattle.node_store.specs.Store.{IsNodeOf}
 use Rattle.container_model.specs.declared.handle.Entry.{Entry}
