@@ -2,6 +2,8 @@
 
 use container_model::{Handle, Kind, Why};
 
+pub(crate) const WITH_KEYS: [Kind; 3] = [Kind::Ordered, Kind::Ranked, Kind::Hashed];
+
 pub(crate) const IN_ORDER: [Kind; 2] = [Kind::Ordered, Kind::Ranked];
 
 pub(crate) const WITH_RANKS: [Kind; 1] = [Kind::Ranked];
@@ -19,20 +21,25 @@ pub(crate) const NOT_HASHED: [Kind; 4] = [
     Kind::Ranked,
 ];
 
-/// How many records of a list come before a key, and how many do not come after it.
+/// How many records of a list come before a key, how many have it, and the first that has it.
 #[derive(Clone, Copy)]
 pub(crate) struct Cut {
     pub(crate) below: usize,
-    pub(crate) up_to: usize,
+    pub(crate) equal: usize,
+    pub(crate) first: Option<Handle>,
 }
 
 impl Cut {
-    /// The place of the first record that has the key, or the end.
-    pub(crate) fn first(self, list: &[Handle]) -> usize {
-        if self.below < self.up_to {
-            self.below
-        } else {
-            list.len()
+    /// How many do not come after the key.
+    pub(crate) fn up_to(self) -> usize {
+        self.below.saturating_add(self.equal)
+    }
+
+    /// The place of the first record that has the key, or the end, in a list in order.
+    pub(crate) fn rank(self, list: &[Handle]) -> usize {
+        match self.first {
+            Some(_) => self.below,
+            None => list.len(),
         }
     }
 }

@@ -51,19 +51,20 @@ fn call(
     requires { index < length watched.old.specs }
 {
     let list = watched.view(index)?;
-    match draw.below(16) {
-        0..=4 => watched.insert(draw.row(alloc)?, tallies),
-        5 => {
+    match draw.below(64) {
+        0..=19 => watched.insert(draw.row(alloc)?, tallies),
+        20..=24 => {
             let handle = draw.handle(&list, *gone);
             *gone = handle;
             watched.erase(handle, tallies)
         }
-        6..=7 => {
+        25 => watched.erase_key(index, &draw.probe(alloc)?, tallies),
+        26..=35 => {
             let order = drawn_order(draw, list, *gone)?;
             watched.reorder(index, &order, tallies)
         }
-        8..=10 => watched.search(drawn_search(draw), index, &draw.probe(alloc)?, tallies),
-        11..=12 => {
+        36..=48 => watched.search(drawn_search(draw), index, &draw.probe(alloc)?, tallies),
+        49..=54 => {
             let (low, high) = (draw.probe(alloc)?, draw.probe(alloc)?);
             watched.range(
                 index,
@@ -119,11 +120,13 @@ fn read(
 }
 
 fn drawn_search(draw: &mut Draw) -> Search {
-    match draw.below(5) {
-        0 => Search::Lower,
-        1 => Search::Upper,
-        2 => Search::FindRank,
-        3 => Search::LowerRank,
+    match draw.below(7) {
+        0 => Search::Find,
+        1 => Search::Count,
+        2 => Search::Lower,
+        3 => Search::Upper,
+        4 => Search::FindRank,
+        5 => Search::LowerRank,
         _ => Search::UpperRank,
     }
 }

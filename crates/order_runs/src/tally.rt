@@ -8,10 +8,13 @@ use std::io;
 pub(crate) enum Call {
     Insert,
     Erase,
+    EraseKey,
     Relocate,
     Reverse,
     Rearrange,
     Sort,
+    Find,
+    Count,
     Lower,
     Upper,
     Range,
@@ -25,13 +28,16 @@ pub(crate) enum Call {
     ProjectPrev,
 }
 
-const NAMES: [&str; 17] = [
+const NAMES: [&str; 20] = [
     "insert",
     "erase",
+    "erase_key",
     "relocate",
     "reverse",
     "rearrange",
     "sort",
+    "find",
+    "count",
     "lower",
     "upper",
     "range",
@@ -59,13 +65,13 @@ struct Tally {
 /// What each call answered.
 #[derive(Clone, Copy)]
 pub(crate) struct Tallies {
-    counts: [Tally; 17],
+    counts: [Tally; 20],
 }
 
 impl Tallies {
     pub(crate) fn new() -> Tallies {
         Tallies {
-            counts: [Tally::default(); 17],
+            counts: [Tally::default(); 20],
         }
     }
 

@@ -1,14 +1,14 @@
 //! The container, with what it shows.
 ghost use Rattle.std.specs.Prelude.{◌≡◌, ◌<◌, IsTrue, length};
-ghost use Rattle.container_model.specs.State.{is_sorted_kind, is_ranked_kind};
+ghost use Rattle.container_model.specs.State.{has_key_kind, is_hashed_kind, is_ranked_kind, is_sorted_kind};
 ghost use Rattle.container_model.specs.Find.{kind_at};
-ghost use Rattle.key_extract.specs.Keys.{parts_at, probe_fits};
+ghost use Rattle.key_extract.specs.Keys.{parts_at, probe_fits, probe_is_whole};
 
 mod orders;
 mod positions;
 mod searches;
 
-use crate::lists::place_in;
+use crate::lists::{WITH_KEYS, answer_of, place_in};
 use crate::tally::{Call, Tallies};
 use arrayvec::ArrayVec;
 use container_model::{Handle, Kind, Spec, Why};
@@ -18,6 +18,7 @@ pub(crate) use orders::Order;
 pub(crate) use positions::Step;
 pub(crate) use searches::Search;
 use std::alloc::{AllocError, Global};
+use std::cmp::Ordering;
 use std::marker::Model;
 
 const SPECS: [Spec; 6] = [
@@ -94,7 +95,7 @@ impl Watched {
             Some(key(0, Some(1))),
             Some(key(1, None)),
             Some(key(2, Some(0))),
-            Some(key(0, None)),
+            Some(key(0, Some(1))),
         ];
         let container = MultiIndex::new(
             alloc,
@@ -176,6 +177,50 @@ impl Watched {
         Ok(())
     }
 
+    /// Takes out all records that have the key, where the index can be searched by it; each view is then as it was
+    /// without them.
+    pub(crate) fn erase_key(
+        &mut self,
+        index: usize,
+        probe: &Probe,
+        tallies: &mut Tallies,
+    ) -> Result<(), AllocError> {
+        if !self.may_search(index, probe) {
+            return Ok(());
+        }
+        let mut old = self.views()?;
+        let list = self.view(index)?;
+        let wanted = match answer_of(&WITH_KEYS, self.specs[index].kind, ()) {
+            Ok(()) => self.spent(),
+            Err(why) => Some(why),
+        };
+        let mut count = 0u64;
+        for handle in &list {
+            if wanted.is_none() && self.side(index, *handle, probe) == Some(Ordering::Equal) {
+                take_out(&mut old, *handle);
+                count = count.saturating_add(1);
+            }
+        }
+        let (why, erased) = match self.container.erase_key(index, probe) {
+            Ok(erased) => (None, erased),
+            Err(refused) => (Some(refused.why), 0),
+        };
+        let new = self.views()?;
+        let same = why == wanted && erased == count && are_same(&old, &new);
+        tallies.count(Call::EraseKey, wanted, same);
+        Ok(())
+    }
+
+    // How a record stands to a search, where the index has a key that it fits.
+    fn side(&self, index: usize, handle: Handle, probe: &Probe) -> Option<Ordering> {
+        match self.container.get(handle) {
+            Ok(row) if self.keys.has(index) && self.keys.fits(index, probe) => {
+                Some(self.keys.order_probe(index, row, probe))
+            }
+            _ => None,
+        }
+    }
+
     fn spent(&self) -> Option<Why> {
         if self.container.writes() == u64::MAX {
             Some(Why::Spent)
@@ -184,18 +229,25 @@ impl Watched {
         }
     }
 
-    // Whether the index can be searched by the probe; one that is not in order refuses each.
+    // Whether the index can be searched by the probe; one that has no key refuses each.
     fn may_search(&self, index: usize, probe: &Probe) -> bool
         ensures in_range { IsTrue result → index < length self.now.specs }
+        ensures fits { IsTrue result → IsTrue (has_key_kind (kind_at self.now index)) → IsTrue (probe_fits (parts_at self.now.keys index) probe.now) }
         ensures sorted { IsTrue result → IsTrue (is_sorted_kind (kind_at self.now index)) → IsTrue (probe_fits (parts_at self.now.keys index) probe.now) }
         ensures ranked { IsTrue result → IsTrue (is_ranked_kind (kind_at self.now index)) → IsTrue (probe_fits (parts_at self.now.keys index) probe.now) }
+        ensures whole { IsTrue result → IsTrue (is_hashed_kind (kind_at self.now index)) → IsTrue (probe_is_whole (parts_at self.now.keys index) probe.now) }
     {
         if index >= self.specs.len() {
             return false;
         }
         match self.specs[index].kind {
-            Kind::Sequenced | Kind::Random | Kind::Hashed => true,
+            Kind::Sequenced | Kind::Random => true,
             Kind::Ordered | Kind::Ranked => { self.keys.has(index) && self.keys.fits(index, probe) }
+            Kind::Hashed => {
+                self.keys.has(index)
+                    && self.keys.fits(index, probe)
+                    && self.keys.whole(index, probe)
+            }
         }
     }
 }

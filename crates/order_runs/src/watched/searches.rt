@@ -1,4 +1,4 @@
-//! Searches by a key in an index in order.
+//! Searches by a key.
 ghost use Rattle.std.specs.Prelude.{◌<◌, IsTrue, length, ⊤};
 ghost use Rattle.std.specs.Range.Bound.{MatchBound};
 ghost use Rattle.container_model.specs.State.{is_sorted_kind};
@@ -6,10 +6,10 @@ ghost use Rattle.container_model.specs.Find.{kind_at};
 ghost use Rattle.key_extract.specs.Keys.{parts_at, probe_fits};
 
 use super::Watched;
-use crate::lists::{Cut, IN_ORDER, WITH_RANKS, answer_of, at};
+use crate::lists::{Cut, IN_ORDER, WITH_KEYS, WITH_RANKS, answer_of, at};
 use crate::tally::{Call, Tallies};
 use container_model::{Handle, Why};
-use key_extract::{Extract, Probe};
+use key_extract::Probe;
 use std::alloc::AllocError;
 use std::cmp::Ordering;
 use std::ops::Bound;
@@ -17,6 +17,8 @@ use std::ops::Bound;
 /// A search by a key.
 #[derive(Clone, Copy)]
 pub(crate) enum Search {
+    Find,
+    Count,
     Lower,
     Upper,
     FindRank,
@@ -40,6 +42,16 @@ impl Watched {
         let cut = self.cut(index, &list, probe);
         let (container, kind) = (&self.container, self.specs[index].kind);
         match search {
+            Search::Find => tallies.compare_records(
+                Call::Find,
+                container.find(index, probe),
+                answer_of(&WITH_KEYS, kind, cut.first),
+            ),
+            Search::Count => tallies.compare_numbers(
+                Call::Count,
+                container.count(index, probe),
+                answer_of(&WITH_KEYS, kind, cut.equal as u64),
+            ),
             Search::Lower => tallies.compare_records(
                 Call::Lower,
                 container.lower(index, probe),
@@ -48,12 +60,12 @@ impl Watched {
             Search::Upper => tallies.compare_records(
                 Call::Upper,
                 container.upper(index, probe),
-                answer_of(&IN_ORDER, kind, at(&list, cut.up_to)),
+                answer_of(&IN_ORDER, kind, at(&list, cut.up_to())),
             ),
             Search::FindRank => tallies.compare_numbers(
                 Call::FindRank,
                 container.find_rank(index, probe),
-                answer_of(&WITH_RANKS, kind, cut.first(&list) as u64),
+                answer_of(&WITH_RANKS, kind, cut.rank(&list) as u64),
             ),
             Search::LowerRank => tallies.compare_numbers(
                 Call::LowerRank,
@@ -63,7 +75,7 @@ impl Watched {
             Search::UpperRank => tallies.compare_numbers(
                 Call::UpperRank,
                 container.upper_rank(index, probe),
-                answer_of(&WITH_RANKS, kind, cut.up_to as u64),
+                answer_of(&WITH_RANKS, kind, cut.up_to() as u64),
             ),
         }
         Ok(())
@@ -85,11 +97,11 @@ impl Watched {
         let list = self.view(index)?;
         let start = match low {
             Bound::Included(probe) => self.cut(index, &list, probe).below,
-            Bound::Excluded(probe) => self.cut(index, &list, probe).up_to,
+            Bound::Excluded(probe) => self.cut(index, &list, probe).up_to(),
             Bound::Unbounded => 0,
         };
         let end = match high {
-            Bound::Included(probe) => self.cut(index, &list, probe).up_to,
+            Bound::Included(probe) => self.cut(index, &list, probe).up_to(),
             Bound::Excluded(probe) => self.cut(index, &list, probe).below,
             Bound::Unbounded => list.len(),
         };
@@ -115,19 +127,19 @@ impl Watched {
 
     // How a list stands to a search, where the index has a key.
     fn cut(&self, index: usize, list: &[Handle], probe: &Probe) -> Cut {
-        let mut cut = Cut { below: 0, up_to: 0 };
-        if !self.keys.has(index) || !self.keys.fits(index, probe) {
-            return cut;
-        }
+        let mut cut = Cut {
+            below: 0,
+            equal: 0,
+            first: None,
+        };
         for handle in list {
-            if let Ok(row) = self.container.get(*handle) {
-                let side = self.keys.order_probe(index, row, probe);
-                if side == Ordering::Less {
-                    cut.below = cut.below.saturating_add(1);
+            match self.side(index, *handle, probe) {
+                Some(Ordering::Less) => cut.below = cut.below.saturating_add(1),
+                Some(Ordering::Equal) => {
+                    cut.equal = cut.equal.saturating_add(1);
+                    cut.first = cut.first.or(Some(*handle));
                 }
-                if side != Ordering::Greater {
-                    cut.up_to = cut.up_to.saturating_add(1);
-                }
+                Some(Ordering::Greater) | None => {}
             }
         }
         cut
