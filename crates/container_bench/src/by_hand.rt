@@ -54,9 +54,7 @@ impl ByHand {
     fn enter(&mut self, record: Record) -> Result<u64, AllocError> {
         self.records.push(record)?;
         let number = self.records.len() as u64;
-        self.by_id
-            .insert(record.id, number)
-            .map_err(|_| AllocError)?;
+        self.by_id.insert(record.id, number)?;
         if self.indices >= 3 {
             self.enter_three(record, number)?;
         }
@@ -68,27 +66,23 @@ impl ByHand {
 
     fn enter_three(&mut self, record: Record, number: u64) -> Result<(), AllocError> {
         let price = (record.price, number);
-        self.by_price.insert(price, number).map_err(|_| AllocError)?;
+        self.by_price.insert(price, number)?;
         if let Some(numbers) = self.by_owner.get_mut(&record.owner) {
             numbers.push(number)?;
             return Ok(());
         }
         let mut numbers = Vec::new(self.alloc);
         numbers.push(number)?;
-        self.by_owner
-            .insert(record.owner, numbers)
-            .map_err(|_| AllocError)?;
+        self.by_owner.insert(record.owner, numbers)?;
         Ok(())
     }
 
     fn enter_seven(&mut self, record: Record, number: u64) -> Result<(), AllocError> {
         self.sequence.push(number)?;
         self.row.push(number)?;
-        self.ids.insert(record.id, number).map_err(|_| AllocError)?;
+        self.ids.insert(record.id, number)?;
         let key = (record.owner, u64::MAX - record.price, number);
-        self.by_owner_and_price
-            .insert(key, number)
-            .map_err(|_| AllocError)?;
+        self.by_owner_and_price.insert(key, number)?;
         Ok(())
     }
 

@@ -2,7 +2,7 @@
 
 use crate::by_hand::ByHand;
 use crate::record::{Record, looked_for, nth_record};
-use crate::report::Report;
+use bench_report::Report;
 use std::alloc::Global;
 use std::io;
 use std::rt::Runtime;
@@ -57,10 +57,22 @@ fn run<R: Runtime>(
 ) -> io::Result<()> {
     let mut kept = ByHand::new(alloc, indices);
     for (name, call) in calls {
-        let start = Instant::now(rt)?;
-        let met = each(*call, &mut kept, count);
-        report.line(rt, start, name, count, count, met)?;
+        time(rt, report, name, *call, &mut kept, count)?;
     }
+    Ok(())
+}
+
+fn time<R: Runtime>(
+    rt: &R,
+    report: &mut Report,
+    name: &'static str,
+    call: Call,
+    kept: &mut ByHand,
+    count: u64,
+) -> io::Result<()> {
+    let start = Instant::now(rt)?;
+    let met = each(call, kept, count);
+    report.line(start.elapsed(rt)?, name, count, count, met)?;
     Ok(())
 }
 

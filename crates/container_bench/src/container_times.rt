@@ -2,7 +2,7 @@
 
 use crate::book::{Book, INDICES};
 use crate::record::{looked_for, nth_record};
-use crate::report::Report;
+use bench_report::Report;
 use std::alloc::Global;
 use std::io;
 use std::rt::Runtime;
@@ -85,10 +85,22 @@ fn run<R: Runtime>(
         return Ok(());
     };
     for (name, call) in script.calls {
-        let start = Instant::now(rt)?;
-        let met = each(*call, &mut book, count);
-        report.line(rt, start, name, count, count, met)?;
+        time(rt, report, name, *call, &mut book, count)?;
     }
+    Ok(())
+}
+
+fn time<R: Runtime>(
+    rt: &R,
+    report: &mut Report,
+    name: &'static str,
+    call: Call,
+    book: &mut Book,
+    count: u64,
+) -> io::Result<()> {
+    let start = Instant::now(rt)?;
+    let met = each(call, book, count);
+    report.line(start.elapsed(rt)?, name, count, count, met)?;
     Ok(())
 }
 

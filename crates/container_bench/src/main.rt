@@ -11,15 +11,14 @@ mod container_times;
 mod keys;
 mod memory;
 mod record;
-mod report;
 
+use bench_report::Report;
 use book::Book;
 use by_hand::ByHand;
 use by_hand_times::Call;
-use report::Report;
 use std::alloc::Global;
 use std::rt::Runtime;
-use std::{env, io};
+use std::{env, fmt, io};
 
 // Each way to find by hand, with the index of the container that finds the same.
 const FINDS: [(&str, usize, Call); 5] = [
@@ -30,22 +29,59 @@ const FINDS: [(&str, usize, Call); 5] = [
     ("ordered, by owner and price", 6, Call::FindOwnerAndPrice),
 ];
 
+// The sums of what both answer to the same calls.
+#[derive(Clone, Copy)]
+struct Answers {
+    name: &'static str,
+    container: u64,
+    by_hand: u64,
+}
+
+impl fmt::Display for Answers {
+    fn fmt<W: fmt::Write>(&self, f: &mut fmt::Formatter<W>) -> fmt::Result {
+        let Answers {
+            name,
+            container,
+            by_hand,
+        } = self;
+        write!(f, "{name}: {container}, by hand {by_hand}")
+    }
+}
+
+// Puts so many records into both.
+fn insert_both(book: &mut Book, kept: &mut ByHand, count: u64) -> Answers {
+    Answers {
+        name: "insert",
+        container: container_times::insert_each(book, count),
+        by_hand: by_hand_times::insert_each(kept, count),
+    }
+}
+
 // Prints the sums of what both answer at so many records.
 fn print_answers<R: Runtime>(rt: &R, alloc: Global, count: u64) -> io::Result<()> {
     let Some(mut book) = Book::new(alloc, 0, 7, u32::MAX)? else {
         return Ok(());
     };
     let mut kept = ByHand::new(alloc, 7);
-    let inserted = container_times::insert_each(&mut book, count);
-    let by_hand = by_hand_times::insert_each(&mut kept, count);
-    println!(rt; "insert: {inserted}, by hand {by_hand}")?;
+    let answers = insert_both(&mut book, &mut kept, count);
+    println!(rt; "{answers}")?;
+    print_finds(rt, &book, &mut kept, count)
+}
+
+fn print_finds<R: Runtime>(rt: &R, book: &Book, kept: &mut ByHand, count: u64) -> io::Result<()> {
     for (name, index, call) in &FINDS {
-        let found = container_times::find_each(&book, *index, count);
-        let by_hand = by_hand_times::each(*call, &mut kept, count);
-        println!(rt; "{name}: {found}, by hand {by_hand}")?;
+        let answers = Answers {
+            name,
+            container: container_times::find_each(book, *index, count),
+            by_hand: by_hand_times::each(*call, kept, count),
+        };
+        println!(rt; "{answers}")?;
     }
     Ok(())
 }
+
+// Each size with its rounds.
+const SIZES: [(u64, u64); 3] = [(1_000, 9), (100_000, 3), (1_000_000, 1)];
 
 // The times of all calls at a size.
 fn print_times<R: Runtime>(
@@ -59,7 +95,8 @@ fn print_times<R: Runtime>(
         container_times::times(rt, alloc, report, count)?;
         by_hand_times::times(rt, alloc, report, count)?;
     }
-    report.print(rt, count)
+    report.print(rt, count)?;
+    Ok(())
 }
 
 fn main(rt: HostRuntime) -> io::Result<()> {
@@ -69,8 +106,8 @@ fn main(rt: HostRuntime) -> io::Result<()> {
     }
     memory::record_bytes(&rt, rt.alloc(), 100_000)?;
     let mut report = Report::new(rt.alloc());
-    print_times(&rt, rt.alloc(), &mut report, 1_000, 9)?;
-    print_times(&rt, rt.alloc(), &mut report, 100_000, 3)?;
-    print_times(&rt, rt.alloc(), &mut report, 1_000_000, 1)?;
-    println!(rt; "sum of the answers: {}", report.met())
+    for (count, rounds) in &SIZES {
+        print_times(&rt, rt.alloc(), &mut report, *count, *rounds)?;
+    }
+    println!(rt; "sum of the answers: {}", report.met)
 }

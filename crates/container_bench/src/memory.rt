@@ -3,26 +3,31 @@
 use crate::book::Book;
 use crate::by_hand::ByHand;
 use crate::{by_hand_times, container_times};
+use bench_report::resident;
 use std::alloc::Global;
 use std::rt::Runtime;
-use std::{fs, io};
+use std::{fmt, io};
 
-// The bytes of the process that are in memory, as Linux counts them in pages of 4096 bytes.
-fn resident<R: Runtime>(rt: &R) -> io::Result<u64> {
-    let text = fs::read_to_string(rt, "/proc/self/statm")?;
-    let pages = text
-        .split_whitespace()
-        .nth(1)
-        .and_then(|word| word.parse::<u64>().ok());
-    Ok(pages.unwrap_or(0).saturating_mul(4096))
+// What some records take together.
+#[derive(Clone, Copy)]
+struct Taken {
+    name: &'static str,
+    bytes: u64,
+    count: u64,
 }
 
-fn print<R: Runtime>(rt: &R, name: &str, before: u64, count: u64) -> io::Result<()> {
-    let taken = resident(rt)?.saturating_sub(before);
-    println!(rt;
-        "{name}: {} bytes a record, of {count}",
-        taken / count.max(1)
-    )
+impl fmt::Display for Taken {
+    fn fmt<W: fmt::Write>(&self, f: &mut fmt::Formatter<W>) -> fmt::Result {
+        let Taken { name, bytes, count } = self;
+        let each = bytes / (*count).max(1);
+        write!(f, "{name}: {each} bytes a record, of {count}")
+    }
+}
+
+fn print<R: Runtime>(rt: &R, name: &'static str, before: u64, count: u64) -> io::Result<()> {
+    let bytes = resident(rt)?.saturating_sub(before);
+    let taken = Taken { name, bytes, count };
+    println!(rt; "{taken}")
 }
 
 /// Prints the bytes that a record takes under seven indices, allocator included, in the container and by hand. It is right

@@ -1,19 +1,13 @@
 //! Records of three numbers.
 
+use bench_report::scattered;
+
 /// A record.
 #[derive(Clone, Copy)]
 pub struct Record {
     pub id: u64,
     pub price: u64,
     pub owner: u64,
-}
-
-// The word of this number in a sequence that visits each word once, in no visible order.
-fn scattered(number: u64) -> u64 {
-    let odd = number.wrapping_mul(0x9e37_79b9_7f4a_7c15);
-    let once = (odd ^ (odd >> 30)).wrapping_mul(0xbf58_476d_1ce4_e5b9);
-    let twice = (once ^ (once >> 27)).wrapping_mul(0x94d0_49bb_1331_11eb);
-    twice ^ (twice >> 31)
 }
 
 /// The record of this number among so many: no other has its id, three have its owner, and few its price.

@@ -20,7 +20,7 @@ use std::io;
 use std::process::ExitCode;
 use tally::Tally;
 
-const SCRIPTS: u64 = 400;
+const SCRIPTS: u64 = 300;
 
 const GROUPS: [&str; 12] = [
     "sequenced",

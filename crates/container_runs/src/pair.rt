@@ -1,6 +1,6 @@
 //! The container and its first version, side by side.
 ghost use Rattle.std.specs.Prelude.{◌≡◌, ◌<◌, IsTrue, is_some, length};
-ghost use Rattle.container_model.specs.State.{KeysMatch, has_key_kind, is_hashed_kind, is_sorted_kind, is_ranked_kind};
+ghost use Rattle.container_model.specs.State.{KeysMatch, has_key_kind, is_hashed_kind};
 ghost use Rattle.container_model.specs.Find.{kind_at};
 ghost use Rattle.key_extract.specs.Keys.{key_at, parts_at, probe_fits, probe_is_whole};
 
@@ -13,7 +13,6 @@ use crate::tally::Tally;
 use container_model::{Handle, Kind, Refused, Spec, Why};
 use key_extract::{Extract, Probe, Row, RowKeys};
 use multi_index::MultiIndex;
-pub(crate) use reads::{Search, Step};
 use std::alloc::{AllocError, Global};
 use std::marker::Model;
 
@@ -186,28 +185,10 @@ impl Pair {
             && self.container.writes() == self.plain.writes()
     }
 
-    /// Compares the numbers of records and of writes.
-    pub(crate) fn sizes(&self, tally: &mut Tally) {
-        tally.call(None, self.same_sizes());
-    }
-
-    /// Compares the rows of a handle.
-    pub(crate) fn get(&self, handle: Handle, tally: &mut Tally) {
-        let wanted = self.plain.get(handle);
-        let same = match (self.container.get(handle), wanted) {
-            (Ok(a), Ok(b)) => a.cells() == b.cells(),
-            (Err(a), Err(b)) => a == b,
-            _ => false,
-        };
-        tally.call(wanted.err(), same);
-    }
-
     // Whether the index can be searched by the probe; one that has no key refuses each.
     fn may_search(&self, index: usize, probe: &Probe) -> bool
         ensures in_range { IsTrue result → index < length self.now.specs }
         ensures fits { IsTrue result → IsTrue (has_key_kind (kind_at self.now index)) → IsTrue (probe_fits (parts_at self.now.keys index) probe.now) }
-        ensures sorted { IsTrue result → IsTrue (is_sorted_kind (kind_at self.now index)) → IsTrue (probe_fits (parts_at self.now.keys index) probe.now) }
-        ensures ranked { IsTrue result → IsTrue (is_ranked_kind (kind_at self.now index)) → IsTrue (probe_fits (parts_at self.now.keys index) probe.now) }
         ensures whole { IsTrue result → IsTrue (is_hashed_kind (kind_at self.now index)) → IsTrue (probe_is_whole (parts_at self.now.keys index) probe.now) }
     {
         if index >= self.specs.len() {

@@ -2,14 +2,12 @@
 //! every record, and asks at run time for what the container's contracts promise.
 
 mod changes;
-mod positions;
 mod scan;
 
 use container_model::{Entry, Handle, Kind, Refused, Spec, Why};
 use key_extract::{Extract, Probe, Row, RowKeys};
-use scan::{count_sided, entry_of, first_equal, first_same, upper_place};
+use scan::{count_equal, entry_of, first_equal, first_same, upper_place};
 use std::alloc::{AllocError, Global};
-use std::cmp::Ordering;
 
 /// Records under several indices, each of which is a list of all handles. The entries are numbered by their slots.
 #[derive(Drop)]
@@ -89,14 +87,7 @@ impl PlainIndex {
 
     pub(crate) fn count(&self, index: usize, probe: &Probe) -> Result<u64, Why> {
         let list = self.keyed_list(index)?;
-        Ok(count_sided(
-            &self.keys,
-            index,
-            &self.entries,
-            list,
-            probe,
-            Ordering::Equal,
-        ))
+        Ok(count_equal(&self.keys, index, &self.entries, list, probe))
     }
 
     pub(crate) fn view(&self, index: usize) -> &[Handle] {

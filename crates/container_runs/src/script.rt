@@ -3,7 +3,7 @@ ghost use Rattle.std.specs.Prelude.{◌<◌, length};
 
 use crate::draw::Draw;
 use crate::indices::Indices;
-use crate::pair::{Pair, Search, Step};
+use crate::pair::Pair;
 use crate::tally::Tally;
 use key_extract::Probe;
 use std::alloc::{AllocError, Global};
@@ -86,72 +86,53 @@ fn call(
             let handle = draw.handle(pair.handles());
             pair.replace(handle, &draw.row(alloc, range)?, tally)
         }
-        8 => {
-            change(draw, index, pair, tally);
+        8..=9 => {
+            let handle = draw.handle(pair.handles());
+            pair.modify(handle, &draw.row(alloc, range)?, tally)
+        }
+        10 => {
+            erase(draw, index, pair, tally);
             Ok(())
         }
-        9 => {
+        11..=14 => {
             let probe = drawn_probe(alloc, indices, draw, range, index)?;
-            if draw.once_in(4) {
-                pair.erase_key(index, &probe, tally);
-            }
-            Ok(())
-        }
-        10..=13 => {
-            let probe = drawn_probe(alloc, indices, draw, range, index)?;
-            pair.search(drawn_search(draw), index, &probe, tally);
+            search(draw, index, &probe, pair, tally);
             Ok(())
         }
         _ => {
-            read(draw, index, pair, tally);
+            read(draw, pair, tally);
             Ok(())
         }
     }
 }
 
-// Draws a change of a record or of a sequence.
-fn change(draw: &mut Draw, index: usize, pair: &mut Pair, tally: &mut Tally)
+// Draws what is taken out.
+fn erase(draw: &mut Draw, index: usize, pair: &mut Pair, tally: &mut Tally)
     requires { index < length pair.old.specs }
 {
     let handle = draw.handle(pair.handles());
     match draw.below(32) {
-        0..=9 => pair.erase(handle, Some(index), tally),
-        10..=13 => pair.erase(handle, None, tally),
-        14..=26 => {
-            let place = drawn_place(draw, pair.len());
-            pair.relocate(index, place, handle, tally);
-        }
-        27..=30 => pair.reverse(index, tally),
+        0..=15 => pair.erase(handle, Some(index), tally),
+        16..=30 => pair.erase(handle, None, tally),
         _ => pair.clear(tally),
     }
 }
 
-// Draws a question about a record, a place or the sizes.
-fn read(draw: &mut Draw, index: usize, pair: &Pair, tally: &mut Tally)
-    requires { index < length pair.now.specs }
-{
-    let handle = draw.handle(pair.handles());
-    let position = if draw.once_in(8) { None } else { Some(handle) };
-    match draw.below(8) {
-        0 => pair.get(handle, tally),
-        1 => pair.sizes(tally),
-        2 => pair.nth(index, drawn_place(draw, pair.len()), tally),
-        3 => pair.place_of(index, handle, tally),
-        4 => pair.step(Step::Rank, index, position, tally),
-        5 | 6 => pair.step(Step::Next, index, position, tally),
-        _ => pair.step(Step::Prev, index, position, tally),
+// Draws what is done with the records of a key.
+fn search(draw: &mut Draw, index: usize, probe: &Probe, pair: &mut Pair, tally: &mut Tally) {
+    match draw.below(16) {
+        0 => pair.erase_key(index, probe, tally),
+        1..=8 => pair.find(index, probe, tally),
+        _ => pair.count(index, probe, tally),
     }
 }
 
-fn drawn_search(draw: &mut Draw) -> Search {
-    match draw.below(7) {
-        0 => Search::Find,
-        1 => Search::Count,
-        2 => Search::Lower,
-        3 => Search::Upper,
-        4 => Search::FindRank,
-        5 => Search::LowerRank,
-        _ => Search::UpperRank,
+// Draws a question about a record or the sizes.
+fn read(draw: &mut Draw, pair: &Pair, tally: &mut Tally) {
+    if draw.once_in(2) {
+        pair.get(draw.handle(pair.handles()), tally);
+    } else {
+        pair.sizes(tally);
     }
 }
 

@@ -1,15 +1,20 @@
 //! A book of orders.
 ghost use Rattle.std.specs.Prelude.{◌≡◌, None, Some, Ok, IfErr, IfOk, IfSome, OnErr, OnOk, unwrap_or};
+ghost use Rattle.list_model.specs.Place.{Inclusive};
 ghost use Rattle.container_model.specs.State.{empty, list_at, row_of};
-ghost use Rattle.container_model.specs.Find.{counted, found};
-ghost use Rattle.container_model.specs.Insert.{insert_refusal, new_handle, with_inserted};
+ghost use Rattle.container_model.specs.Find.{counted, found, found_range, probe_side};
+ghost use Rattle.container_model.specs.Insert.{ban, insert_refusal, new_handle, with_inserted};
+ghost use Rattle.container_model.specs.Change.{erase_key_refusal, erase_refusal, erased_count, modify_refusal, replace_refusal, with_erased, with_key_erased, with_modified, with_replaced};
+ghost use Rattle.linked_set.specs.Modified.{told};
 ghost use Rattle.embedded.specs.Fields.{by_field, to_field, indices};
 
 use crate::order::{Fields, Order};
+use crate::renumber::Renumber;
 use container_model::{Handle, Kind, Refused, Spec, Why};
-use multi_index::MultiIndex;
+use multi_index::{Modified, MultiIndex};
 use std::alloc::{AllocError, Global};
 use std::marker::Model;
+use std::ops::Bound;
 
 /// Orders, each under its number, its price and its owner.
 #[derive(Drop)]
@@ -68,6 +73,63 @@ impl Book {
         self.orders.insert(order)
     }
 
+    /// Puts another order in the place of one, under its handle, and hands out the one that was there. The new one is handed
+    /// back, and nothing is changed, where the handle names no order or another order has the new one's number. O(log n).
+    pub fn amend(&mut self, handle: Handle, order: Order) -> Result<Order, Refused<Order>>
+        ensures old { IfOk result (λ old. row_of self.old.entries handle ≡ Some old) }
+        ensures allowed { OnOk result (replace_refusal by_field self.old handle order ≡ None) }
+        ensures amended { OnOk result (self.new ≡ with_replaced by_field self.old handle order) }
+        ensures why { IfErr result (λ refused. Some refused.why ≡ replace_refusal by_field self.old handle order) }
+        ensures handed_back { IfErr result (λ refused. refused.row ≡ Some order) }
+        ensures unchanged { OnErr result (self.new ≡ self.old) }
+    {
+        self.orders.replace(handle, order)
+    }
+
+    /// Gives an order another number. Where another order has that number, the order is lost, and the answer has it, and the
+    /// other one's handle. Nothing is changed where the handle names no order. O(log n).
+    pub fn renumber(&mut self, handle: Handle, id: u64) -> Result<Modified<Order>, Why>
+        ensures allowed { OnOk result (modify_refusal self.old handle ≡ None) }
+        ensures renumbered { (order : Order) → row_of self.old.entries handle ≡ Some order →
+            OnOk result (self.new ≡ with_modified by_field self.old handle (record order { id = id })) }
+        ensures answer { (order : Order) → row_of self.old.entries handle ≡ Some order →
+            IfOk result (λ answer. answer ≡ told (ban by_field self.old (Some handle) (record order { id = id })) (record order { id = id })) }
+        ensures why { IfErr result (λ why. Some why ≡ modify_refusal self.old handle) }
+        ensures unchanged { OnErr result (self.new ≡ self.old) }
+    {
+        let mut edit = Renumber { id };
+        match self.orders.modify(handle, &mut edit) {
+            Ok(modified) => Ok(modified),
+            Err(refused) => Err(refused.why),
+        }
+    }
+
+    /// Takes an order out, and hands it over. Nothing is changed where the handle names none. O(log n).
+    pub fn cancel(&mut self, handle: Handle) -> Result<Order, Why>
+        ensures order { IfOk result (λ order. row_of self.old.entries handle ≡ Some order) }
+        ensures allowed { OnOk result (erase_refusal self.old handle None ≡ None) }
+        ensures cancelled { OnOk result (self.new ≡ with_erased self.old handle) }
+        ensures why { IfErr result (λ why. Some why ≡ erase_refusal self.old handle None) }
+        ensures unchanged { OnErr result (self.new ≡ self.old) }
+    {
+        match self.orders.erase(handle, None) {
+            Ok(erased) => Ok(erased.row),
+            Err(refused) => Err(refused.why),
+        }
+    }
+
+    /// Takes out all orders of an owner, and says how many they were. O(log n) for each.
+    pub fn cancel_all(&mut self, owner: u64) -> Result<u64, Refused<Order>>
+        ensures count { IfOk result (λ count. count ≡ erased_count to_field self.old 2 owner) }
+        ensures allowed { OnOk result (erase_key_refusal self.old 2 ≡ None) }
+        ensures cancelled { OnOk result (self.new ≡ with_key_erased to_field self.old 2 owner) }
+        ensures why { IfErr result (λ refused. Some refused.why ≡ erase_key_refusal self.old 2) }
+        ensures handed_back { IfErr result (λ refused. refused.row ≡ None) }
+        ensures unchanged { OnErr result (self.new ≡ self.old) }
+    {
+        self.orders.erase_key(2, &owner)
+    }
+
     /// The first order of those that bid this price. O(log n).
     pub fn first_at(&self, price: u64) -> Option<Handle>
         ensures { Ok result ≡ found to_field self.now 1 price }
@@ -88,6 +150,15 @@ impl Book {
         ensures memory_only { IfErr result (λ why. why ≡ Why.Memory) }
     {
         self.orders.view(1)
+    }
+
+    /// The orders that bid from `low` to `high`, both included, by price. O(log n + those orders).
+    pub fn between(&self, low: u64, high: u64) -> Result<Vec<Handle>, Why>
+        ensures ok { IfOk result (λ handles. found_range self.now 1 (Inclusive (probe_side to_field self.now 1 low)) (Inclusive (probe_side to_field self.now 1 high)) ≡ Ok handles.items) }
+        ensures memory_only { IfErr result (λ why. why ≡ Why.Memory) }
+    {
+        self.orders
+            .range(1, Bound::Included(&low), Bound::Included(&high))
     }
 
     /// The order of a handle, if it is in the book. O(1).

@@ -3,52 +3,52 @@
 
 mod book;
 mod order;
+mod print;
+mod renumber;
 
 use book::Book;
-use container_model::{Handle, Refused};
+use container_model::Handle;
 use order::Order;
 use std::io;
 use std::rt::Runtime;
 
 // Each with its number, price and owner.
-const ORDERS: [(u64, u64, u64); 5] = [
+const ORDERS: [(u64, u64, u64); 6] = [
     (1, 250, 70),
     (2, 310, 71),
     (3, 250, 71),
     (1, 400, 72),
     (4, 180, 70),
+    (5, 330, 71),
 ];
 
-fn print_answer<R: Runtime>(
-    rt: &R,
-    order: Order,
-    answer: Result<Handle, Refused<Order>>,
-) -> io::Result<()> {
-    match answer {
-        Ok(handle) => println!(rt; "order {} lies in slot {}", order.id, handle.slot),
-        Err(refused) => println!(rt; "order {} is refused: {:?}", order.id, refused.why),
-    }
-}
-
-fn print_order<R: Runtime>(rt: &R, book: &Book, handle: Handle) -> io::Result<()> {
-    match book.get(handle) {
-        Some(order) => println!(rt; "{} bids {}", order.id, order.price),
-        None => Ok(()),
-    }
+// Amends an order, and cancels it.
+fn amend_and_cancel<R: Runtime>(rt: &R, book: &mut Book, handle: Handle) -> io::Result<()> {
+    let order = Order {
+        id: 1,
+        price: 260,
+        owner: 70,
+    };
+    print::amended(rt, order, book.amend(handle, order))?;
+    println!(rt; "cancelled: {:?}", book.cancel(handle))?;
+    println!(rt; "and again: {:?}", book.cancel(handle))
 }
 
 fn main(rt: HostRuntime) -> io::Result<()> {
     let mut book = Book::new(rt.alloc(), 1000)?;
     for (id, price, owner) in ORDERS {
         let order = Order { id, price, owner };
-        print_answer(&rt, order, book.place(order))?;
+        print::placed(&rt, order, book.place(order))?;
     }
-    for handle in book.by_price().unwrap_or(Vec::new(rt.alloc())) {
-        print_order(&rt, &book, handle)?;
-    }
+    print::orders(&rt, &book, book.by_price())?;
     println!(rt; "owner 71 has {} orders", book.count_of(71))?;
-    match book.first_at(250) {
-        Some(handle) => print_order(&rt, &book, handle),
-        None => Ok(()),
+    if let Some(first) = book.first_at(250) {
+        amend_and_cancel(&rt, &mut book, first)?;
     }
+    for handle in book.between(300, 400).unwrap_or(Vec::new(rt.alloc())) {
+        print::renumbered(&rt, 6, book.renumber(handle, 6))?;
+    }
+    let cancelled = book.cancel_all(71).unwrap_or(0);
+    println!(rt; "{cancelled} orders of owner 71 are cancelled")?;
+    print::orders(&rt, &book, book.by_price())
 }

@@ -7,10 +7,14 @@ use Rattle.std.specs.declared.cmp.Ordering.{Ordering}
 use Rattle.std.specs.declared.cmp.Ordering.TheVariants.{Less}
 use Rattle.node_store.specs.declared.Node.{Node}
 use Rattle.node_store.specs.ByNode.{same_node}
+use Rattle.node_store.specs.Store.{IsNodeOf}
 use Rattle.node_store.proofs.ByNode.{node_cases, same_node-refl}
 use Rattle.container_model.specs.declared.handle.Spec.{Spec}
 use Rattle.any_index.specs.Side.{side_of, is_kept, equal_but}
+use Rattle.index_set.specs.declared.set.IndexSet.{IndexSet}
 use Rattle.index_set.specs.Lists.{ban_from}
+use Rattle.index_set.specs.Set.{specs_of, record_of, lists_of, with_record}
+use Rattle.index_set.proofs.Written.{lists_written, others_written}
 
 module _ {R : Type 0} (old new : Node → Option R) (n : Node) (others : (m : Node) → m ≢ n → new m ≡ old m) where
   -- the test of each node
@@ -31,3 +35,10 @@ module _ {R : Type 0} (old new : Node → Option R) (n : Node) (others : (m : No
   ban_others order lists row index [] = refl
   ban_others order lists row index (spec ∷ specs) =
       λ i. option_map_or (λ by. Some (index, by)) (cond spec.unique (equal_alike (λ a. order index a row) (get_or lists index []) i) None) (ban_others order lists row (index + 1) specs i)
+
+-- so what bans a record beside a node whose own record was written banned it before
+pub ban_written : {R E : Type 0} (set : IndexSet R E) (n : Node) (row : R) → IsNodeOf set.store n → (order : ℕ → R → R → Ordering) (value : R) →
+    ban_from order (record_of (with_record set n row)) (lists_of (with_record set n row)) (Some n) value 0 (specs_of set) ≡ ban_from order (record_of set) (lists_of set) (Some n) value 0 (specs_of set)
+ban_written set n row is order value =
+    ban_others (record_of set) (record_of (with_record set n row)) n (others_written set.store n row is) order (lists_of (with_record set n row)) value 0 (specs_of set)
+    ∙ ap (λ ls. ban_from order (record_of set) ls (Some n) value 0 (specs_of set)) (lists_written set n row)

@@ -7,19 +7,19 @@ use Rattle.node_store.specs.declared.Node.{Node}
 use Rattle.node_store.specs.Store.{Store, nodes, number_of}
 use Rattle.node_store.specs.Age.{nodes_of}
 use Rattle.node_store.specs.ByNode as node
-use Rattle.container_model.specs.declared.handle.Handle.{Handle}
 use Rattle.container_model.specs.declared.handle.Entry.{Entry}
-use Rattle.container_model.specs.declared.handle.Spec.{Spec}
-use Rattle.container_model.specs.State.{State, IsState}
+use Rattle.container_model.specs.State.{IsState}
 use Rattle.container_model.specs.Change.{cleared}
 use Rattle.container_model.proofs.Erased.{IsState-cleared}
 use Rattle.index_set.specs.declared.set.IndexSet.{IndexSet}
 use Rattle.index_set.specs.Set.{store_of, specs_of, contents, record_of, lists_of, IsSound, IsKeyed, IsUniqueExcept, IsOfSame}
-use Rattle.multi_index.specs.declared.by_row.ByRow.{ByRow}
-use Rattle.multi_index.specs.LeadsTo.{LeadsTo}
-use Rattle.multi_index.specs.Linked.{entries_in, handles_in}
-use Rattle.multi_index.specs.Seen.{seen, IsContainer}
+use Rattle.linked_set.specs.declared.by_row.ByRow.{ByRow}
+use Rattle.linked_set.specs.LeadsTo.{LeadsTo}
+use Rattle.linked_set.specs.Linked.{entries_in, handles_in}
+use Rattle.linked_set.specs.Seen.{seen}
+use Rattle.multi_index.specs.Container.{IsContainer}
 use Rattle.multi_index.proofs.Made.{no_handles}
+use Rattle.linked_set.proofs.Seen.{state_with}
 
 no_records : {R : Type 0} (s : Store (Entry R)) → nodes_of s ≡ [] → entries_in (node.contents s) ≡ []
 unfolding node.contents
@@ -35,13 +35,10 @@ module _ {E R : Type 0} (old new : IndexSet (Entry R) (ByRow E)) (max writes : �
   no_entries : entries_in (contents new) ≡ []
   no_entries = no_records (store_of new) none
 
-  abbrev make : E → List Spec → List (Entry R) → List (List Handle) → State E R
-  make ks ss es ls = record { keys = ks; specs = ss; max = max; writes = writes + 1; entries = es; lists = ls }
-
   pub seen_cleared : seen new max (writes + 1) ≡ cleared (seen old max writes)
   seen_cleared =
       let handles = ap (handles_in (record_of new)) lists ∙ no_handles (record_of new) (specs_of old) in
-      λ i. make (same.keys i).keys (same.specs i) (no_entries i) (handles i)
+      λ i. state_with max (writes + 1) (same.keys i).keys (same.specs i) (no_entries i) (handles i)
 
   pub IsContainer_cleared : (has_key : E → ℕ → Bool) (order : E → ℕ → R → R → Ordering) (hash : E → ℕ → R → ℕ) (slots : List (Option Node)) →
       IsSound (λ by. has_key by.keys) new → IsKeyed (λ by index a b. order by.keys index a.row b.row) (λ by index a. hash by.keys index a.row) new → IsUniqueExcept (λ by index a b. order by.keys index a.row b.row) new None →

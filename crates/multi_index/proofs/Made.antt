@@ -5,21 +5,22 @@ use Rattle.list_model.specs.Order.{EachPair}
 use Rattle.node_store.specs.declared.Node.{Node}
 use Rattle.node_store.specs.Store.{Store, empty_store}
 use Rattle.node_store.specs.ByNode as node
-use Rattle.container_model.specs.declared.handle.Handle.{Handle}
 use Rattle.container_model.specs.declared.handle.Entry.{Entry}
 use Rattle.container_model.specs.declared.handle.Spec.{Spec}
-use Rattle.container_model.specs.State.{State, IsState, KeysMatch, empty}
+use Rattle.container_model.specs.State.{IsState, KeysMatch, empty}
 use Rattle.container_model.proofs.Inserted.{IsState-empty}
 use Rattle.index_set.specs.declared.set.IndexSet.{IndexSet}
 use Rattle.index_set.specs.Lists.{AreUniqueFrom}
 use Rattle.index_set.proofs.Keys.{unique_empty}
 use Rattle.index_set.specs.Set.{store_of, keys_of, specs_of, contents, record_of, lists_of, IsSound, IsKeyed}
-use Rattle.multi_index.specs.declared.by_row.ByRow.{ByRow}
-use Rattle.multi_index.specs.LeadsTo.{LeadsTo}
-use Rattle.multi_index.specs.Linked.{entries_in, handles_in}
-use Rattle.multi_index.specs.Seen.{seen, IsContainer}
-use Rattle.multi_index.proofs.Contents.{entries-empty}
-use Rattle.multi_index.proofs.LeadsTo.{leads-empty}
+use Rattle.linked_set.specs.declared.by_row.ByRow.{ByRow}
+use Rattle.linked_set.specs.LeadsTo.{LeadsTo}
+use Rattle.linked_set.specs.Linked.{entries_in, handles_in}
+use Rattle.linked_set.specs.Seen.{seen}
+use Rattle.multi_index.specs.Container.{IsContainer}
+use Rattle.linked_set.proofs.Contents.{entries-empty}
+use Rattle.linked_set.proofs.LeadsTo.{leads-empty}
+use Rattle.linked_set.proofs.Seen.{state_with}
 
 pub no_handles : {R : Type 0} (records : Node → Option (Entry R)) (specs : List Spec) → handles_in records (map (λ _. []) specs) ≡ map (λ _. []) specs
 no_handles records [] = refl
@@ -30,13 +31,10 @@ module _ {E R : Type 0} (set : IndexSet (Entry R) (ByRow E)) (keys : E) (specs :
   no_entries : entries_in (contents set) ≡ []
   no_entries = ap (λ (s : Store (Entry R)). entries_in (node.contents s)) none ∙ entries-empty
 
-  abbrev make : E → List Spec → List (Entry R) → List (List Handle) → State E R
-  make ks ss es ls = record { keys = ks; specs = ss; max = max; writes = first_write; entries = es; lists = ls }
-
   pub seen_made : seen set max first_write ≡ empty keys specs max first_write
   seen_made =
       let handles = ap (handles_in (record_of set)) lists ∙ no_handles (record_of set) specs in
-      λ i. make (same_keys i) (same_specs i) (no_entries i) (handles i)
+      λ i. state_with max first_write (same_keys i) (same_specs i) (no_entries i) (handles i)
 
   pub IsContainer_made : (has_key : E → ℕ → Bool) (order : E → ℕ → R → R → Ordering) (hash : E → ℕ → R → ℕ) →
       IsSound (λ by. has_key by.keys) set → IsKeyed (λ by index a b. order by.keys index a.row b.row) (λ by index a. hash by.keys index a.row) set →

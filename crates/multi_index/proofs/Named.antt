@@ -1,10 +1,8 @@
 -- The node that a handle names, in the list of an index of a container: the list answers of it what the index answers of the handle.
-use Rattle.std.proofs.Common.{◌≡◌, ◌≢◌, ℕ, ◌<◌, Bool, true, false, cond, List, ◌∷◌, ◌++◌, length, map, Option, Some, None, Ok, Err, refl, sym, ap, ◌∙◌, ⊎_elim, arith}
-use Rattle.std.specs.Prelude.{IsTrue, not, option_map, is_some, count_by}
+use Rattle.std.proofs.Common.{◌≡◌, ℕ, ◌<◌, Bool, true, false, cond, List, ◌∷◌, ◌++◌, length, map, Option, Some, Ok, Err, sym, ap, ◌∙◌, arith}
+use Rattle.std.specs.Prelude.{option_map, count_by}
 use Rattle.std.specs.List.{AllByRecursion}
 use Rattle.std.specs.declared.cmp.Ordering.{Ordering}
-use Rattle.std.proofs.lemmas.Bool.{false_from_ne_true}
-use Rattle.std.proofs.lemmas.Option.{same_Some}
 use Rattle.list_model.specs.Walk.{place_of, next, prev}
 use Rattle.list_model.proofs.InOrder.{All-map}
 use Rattle.list_model.proofs.Permuted.{split_at, count_by-permutation}
@@ -13,28 +11,27 @@ use Rattle.container_model.specs.declared.handle.Handle.{Handle}
 use Rattle.container_model.specs.declared.handle.Kind.TheVariants.{Sequenced}
 use Rattle.container_model.specs.declared.handle.Spec.{Spec}
 use Rattle.container_model.specs.declared.refusal.Why.TheVariants.{Stale}
-use Rattle.container_model.specs.State.{State, AreIndices, is_handle, list_at, row_of}
+use Rattle.container_model.specs.State.{State, AreIndices, is_handle, list_at}
 use Rattle.container_model.specs.Find.{is_live}
 use Rattle.container_model.proofs.Found.{is_handle_same, count_live}
 use Rattle.node_store.specs.declared.Node.{Node}
 use Rattle.node_store.specs.Nodes.{Holds}
 use Rattle.node_store.specs.Store.{IsNodeOf}
 use Rattle.node_store.specs.ByNode.{same_node}
-use Rattle.node_store.proofs.ByNode.{node_cases, same_node-refl, same_node-true}
+use Rattle.node_store.proofs.ByNode.{same_node-true}
 use Rattle.slot_table.specs.Slots.{item_at}
 use Rattle.index_set.specs.declared.set.IndexSet.{IndexSet}
 use Rattle.index_set.specs.Set.{store_of, keys_of, specs_of, contents, record_of, list_of, lists_of}
 use Rattle.index_set.proofs.Members.{nodes_held_at}
-use Rattle.multi_index.specs.declared.by_row.ByRow.{ByRow}
-use Rattle.multi_index.specs.Linked.{handle_of, entries_in, handles_in}
-use Rattle.multi_index.specs.Seen.{IsLinked}
-use Rattle.multi_index.proofs.Contents.{has_record}
-use Rattle.multi_index.proofs.Indices.{index_here}
-use Rattle.multi_index.proofs.LeadsTo.{row_of_live, row_of_stale, row_of_free}
-use Rattle.multi_index.proofs.HeldByAll.{same_by_handle}
-use Rattle.multi_index.proofs.Mapped.{place_mapped, next_mapped, prev_mapped}
-use Rattle.multi_index.proofs.Reading.{list_seen}
-use Rattle.multi_index.proofs.Sides.{count_mapped}
+use Rattle.linked_set.specs.declared.by_row.ByRow.{ByRow}
+use Rattle.linked_set.specs.Linked.{handle_of, entries_in, handles_in}
+use Rattle.linked_set.specs.Seen.{IsLinked}
+use Rattle.linked_set.proofs.Indices.{index_here}
+use Rattle.linked_set.proofs.ByHandle.{same_by_handle}
+use Rattle.linked_set.proofs.Live.{live_seen}
+use Rattle.linked_set.proofs.Mapped.{place_mapped, next_mapped, prev_mapped}
+use Rattle.linked_set.proofs.Reading.{list_seen}
+use Rattle.linked_set.proofs.Sides.{count_mapped}
 
 -- ---- what a call answers of a handle
 
@@ -44,10 +41,6 @@ answered_live h answer {s} {t} a same live is = ap Ok (is ∙ ap answer same) �
 pub answered_stale : {E R A : Type 0} (h : Handle) (answer : A) {s t : State E R} → s ≡ t → is_live s h ≡ false → Err Stale ≡ cond (is_live t h) (Ok answer) (Err Stale)
 answered_stale h answer {s} {t} same stale = ap (λ b. cond b (Ok answer) (Err Stale)) (sym stale ∙ ap (λ u. is_live u h) same)
 
-is_not : (b : Bool) → IsTrue (not b) → b ≡ false
-is_not false h = refl
-is_not true h = cc
-
 module _ {E R : Type 0} {has_key : E → ℕ → Bool} {order : E → ℕ → R → R → Ordering} {hash : E → ℕ → R → ℕ} (set : IndexSet (Entry R) (ByRow E)) (slots : List (Option Node)) (linked : IsLinked has_key order hash set slots) (h : Handle) where
   abbrev handle : Node → Handle
   handle = handle_of (record_of set)
@@ -55,28 +48,11 @@ module _ {E R : Type 0} {has_key : E → ℕ → Bool} {order : E → ℕ → R 
   abbrev entries : List (Entry R)
   entries = entries_in (contents set)
 
-  -- a handle that its slot's node does not have names no record
-  pub none_seen : ((n : Node) → item_at slots h.slot ≡ Some n → IsTrue (not (is_handle h (handle n)))) → row_of entries h ≡ None
-  none_seen none =
-      elim (item_at slots h.slot) as (λ (o : Option Node). item_at slots h.slot ≡ o → row_of entries h ≡ None) [
-        | None ↦ λ free. row_of_free (store_of set) slots linked.sound.nodes linked.leads h free
-        | Some n ↦ λ at. row_of_stale (store_of set) slots linked.sound.nodes linked.leads h n at (is_not _ (none n at))
-      ] refl
-
-  pub stale_seen : ((n : Node) → item_at slots h.slot ≡ Some n → IsTrue (not (is_handle h (handle n)))) → is_some (row_of entries h) ≡ false
-  stale_seen none = ap is_some (none_seen none)
-
   module _ (n : Node) (at : item_at slots h.slot ≡ Some n) (named : is_handle h (handle n) ≡ true) where
     node_here : IsNodeOf (store_of set) n
     node_here = (linked.leads.slot_of h.slot n at).0
 
-    -- the handle names a record
-    pub live_seen : is_some (row_of entries h) ≡ true
-    live_seen =
-        let p = has_record (store_of set) n node_here in
-        ap is_some (row_of_live (store_of set) slots linked.sound.nodes linked.leads linked.apart h n p.0 at named p.1)
-
-    -- and no other node has it
+    -- no other node has the handle
     one_named : (m : Node) → IsNodeOf (store_of set) m → same_node n m ≡ is_handle h (handle m)
     one_named m is =
         same_by_handle (store_of set) slots linked.leads n m node_here is ∙ ap (λ g. is_handle g (handle m)) (sym (is_handle_same h (handle n) named))
@@ -114,7 +90,7 @@ module _ {E R : Type 0} {has_key : E → ℕ → Bool} {order : E → ℕ → R 
           let once : count_by (same_node n) list ≡ 1 =
           count_mapped handle (same_node n) (is_handle h) list named_all
           ∙ (ap (count_by (is_handle h)) seen_here
-          ∙ (count_by-permutation (is_handle h) (map (λ e. e.handle) entries) handles members ∙ count_live entries h linked.apart live_seen)) in
+          ∙ (count_by-permutation (is_handle h) (map (λ e. e.handle) entries) handles members ∙ count_live entries h linked.apart (live_seen set slots linked h n at named))) in
           let s = split_at (same_node n) list (omega (arith, once)) in
           let one : n ≡ s.member = same_node-true n s.member s.here in
           record { before = s.front; after = s.back; is = s.whole ∙ ap (λ m. s.front ++ m ∷ s.back) (sym one) }

@@ -1,49 +1,48 @@
 -- A sequence of nodes put into another order, and what that makes of a container.
-use Rattle.std.proofs.Common.{◌≡◌, ℕ, ◌+◌, ◌-◌, ◌<◌, ◌≤◌, ◌^◌, Bool, true, false, cond, not, List, [], ◌∷◌, ◌++◌, length, map, reverse, set, Option, Some, None, refl, sym, ap, ◌∙◌, subst, ⊎_elim, arith, ◌==◌, eq-eqb}
-use Rattle.std.specs.Prelude.{insert, nat_le, is_some, IsTrue, IsPermutation}
+use Rattle.std.proofs.Common.{◌≡◌, ℕ, ◌+◌, ◌-◌, ◌<◌, ◌≤◌, ◌^◌, Bool, true, false, cond, List, [], ◌∷◌, ◌++◌, length, map, reverse, set, Option, Some, None, refl, sym, ap, ◌∙◌, subst, arith, ◌==◌, eq-eqb}
+use Rattle.std.specs.Prelude.{nat_le, IsTrue, IsPermutation}
 use Rattle.std.specs.List.{AllByRecursion, list_all}
 use Rattle.std.specs.declared.cmp.Ordering.{Ordering}
-use Rattle.std.proofs.lemmas.Bool.{false_from_ne_true}
 use Rattle.std.proofs.lemmas.Bool.Decides.{nat_tests}
 use Rattle.std.proofs.lemmas.List.{map-set, map-append, length-map, reverse-append}
-use Rattle.std.proofs.lemmas.Option.{same_Some}
 use Rattle.list_model.specs.Order.{EachPair}
-use Rattle.list_model.specs.Walk.{place_of, without, relocated}
+use Rattle.list_model.specs.Walk.{relocated}
 use Rattle.list_model.proofs.InOrder.{All-map}
 use Rattle.list_model.proofs.Permuted.{count_by-permutation}
 use Rattle.node_store.specs.declared.Node.{Node}
 use Rattle.node_store.specs.Nodes.{Holds}
-use Rattle.node_store.specs.Store.{Store, IsStore, IsNodeOf}
+use Rattle.node_store.specs.Store.{Store, IsNodeOf}
 use Rattle.node_store.specs.ByNode as node
 use Rattle.node_store.specs.ByNode.{same_node}
-use Rattle.node_store.proofs.ByNode.{node_cases, same_node-refl, same_node-true, added_kept}
-use Rattle.slot_table.specs.Slots.{item_at}
+use Rattle.node_store.proofs.ByNode.{added_kept}
 use Rattle.container_model.specs.declared.handle.Handle.{Handle}
 use Rattle.container_model.specs.declared.handle.Entry.{Entry}
 use Rattle.container_model.specs.declared.handle.Spec.{Spec}
 use Rattle.container_model.specs.declared.handle.Kind.TheVariants.{Sequenced}
 use Rattle.container_model.specs.declared.refusal.Why.{Why}
 use Rattle.container_model.specs.declared.refusal.Why.TheVariants.{Kind, Stale, Place, Order, Spent}
-use Rattle.container_model.specs.State.{State, IsState, is_handle, is_sequence_kind, list_at, row_of}
+use Rattle.container_model.specs.State.{State, IsState, is_handle, is_sequence_kind, list_at}
 use Rattle.container_model.specs.Find.{kind_at, is_live}
 use Rattle.container_model.specs.Sequence.{with_list, has_each_once, relocate_refusal, rearrange_refusal, sequence_refusal}
-use Rattle.container_model.proofs.Found.{is_handle_itself, is_handle_same, count_live, stands_once}
+use Rattle.container_model.proofs.Found.{count_live, stands_once}
 use Rattle.index_set.specs.declared.set.IndexSet.{IndexSet}
 use Rattle.index_set.specs.Set as set
 use Rattle.index_set.specs.Set.{store_of, keys_of, specs_of, contents, record_of, list_of, lists_of, IsSound, IsKeyed, IsOfSame}
 use Rattle.index_set.proofs.Members.{nodes_held_at}
 use Rattle.index_set.proofs.StaysUnique.{unique_after_move}
-use Rattle.multi_index.specs.declared.by_row.ByRow.{ByRow}
-use Rattle.multi_index.specs.LeadsTo.{LeadsTo}
-use Rattle.multi_index.specs.Linked.{handle_of, entries_in, handles_in}
-use Rattle.multi_index.specs.Seen.{seen, IsContainer}
-use Rattle.multi_index.proofs.Contents.{entries_kept, handles_kept, has_record}
-use Rattle.multi_index.proofs.Entered.{map-insert}
-use Rattle.multi_index.proofs.HeldByAll.{one_node, same_by_handle}
-use Rattle.multi_index.proofs.Indices.{index_here, as_many_each}
-use Rattle.multi_index.proofs.LeadsTo.{row_of_live, row_of_stale, row_of_free, leads_kept}
-use Rattle.multi_index.proofs.Reading.{list_seen}
-use Rattle.multi_index.proofs.Settling.{relocated_mapped}
+use Rattle.linked_set.specs.declared.by_row.ByRow.{ByRow}
+use Rattle.linked_set.specs.LeadsTo.{LeadsTo}
+use Rattle.linked_set.specs.Linked.{handle_of, entries_in, handles_in}
+use Rattle.linked_set.specs.Seen.{seen}
+use Rattle.multi_index.specs.Container.{IsContainer}
+use Rattle.linked_set.proofs.Contents.{entries_kept, handles_kept}
+use Rattle.linked_set.proofs.ByHandle.{one_node, same_by_handle}
+use Rattle.linked_set.proofs.Indices.{index_here, as_many_each}
+use Rattle.linked_set.proofs.LeadsTo.{leads_kept}
+use Rattle.linked_set.proofs.Reading.{list_seen}
+use Rattle.linked_set.proofs.Settling.{relocated_mapped}
+use Rattle.multi_index.proofs.Shrunk.{next_number}
+use Rattle.linked_set.proofs.Seen.{state_with}
 
 -- ---- lists
 
@@ -70,10 +69,6 @@ stands_for f (x ∷ xs) (z ∷ front) y back e = let rest : map f xs ≡ front +
     one_before : {X Y : Type 0} {f : X → Y} {xs : List X} {y : Y} (x : X) → StandsFor f xs y → StandsFor f (x ∷ xs) y
     one_before x p = record { member = p.member; before = x ∷ p.before; after = p.after; whole = ap (λ l. x ∷ l) p.whole; image = p.image }
 
--- a number that is not the greatest has a next one
-pub next_fits : (n : ℕ) → n < 2 ^ 64 → (n == 2 ^ 64 - 1) ≡ false → n + 1 < 2 ^ 64
-next_fits n less other = grind (arith, nat_tests)
-
 some_spec : Spec
 some_spec = record { kind = Sequenced; unique = false }
 
@@ -95,9 +90,6 @@ module _ {R : Type 0} (s : Store (Entry R)) (slots : List (Option Node)) (leads 
 
 module _ {E R : Type 0} (old new : IndexSet (Entry R) (ByRow E)) (index max writes : ℕ) (xs : List Node) (list : List Handle) (handles : map (handle_of (record_of old)) xs ≡ list)
     (same : IsOfSame old new) (lists : lists_of new ≡ set (lists_of old) index xs) (kept : contents new ≡ contents old) where
-  abbrev make : E → List Spec → List (Entry R) → List (List Handle) → State E R
-  make keys specs entries lists = record { keys = keys; specs = specs; max = max; writes = writes + 1; entries = entries; lists = lists }
-
   handles_listed : handles_in (record_of new) (lists_of new) ≡ set (handles_in (record_of old) (lists_of old)) index list
   handles_listed =
       handles_kept (store_of old) (store_of new) (lists_of new) kept
@@ -105,7 +97,7 @@ module _ {E R : Type 0} (old new : IndexSet (Entry R) (ByRow E)) (index max writ
 
   -- the container is the one with the handles of those nodes as the list of the index
   pub seen_listed : seen new max (writes + 1) ≡ with_list (seen old max writes) index list
-  seen_listed = (λ i. make (same.keys i).keys (same.specs i) (entries_kept (store_of old) (store_of new) kept i) (handles_listed i))
+  seen_listed = (λ i. state_with max (writes + 1) (same.keys i).keys (same.specs i) (entries_kept (store_of old) (store_of new) kept i) (handles_listed i))
 
   -- and stays one
   pub IsContainer_listed : (has_key : E → ℕ → Bool) (order : E → ℕ → R → R → Ordering) (hash : E → ℕ → R → ℕ) (slots : _) → IsContainer has_key order hash old slots max writes →
@@ -122,7 +114,7 @@ module _ {E R : Type 0} (old new : IndexSet (Entry R) (ByRow E)) (index max writ
     };
     state = subst (IsState has_key order) (sym seen_listed) state;
     narrow = was.narrow;
-    numbered = let fits = was.numbered in next_fits writes fits more;
+    numbered = let fits = was.numbered in next_number writes fits more;
     added = let before = was.added in let count = added_kept (store_of old) (store_of new) kept in omega (arith, before, count);
   }
 
@@ -157,26 +149,6 @@ module _ {E R : Type 0} {has_key : E → ℕ → Bool} {order : E → ℕ → R 
         relocated_mapped (handle_of (record_of old)) (same_node n) (is_handle (handle_of (record_of old) n)) n place (list_of old index)
         (All-map _ _ (λ m has. same_by_handle (store_of old) slots was.linked.leads n m is has) (list_of old index) (nodes_held_at old was.linked.sound index within))
         ∙ (λ i. relocated (is_handle (handle i)) (handle i) place (list_seen old slots was.linked index within i))
-
--- ---- live handles
-
-is_not : (b : Bool) → IsTrue (not b) → b ≡ false
-is_not false h = refl
-is_not true h = cc
-
-module _ {R : Type 0} (s : Store (Entry R)) (slots : List (Option Node)) (store : IsStore s) (leads : LeadsTo s slots) (h : Handle) where
-  -- a handle that names no node names no record
-  pub not_live : ((n : Node) → item_at slots h.slot ≡ Some n → IsTrue (not (is_handle h (handle_of (node.record_of s) n)))) → is_some (row_of (entries_in (node.contents s)) h) ≡ false
-  not_live none = ap is_some (elim (item_at slots h.slot) as (λ (o : Option Node). item_at slots h.slot ≡ o → row_of (entries_in (node.contents s)) h ≡ None) [
-    | None ↦ λ free. row_of_free s slots store leads h free
-    | Some n ↦ λ at. row_of_stale s slots store leads h n at (is_not _ (none n at))
-  ] refl)
-
-  -- and one that names a node is the handle of its record
-  pub is_live_by : EachPair (λ a b. (b.handle.slot == a.handle.slot) ≡ false) (entries_in (node.contents s)) → (n : Node) → item_at slots h.slot ≡ Some n → IsTrue (is_handle h (handle_of (node.record_of s) n)) → is_some (row_of (entries_in (node.contents s)) h) ≡ true
-  is_live_by apart n at same =
-      let p = has_record s n (leads.slot_of h.slot n at).0 in
-      ap is_some (row_of_live s slots store leads apart h n p.0 at same p.1)
 
 -- ---- refusals
 

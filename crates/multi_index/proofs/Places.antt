@@ -20,12 +20,12 @@ use Rattle.container_model.specs.Find.{at_kinds, at_position, kind_at}
 use Rattle.node_store.specs.declared.Node.{Node}
 use Rattle.index_set.specs.declared.set.IndexSet.{IndexSet}
 use Rattle.index_set.specs.Set.{keys_of, specs_of, contents, record_of, list_of, lists_of, probe_side}
-use Rattle.multi_index.specs.declared.by_row.ByRow.{ByRow}
-use Rattle.multi_index.specs.Linked.{handle_of, entries_in, handles_in, IsKnown}
-use Rattle.multi_index.specs.Seen.{IsLinked}
-use Rattle.multi_index.proofs.Mapped.{any_mapped, last_mapped}
-use Rattle.multi_index.proofs.Reading.{known_at, list_seen}
-use Rattle.multi_index.proofs.Sides.{side_known, below_known, not_above_known}
+use Rattle.linked_set.specs.declared.by_row.ByRow.{ByRow}
+use Rattle.linked_set.specs.Linked.{handle_of, entries_in, handles_in, IsKnown}
+use Rattle.linked_set.specs.Seen.{IsLinked}
+use Rattle.linked_set.proofs.Mapped.{any_mapped, last_mapped}
+use Rattle.linked_set.proofs.Reading.{known_at, list_seen}
+use Rattle.linked_set.proofs.Sides.{side_known, below_known, not_above_known}
 
 -- the answer of a call at an index of its kind
 pub answered : {E R A : Type 0} (kinds : IndexKind → Bool) (index : ℕ) (answer : State E R → A) {s t : State E R} (a : A) → s ≡ t → kinds (kind_at t index) ≡ true → a ≡ answer s → Ok a ≡ at_kinds kinds t index (answer t)

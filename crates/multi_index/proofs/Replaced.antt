@@ -10,21 +10,22 @@ use Rattle.node_store.specs.ByNode as store
 use Rattle.slot_table.specs.Slots.{item_at}
 use Rattle.container_model.specs.declared.handle.Handle.{Handle}
 use Rattle.container_model.specs.declared.handle.Entry.{Entry}
-use Rattle.container_model.specs.declared.handle.Spec.{Spec}
 use Rattle.container_model.specs.declared.refusal.Why.{Why}
 use Rattle.container_model.specs.declared.refusal.Why.TheVariants.{Banned, Spent, Stale}
 use Rattle.container_model.specs.State.{State, IsState, is_handle, row_of}
 use Rattle.container_model.specs.Insert.{ban}
-use Rattle.container_model.specs.Change.{replace_refusal, settled_from, spent, with_replaced, with_row}
+use Rattle.container_model.specs.Change.{replace_refusal, settled_from, spent, with_row}
 use Rattle.container_model.proofs.Found.{is_handle_same}
 use Rattle.container_model.proofs.Replaced.{IsState-replaced}
 use Rattle.index_set.specs.declared.set.IndexSet.{IndexSet}
 use Rattle.index_set.specs.Set.{store_of, keys_of, specs_of, contents, record_of, lists_of, IsOfSame}
-use Rattle.multi_index.specs.declared.by_row.ByRow.{ByRow}
-use Rattle.multi_index.specs.Linked.{handle_of, entries_in, handles_in}
-use Rattle.multi_index.specs.Seen.{seen, IsLinked, IsContainer}
-use Rattle.multi_index.proofs.Contents.{has_record}
-use Rattle.multi_index.proofs.LeadsTo.{row_of_live}
+use Rattle.linked_set.specs.declared.by_row.ByRow.{ByRow}
+use Rattle.linked_set.specs.Linked.{handle_of, entries_in, handles_in}
+use Rattle.linked_set.specs.Seen.{seen, IsLinked}
+use Rattle.multi_index.specs.Container.{IsContainer}
+use Rattle.linked_set.proofs.Contents.{has_record}
+use Rattle.linked_set.proofs.LeadsTo.{row_of_live}
+use Rattle.linked_set.proofs.Seen.{seen_replaced}
 
 -- ---- what a handle names
 
@@ -67,20 +68,13 @@ module _ {E R : Type 0} (order : E → ℕ → R → R → Ordering) (s : State 
 
 module _ {E R : Type 0} (order : E → ℕ → R → R → Ordering) (old new : IndexSet (Entry R) (ByRow E)) (h : Handle) (row : R) (max writes : ℕ) (same : IsOfSame old new) (entries : entries_in (contents new) ≡ with_row h row (entries_in (contents old)))
     (lists : handles_in (record_of new) (lists_of new) ≡ settled_from (order (keys_of old).keys) (entries_in (contents old)) h row 0 (specs_of old) (handles_in (record_of old) (lists_of old))) where
-  abbrev make : E → List Spec → List (Entry R) → List (List Handle) → State E R
-  make keys specs entries lists = record { keys = keys; specs = specs; max = max; writes = writes + 1; entries = entries; lists = lists }
-
-  -- the container is the one with the row changed
-  pub seen_replaced : seen new max (writes + 1) ≡ with_replaced order (seen old max writes) h row
-  seen_replaced = λ i. make (same.keys i).keys (same.specs i) (entries i) (lists i)
-
   -- and stays one
   pub IsContainer_replaced : (has_key : E → ℕ → Bool) (hash : E → ℕ → R → ℕ) (slots : List (Option Node)) → ((keys : E) (i : ℕ) → IsTrue (has_key keys i) → IsTotalOrder (order keys i)) → (was_row : R) → row_of (entries_in (contents old)) h ≡ Some was_row →
       ban order (seen old max writes) (Some h) row ≡ None → (store_of new).added ≡ (store_of old).added → writes + 1 < 2 ^ 64 →
       IsContainer has_key order hash old slots max writes → IsLinked has_key order hash new slots → IsContainer has_key order hash new slots max (writes + 1)
   IsContainer_replaced has_key hash slots total was_row live allowed added next was linked = record {
     linked = linked;
-    state = subst (IsState has_key order) (sym seen_replaced) (IsState-replaced has_key order total (seen old max writes) h row was.state (ap is_some live) allowed);
+    state = subst (IsState has_key order) (sym (seen_replaced order old new h row max writes same entries lists)) (IsState-replaced has_key order total (seen old max writes) h row was.state (ap is_some live) allowed);
     narrow = was.narrow;
     numbered = next;
     added = let before = was.added in omega arith;

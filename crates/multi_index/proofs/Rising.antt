@@ -23,13 +23,13 @@ use Rattle.container_model.proofs.Keys.{has_key-of_sorted, kind_at_is}
 use Rattle.node_store.specs.declared.Node.{Node}
 use Rattle.index_set.specs.declared.set.IndexSet.{IndexSet}
 use Rattle.index_set.specs.Set.{keys_of, specs_of, contents, record_of, list_of, lists_of, probe_side}
-use Rattle.multi_index.specs.declared.by_row.ByRow.{ByRow}
-use Rattle.multi_index.specs.Edges.{edge_of, node_edge, KeyFits, Rises}
-use Rattle.multi_index.specs.Linked.{handle_of, entries_in, handles_in, IsKnown}
-use Rattle.multi_index.specs.Seen.{seen, IsLinked}
-use Rattle.multi_index.proofs.Mapped.{filter_mapped}
-use Rattle.multi_index.proofs.Reading.{known_at, list_seen}
-use Rattle.multi_index.proofs.Sides.{side_known, row_known}
+use Rattle.linked_set.specs.declared.by_row.ByRow.{ByRow}
+use Rattle.linked_set.specs.Edges.{edge_of, node_edge, KeyFits, Rises}
+use Rattle.linked_set.specs.Linked.{handle_of, entries_in, handles_in, IsKnown}
+use Rattle.linked_set.specs.Seen.{seen, IsLinked}
+use Rattle.linked_set.proofs.Mapped.{filter_mapped}
+use Rattle.linked_set.proofs.Reading.{known_at, list_seen}
+use Rattle.linked_set.proofs.Sides.{side_known, row_known}
 
 EachPair-in_map : {X Y : Type 0} (f : X → Y) (P : Y → Y → Type 0) (xs : List X) → EachPair P (map f xs) → EachPair (λ x y. P (f x) (f y)) xs
 EachPair-in_map f P [] each = tt

@@ -7,21 +7,22 @@ use Rattle.std.proofs.lemmas.Bool.Decides.{nat_tests}
 use Rattle.list_model.specs.Walk.{next}
 use Rattle.container_model.specs.declared.handle.Handle.{Handle}
 use Rattle.container_model.specs.declared.handle.Entry.{Entry}
-use Rattle.container_model.specs.declared.handle.Spec.{Spec}
 use Rattle.container_model.specs.declared.refusal.Why.TheVariants.{Kind, Spent, Stale}
 use Rattle.container_model.specs.State.{State, IsState, has_key_kind, is_handle, is_hashed_kind}
 use Rattle.container_model.specs.Find.{is_live, kind_at}
-use Rattle.container_model.specs.Change.{spent, erase_key_refusal, erase_refusal, next_in, with_only}
+use Rattle.container_model.specs.Change.{spent, erase_key_refusal, erase_refusal, next_in}
 use Rattle.container_model.proofs.Erased.{IsState-only}
 use Rattle.node_store.specs.declared.Node.{Node}
 use Rattle.node_store.specs.ByNode.{same_node}
 use Rattle.slot_table.specs.Slots.{item_at}
 use Rattle.index_set.specs.declared.set.IndexSet.{IndexSet}
 use Rattle.index_set.specs.Set.{store_of, specs_of, contents, record_of, list_of, lists_of, IsOfSame}
-use Rattle.multi_index.specs.declared.by_row.ByRow.{ByRow}
-use Rattle.multi_index.specs.Linked.{handle_of, entries_in, handles_in}
-use Rattle.multi_index.specs.Seen.{seen, IsLinked, IsContainer}
+use Rattle.linked_set.specs.declared.by_row.ByRow.{ByRow}
+use Rattle.linked_set.specs.Linked.{handle_of, entries_in, handles_in}
+use Rattle.linked_set.specs.Seen.{seen, IsLinked}
+use Rattle.multi_index.specs.Container.{IsContainer}
 use Rattle.multi_index.proofs.Named.{next_seen}
+use Rattle.linked_set.proofs.Seen.{seen_only}
 
 -- where nothing refuses to take a record out, it is there, and the last write has not the greatest number
 pub live_allowed : {E R : Type 0} (s : State E R) (h : Handle) (index : Option ℕ) → erase_refusal s h index ≡ None → (is_live s h ≡ true) × ((s.writes == 2 ^ 64 - 1) ≡ false)
@@ -57,19 +58,12 @@ next_number n less other = grind (arith, nat_tests)
 module _ {E R : Type 0} (old new : IndexSet (Entry R) (ByRow E)) (keep : Handle → Bool) (max writes : ℕ)
     (same : IsOfSame old new) (entries : entries_in (contents new) ≡ filter (λ e. keep e.handle) (entries_in (contents old)))
     (lists : handles_in (record_of new) (lists_of new) ≡ map (λ list. filter keep list) (handles_in (record_of old) (lists_of old))) where
-  abbrev make : E → List Spec → List (Entry R) → List (List Handle) → State E R
-  make keys specs entries lists = record { keys = keys; specs = specs; max = max; writes = writes + 1; entries = entries; lists = lists }
-
-  -- the container is the one with those records alone that are kept
-  pub seen_only : seen new max (writes + 1) ≡ with_only keep (seen old max writes)
-  seen_only = λ i. make (same.keys i).keys (same.specs i) (entries i) (lists i)
-
   -- and stays one
   pub IsContainer_only : (has_key : E → ℕ → Bool) (order : E → ℕ → R → R → Ordering) (hash : E → ℕ → R → ℕ) (old_slots slots : List (Option Node)) → (store_of new).added ≡ (store_of old).added → writes + 1 < 2 ^ 64 →
       IsContainer has_key order hash old old_slots max writes → IsLinked has_key order hash new slots → IsContainer has_key order hash new slots max (writes + 1)
   IsContainer_only has_key order hash old_slots slots count next was linked = record {
     linked = linked;
-    state = subst (IsState has_key order) (sym seen_only) (IsState-only has_key order (seen old max writes) was.state keep);
+    state = subst (IsState has_key order) (sym (seen_only old new keep max writes same entries lists)) (IsState-only has_key order (seen old max writes) was.state keep);
     narrow = was.narrow;
     numbered = next;
     added = let before = was.added in omega arith;

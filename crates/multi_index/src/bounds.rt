@@ -4,9 +4,9 @@ ghost use Rattle.container_model.specs.State.{is_sorted_kind, is_ranked_kind};
 ghost use Rattle.container_model.specs.Find.{found_lower, found_upper, found_rank, lower_rank as the_lower_rank, upper_rank as the_upper_rank, kind_at};
 
 use crate::container::MultiIndex;
-use crate::positions::position_at;
 use container_model::{Handle, Kind, Why};
 use key_extract::Extract;
+use linked_set::position_at;
 
 impl<R: Drop, E: Extract<R> + Drop> MultiIndex<R, E> {
     /// The first record of the index that does not come before the key, or the end; an index that is not in order has no

@@ -4,12 +4,10 @@ ghost use Rattle.container_model.specs.State.{IsState, KeysMatch, empty, list_at
 ghost use Rattle.container_model.specs.Find.{counted, found, kind_at};
 ghost use Rattle.container_model.specs.Insert.{insert_at_refusal, insert_refusal, new_handle, with_inserted};
 
-use crate::by_row::ByRow;
-use crate::linked::{first_ban, handle_at, node_at, put_in};
-use crate::walk::{by_age, in_order};
 use container_model::{Entry, Handle, Kind, Refused, Spec, Why};
 use index_set::IndexSet;
 use key_extract::Extract;
+use linked_set::{ByRow, by_age, first_ban, handle_at, in_order, node_at, put_in};
 use node_store::Node;
 use slot_table::SlotTable;
 use std::alloc::{AllocError, Global};
@@ -27,7 +25,8 @@ pub struct MultiIndex<R: Drop, E: Extract<R> + Drop> {
 
 impl<R: Drop, E: Extract<R> + Drop> Model for MultiIndex<R, E> {
     ghost use Rattle.container_model.specs.State.{State};
-    ghost use Rattle.multi_index.specs.Seen.{seen, IsContainer};
+    ghost use Rattle.linked_set.specs.Seen.{seen};
+    ghost use Rattle.multi_index.specs.Container.{IsContainer};
 
     ghost Value = { State E R };
 
@@ -233,7 +232,7 @@ impl<R: Drop, E: Extract<R> + Drop> MultiIndex<R, E> {
     {
         let handle = entry.handle;
         match put_in(&mut self.set, &mut self.slots, at, entry) {
-            Ok(_) => {
+            Ok(()) => {
                 self.writes = handle.stamp;
                 Ok(handle)
             }

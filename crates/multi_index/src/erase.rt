@@ -1,24 +1,12 @@
 //! Taking records out.
-ghost use Rattle.std.specs.Prelude.{◌≡◌, ◌+◌, ◌<◌, filter, length, map, not, option_and_then, option_map, None, Some, IsTrue, IfErr, IfOk, IfSome, OnErr, OnOk};
-ghost use Rattle.list_model.specs.Walk.{next as the_next};
-ghost use Rattle.node_store.specs.Store.{IsNodeOf, len_of};
-ghost use Rattle.node_store.specs.ByNode.{same_node};
-ghost use Rattle.container_model.specs.State.{is_handle, is_hashed_kind, row_of};
+ghost use Rattle.std.specs.Prelude.{◌≡◌, ◌+◌, ◌<◌, length, option_and_then, None, Some, IfErr, IfOk, IfSome, OnErr, OnOk};
+ghost use Rattle.container_model.specs.State.{row_of};
 ghost use Rattle.container_model.specs.Change.{erase_refusal, next_in, with_erased};
-ghost use Rattle.index_set.specs.Indices.{HoldIt};
-ghost use Rattle.index_set.specs.Set.{store_of, contents, record_of, lists_of, list_of, specs_of, kind_at, IsSound, IsOfSame};
-ghost use Rattle.multi_index.specs.Linked.{handle_of, entries_in, handles_in};
-ghost use Rattle.multi_index.specs.Seen.{IsLinked};
-ghost use Rattle.multi_index.specs.Held.{AreHeld};
 
-use crate::by_row::ByRow;
 use crate::container::MultiIndex;
-use crate::linked::{handle_at, node_at};
-use container_model::{Entry, Handle, Refused, Why};
-use index_set::IndexSet;
+use container_model::{Handle, Refused, Why};
 use key_extract::Extract;
-use node_store::Node;
-use slot_table::SlotTable;
+use linked_set::{next_at, node_at, take_out};
 
 /// What an erasure took out.
 #[derive(Drop)]
@@ -82,43 +70,4 @@ impl<R: Drop, E: Extract<R> + Drop> MultiIndex<R, E> {
             next,
         }
     }
-}
-
-// The handle of the record after a node in an index, where one is named.
-fn next_at<R, E: Extract<R>>(
-    set: &IndexSet<Entry<R>, ByRow<E>>,
-    index: Option<usize>,
-    node: Node,
-) -> Option<Handle>
-    requires sound { IsSound (λ by. E.has_key by.keys) set.now }
-    requires index { IfSome index (λ i. (i < length (specs_of set.now)) × IsTrue (not (is_hashed_kind (kind_at set.now i)))) }
-    requires held { HoldIt (lists_of set.now) node }
-    ensures { result ≡ option_and_then (λ i. option_map (handle_of (record_of set.now)) (the_next (same_node node) (list_of set.now i))) index }
-{
-    let next = set.next(index?, node)?;
-    Some(handle_at(set, next))
-}
-
-// Takes a node out of each index, its record out of the set, and frees its slot.
-pub(crate) fn take_out<R: Drop, E: Extract<R>>(
-    set: &mut IndexSet<Entry<R>, ByRow<E>>,
-    slots: &mut SlotTable<Node>,
-    node: Node,
-) -> Entry<R>
-    requires linked { IsLinked E.has_key E.order_of E.hash_of set.old slots.old.items }
-    requires held { AreHeld set.old }
-    requires node { IsNodeOf (store_of set.old) node }
-    ensures linked { IsLinked E.has_key E.order_of E.hash_of set.new slots.new.items }
-    ensures held { AreHeld set.new }
-    ensures same { IsOfSame set.old set.new }
-    ensures record { record_of set.old node ≡ Some result }
-    ensures entries { entries_in (contents set.new) ≡ filter (λ e. not (is_handle result.handle e.handle)) (entries_in (contents set.old)) }
-    ensures lists { handles_in (record_of set.new) (lists_of set.new) ≡ map (λ list. filter (λ g. not (is_handle result.handle g)) list) (handles_in (record_of set.old) (lists_of set.old)) }
-    ensures count { (store_of set.new).added ≡ (store_of set.old).added }
-    ensures len { len_of (store_of set.new) + 1 ≡ len_of (store_of set.old) }
-{
-    set.leave(node);
-    let entry = set.remove(node);
-    slots.release(entry.handle.slot as usize);
-    entry
 }

@@ -1,33 +1,15 @@
 //! Changing a record in place.
-ghost use Rattle.std.specs.Prelude.{◌≡◌, ◌+◌, ℕ, option_map, None, Some, IfErr, IfOk, OnErr, OnOk};
-ghost use Rattle.node_store.specs.Store.{IsNodeOf};
+ghost use Rattle.std.specs.Prelude.{◌≡◌, ◌+◌, None, Some, IfErr, IfOk, OnErr, OnOk};
 ghost use Rattle.container_model.specs.State.{row_of};
 ghost use Rattle.container_model.specs.Insert.{ban};
 ghost use Rattle.container_model.specs.Change.{modify_refusal, with_modified};
-ghost use Rattle.index_set.specs.Indices.{HoldIt};
-ghost use Rattle.index_set.specs.Set.{store_of, record_of, lists_of};
-ghost use Rattle.multi_index.specs.Linked.{handle_of};
-ghost use Rattle.multi_index.specs.Modified.{told};
-ghost use Rattle.multi_index.specs.Seen.{seen, IsLinked};
+ghost use Rattle.linked_set.specs.Modified.{told};
 
-use crate::by_row::ByRow;
 use crate::container::MultiIndex;
-use crate::linked::{handle_at, node_at};
-use container_model::{Entry, Handle, Refused, Why};
-use index_set::IndexSet;
+use container_model::{Handle, Refused, Why};
 use key_extract::Extract;
-use modify_ops::{Edit, settle_or_leave};
-use node_store::Node;
-use slot_table::SlotTable;
-
-/// What became of a record that was changed.
-#[derive(Drop)]
-pub enum Modified<R> {
-    /// It stays.
-    Kept,
-    /// It is lost: in the unique index `index`, the first that bans, the record `by` has its key.
-    Erased { row: R, index: usize, by: Handle },
-}
+use linked_set::{Modified, change, node_at};
+use modify_ops::Edit;
 
 impl<R: Drop, E: Extract<R> + Drop> MultiIndex<R, E> {
     /// Changes a record in place; its handle stays, and it settles as after `replace`. Where another record has its new key
@@ -63,36 +45,5 @@ impl<R: Drop, E: Extract<R> + Drop> MultiIndex<R, E> {
         }
         self.writes += 1;
         Ok(change(&mut self.set, &mut self.slots, node, edit))
-    }
-}
-
-// Changes the row of a node's record, and settles the node or takes it out.
-fn change<R: Drop, E: Extract<R>, T: Edit<R>>(
-    set: &mut IndexSet<Entry<R>, ByRow<E>>,
-    slots: &mut SlotTable<Node>,
-    node: Node,
-    edit: &mut T,
-) -> Modified<R>
-    requires linked { IsLinked E.has_key E.order_of E.hash_of set.old slots.old.items }
-    requires held { HoldIt (lists_of set.old) node }
-    ensures linked { IsLinked E.has_key E.order_of E.hash_of set.new slots.new.items }
-    ensures count { (store_of set.new).added ≡ (store_of set.old).added }
-    ensures left { (r : R) (max writes : ℕ) → option_map (λ e. e.row) (record_of set.old node) ≡ Some r →
-        seen set.new max (writes + 1) ≡ with_modified E.order_of (seen set.old max writes) (handle_of (record_of set.old) node) (T.applied edit.old r) }
-    ensures answer { (r : R) (max writes : ℕ) → option_map (λ e. e.row) (record_of set.old node) ≡ Some r →
-        result ≡ told (ban E.order_of (seen set.old max writes) (Some (handle_of (record_of set.old) node)) (T.applied edit.old r)) (T.applied edit.old r) }
-    ensures edit { (r : R) → option_map (λ e. e.row) (record_of set.old node) ≡ Some r → edit.new ≡ T.after_apply edit.old r }
-{
-    edit.apply(&mut set.get_mut(node).row);
-    let Some((index, by)) = settle_or_leave(set, node) else {
-        return Modified::Kept;
-    };
-    let by = handle_at(set, by);
-    let entry = set.remove(node);
-    slots.release(entry.handle.slot as usize);
-    Modified::Erased {
-        row: entry.row,
-        index,
-        by,
     }
 }

@@ -1,18 +1,17 @@
 //! Changes of the order of one sequence that take no memory.
-ghost use Rattle.std.specs.Prelude.{◌≡◌, ◌<◌, ◌^◌, ◌-◌, ◌==◌, IsTrue, None, Some, IfErr, IfOk, OnErr, OnOk, length, false};
+ghost use Rattle.std.specs.Prelude.{◌≡◌, ◌<◌, ◌==◌, None, Some, IfErr, IfOk, OnErr, OnOk, length, false};
 ghost use Rattle.container_model.specs.State.{is_sequence_kind};
 ghost use Rattle.container_model.specs.Sequence.{relocate_refusal, sequence_refusal, with_relocated, with_reversed};
 ghost use Rattle.node_store.specs.Store.{IsNodeOf};
 ghost use Rattle.index_set.specs.Set.{store_of, specs_of, record_of, kind_at};
-ghost use Rattle.multi_index.specs.Linked.{handle_of};
-ghost use Rattle.multi_index.specs.Seen.{seen, IsLinked};
+ghost use Rattle.linked_set.specs.Linked.{handle_of};
+ghost use Rattle.linked_set.specs.Seen.{seen, IsLinked};
 
-use crate::by_row::ByRow;
 use crate::container::MultiIndex;
-use crate::linked::node_at;
 use container_model::{Entry, Handle, Kind, Refused, Why};
 use index_set::IndexSet;
 use key_extract::Extract;
+use linked_set::{ByRow, node_at};
 use node_store::Node;
 use slot_table::SlotTable;
 

@@ -1,19 +1,13 @@
 //! Positions in an index: a record, or the end.
-ghost use Rattle.std.specs.Prelude.{◌≡◌, ◌<◌, IsTrue, Ok, Err, cond, length, not, option_map};
-ghost use Rattle.any_index.specs.Side.{AreNodesOf};
+ghost use Rattle.std.specs.Prelude.{◌≡◌, ◌<◌, IsTrue, Ok, Err, cond, length, not};
 ghost use Rattle.container_model.specs.State.{has_places_kind, is_hashed_kind, is_handle, is_random_kind, list_at};
 ghost use Rattle.container_model.specs.Find.{is_live, kind_at, nth as the_nth, place as the_place, rank as the_rank, project_next as the_next, project_prev as the_prev};
 ghost use Rattle.list_model.specs.Walk as walk;
-ghost use Rattle.index_set.specs.Set.{store_of, record_of};
-ghost use Rattle.multi_index.specs.Linked.{handle_of};
 
-use crate::by_row::ByRow;
 use crate::container::MultiIndex;
-use crate::linked::{handle_at, node_at};
-use container_model::{Entry, Handle, Kind, Why};
-use index_set::IndexSet;
+use container_model::{Handle, Kind, Why};
 use key_extract::Extract;
-use node_store::Node;
+use linked_set::{node_at, position_at};
 
 impl<R: Drop, E: Extract<R> + Drop> MultiIndex<R, E> {
     /// The record at a place of the index, counted from 0, or the end; an index whose places cannot be counted answers
@@ -153,19 +147,5 @@ impl<R: Drop, E: Extract<R> + Drop> MultiIndex<R, E> {
             Kind::Random => true,
             Kind::Sequenced | Kind::Ordered | Kind::Ranked | Kind::Hashed => false,
         }
-    }
-}
-
-// The position of a node's record, or the end.
-pub(crate) fn position_at<R, E: Extract<R>>(
-    set: &IndexSet<Entry<R>, ByRow<E>>,
-    node: Option<Node>,
-) -> Option<Handle>
-    requires { AreNodesOf (store_of set.now) node }
-    ensures { result ≡ option_map (handle_of (record_of set.now)) node }
-{
-    match node {
-        Some(node) => Some(handle_at(set, node)),
-        None => None,
     }
 }

@@ -1,26 +1,22 @@
 //! Changes of the order of one sequence that take memory.
-ghost use Rattle.std.specs.Prelude.{◌≡◌, ◌==◌, ◌⊎◌, ◌<◌, IsTrue, None, Some, IfErr, IfOk, OnErr, OnOk, false, is_some, length, map, nat_eq};
-ghost use Rattle.std.specs.List.{AllByRecursion, IsDistinct, list_all};
-ghost use Rattle.list_model.specs.Order.{EachPair};
-ghost use Rattle.container_model.specs.Find.{is_live};
-ghost use Rattle.container_model.specs.Sequence.{has_each_once, rearrange_refusal, with_list};
+ghost use Rattle.std.specs.Prelude.{◌≡◌, ◌==◌, ◌⊎◌, ◌<◌, IsTrue, None, Some, IfErr, IfOk, OnErr, OnOk, length, map};
+ghost use Rattle.std.specs.List.{AllByRecursion};
+ghost use Rattle.container_model.specs.Sequence.{rearrange_refusal, with_list};
 ghost use Rattle.node_store.specs.Store.{IsNodeOf};
-ghost use Rattle.index_set.specs.Set.{store_of, specs_of, contents, record_of, IsSound};
-ghost use Rattle.multi_index.specs.Linked.{handle_of, entries_in};
+ghost use Rattle.index_set.specs.Set.{store_of, specs_of, record_of};
+ghost use Rattle.linked_set.specs.Linked.{handle_of};
 ghost use Rattle.multi_index.specs.Rearranged.{is_after_memory};
-ghost use Rattle.multi_index.specs.Seen.{seen, IsLinked};
+ghost use Rattle.linked_set.specs.Seen.{seen, IsLinked};
 
-use crate::by_row::ByRow;
 use crate::container::MultiIndex;
-use crate::linked::node_at;
 use crate::order::is_sequence;
 use container_model::{Entry, Handle, Refused, Why};
 use index_set::IndexSet;
 use key_extract::Extract;
+use linked_set::{ByRow, all_live, has_each_once, nodes_of};
 use node_store::Node;
 use slot_table::SlotTable;
-use std::alloc::{AllocError, Global};
-use std::collections::BTreeSet;
+use std::alloc::Global;
 
 impl<R: Drop, E: Extract<R> + Drop> MultiIndex<R, E> {
     /// Puts the records of a sequence into the order of their handles. A refused order changes nothing: `Kind`, where the
@@ -88,100 +84,4 @@ fn arrangement<R, E: Extract<R>>(
         return Err(Why::Memory);
     };
     Ok(nodes)
-}
-
-// Whether the handle names a record.
-fn is_live<R, E: Extract<R>>(
-    set: &IndexSet<Entry<R>, ByRow<E>>,
-    slots: &SlotTable<Node>,
-    handle: Handle,
-) -> bool
-    requires { IsLinked E.has_key E.order_of E.hash_of set.now slots.now.items }
-    ensures { result ≡ is_live (seen set.now 0 0) handle }
-{
-    match node_at(set, slots, handle) {
-        Some(_) => true,
-        None => false,
-    }
-}
-
-// Whether each of the handles names a record.
-fn all_live<R, E: Extract<R>>(
-    set: &IndexSet<Entry<R>, ByRow<E>>,
-    slots: &SlotTable<Node>,
-    handles: &[Handle],
-) -> bool
-    requires { IsLinked E.has_key E.order_of E.hash_of set.now slots.now.items }
-    ensures { result ≡ list_all (λ h. is_live (seen set.now 0 0) h) handles.now }
-{
-    for handle in handles {
-        if !is_live(set, slots, *handle) {
-            return false;
-        }
-    }
-    true
-}
-
-// Whether handles that all name records are each record's once.
-fn has_each_once<R, E: Extract<R>>(
-    alloc: Global,
-    set: &IndexSet<Entry<R>, ByRow<E>>,
-    handles: &[Handle],
-) -> Result<bool, AllocError>
-    requires sound { IsSound (λ by. E.has_key by.keys) set.now }
-    requires apart { EachPair (λ a b. (b.handle.slot == a.handle.slot) ≡ false) (entries_in (contents set.now)) }
-    requires live { IsTrue (list_all (λ h. is_live (seen set.now 0 0) h) handles.now) }
-    ensures { IfOk result (λ once. once ≡ has_each_once (entries_in (contents set.now)) handles.now) }
-{
-    if handles.len() != set.len() {
-        return Ok(false);
-    }
-    are_apart(alloc, handles)
-}
-
-// Whether no two of the handles have one slot.
-fn are_apart(alloc: Global, handles: &[Handle]) -> Result<bool, AllocError>
-    ensures apart { IfOk result (λ apart. IsTrue apart → IsDistinct nat_eq (map (λ h. h.slot) handles.now)) }
-    ensures twice { IfOk result (λ apart. apart ≡ false → ¬ IsDistinct nat_eq (map (λ h. h.slot) handles.now)) }
-{
-    let mut seen = BTreeSet::new(alloc);
-    for handle in handles {
-        if !seen.insert(handle.slot)? {
-            return Ok(false);
-        }
-    }
-    Ok(true)
-}
-
-// The nodes of handles that all name records.
-fn nodes_of<R, E: Extract<R>>(
-    alloc: Global,
-    set: &IndexSet<Entry<R>, ByRow<E>>,
-    slots: &SlotTable<Node>,
-    handles: &[Handle],
-) -> Result<Vec<Node>, AllocError>
-    requires linked { IsLinked E.has_key E.order_of E.hash_of set.now slots.now.items }
-    requires live { IsTrue (list_all (λ h. is_live (seen set.now 0 0) h) handles.now) }
-    ensures nodes { IfOk result (λ nodes. AllByRecursion (IsNodeOf (store_of set.now)) nodes.items) }
-    ensures handles { IfOk result (λ nodes. map (handle_of (record_of set.now)) nodes.items ≡ handles.now) }
-{
-    let mut nodes = Vec::with_capacity(alloc, handles.len())?;
-    for handle in handles {
-        nodes.push(live_node(set, slots, *handle))?;
-    }
-    Ok(nodes)
-}
-
-// The node of a handle that names a record.
-fn live_node<R, E: Extract<R>>(
-    set: &IndexSet<Entry<R>, ByRow<E>>,
-    slots: &SlotTable<Node>,
-    handle: Handle,
-) -> Node
-    requires linked { IsLinked E.has_key E.order_of E.hash_of set.now slots.now.items }
-    requires live { IsTrue (is_live (seen set.now 0 0) handle) }
-    ensures node { IsNodeOf (store_of set.now) result }
-    ensures handle { handle_of (record_of set.now) result ≡ handle }
-{
-    node_at(set, slots, handle).unwrap()
 }

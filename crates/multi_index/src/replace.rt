@@ -1,22 +1,19 @@
 //! Giving a record another row.
-ghost use Rattle.std.specs.Prelude.{◌≡◌, ◌-◌, ◌^◌, ◌==◌, cond, option_map, None, Some, IfOk, IfErr, OnOk, OnErr};
+ghost use Rattle.std.specs.Prelude.{◌≡◌, ◌-◌, ◌^◌, ◌==◌, cond, None, Some, IfOk, IfErr, OnOk, OnErr};
 ghost use Rattle.std.specs.Option.{option_map_or};
 ghost use Rattle.node_store.specs.Store.{IsNodeOf};
 ghost use Rattle.container_model.specs.State.{row_of};
 ghost use Rattle.container_model.specs.Insert.{ban_from};
-ghost use Rattle.container_model.specs.Change.{replace_refusal, settled_from, with_replaced, with_row};
-ghost use Rattle.index_set.specs.Indices.{HoldIt};
-ghost use Rattle.index_set.specs.Set.{store_of, keys_of, specs_of, contents, record_of, lists_of, IsOfSame};
-ghost use Rattle.multi_index.specs.Linked.{handle_of, entries_in, handles_in};
-ghost use Rattle.multi_index.specs.Seen.{IsLinked};
+ghost use Rattle.container_model.specs.Change.{replace_refusal, with_replaced};
+ghost use Rattle.index_set.specs.Set.{store_of, keys_of, specs_of, contents, record_of, lists_of};
+ghost use Rattle.linked_set.specs.Linked.{handle_of, entries_in, handles_in};
+ghost use Rattle.linked_set.specs.Seen.{IsLinked};
 
-use crate::by_row::ByRow;
 use crate::container::MultiIndex;
-use crate::linked::{first_ban, node_at};
 use container_model::{Entry, Handle, Refused, Why};
 use index_set::IndexSet;
 use key_extract::Extract;
-use modify_ops::replace_node;
+use linked_set::{ByRow, first_ban, node_at, rewrite};
 use node_store::Node;
 use slot_table::SlotTable;
 
@@ -74,26 +71,4 @@ fn keeps_out<R, E: Extract<R>>(
         return Some(Why::Spent);
     }
     None
-}
-
-// Puts a record that nothing else bans in the place of a node's, under the same handle, and hands out the old row.
-fn rewrite<R, E: Extract<R>>(
-    set: &mut IndexSet<Entry<R>, ByRow<E>>,
-    slots: &SlotTable<Node>,
-    node: Node,
-    entry: Entry<R>,
-) -> R
-    requires linked { IsLinked E.has_key E.order_of E.hash_of set.old slots.now.items }
-    requires held { HoldIt (lists_of set.old) node }
-    requires handle { handle_of (record_of set.old) node ≡ entry.handle }
-    requires allowed { ban_from (E.order_of (keys_of set.old).keys) (entries_in (contents set.old)) (handles_in (record_of set.old) (lists_of set.old)) (Some entry.handle) entry.row 0 (specs_of set.old) ≡ None }
-    ensures linked { IsLinked E.has_key E.order_of E.hash_of set.new slots.now.items }
-    ensures same { IsOfSame set.old set.new }
-    ensures old { option_map (λ e. e.row) (record_of set.old node) ≡ Some result }
-    ensures entries { entries_in (contents set.new) ≡ with_row entry.handle entry.row (entries_in (contents set.old)) }
-    ensures lists { handles_in (record_of set.new) (lists_of set.new) ≡ settled_from (E.order_of (keys_of set.old).keys) (entries_in (contents set.old)) entry.handle entry.row 0 (specs_of set.old) (handles_in (record_of set.old) (lists_of set.old)) }
-    ensures count { (store_of set.new).added ≡ (store_of set.old).added }
-{
-    let old = replace_node(set, node, entry);
-    old.row
 }

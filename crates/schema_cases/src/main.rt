@@ -4,11 +4,12 @@
 
 mod spelled;
 
+use schema_file::read_schema;
 use spelled::table_line;
 use std::alloc::Global;
 use std::io;
 use std::io::BufRead;
-use table_schema::{Schema, builtin, read_schema};
+use table_schema::{Schema, builtin};
 
 /// A schema file, and what it is called here.
 #[derive(Drop)]

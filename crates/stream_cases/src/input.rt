@@ -1,10 +1,11 @@
 //! What standard input holds.
 
 use crate::repeats::spelled_out;
+use schema_file::read_schema;
 use std::alloc::Global;
 use std::io;
 use std::io::BufRead;
-use table_schema::{Schema, SchemaFault, read_schema};
+use table_schema::{Schema, SchemaFault};
 
 /// The lines that are sent, without their newlines.
 #[derive(Drop)]

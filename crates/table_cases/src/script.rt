@@ -1,7 +1,8 @@
 //! Scripts: a schema, and lines of commands.
 
+use schema_file::read_schema;
 use std::alloc::{AllocError, Global};
-use table_schema::{Schema, SchemaFault, builtin, read_schema};
+use table_schema::{Schema, SchemaFault, builtin};
 
 /// A schema file, and lines of commands on its tables.
 #[derive(Drop)]

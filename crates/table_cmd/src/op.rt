@@ -4,7 +4,7 @@ ghost use Rattle.std.specs.Prelude.{◌≡◌, map};
 ghost use Rattle.table_cmd.specs.Op.{op_of, op_names, keys_of};
 
 /// What a command does, as its line names it. Operations of one shape stand together.
-#[derive(Clone, Copy, Debug, PartialEq, Eq)]
+#[derive(Clone, Copy)]
 pub(crate) enum Op {
     Insert,
     Replace,
@@ -22,21 +22,21 @@ pub(crate) enum Op {
 }
 
 /// What is done to a table as a whole.
-#[derive(Clone, Copy, Debug, PartialEq, Eq)]
+#[derive(Clone, Copy)]
 pub(crate) enum TableOp {
     Clear,
     Size,
 }
 
 /// What is done to an index as a whole.
-#[derive(Clone, Copy, Debug, PartialEq, Eq)]
+#[derive(Clone, Copy)]
 pub(crate) enum IndexOp {
     Reverse,
     List,
 }
 
 /// What is done at a key of an index.
-#[derive(Clone, Copy, Debug, PartialEq, Eq)]
+#[derive(Clone, Copy)]
 pub(crate) enum KeyOp {
     EraseKey,
     Find,
@@ -49,7 +49,7 @@ pub(crate) enum KeyOp {
 }
 
 /// What is asked about a position of an index: a record's, or the end.
-#[derive(Clone, Copy, Debug, PartialEq, Eq)]
+#[derive(Clone, Copy)]
 pub(crate) enum PositionOp {
     Rank,
     Next,

@@ -1,6 +1,5 @@
-pub mod Documents
 pub mod Facts
 pub mod Keys
 pub mod Placed
-pub mod Trees
+pub mod Readings
 pub mod Validity

@@ -5,7 +5,7 @@ use Rattle.std.proofs.lemmas.List.{drop_more, drop_all, append-nil}
 use Rattle.table_schema.specs.Shape.{TableShape}
 use Rattle.table_schema.specs.Draft.{TableDraft, all_of}
 use Rattle.table_schema.specs.Resolved.{table_for, tables_from, tables_for}
-use Rattle.table_schema.proofs.Trees.{after, after_none, after_one}
+use Rattle.table_schema.proofs.Readings.{after, after_none, after_one}
 
 module _ (ds : List TableDraft) where
   -- where the walk stands that has read the first i

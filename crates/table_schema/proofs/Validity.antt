@@ -12,7 +12,7 @@ use Rattle.table_schema.specs.Resolved.{with_key, parts_of, index_for, table_for
 use Rattle.table_schema.specs.Tests.{index_is_within_limits, max_is_within_limits, table_is_within_limits, is_within_limits, has_good_names, have_good_names}
 use Rattle.table_schema.specs.Valid.{is_within, is_name, are_names, are_distinct, has_good_key, IsValidTable, IsValidSchema}
 use Rattle.table_schema.proofs.Facts.{within_high, all_at}
-use Rattle.table_schema.proofs.Trees.{list_all_map}
+use Rattle.table_schema.proofs.Readings.{list_all_map}
 
 -- what a list of results holds
 abbrev Split : {X : Type 0} → Option X → Option (List X) → List X → Type 0

@@ -1,12 +1,9 @@
--- What a schema file means: its tables, or the first fault.
-use Rattle.std.specs.Prelude.{◌≡◌, ℕ, List, if◌then◌else◌, Option, Some, None, Result, Ok, Err}
-use Rattle.std.specs.Str.{is_utf8}
-use Rattle.toml.specs.Data.{Members}
-use Rattle.toml.specs.Parse.{parse_document}
+-- What drafts mean: a schema, or the first fault.
+use Rattle.std.specs.Prelude.{◌≡◌, List, if◌then◌else◌, Option, Some, None, Result, Ok, Err}
 use Rattle.table_schema.specs.declared.fault.SchemaFault.{SchemaFault}
 use Rattle.table_schema.specs.declared.fault.SchemaFault.TheVariants as faults
 use Rattle.table_schema.specs.Shape.{TableShape}
-use Rattle.table_schema.specs.Draft.{TableDraft, drafts_of}
+use Rattle.table_schema.specs.Draft.{TableDraft}
 use Rattle.table_schema.specs.Tests.{is_within_limits, have_good_names}
 use Rattle.table_schema.specs.Resolved.{tables_for}
 
@@ -20,24 +17,6 @@ unfoldable pub tested : List TableDraft → Result (List TableShape) SchemaFault
 tested drafts =
     if is_within_limits drafts then (if have_good_names drafts then or_fault faults.Key (tables_for drafts) else Err faults.Name)
     else Err faults.Limit
-
--- after the shape
-abbrev pub of_drafts : Option (List TableDraft) → Result (List TableShape) SchemaFault
-of_drafts None = Err faults.Shape
-of_drafts (Some drafts) = tested drafts
-
--- after the document
-abbrev pub of_document : Option Members → Result (List TableShape) SchemaFault
-of_document None = Err faults.Toml
-of_document (Some ms) = of_drafts (drafts_of ms)
-
--- the document that the bytes are
-abbrev pub document_of : List ℕ → Option Members
-document_of bytes = if is_utf8 bytes then parse_document bytes else None
-
--- what the bytes of a schema file mean
-unfoldable pub schema_of : List ℕ → Result (List TableShape) SchemaFault
-schema_of bytes = of_document (document_of bytes)
 
 -- What a function returned is this, unless memory was refused.
 abbrev pub Fails : {X : Type 0} → SchemaFault → Result X SchemaFault → Type 0

@@ -5,13 +5,13 @@ use container_model::Kind;
 use key_extract::Text;
 use std::marker::Model;
 
-// An index as the file has it: its key is the texts of its parts.
+/// An index as the file has it: its key is the texts of its parts.
 #[derive(Drop)]
-pub(crate) struct DraftIndex {
-    pub(crate) name: Text,
-    pub(crate) kind: Kind,
-    pub(crate) unique: bool,
-    pub(crate) key: Option<Vec<Text>>,
+pub struct DraftIndex {
+    pub name: Text,
+    pub kind: Kind,
+    pub unique: bool,
+    pub key: Option<Vec<Text>>,
 }
 
 impl Model for DraftIndex {
@@ -23,13 +23,13 @@ impl Model for DraftIndex {
     ghost view = { λ i. record { name = i.name; kind = i.kind; unique = i.unique; key = option_map (λ texts. texts.items) i.key } };
 }
 
-// A table as the file has it.
+/// A table as the file has it.
 #[derive(Drop)]
-pub(crate) struct DraftTable {
-    pub(crate) name: Text,
-    pub(crate) max: i64,
-    pub(crate) columns: Vec<Column>,
-    pub(crate) indices: Vec<DraftIndex>,
+pub struct DraftTable {
+    pub name: Text,
+    pub max: i64,
+    pub columns: Vec<Column>,
+    pub indices: Vec<DraftIndex>,
 }
 
 impl Model for DraftTable {

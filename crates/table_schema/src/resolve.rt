@@ -66,7 +66,7 @@ fn most_records(max: i64) -> u32
     max.unsigned_abs() as u32
 }
 
-#[tactic(auto, using(crate::proofs::Trees::reads))]
+#[tactic(auto, using(crate::proofs::Readings::reads))]
 fn indices(
     alloc: Global,
     columns: &[Column],
@@ -122,7 +122,7 @@ fn resolved_key(columns: &[Column], key: &Option<Vec<Text>>) -> Option<Option<Ke
 
 /// The key whose parts the texts name: a column each, falling where a `-` stands before it. None where a text names no
 /// column. O(texts · columns).
-#[tactic(auto, using(crate::proofs::Trees::reads))]
+#[tactic(auto, using(crate::proofs::Readings::reads))]
 pub fn key_of_texts(columns: &[Column], texts: &[Text]) -> Option<KeySpec>
     requires some { 1 ≤ length texts.now }
     requires few { length texts.now ≤ 4 }

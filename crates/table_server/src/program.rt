@@ -7,13 +7,14 @@ ghost use Rattle.table_server.specs.Fault.{status_of};
 
 use crate::fault::Fault;
 use program_words::{Asked, read_words};
+use schema_file::read_schema;
 use std::alloc::Global;
 use std::env::Env;
 use std::io::{ErrorKind, Read, Write};
 use std::rt::Files;
 use std::{env, fs};
 use table_engine::{Engine, serve_stream};
-use table_schema::{Schema, builtin, read_schema};
+use table_schema::{Schema, builtin};
 
 /// The words that follow the program's name.
 pub fn given_words<R: Env + AllocGlobal>(rt: &R) -> Result<Vec<String>, Fault>

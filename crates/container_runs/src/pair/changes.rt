@@ -5,7 +5,24 @@ use super::{Pair, is_row};
 use crate::tally::Tally;
 use container_model::{Handle, Refused, Why};
 use key_extract::{Probe, Row};
+use modify_ops::RowEdit;
+use multi_index::Modified;
 use std::alloc::AllocError;
+
+// Whether the record stays in both, or is lost to the same ban, or both refused for the same cause.
+fn same_modification(
+    a: &Result<Modified<Row>, Refused<Row>>,
+    b: &Result<Option<(Row, usize, Handle)>, Why>,
+) -> bool {
+    match (a, b) {
+        (Ok(Modified::Kept), Ok(None)) => true,
+        (Ok(Modified::Erased { row, index, by }), Ok(Some(lost))) => {
+            row.cells() == lost.0.cells() && *index == lost.1 && *by == lost.2
+        }
+        (Err(a), Err(b)) => a.why == *b && a.row.is_none(),
+        _ => false,
+    }
+}
 
 // Whether both did it, or refused for the same cause.
 fn same_change(a: &Result<(), Refused<Row>>, b: Result<(), Why>) -> bool {
@@ -44,6 +61,22 @@ impl Pair {
         Ok(())
     }
 
+    /// Gives a record another row, or loses it to a ban.
+    pub(crate) fn modify(
+        &mut self,
+        handle: Handle,
+        row: &Row,
+        tally: &mut Tally,
+    ) -> Result<(), AllocError> {
+        let mut edit = RowEdit::new(row.copy()?);
+        let answer = self.container.modify(handle, &mut edit);
+        let wanted = self.plain.modify(handle, row.copy()?);
+        let same = same_modification(&answer, &wanted);
+        self.get(handle, tally);
+        self.compare(wanted.err(), same, tally);
+        Ok(())
+    }
+
     /// Takes a record out, and compares the records after it in an index.
     pub(crate) fn erase(&mut self, handle: Handle, index: Option<usize>, tally: &mut Tally)
         requires { IfSome index (λ i. i < length self.old.specs) }
@@ -76,26 +109,6 @@ impl Pair {
     pub(crate) fn clear(&mut self, tally: &mut Tally) {
         let answer = self.container.clear();
         let wanted = self.plain.clear();
-        let same = same_change(&answer, wanted);
-        self.compare(wanted.err(), same, tally);
-    }
-
-    /// Moves a record in a sequence.
-    pub(crate) fn relocate(&mut self, index: usize, place: u64, handle: Handle, tally: &mut Tally)
-        requires { index < length self.old.specs }
-    {
-        let answer = self.container.relocate(index, place, handle);
-        let wanted = self.plain.relocate(index, place, handle);
-        let same = same_change(&answer, wanted);
-        self.compare(wanted.err(), same, tally);
-    }
-
-    /// Turns the order of a sequence round.
-    pub(crate) fn reverse(&mut self, index: usize, tally: &mut Tally)
-        requires { index < length self.old.specs }
-    {
-        let answer = self.container.reverse(index);
-        let wanted = self.plain.reverse(index);
         let same = same_change(&answer, wanted);
         self.compare(wanted.err(), same, tally);
     }

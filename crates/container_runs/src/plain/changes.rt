@@ -1,4 +1,4 @@
-//! Changes of records, and of the orders of sequences.
+//! Changes of records.
 
 use super::scan::{place_in, row_side, upper_place};
 use super::{PlainIndex, refused};
@@ -58,41 +58,29 @@ impl PlainIndex {
         }
         self.writes = self.writes.saturating_add(1);
         let old = self.exchange(handle, row)?;
-        for index in 0..self.lists.len() {
-            if let Some((from, to)) = self.settled(index, handle) {
-                self.shift(index, from, to);
-            }
-        }
+        self.settle(handle);
         Ok(old)
     }
 
-    pub(crate) fn relocate(&mut self, index: usize, place: u64, handle: Handle) -> Result<(), Why> {
-        let list = self.sequence(index)?;
-        let Some(from) = place_in(list, handle) else {
-            return Err(Why::Stale);
-        };
-        if place > list.len() as u64 {
-            return Err(Why::Place);
-        }
+    /// Gives a record another row. Where another record has its new key in a unique index, it is taken out: then the
+    /// row comes out again, with the first such index and the record there.
+    pub(crate) fn modify(
+        &mut self,
+        handle: Handle,
+        row: Row,
+    ) -> Result<Option<(Row, usize, Handle)>, Why> {
+        self.get(handle)?;
         self.count_write()?;
-        let place = place as usize;
-        self.shift(index, from, if place <= from { place } else { place - 1 });
-        Ok(())
-    }
-
-    pub(crate) fn reverse(&mut self, index: usize) -> Result<(), Why> {
-        self.sequence(index)?;
-        self.count_write()?;
-        if let Some(list) = self.lists.get_mut(index) {
-            list.reverse();
+        let ban = self.first_ban(&row, Some(handle));
+        if let Err(refused) = self.exchange(handle, row) {
+            return Err(refused.why);
         }
-        Ok(())
-    }
-
-    fn sequence(&self, index: usize) -> Result<&[Handle], Why> {
-        match self.kind(index) {
-            Kind::Sequenced | Kind::Random => Ok(self.view(index)),
-            Kind::Ordered | Kind::Ranked | Kind::Hashed => Err(Why::Kind),
+        match ban {
+            Some((index, by)) => Ok(self.take(handle).map(|row| (row, index, by))),
+            None => {
+                self.settle(handle);
+                Ok(None)
+            }
         }
     }
 
@@ -104,6 +92,13 @@ impl PlainIndex {
             }
             None => Err(Why::Spent),
         }
+    }
+
+    // The record after another one.
+    fn after(&self, index: usize, handle: Handle) -> Option<Handle> {
+        let list = self.view(index);
+        let place = place_in(list, handle)?;
+        list.get(place.saturating_add(1)).copied()
     }
 
     // Takes a record out of its slot and of every list.
@@ -138,6 +133,15 @@ impl PlainIndex {
         match self.entries.get_mut(handle.slot as usize) {
             Some(Some(entry)) => Ok(mem::replace(&mut entry.row, row)),
             _ => Err(refused(Why::Stale, row)),
+        }
+    }
+
+    // Puts a changed record where it goes in each list.
+    fn settle(&mut self, handle: Handle) {
+        for index in 0..self.lists.len() {
+            if let Some((from, to)) = self.settled(index, handle) {
+                self.shift(index, from, to);
+            }
         }
     }
 

@@ -96,18 +96,17 @@ pub(crate) fn first_equal(
     None
 }
 
-/// How many records of the list stand so to the key.
-pub(crate) fn count_sided(
+/// How many records of the list have the key.
+pub(crate) fn count_equal(
     keys: &RowKeys,
     index: usize,
     entries: &[Option<Entry<Row>>],
     list: &[Handle],
     probe: &Probe,
-    side: Ordering,
 ) -> u64 {
     let mut count = 0u64;
     for handle in list {
-        if probe_side(keys, index, entries, *handle, probe) == Some(side) {
+        if probe_side(keys, index, entries, *handle, probe) == Some(Ordering::Equal) {
             count = count.saturating_add(1);
         }
     }

@@ -1,4 +1,4 @@
-use Rattle.std.proofs.Common.{◌≡◌, Option, Some, sym, ap, ◌∙◌, subst}
+use Rattle.std.proofs.Common.{Some, sym, ap, ◌∙◌, subst}
 use Rattle.std.specs.Option.{option_map_or}
 use Rattle.std.proofs.lemmas.Option.{same_Some}
 use Rattle.list_model.specs.Walk.{without}
@@ -8,12 +8,12 @@ use Rattle.std.specs.Prelude.{map}
 use Rattle.index_set.specs.Each.{changed_from}
 use Rattle.index_set.specs.Indices.{HoldIt}
 use Rattle.index_set.specs.Lists.{ban_from, settled_at}
-use Rattle.index_set.specs.Set.{keys_of, specs_of, contents, lists_of, record_of, with_record}
+use Rattle.index_set.specs.Set.{keys_of, specs_of, lists_of, record_of, with_record}
 use Rattle.index_set.proofs.Keys.{but_from}
 use Rattle.index_set.proofs.StaysUnique.{unique_after_write}
-use Rattle.index_set.proofs.Written.{lists_written, sound_written, keyed_but_written, record_written, others_written}
+use Rattle.index_set.proofs.Written.{lists_written, sound_written, keyed_but_written, record_written}
 use Rattle.modify_ops.proofs.Held.{node_of_all}
-use Rattle.modify_ops.proofs.Others.{ban_others}
+use Rattle.modify_ops.proofs.Others.{ban_written}
 use Rattle.modify_ops.proofs.modify.modify_node.Goals as goal
 
 pub get_mut-requires : goal.get_mut-requires
@@ -43,12 +43,10 @@ returns-clause-ban g c r has =
     let node = c.args.node in
     let row = c.apply.new.row in
     let order = g.E.Extract.order_of (keys_of set) in
-    let written = with_record set node row in
     let is = node_of_all set node c.requires.sound c.requires.held in
     let was = same_Some c.get_mut.result.now r (sym c.get_mut.ensures.value ∙ has) in
     c.settle_or_leave.ensures.ban row (record_written set.store node row is)
-    ∙ (ban_others (record_of set) (record_of written) node (others_written set.store node row is) order (lists_of written) row 0 (specs_of set)
-    ∙ (λ i. ban_from order (record_of set) (lists_written set node row i) (Some node) ((c.apply.ensures.row ∙ ap (g.T.Edit.applied c.args.edit.now) was) i) 0 (specs_of set)))
+    ∙ (ban_written set node row is order row ∙ ap (λ value. ban_from order (record_of set) (lists_of set) (Some node) value 0 (specs_of set)) (c.apply.ensures.row ∙ ap (g.T.Edit.applied c.args.edit.now) was))
 
 pub returns-clause-lists : goal.returns-clause-lists
 returns-clause-lists g c =

@@ -1,4 +1,4 @@
-use Rattle.std.proofs.Common.{◌≡◌, None, Some, sym, ◌∙◌, subst}
+use Rattle.std.proofs.Common.{◌≡◌, None, Some, sym, ap, ◌∙◌, subst}
 use Rattle.node_store.proofs.ByNode.{records_kept}
 use Rattle.index_set.specs.Each.{changed_from}
 use Rattle.index_set.specs.Indices.{HoldIt}
@@ -6,9 +6,9 @@ use Rattle.index_set.specs.Lists.{ban_from, settled_at}
 use Rattle.index_set.specs.Set.{keys_of, specs_of, lists_of, record_of, with_record}
 use Rattle.index_set.proofs.Keys.{but_from}
 use Rattle.index_set.proofs.StaysUnique.{unique_after_settle, unique_after_write}
-use Rattle.index_set.proofs.Written.{lists_written, sound_written, keyed_but_written, record_written, others_written}
+use Rattle.index_set.proofs.Written.{lists_written, sound_written, keyed_but_written, record_written}
 use Rattle.modify_ops.proofs.Held.{node_of_all}
-use Rattle.modify_ops.proofs.Others.{ban_others}
+use Rattle.modify_ops.proofs.Others.{ban_written}
 use Rattle.modify_ops.proofs.replace.replace_node.Goals as goal
 
 pub get_mut-requires : goal.get_mut-requires
@@ -44,8 +44,8 @@ returns-clause-unique g c =
     let written = with_record set node value in
     let is = node_of_all set node c.requires.sound c.requires.held in
     let allowed : ban_from (order (keys_of set)) (record_of written) (lists_of written) (Some node) value 0 (specs_of set) ≡ None =
-    ban_others (record_of set) (record_of written) node (others_written set.store node value is) (order (keys_of set)) (lists_of written) value 0 (specs_of set)
-    ∙ ((λ i. ban_from (order (keys_of set)) (record_of set) (lists_written set node value i) (Some node) (c.replace-old.ensures.after i) 0 (specs_of set)) ∙ c.requires.allowed) in
+    ban_written set node value is (order (keys_of set)) value
+    ∙ (ap (λ old. ban_from (order (keys_of set)) (record_of set) (lists_of set) (Some node) old 0 (specs_of set)) c.replace-old.ensures.after ∙ c.requires.allowed) in
     unique_after_settle order g.met.E.Extract.order_total written c.settle.new.self
     (sound_written set node value g.E.Extract.has_key c.requires.sound) c.settle.ensures.same node value (record_written set.store node value is)
     (subst (λ ls. HoldIt ls node) (sym (lists_written set node value)) c.requires.held) c.settle.ensures.lists c.settle.ensures.contents allowed

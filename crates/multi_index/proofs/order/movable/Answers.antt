@@ -1,17 +1,17 @@
 use Rattle.std.proofs.Common.{◌≡◌, length, sym, ◌∙◌, arith, ne_eqb}
 use Rattle.index_set.specs.Set.{store_of, contents}
-use Rattle.multi_index.specs.Linked.{entries_in}
-use Rattle.multi_index.specs.Seen.{seen}
-use Rattle.multi_index.proofs.Contents.{length-entries}
-use Rattle.multi_index.proofs.Ordered.{not_live, is_live_by, relocate_stale, relocate_place, relocate_spent, relocate_allowed}
+use Rattle.linked_set.specs.Linked.{entries_in}
+use Rattle.linked_set.specs.Seen.{seen}
+use Rattle.linked_set.proofs.Contents.{length-entries}
+use Rattle.linked_set.proofs.Live.{stale_seen, live_seen}
+use Rattle.multi_index.proofs.Ordered.{relocate_stale, relocate_place, relocate_spent, relocate_allowed}
 use Rattle.multi_index.proofs.order.movable.Goals as goal
 
 pub returns-in_default-clause-why : goal.returns-in_default-clause-why
 returns-in_default-clause-why g c =
-    let s = store_of c.args.set.now in
     let sequence = sym c.is_sequence.ensures ∙ c.if-not-is_sequence.false in
     sym (relocate_stale (seen c.args.set.now 0 c.args.writes) c.args.index c.args.place c.args.handle sequence
-    (not_live s c.args.slots.now.items c.requires.linked.sound.nodes c.requires.linked.leads c.args.handle (λ n at. c.node_at.ensures.none n c.in_default.is at)))
+    (stale_seen c.args.set.now c.args.slots.now.items c.requires.linked c.args.handle (λ n at. c.node_at.ensures.none n c.in_default.is at)))
 
 pub returns-then-place-len-clause-why : goal.returns-then-place-len-clause-why
 returns-then-place-len-clause-why g c =
@@ -21,7 +21,7 @@ returns-then-place-len-clause-why g c =
     let as_many : length (entries_in (contents c.args.set.now)) ≡ c.len.result = length-entries s linked.sound.nodes ∙ sym c.len.ensures in
     let past = c.if-place-len.true in
     sym (relocate_place (seen c.args.set.now 0 c.args.writes) c.args.index c.args.place c.args.handle (sym c.is_sequence.ensures ∙ c.if-not-is_sequence.false)
-    (is_live_by s c.args.slots.now.items linked.sound.nodes linked.leads c.args.handle linked.apart c.in-Some.node found.0 found.1) (omega (arith, past, as_many)))
+    (live_seen c.args.set.now c.args.slots.now.items linked c.args.handle c.in-Some.node found.0 found.1) (omega (arith, past, as_many)))
 
 pub returns-then-writes-eq18446744073709551615-clause-why : goal.returns-then-writes-eq18446744073709551615-clause-why
 returns-then-writes-eq18446744073709551615-clause-why g c =
@@ -31,7 +31,7 @@ returns-then-writes-eq18446744073709551615-clause-why g c =
     let as_many : length (entries_in (contents c.args.set.now)) ≡ c.len.result = length-entries s linked.sound.nodes ∙ sym c.len.ensures in
     let within = c.if-place-len.false in
     sym (relocate_spent (seen c.args.set.now 0 c.args.writes) c.args.index c.args.place c.args.handle (sym c.is_sequence.ensures ∙ c.if-not-is_sequence.false)
-    (is_live_by s c.args.slots.now.items linked.sound.nodes linked.leads c.args.handle linked.apart c.in-Some.node found.0 found.1) (omega (arith, within, as_many)) c.if-writes-eq18446744073709551615.true)
+    (live_seen c.args.set.now c.args.slots.now.items linked c.args.handle c.in-Some.node found.0 found.1) (omega (arith, within, as_many)) c.if-writes-eq18446744073709551615.true)
 
 pub returns-clause-allowed : goal.returns-clause-allowed
 returns-clause-allowed g c =
@@ -41,4 +41,4 @@ returns-clause-allowed g c =
     let as_many : length (entries_in (contents c.args.set.now)) ≡ c.len.result = length-entries s linked.sound.nodes ∙ sym c.len.ensures in
     let within = c.if-place-len.false in
     relocate_allowed (seen c.args.set.now 0 c.args.writes) c.args.index c.args.place c.args.handle (sym c.is_sequence.ensures ∙ c.if-not-is_sequence.false)
-    (is_live_by s c.args.slots.now.items linked.sound.nodes linked.leads c.args.handle linked.apart c.in-Some.node found.0 found.1) (omega (arith, within, as_many)) (ne_eqb c.args.writes 18446744073709551615 c.if-writes-eq18446744073709551615.false)
+    (live_seen c.args.set.now c.args.slots.now.items linked c.args.handle c.in-Some.node found.0 found.1) (omega (arith, within, as_many)) (ne_eqb c.args.writes 18446744073709551615 c.if-writes-eq18446744073709551615.false)

@@ -2,7 +2,7 @@ use Rattle.std.proofs.Common.{rules, tests, sym, ◌∙◌}
 use Rattle.std.proofs.lemmas.Iterator.{YieldsList-from_slice}
 use Rattle.std.proofs.lemmas.Iterator.Search.{all_from_yields_List}
 use Rattle.table_schema.specs.Valid.{is_name}
-use Rattle.table_schema.proofs.Trees.{list_all_map}
+use Rattle.table_schema.proofs.Readings.{list_all_map}
 use Rattle.table_schema.proofs.names.each_is_name.Goals as goal
 
 pub returns : goal.returns

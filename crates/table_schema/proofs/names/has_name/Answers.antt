@@ -2,7 +2,7 @@ use Rattle.std.proofs.Common.{rules, tests, sym, ◌∙◌}
 use Rattle.std.specs.Prelude.{bytes_eq}
 use Rattle.std.proofs.lemmas.Iterator.{YieldsList-from_slice}
 use Rattle.std.proofs.lemmas.Iterator.Search.{any_from_yields_List}
-use Rattle.table_schema.proofs.Trees.{list_any_map}
+use Rattle.table_schema.proofs.Readings.{list_any_map}
 use Rattle.table_schema.proofs.names.has_name.Goals as goal
 
 pub returns : goal.returns

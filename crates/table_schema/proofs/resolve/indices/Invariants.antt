@@ -1,5 +1,5 @@
 use Rattle.table_schema.specs.Resolved.{index_for}
-use Rattle.table_schema.proofs.Trees.{Read}
+use Rattle.table_schema.proofs.Readings.{Read}
 use Rattle.table_schema.proofs.resolve.indices.Given as goal
 
 abbrev pub invariant-loop-draft : goal.invariant-loop-draft

@@ -1,6 +1,6 @@
 use Rattle.std.proofs.Common.{◌≡◌, length}
 use Rattle.table_schema.specs.Resolved.{part_of}
-use Rattle.table_schema.proofs.Trees.{Read}
+use Rattle.table_schema.proofs.Readings.{Read}
 use Rattle.table_schema.proofs.resolve.key_of_texts.Given as goal
 
 abbrev pub invariant-loop-text : goal.invariant-loop-text

@@ -1,6 +1,7 @@
 use Rattle.std.proofs.Common.{◌+◌, ◌∙◌, ap, sym, subst}
 use Rattle.container_model.specs.Change.{cleared, spent}
-use Rattle.multi_index.specs.Seen.{seen, IsContainer}
+use Rattle.linked_set.specs.Seen.{seen}
+use Rattle.multi_index.specs.Container.{IsContainer}
 use Rattle.multi_index.proofs.Cleared.{seen_cleared, IsContainer_cleared}
 use Rattle.multi_index.proofs.Shrunk.{write_allowed, next_number}
 use Rattle.multi_index.proofs.container.MultiIndex.clear.Goals as goal

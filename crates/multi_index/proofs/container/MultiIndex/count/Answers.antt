@@ -1,8 +1,8 @@
 use Rattle.std.proofs.Common.{◌≡◌, ◌<◌, length, ◌∙◌, ap, sym, subst, true}
 use Rattle.container_model.specs.State.{has_key_kind}
 use Rattle.container_model.specs.Find.{counted, kind_at}
-use Rattle.multi_index.specs.Seen.{seen}
-use Rattle.multi_index.proofs.Reading.{counted_seen}
+use Rattle.linked_set.specs.Seen.{seen}
+use Rattle.linked_set.proofs.Reading.{counted_seen}
 use Rattle.multi_index.proofs.container.MultiIndex.count.Goals as goal
 
 pub returns-then-has_key : goal.returns-then-has_key

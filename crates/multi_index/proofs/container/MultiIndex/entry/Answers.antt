@@ -3,9 +3,9 @@ use Rattle.std.proofs.lemmas.Bool.Decides.{nat_tests}
 use Rattle.container_model.specs.declared.handle.Handle.{Handle}
 use Rattle.container_model.specs.Insert.{free_slot, new_handle}
 use Rattle.index_set.specs.Set.{store_of, contents}
-use Rattle.multi_index.specs.Linked.{entries_in}
-use Rattle.multi_index.proofs.FreeSlots.{free_slot-le-length}
-use Rattle.multi_index.proofs.LeadsTo.{free_slot-is_first_free}
+use Rattle.linked_set.specs.Linked.{entries_in}
+use Rattle.linked_set.proofs.FreeSlots.{free_slot-le-length}
+use Rattle.linked_set.proofs.LeadsTo.{free_slot-is_first_free}
 use Rattle.multi_index.proofs.container.MultiIndex.entry.Goals as goal
 
 below_top : (n : ℕ) → n < 2 ^ 64 → (n == 2 ^ 64 - 1) ≡ false → n + 1 < 2 ^ 64

@@ -3,13 +3,14 @@ use Rattle.std.specs.Prelude.{filter}
 use Rattle.node_store.specs.Store.{len_of}
 use Rattle.container_model.specs.Change.{erase_key_refusal, erased_count, with_key_erased}
 use Rattle.index_set.specs.Set.{store_of, specs_of, contents}
-use Rattle.multi_index.specs.Held.{has_other_key}
-use Rattle.multi_index.specs.Linked.{entries_in}
-use Rattle.multi_index.specs.Seen.{seen}
-use Rattle.multi_index.proofs.Contents.{length-entries}
+use Rattle.linked_set.specs.Held.{has_other_key}
+use Rattle.linked_set.specs.Linked.{entries_in}
+use Rattle.linked_set.specs.Seen.{seen}
+use Rattle.linked_set.proofs.Contents.{length-entries}
 use Rattle.multi_index.proofs.HeldByAll.{held_by_all}
-use Rattle.multi_index.proofs.Shrunk.{key_allowed, next_number, seen_only, IsContainer_only}
-use Rattle.multi_index.proofs.Thinned.{left_and_erased}
+use Rattle.multi_index.proofs.Shrunk.{key_allowed, next_number, IsContainer_only}
+use Rattle.linked_set.proofs.Seen.{seen_only}
+use Rattle.linked_set.proofs.Thinned.{left_and_erased}
 use Rattle.multi_index.proofs.container.MultiIndex.erase_key.Goals as goal
 
 pub take_key-count-requires-clause-held : goal.take_key-count-requires-clause-held

@@ -1,18 +1,18 @@
 use Rattle.std.proofs.Common.{◌≡◌, ◌<◌, ◌-◌, ◌^◌, ◌==◌, ◌∙◌, length, Option, Some, None, refl, ap, sym, subst}
-use Rattle.std.specs.Prelude.{IfSome, not}
+use Rattle.std.specs.Prelude.{IfSome, not, option_and_then}
 use Rattle.std.specs.Option.{IsSome}
 use Rattle.container_model.specs.State.{is_handle, row_of}
 use Rattle.container_model.specs.Find.{is_live}
 use Rattle.container_model.specs.Change.{next_in, with_erased}
 use Rattle.container_model.proofs.Found.{is_handle_same}
-use Rattle.std.specs.Prelude.{option_and_then}
 use Rattle.index_set.specs.Set.{store_of, record_of, specs_of}
-use Rattle.multi_index.specs.Seen.{seen}
-use Rattle.multi_index.proofs.Contents.{handle_of-is}
-use Rattle.multi_index.proofs.Shrunk.{live_allowed, next_number, seen_only, IsContainer_only, next_named}
+use Rattle.linked_set.specs.Seen.{seen}
+use Rattle.linked_set.proofs.Contents.{handle_of-is}
+use Rattle.multi_index.proofs.Shrunk.{live_allowed, next_number, IsContainer_only, next_named}
+use Rattle.linked_set.proofs.Seen.{seen_only}
 use Rattle.multi_index.proofs.HeldByAll.{held_by_all}
-use Rattle.multi_index.proofs.LeadsTo.{row_of_live}
-use Rattle.multi_index.proofs.Named.{stale_seen}
+use Rattle.linked_set.proofs.LeadsTo.{row_of_live}
+use Rattle.linked_set.proofs.Live.{stale_seen}
 use Rattle.multi_index.proofs.container.MultiIndex.erase_live.Goals as goal
 
 some_by : {A : Type 0} (o : Option A) → (o ≡ None → ⊥) → IsSome o

@@ -1,8 +1,8 @@
 use Rattle.std.proofs.Common.{◌∙◌, ap, sym}
 use Rattle.container_model.specs.State.{row_of}
 use Rattle.index_set.specs.Set.{store_of}
-use Rattle.multi_index.proofs.LeadsTo.{row_of_live}
-use Rattle.multi_index.proofs.Named.{none_seen}
+use Rattle.linked_set.proofs.LeadsTo.{row_of_live}
+use Rattle.linked_set.proofs.Live.{none_seen}
 use Rattle.multi_index.proofs.container.MultiIndex.get.Goals as goal
 
 pub returns-in-Some-clause-row : goal.returns-in-Some-clause-row

@@ -1,7 +1,7 @@
 use Rattle.std.proofs.Common.{◌≡◌, ◌∙◌, refl, ap, sym, rules, subst, suc, length, List, [], ◌∷◌, ℕ}
 use Rattle.std.specs.Prelude.{IsTrue, nat_eq}
 use Rattle.index_set.specs.Set.{store_of}
-use Rattle.multi_index.proofs.Contents.{length-entries}
+use Rattle.linked_set.proofs.Contents.{length-entries}
 use Rattle.multi_index.proofs.container.MultiIndex.is_empty.Goals as goal
 
 not_none : {X : Type 0} {x : X} {xs : List X} → x ∷ xs ≡ [] → ⊥

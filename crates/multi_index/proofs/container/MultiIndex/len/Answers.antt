@@ -1,6 +1,6 @@
 use Rattle.std.proofs.Common.{◌∙◌, ap, sym, length}
 use Rattle.index_set.specs.Set.{store_of}
-use Rattle.multi_index.proofs.Contents.{length-entries}
+use Rattle.linked_set.proofs.Contents.{length-entries}
 use Rattle.multi_index.proofs.container.MultiIndex.len.Goals as goal
 
 pub returns : goal.returns

@@ -4,11 +4,11 @@ use Rattle.container_model.specs.declared.handle.Entry.{Entry}
 use Rattle.container_model.specs.Change.{modify_refusal, with_modified}
 use Rattle.container_model.specs.Insert.{ban}
 use Rattle.container_model.specs.State.{row_of}
-use Rattle.multi_index.specs.Modified.{told}
-use Rattle.multi_index.specs.Seen.{seen}
-use Rattle.multi_index.proofs.Changed.{change_stale, change_live, IsContainer_modified}
+use Rattle.linked_set.specs.Modified.{told}
+use Rattle.linked_set.specs.Seen.{seen}
+use Rattle.multi_index.proofs.InPlace.{change_stale, change_live, IsContainer_modified}
 use Rattle.multi_index.proofs.HeldByAll.{held_by_all}
-use Rattle.multi_index.proofs.Named.{none_seen}
+use Rattle.linked_set.proofs.Live.{none_seen}
 use Rattle.multi_index.proofs.Replaced.{named}
 use Rattle.multi_index.proofs.Shrunk.{next_number}
 use Rattle.multi_index.proofs.container.MultiIndex.modify.Goals as goal

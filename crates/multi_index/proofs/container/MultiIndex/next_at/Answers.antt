@@ -6,8 +6,9 @@ use Rattle.container_model.specs.State.{is_handle, list_at}
 use Rattle.node_store.specs.Store.{IsNodeOf}
 use Rattle.index_set.specs.Set.{store_of, record_of, list_of}
 use Rattle.index_set.proofs.Members.{nodes_held_at}
-use Rattle.multi_index.specs.Linked.{handle_of}
-use Rattle.multi_index.proofs.Named.{answered_live, answered_stale, held_here, live_seen, stale_seen, next_seen}
+use Rattle.linked_set.specs.Linked.{handle_of}
+use Rattle.linked_set.proofs.Live.{live_seen, stale_seen}
+use Rattle.multi_index.proofs.Named.{answered_live, answered_stale, held_here, next_seen}
 use Rattle.multi_index.proofs.container.MultiIndex.next_at.Goals as goal
 
 pub next-requires-clause-held : goal.next-requires-clause-held

@@ -5,7 +5,7 @@ use Rattle.container_model.specs.State.{has_places_kind, list_at}
 use Rattle.node_store.specs.Store.{IsNodeOf}
 use Rattle.index_set.specs.Set.{store_of, record_of, list_of}
 use Rattle.index_set.proofs.Members.{nodes_held_at}
-use Rattle.multi_index.specs.Linked.{handle_of}
+use Rattle.linked_set.specs.Linked.{handle_of}
 use Rattle.multi_index.proofs.Places.{answered, nth_seen}
 use Rattle.multi_index.proofs.container.MultiIndex.nth.Goals as goal
 

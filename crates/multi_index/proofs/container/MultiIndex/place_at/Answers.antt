@@ -1,7 +1,8 @@
 use Rattle.std.proofs.Common.{◌<◌, length, ◌∙◌, sym, subst}
 use Rattle.list_model.specs.Walk.{place_of}
 use Rattle.container_model.specs.State.{is_handle, list_at}
-use Rattle.multi_index.proofs.Named.{answered_live, answered_stale, held_here, live_seen, stale_seen, place_seen}
+use Rattle.linked_set.proofs.Live.{live_seen, stale_seen}
+use Rattle.multi_index.proofs.Named.{answered_live, answered_stale, held_here, place_seen}
 use Rattle.multi_index.proofs.container.MultiIndex.place_at.Goals as goal
 
 pub place_of-requires-clause-held : goal.place_of-requires-clause-held

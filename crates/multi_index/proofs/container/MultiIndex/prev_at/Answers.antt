@@ -7,8 +7,9 @@ use Rattle.node_store.specs.ByNode.{same_node}
 use Rattle.node_store.specs.Store.{IsNodeOf}
 use Rattle.index_set.specs.Set.{store_of, record_of, list_of}
 use Rattle.index_set.proofs.Members.{nodes_held_at}
-use Rattle.multi_index.specs.Linked.{handle_of}
-use Rattle.multi_index.proofs.Named.{answered_live, answered_stale, held_here, live_seen, stale_seen, prev_seen}
+use Rattle.linked_set.specs.Linked.{handle_of}
+use Rattle.linked_set.proofs.Live.{live_seen, stale_seen}
+use Rattle.multi_index.proofs.Named.{answered_live, answered_stale, held_here, prev_seen}
 use Rattle.multi_index.proofs.container.MultiIndex.prev_at.Goals as goal
 
 pub prev-requires-clause-held : goal.prev-requires-clause-held

@@ -6,7 +6,7 @@ use Rattle.container_model.specs.State.{is_handle, is_hashed_kind, list_at}
 use Rattle.node_store.specs.Store.{IsNodeOf}
 use Rattle.index_set.specs.Set.{store_of, record_of, list_of}
 use Rattle.index_set.proofs.Members.{nodes_held_at}
-use Rattle.multi_index.specs.Linked.{handle_of}
+use Rattle.linked_set.specs.Linked.{handle_of}
 use Rattle.multi_index.proofs.Places.{answered_end, last_seen, some_last}
 use Rattle.multi_index.proofs.container.MultiIndex.project_prev.Goals as goal
 

@@ -5,8 +5,8 @@ use Rattle.list_model.specs.Place.{range}
 use Rattle.container_model.specs.State.{is_sorted_kind, list_at}
 use Rattle.container_model.specs.Find.{found_range, kind_at, probe_side}
 use Rattle.index_set.specs.Set.{keys_of, specs_of, list_of}
-use Rattle.multi_index.specs.Edges.{edge_of, KeyFits}
-use Rattle.multi_index.specs.Seen.{seen}
+use Rattle.linked_set.specs.Edges.{edge_of, KeyFits}
+use Rattle.linked_set.specs.Seen.{seen}
 use Rattle.multi_index.proofs.Places.{answered, if_mapped}
 use Rattle.multi_index.proofs.Rising.{bound_rises, has_key_here, node_rises, range_seen}
 use Rattle.multi_index.proofs.container.MultiIndex.range.Goals as goal

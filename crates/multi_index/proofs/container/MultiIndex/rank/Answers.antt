@@ -4,9 +4,9 @@ use Rattle.container_model.specs.declared.handle.Spec.{Spec}
 use Rattle.container_model.specs.State.{is_ranked_kind}
 use Rattle.container_model.specs.Find.{place_or_end}
 use Rattle.index_set.specs.Set.{store_of}
-use Rattle.multi_index.specs.Seen.{seen}
-use Rattle.multi_index.proofs.Contents.{length-entries}
-use Rattle.multi_index.proofs.Indices.{as_many_each}
+use Rattle.linked_set.specs.Seen.{seen}
+use Rattle.linked_set.proofs.Contents.{length-entries}
+use Rattle.linked_set.proofs.Indices.{as_many_each}
 use Rattle.multi_index.proofs.Places.{answered_end}
 use Rattle.multi_index.proofs.container.MultiIndex.rank.Goals as goal
 

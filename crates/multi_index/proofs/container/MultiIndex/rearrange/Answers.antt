@@ -4,9 +4,9 @@ use Rattle.container_model.specs.Sequence.{rearrange_refusal, with_list}
 use Rattle.container_model.specs.declared.refusal.Why.TheVariants.{Memory}
 use Rattle.container_model.proofs.Moved.{IsState-rearranged}
 use Rattle.index_set.specs.Set.{specs_of, record_of, list_of}
-use Rattle.multi_index.specs.Linked.{handle_of}
+use Rattle.linked_set.specs.Linked.{handle_of}
 use Rattle.multi_index.specs.Rearranged.{is_after_memory}
-use Rattle.multi_index.specs.Seen.{seen}
+use Rattle.linked_set.specs.Seen.{seen}
 use Rattle.multi_index.proofs.Ordered.{may_rearrange, seen_listed, IsContainer_listed}
 use Rattle.multi_index.proofs.Rearranged.{same_nodes}
 use Rattle.multi_index.proofs.container.MultiIndex.rearrange.Goals as goal

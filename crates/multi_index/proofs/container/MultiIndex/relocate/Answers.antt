@@ -4,7 +4,7 @@ use Rattle.container_model.proofs.Moved.{IsState-relocated}
 use Rattle.index_set.specs.Set.{specs_of, list_of}
 use Rattle.list_model.specs.Walk.{relocated}
 use Rattle.node_store.specs.ByNode.{same_node}
-use Rattle.multi_index.specs.Seen.{seen}
+use Rattle.linked_set.specs.Seen.{seen}
 use Rattle.multi_index.proofs.Ordered.{may_relocate, as_many_nodes, stands_in, relocated_seen, seen_listed, IsContainer_listed}
 use Rattle.multi_index.proofs.container.MultiIndex.relocate.Goals as goal
 

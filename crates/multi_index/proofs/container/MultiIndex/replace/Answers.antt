@@ -3,9 +3,9 @@ use Rattle.std.specs.Prelude.{option_map}
 use Rattle.container_model.specs.declared.handle.Entry.{Entry}
 use Rattle.container_model.specs.Change.{replace_refusal}
 use Rattle.container_model.specs.State.{row_of}
-use Rattle.multi_index.specs.Seen.{seen}
+use Rattle.linked_set.specs.Seen.{seen}
 use Rattle.multi_index.proofs.HeldByAll.{held_by_all}
-use Rattle.multi_index.proofs.Named.{none_seen}
+use Rattle.linked_set.proofs.Live.{none_seen}
 use Rattle.multi_index.proofs.Replaced.{named, refused_stale, refused_live, not_banned, not_spent, IsContainer_replaced}
 use Rattle.multi_index.proofs.Shrunk.{next_number}
 use Rattle.multi_index.proofs.container.MultiIndex.replace.Goals as goal

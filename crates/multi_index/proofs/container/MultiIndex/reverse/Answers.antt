@@ -2,10 +2,10 @@ use Rattle.std.proofs.Common.{◌<◌, length, reverse, ◌∙◌, ap, sym, subs
 use Rattle.container_model.specs.Sequence.{sequence_refusal, with_reversed}
 use Rattle.container_model.proofs.Moved.{IsState-reversed}
 use Rattle.index_set.specs.Set.{specs_of, record_of, list_of}
-use Rattle.multi_index.specs.Linked.{handle_of}
-use Rattle.multi_index.specs.Seen.{seen}
+use Rattle.linked_set.specs.Linked.{handle_of}
+use Rattle.linked_set.specs.Seen.{seen}
 use Rattle.multi_index.proofs.Ordered.{map-reverse, may_order, seen_listed, IsContainer_listed}
-use Rattle.multi_index.proofs.Reading.{list_seen}
+use Rattle.linked_set.proofs.Reading.{list_seen}
 use Rattle.multi_index.proofs.container.MultiIndex.reverse.Goals as goal
 
 pub invariant_of-self : goal.invariant_of-self

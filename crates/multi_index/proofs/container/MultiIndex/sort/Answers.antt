@@ -4,10 +4,10 @@ use Rattle.list_model.proofs.Moved.{IsPermutation-stable_sorted}
 use Rattle.container_model.specs.Sequence.{sequence_refusal, with_sorted}
 use Rattle.container_model.proofs.Moved.{IsState-sorted}
 use Rattle.index_set.specs.Set.{specs_of, record_of, list_of}
-use Rattle.multi_index.specs.Seen.{seen}
-use Rattle.multi_index.specs.Sorted.{compare_rows}
+use Rattle.linked_set.specs.Seen.{seen}
+use Rattle.linked_set.specs.Sorted.{compare_rows}
 use Rattle.multi_index.proofs.Ordered.{may_order, seen_listed, IsContainer_listed}
-use Rattle.multi_index.proofs.Sorted.{sorted_seen}
+use Rattle.linked_set.proofs.Sorted.{sorted_seen}
 use Rattle.multi_index.proofs.container.MultiIndex.sort.Goals as goal
 
 pub rearrange-requires-clause-members : goal.rearrange-requires-clause-members

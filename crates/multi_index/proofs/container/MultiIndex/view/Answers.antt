@@ -6,9 +6,9 @@ use Rattle.container_model.specs.State.{is_hashed_kind, list_at}
 use Rattle.container_model.specs.Find.{kind_at}
 use Rattle.container_model.proofs.Keys.{kind_at_is}
 use Rattle.index_set.specs.Set.{store_of, specs_of}
-use Rattle.multi_index.specs.Seen.{seen}
-use Rattle.multi_index.proofs.Contents.{handles_by_age}
-use Rattle.multi_index.proofs.Indices.{index_here}
+use Rattle.linked_set.specs.Seen.{seen}
+use Rattle.linked_set.proofs.Contents.{handles_by_age}
+use Rattle.linked_set.proofs.Indices.{index_here}
 use Rattle.multi_index.proofs.Places.{if_mapped}
 use Rattle.multi_index.proofs.container.MultiIndex.view.Goals as goal
 

@@ -1,0 +1,4 @@
+pub mod Found
+pub mod Rewritten
+pub mod Trees
+pub mod KeyedBuckets

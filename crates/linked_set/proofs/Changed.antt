@@ -1,0 +1,180 @@
+-- What becomes of a set when the row of one record was changed in place, and its node settled or was taken out.
+use Rattle.std.proofs.Common.{◌≡◌, ◌≢◌, ℕ, ◌+◌, Bool, true, false, cond, not, List, [], ◌∷◌, map, Option, Some, None, refl, sym, ap, ◌∙◌, subst}
+use Rattle.std.specs.Prelude.{filter, option_map}
+use Rattle.std.specs.List.{AllByRecursion}
+use Rattle.std.specs.Option.{option_map_or}
+use Rattle.std.specs.declared.cmp.Ordering.{Ordering}
+use Rattle.list_model.specs.Order.{EachPair}
+use Rattle.list_model.specs.Walk.{without}
+use Rattle.list_model.proofs.InOrder.{All-map}
+use Rattle.list_model.proofs.Kept.{EachPair-filter}
+use Rattle.node_store.specs.declared.Node.{Node}
+use Rattle.node_store.specs.Store.{IsNodeOf, number_of}
+use Rattle.node_store.specs.ByNode.{same_node, RemovesNode}
+use Rattle.node_store.proofs.ByNode.{records_kept}
+use Rattle.container_model.specs.declared.handle.Handle.{Handle}
+use Rattle.container_model.specs.declared.handle.Entry.{Entry}
+use Rattle.container_model.specs.State.{is_handle}
+use Rattle.container_model.specs.Insert.{ban}
+use Rattle.container_model.specs.Change.{settled_from, with_row, with_erased, with_replaced}
+use Rattle.slot_table.specs.Slots.{item_at, with_item}
+use Rattle.index_set.specs.declared.set.IndexSet.{IndexSet}
+use Rattle.index_set.specs.Each.{changed_from}
+use Rattle.index_set.specs.Indices.{HoldIt, LackIt}
+use Rattle.index_set.specs.Lists.{ban_from, settled_at}
+use Rattle.index_set.specs.Set as set
+use Rattle.index_set.specs.Set.{store_of, keys_of, specs_of, lists_of, IsSound, IsKeyed, IsUniqueExcept, IsOfSame}
+use Rattle.index_set.proofs.Keys.{lacks_left}
+use Rattle.index_set.proofs.Members.{nodes_held, distinct}
+use Rattle.index_set.proofs.StaysUnique.{unique_after_remove}
+use Rattle.index_set.proofs.Written.{lists_written}
+use Rattle.modify_ops.proofs.Held.{node_of_all}
+use Rattle.modify_ops.proofs.Others.{ban_written}
+use Rattle.linked_set.specs.declared.by_row.ByRow.{ByRow}
+use Rattle.linked_set.specs.LeadsTo.{LeadsTo}
+use Rattle.linked_set.specs.Linked.{handle_of, entries_in, handles_in}
+use Rattle.linked_set.specs.Seen.{seen, IsLinked}
+use Rattle.linked_set.proofs.Bans.{ban_known}
+use Rattle.linked_set.proofs.Contents.{handle_of-is}
+use Rattle.linked_set.proofs.Excepted.{told_some}
+use Rattle.linked_set.proofs.Left.{entries_left, handles_left, leads_left}
+use Rattle.linked_set.proofs.Reading.{known_all}
+use Rattle.linked_set.proofs.Seen.{seen_replaced, seen_only}
+use Rattle.linked_set.proofs.Rewritten.{same_nodes, same_count, its_record, handles_same, handle_kept, entries_rewritten, apart_rewritten, leads_rewritten, lists_rewritten}
+
+-- the records but for one are as before its row was changed
+filter-with_row : {R : Type 0} (h : Handle) (row : R) (es : List (Entry R)) → filter (λ e. not (is_handle h e.handle)) (with_row h row es) ≡ filter (λ e. not (is_handle h e.handle)) es
+filter-with_row h row [] = refl
+filter-with_row h row (e ∷ es) = by_test e (filter (λ x. not (is_handle h x.handle)) (with_row h row es)) (filter (λ x. not (is_handle h x.handle)) es) (is_handle h e.handle) refl (filter-with_row h row es)
+  where
+    by_test : (x : Entry _) (l r : List (Entry _)) (b : Bool) → is_handle h x.handle ≡ b → l ≡ r →
+        cond (not (is_handle h (cond b (record x { row = row }) x).handle)) (cond b (record x { row = row }) x ∷ l) l ≡ cond (not (is_handle h x.handle)) (x ∷ r) r
+    by_test x l r true is rest = ap (λ b. cond (not b) (record x { row = row } ∷ l) l) is ∙ (rest ∙ sym (ap (λ b. cond (not b) (x ∷ r) r) is))
+    by_test x l r false is rest = ap (λ z. cond (not (is_handle h x.handle)) (x ∷ z) z) rest
+
+-- a set in which the row of one node's record was written, and whose lists may have changed since
+pub record IsChanged {E R : Type 0} (has_key : E → ℕ → Bool) (order : E → ℕ → R → R → Ordering) (hash : E → ℕ → R → ℕ) (old mid : IndexSet (Entry R) (ByRow E)) (slots : List (Option Node)) (n : Node) (h : Handle) (row : R) : Type 0 where
+  pub linked : IsLinked has_key order hash old slots
+  pub held : HoldIt (lists_of old) n
+  pub is : IsNodeOf (store_of old) n
+  pub own : handle_of (set.record_of old) n ≡ h
+  pub after : set.contents mid ≡ set.contents (set.with_record old n (record { handle = h; row = row }))
+  pub same : IsOfSame old mid
+
+pub changed_set : {E R : Type 0} {has_key : E → ℕ → Bool} {order : E → ℕ → R → R → Ordering} {hash : E → ℕ → R → ℕ} (old mid : IndexSet (Entry R) (ByRow E)) (slots : List (Option Node)) (n : Node) (e : Entry R) (row : R) →
+    IsLinked has_key order hash old slots → HoldIt (lists_of old) n → set.record_of old n ≡ Some e → set.contents mid ≡ set.contents (set.with_record old n (record { handle = e.handle; row = row })) → IsOfSame (set.with_record old n (record { handle = e.handle; row = row })) mid → IsChanged has_key order hash old mid slots n e.handle row
+changed_set old mid slots n e row linked held has after same = record { linked = linked; held = held; is = node_of_all old n linked.sound held; own = handle_of-is (set.record_of old) n e has; after = after; same = record { keys = same.keys; specs = same.specs } }
+
+module _ {E R : Type 0} {has_key : E → ℕ → Bool} {order : E → ℕ → R → R → Ordering} {hash : E → ℕ → R → ℕ} {old mid : IndexSet (Entry R) (ByRow E)} {slots : List (Option Node)} {n : Node} {h : Handle} {row : R} (w : IsChanged has_key order hash old mid slots n h row) where
+  abbrev entry : Entry R
+  entry = record { handle = h; row = row }
+
+  abbrev orders : ByRow E → ℕ → Entry R → Entry R → Ordering
+  orders by index a b = order by.keys index a.row b.row
+
+  abbrev hashes : ByRow E → ℕ → Entry R → ℕ
+  hashes by index a = hash by.keys index a.row
+
+  -- what bans the changed record beside its node bans its row beside its handle
+  pub ban_changed : (result : Option (ℕ × Node)) → result ≡ ban_from (orders (keys_of old)) (set.record_of (set.with_record old n entry)) (lists_of (set.with_record old n entry)) (Some n) entry 0 (specs_of old) →
+      (max writes : ℕ) → option_map (λ at. (at.0, handle_of (set.record_of old) at.1)) result ≡ ban order (seen old max writes) (Some h) row
+  ban_changed result found max writes =
+      let told = told_some (store_of old) slots w.linked.leads n w.is (lists_of old) (nodes_held old w.linked.sound) in
+      let here : result ≡ ban_from (orders (keys_of old)) (set.record_of old) (lists_of old) (Some n) entry 0 (specs_of old) = found ∙ ban_written old n entry w.is (orders (keys_of old)) entry in
+      ap (option_map (λ at. (at.0, handle_of (set.record_of old) at.1))) here
+      ∙ (sym (ban_known (order (keys_of old).keys) (set.record_of old) (entries_in (set.contents old)) (lists_of old) (Some n) (known_all old slots w.linked) told entry 0 (specs_of old))
+      ∙ ap (λ g. ban order (seen old max writes) (Some g) row) w.own)
+
+  -- the numbers of adds stay
+  pub count_changed : (store_of mid).added ≡ (store_of old).added
+  count_changed = same_count (store_of old) (store_of mid) n h row slots w.linked.sound.nodes w.linked.leads w.linked.apart w.is w.own w.after
+
+  -- so do the handles
+  pub handle_changed : (m : Node) → handle_of (set.record_of mid) m ≡ handle_of (set.record_of old) m
+  handle_changed m = handle_kept (store_of old) (store_of mid) n h row slots w.linked.sound.nodes w.linked.leads w.linked.apart w.is w.own w.after m
+
+  -- its record is the new one
+  pub record_changed : set.record_of mid n ≡ Some entry
+  record_changed = its_record (store_of old) (store_of mid) n h row slots w.linked.sound.nodes w.linked.leads w.linked.apart w.is w.own w.after
+
+  -- a set that is sound again is linked as before
+  pub IsLinked_changed : IsSound (λ by. has_key by.keys) mid → IsKeyed orders hashes mid → IsUniqueExcept orders mid None → IsLinked has_key order hash mid slots
+  IsLinked_changed sound keyed unique = record {
+    sound = sound;
+    keyed = keyed;
+    unique = unique;
+    apart = apart_rewritten (store_of old) (store_of mid) n h row slots w.linked.sound.nodes w.linked.leads w.linked.apart w.is w.own w.after;
+    leads = leads_rewritten (store_of old) (store_of mid) n h row slots w.linked.sound.nodes w.linked.leads w.linked.apart w.is w.own w.after;
+  }
+
+  module _ (result : Option (ℕ × Node)) (listed : lists_of mid ≡ option_map_or (λ by. map (without (same_node n)) (lists_of (set.with_record old n entry))) result
+      (changed_from (settled_at (orders (keys_of old)) (set.record_of (set.with_record old n entry)) n) 0 (specs_of old) (lists_of (set.with_record old n entry)))) where
+    abbrev listed_by : Option (ℕ × Node) → List (List Node)
+    listed_by o =
+        option_map_or (λ by. map (without (same_node n)) (lists_of (set.with_record old n entry))) o
+        (changed_from (settled_at (orders (keys_of old)) (set.record_of (set.with_record old n entry)) n) 0 (specs_of old) (lists_of (set.with_record old n entry)))
+
+    -- its node settles where nothing bans it
+    pub settled_then : result ≡ None → lists_of mid ≡ changed_from (settled_at (orders (keys_of old)) (set.record_of (set.with_record old n entry)) n) 0 (specs_of old) (lists_of (set.with_record old n entry))
+    settled_then none = listed ∙ ap listed_by none
+
+    -- and leaves where something does
+    pub taken_then : (at : ℕ × Node) → result ≡ Some at → lists_of mid ≡ map (without (same_node n)) (lists_of old)
+    taken_then at some = listed ∙ (ap listed_by some ∙ ap (map (without (same_node n))) (lists_written old n entry))
+
+  -- where it settled
+  module _ (settled : lists_of mid ≡ changed_from (settled_at (orders (keys_of old)) (set.record_of (set.with_record old n entry)) n) 0 (specs_of old) (lists_of (set.with_record old n entry))) where
+    lists_settled : handles_in (set.record_of mid) (lists_of mid) ≡ settled_from (order (keys_of old).keys) (entries_in (set.contents old)) h row 0 (specs_of old) (handles_in (set.record_of old) (lists_of old))
+    lists_settled =
+        ap (handles_in (set.record_of mid))
+        (settled ∙ (λ i. changed_from (settled_at (orders (keys_of old)) (sym (records_kept (store_of (set.with_record old n entry)) (store_of mid) w.after) i) n) 0 (specs_of old) (lists_written old n entry i)))
+        ∙ lists_rewritten (store_of old) (store_of mid) n h row slots w.linked.sound.nodes w.linked.leads w.linked.apart w.is w.own w.after (order (keys_of old).keys) (specs_of old) (lists_of old) w.held (distinct old w.linked.sound) (nodes_held old w.linked.sound)
+
+    pub seen_settled : (max writes : ℕ) → seen mid max (writes + 1) ≡ with_replaced order (seen old max writes) h row
+    seen_settled max writes =
+        seen_replaced order old mid h row max writes w.same (entries_rewritten (store_of old) (store_of mid) n h row slots w.linked.sound.nodes w.linked.leads w.linked.apart w.is w.own w.after) lists_settled
+
+  -- where it left, and was taken out
+  leads_mid : LeadsTo (store_of mid) slots
+  leads_mid = leads_rewritten (store_of old) (store_of mid) n h row slots w.linked.sound.nodes w.linked.leads w.linked.apart w.is w.own w.after
+
+  -- each node is still there
+  pub there_mid : (m : Node) → IsNodeOf (store_of old) m → IsNodeOf (store_of mid) m
+  there_mid m there = ap (λ (f : ℕ → Option Node). f (number_of m)) (same_nodes (store_of old) (store_of mid) n h row slots w.linked.sound.nodes w.linked.leads w.linked.apart w.is w.own w.after) ∙ there
+
+  pub is_mid : IsNodeOf (store_of mid) n
+  is_mid = there_mid n w.is
+
+  own_mid : handle_of (set.record_of mid) n ≡ h
+  own_mid = handle_of-is (set.record_of mid) n entry record_changed
+
+  -- the slot that it frees was taken
+  pub slot_taken : item_at slots h.slot ≢ None
+  slot_taken free = let bad = sym (leads_mid.node_at n is_mid) ∙ (ap (λ (g : Handle). item_at slots g.slot) own_mid ∙ free) in cc
+
+  module _ (new : IndexSet (Entry R) (ByRow E)) (taken : lists_of mid ≡ map (without (same_node n)) (lists_of old)) (sound : IsSound (λ by. has_key by.keys) mid)
+      (kept : IsOfSame mid new) (listed : lists_of new ≡ lists_of mid) (removes : RemovesNode (store_of mid) (store_of new) n) (count : (store_of new).added ≡ (store_of mid).added) where
+    entries_taken : entries_in (set.contents new) ≡ filter (λ x. not (is_handle h x.handle)) (entries_in (set.contents old))
+    entries_taken =
+        entries_left (store_of mid) (store_of new) slots sound.nodes leads_mid n is_mid removes count
+        ∙ ((λ i. filter (λ x. not (is_handle (own_mid i) x.handle)) (entries_rewritten (store_of old) (store_of mid) n h row slots w.linked.sound.nodes w.linked.leads w.linked.apart w.is w.own w.after i))
+        ∙ filter-with_row h row (entries_in (set.contents old)))
+
+    lists_taken : handles_in (set.record_of new) (lists_of new) ≡ map (λ list. filter (λ g. not (is_handle h g)) list) (handles_in (set.record_of old) (lists_of old))
+    lists_taken =
+        let nodes_mid : AllByRecursion (AllByRecursion (IsNodeOf (store_of mid))) (lists_of old) = All-map _ _ (λ xs are. All-map _ _ (λ m there. there_mid m there) xs are) (lists_of old) (nodes_held old w.linked.sound) in
+        ap (handles_in (set.record_of new)) (listed ∙ taken)
+        ∙ (handles_left (store_of mid) (store_of new) slots sound.nodes leads_mid n is_mid removes (lists_of old) nodes_mid
+        ∙ (λ i. map (λ list. filter (λ g. not (is_handle (own_mid i) g)) list) (handles_same (store_of old) (store_of mid) n h row slots w.linked.sound.nodes w.linked.leads w.linked.apart w.is w.own w.after (lists_of old) i)))
+
+    pub seen_taken : (max writes : ℕ) → seen new max (writes + 1) ≡ with_erased (seen old max writes) h
+    seen_taken max writes = seen_only old new (λ g. not (is_handle h g)) max writes (record { keys = kept.keys ∙ w.same.keys; specs = kept.specs ∙ w.same.specs }) entries_taken lists_taken
+
+    pub IsLinked_taken : IsSound (λ by. has_key by.keys) new → IsKeyed orders hashes new → IsUniqueExcept orders mid None → IsLinked has_key order hash new (with_item slots h.slot None)
+    IsLinked_taken sound_new keyed unique = record {
+      sound = sound_new;
+      keyed = keyed;
+      unique = unique_after_remove orders mid new sound kept n listed removes (subst (λ lists. LackIt lists n) (sym taken) (lacks_left (lists_of old) n)) unique;
+      apart = subst (EachPair _) (sym entries_taken) (EachPair-filter _ _ (entries_in (set.contents old)) w.linked.apart);
+      leads = subst (λ (g : Handle). LeadsTo (store_of new) (with_item slots g.slot None)) own_mid (leads_left (store_of mid) (store_of new) slots sound.nodes leads_mid n is_mid removes);
+    }

@@ -1,0 +1,136 @@
+-- What becomes of a container's nodes, lists and slots when a node joins the store and then each list.
+use Rattle.std.proofs.Common.{◌≡◌, ℕ, ◌+◌, ◌<◌, ◌==◌, Bool, false, List, [], ◌∷◌, ◌++◌, Option, Some, None, refl, sym, ap, ◌∙◌, subst, arith}
+use Rattle.std.specs.Prelude.{IsTrue, option_map}
+use Rattle.std.specs.List.{AllByRecursion}
+use Rattle.std.specs.Cmp.{IsTotalOrder}
+use Rattle.std.specs.declared.cmp.Ordering.{Ordering}
+use Rattle.std.proofs.lemmas.Cmp.{on_total}
+use Rattle.list_model.specs.Order.{EachPair}
+use Rattle.list_model.proofs.InOrder.{All-map}
+use Rattle.list_model.proofs.Lists.{EachPair-push}
+use Rattle.node_store.specs.declared.Node.{Node}
+use Rattle.node_store.specs.Store.{Store, IsStore, IsNodeOf, number_of}
+use Rattle.node_store.specs.ByNode.{contents, record_of, AddsNode}
+use Rattle.container_model.specs.declared.handle.Entry.{Entry}
+use Rattle.container_model.specs.declared.handle.Spec.{Spec}
+use Rattle.container_model.specs.Insert.{At, entered_from, is_free, ban_from as ban_of_handles}
+use Rattle.container_model.proofs.FreeSlot.{free_slot-is_free}
+use Rattle.container_model.proofs.Handles.{free_is_apart}
+use Rattle.slot_table.specs.Slots.{first_free, with_item}
+use Rattle.index_set.specs.declared.set.IndexSet.{IndexSet}
+use Rattle.index_set.specs.Set as set
+use Rattle.index_set.specs.Set.{store_of, keys_of, specs_of, lists_of, IsSound, IsKeyed, IsOfSame}
+use Rattle.index_set.specs.Indices.{LackIt}
+use Rattle.index_set.proofs.Members.{nodes_held, older}
+use Rattle.index_set.proofs.Keys.{unique_kept}
+use Rattle.index_set.proofs.StaysUnique.{unique_after_enter}
+use Rattle.index_set.specs.Each.{changed_from}
+use Rattle.index_set.specs.Lists.{entered_at, ban_from}
+use Rattle.linked_set.specs.declared.by_row.ByRow.{ByRow}
+use Rattle.linked_set.specs.Seen.{IsLinked}
+use Rattle.linked_set.specs.Linked.{handle_of, entries_in, handles_in, IsKnown}
+use Rattle.linked_set.specs.LeadsTo.{LeadsTo}
+use Rattle.linked_set.proofs.Bans.{ban_known, told_none}
+use Rattle.linked_set.proofs.Contents.{known, entries_added, entries_kept, handles_added, handles_kept, known_added, record_added}
+use Rattle.linked_set.proofs.Entered.{AreOlder, entered_all}
+use Rattle.linked_set.proofs.LeadsTo.{leads_kept, leads_added, free_slot-is_first_free}
+
+-- nothing was found where nothing was made of it
+pub none_before : {A B : Type 0} (f : A → B) (o : Option A) → option_map f o ≡ None → o ≡ None
+none_before f None e = refl
+none_before f (Some a) e = absurd (cc)
+
+module _ {R : Type 0} (order : ℕ → R → R → Ordering) (specs : List Spec) (at : At) (s t u : Store (Entry R)) (lists : List (List Node)) (n : Node) (e : Entry R) (slots : List (Option Node))
+    (store : IsStore s) (apart : EachPair (λ a b. (b.handle.slot == a.handle.slot) ≡ false) (entries_in (contents s))) (leads : LeadsTo s slots)
+    (nodes : AllByRecursion (AllByRecursion (IsNodeOf s)) lists) (older : AllByRecursion (AllByRecursion (λ m. number_of m < s.added)) lists)
+    (adds : AddsNode s t n e) (number : number_of n ≡ s.added) (count : t.added ≡ s.added + 1) (after : contents u ≡ contents t) (slot : e.handle.slot ≡ first_free slots) where
+  abbrev by_rows : ℕ → Entry R → Entry R → Ordering
+  by_rows index a b = order index a.row b.row
+
+  known_before : AllByRecursion (AllByRecursion (IsKnown (record_of s) (entries_in (contents s)))) lists
+  known_before = All-map _ _ (λ xs are. All-map _ _ (λ m is. known s m store apart is) xs are) lists nodes
+
+  known_now : AllByRecursion (AllByRecursion (IsKnown (record_of t) (entries_in (contents s)))) lists
+  known_now = All-map _ _ (λ xs are. All-map _ _ (λ m is. known_added s t n e adds (entries_in (contents s)) m is (known s m store apart is)) xs are) lists nodes
+
+  older_now : AllByRecursion (AreOlder n) lists
+  older_now = All-map _ _ (λ xs are. All-map _ _ (λ m less. omega (arith, less, number)) xs are) lists older
+
+  -- its record is the last entry
+  pub entries_joined : entries_in (contents u) ≡ entries_in (contents s) ++ e ∷ []
+  entries_joined = entries_kept t u after ∙ entries_added s t n e adds store number count
+
+  -- its handle stands where a row is put in
+  pub lists_joined : handles_in (record_of u) (changed_from (entered_at by_rows (record_of t) at n) 0 specs lists) ≡ entered_from order (entries_in (contents s)) at e.row e.handle 0 specs (handles_in (record_of s) lists)
+  lists_joined =
+      handles_kept t u (changed_from (entered_at by_rows (record_of t) at n) 0 specs lists) after
+      ∙ (entered_all (record_of t) (entries_in (contents s)) n e (record_added s t n e adds) order at 0 specs lists known_now older_now
+      ∙ ap (entered_from order (entries_in (contents s)) at e.row e.handle 0 specs) (handles_added s t n e adds lists nodes))
+
+  -- no two records lie in one slot
+  pub apart_joined : EachPair (λ a b. (b.handle.slot == a.handle.slot) ≡ false) (entries_in (contents u))
+  apart_joined =
+      let entries = entries_in (contents s) in
+      let free : is_free entries e.handle.slot ≡ _ = ap (is_free entries) (slot ∙ sym (free_slot-is_first_free s slots store leads)) ∙ free_slot-is_free entries in
+      subst (EachPair _) (sym entries_joined) (EachPair-push _ entries e (free_is_apart e.handle.slot entries free) apart)
+
+  -- the slots lead to it
+  pub leads_joined : LeadsTo u (with_item slots (first_free slots) (Some n))
+  leads_joined = leads_kept t u _ after (leads_added s t n e slots adds slot leads)
+
+  -- what bans no row bans no record of it
+  pub allowed_joined : ban_of_handles order (entries_in (contents s)) (handles_in (record_of s) lists) None e.row 0 specs ≡ None → ban_from by_rows (record_of s) lists None e 0 specs ≡ None
+  allowed_joined allowed = none_before (λ at. (at.0, handle_of (record_of s) at.1)) _ (sym (ban_known order (record_of s) (entries_in (contents s)) lists None known_before (told_none (record_of s) lists) e 0 specs) ∙ allowed)
+
+module _ {E R : Type 0} (has_key : E → ℕ → Bool) (order : E → ℕ → R → R → Ordering) (hash : E → ℕ → R → ℕ) where
+  abbrev orders : ByRow E → ℕ → Entry R → Entry R → Ordering
+  orders by index a b = order by.keys index a.row b.row
+
+  -- a set with the same nodes and lists is linked as the old one is
+  pub IsLinked_kept : (old new : IndexSet (Entry R) (ByRow E)) (slots : List (Option Node)) → IsOfSame old new → set.contents new ≡ set.contents old → lists_of new ≡ lists_of old → IsSound (λ by. has_key by.keys) new →
+      IsKeyed orders (λ by index a. hash by.keys index a.row) new → IsLinked has_key order hash old slots → IsLinked has_key order hash new slots
+  IsLinked_kept old new slots same contents lists sound keyed linked = record {
+    sound = sound;
+    keyed = keyed;
+    unique = unique_kept orders old new None same lists contents linked.unique;
+    apart = subst (EachPair _) (sym (entries_kept (store_of old) (store_of new) contents)) linked.apart;
+    leads = leads_kept (store_of old) (store_of new) slots contents linked.leads;
+  }
+
+  -- a set whose store a node has joined, and then each list
+  module _ (total : (keys : E) (i : ℕ) → IsTrue (has_key keys i) → IsTotalOrder (order keys i)) (old mid new : IndexSet (Entry R) (ByRow E)) (slots : List (Option Node)) (at : At) (n : Node) (e : Entry R) (linked : IsLinked has_key order hash old slots)
+      (same : IsOfSame old mid) (before : lists_of mid ≡ lists_of old) (adds : AddsNode (store_of old) (store_of mid) n e) (number : number_of n ≡ (store_of old).added) (count : (store_of mid).added ≡ (store_of old).added + 1)
+      (kept : IsOfSame mid new) (entered : lists_of new ≡ changed_from (entered_at (orders (keys_of mid)) (set.record_of mid) at n) 0 (specs_of mid) (lists_of mid)) (after : set.contents new ≡ set.contents mid)
+      (slot : e.handle.slot ≡ first_free slots) where
+    new_lists : lists_of new ≡ changed_from (entered_at (orders (keys_of old)) (set.record_of mid) at n) 0 (specs_of old) (lists_of old)
+    new_lists = entered ∙ (λ i. changed_from (entered_at (orders (same.keys i)) (set.record_of mid) at n) 0 (same.specs i) (before i))
+
+    pub entries_grown : entries_in (set.contents new) ≡ entries_in (set.contents old) ++ e ∷ []
+    entries_grown =
+        entries_joined (order (keys_of old).keys) (specs_of old) at (store_of old) (store_of mid) (store_of new) (lists_of old) n e slots linked.sound.nodes linked.apart linked.leads
+        (nodes_held old linked.sound) (older old linked.sound) adds number count after slot
+
+    pub lists_grown : handles_in (set.record_of new) (lists_of new) ≡ entered_from (order (keys_of old).keys) (entries_in (set.contents old)) at e.row e.handle 0 (specs_of old) (handles_in (set.record_of old) (lists_of old))
+    lists_grown =
+        ap (handles_in (set.record_of new)) new_lists
+        ∙ lists_joined (order (keys_of old).keys) (specs_of old) at (store_of old) (store_of mid) (store_of new) (lists_of old) n e slots linked.sound.nodes linked.apart linked.leads
+        (nodes_held old linked.sound) (older old linked.sound) adds number count after slot
+
+    pub IsLinked_grown : LackIt (lists_of mid) n → IsSound (λ by. has_key by.keys) new → IsKeyed orders (λ by index a. hash by.keys index a.row) new →
+        ban_of_handles (order (keys_of old).keys) (entries_in (set.contents old)) (handles_in (set.record_of old) (lists_of old)) None e.row 0 (specs_of old) ≡ None →
+        IsLinked has_key order hash new (with_item slots (first_free slots) (Some n))
+    IsLinked_grown loose sound keyed allowed = record {
+      sound = sound;
+      keyed = keyed;
+      unique =
+          unique_after_enter orders (λ keys index has. on_total (λ (x : Entry R). x.row) (total keys.keys index has)) old mid new linked.sound same kept n e at before adds loose entered after
+          (allowed_joined (order (keys_of old).keys) (specs_of old) at (store_of old) (store_of mid) (store_of new) (lists_of old) n e slots linked.sound.nodes linked.apart linked.leads
+          (nodes_held old linked.sound) (older old linked.sound) adds number count after slot allowed)
+          linked.unique;
+      apart =
+          apart_joined (order (keys_of old).keys) (specs_of old) at (store_of old) (store_of mid) (store_of new) (lists_of old) n e slots linked.sound.nodes linked.apart linked.leads
+          (nodes_held old linked.sound) (older old linked.sound) adds number count after slot;
+      leads =
+          leads_joined (order (keys_of old).keys) (specs_of old) at (store_of old) (store_of mid) (store_of new) (lists_of old) n e slots linked.sound.nodes linked.apart linked.leads
+          (nodes_held old linked.sound) (older old linked.sound) adds number count after slot;
+    }

@@ -1,0 +1,211 @@
+-- The members between two bounds, where the sides rise: those from the first within the low bound to the last within the high one.
+use Rattle.std.proofs.Common.{◌≡◌, ℕ, zero, suc, ◌+◌, ◌≤◌, Bool, true, false, cond, ◌&&◌, not, List, [], ◌∷◌, ◌++◌, length, map, take, drop, slice_get, Option, Some, None, refl, sym, ap, ◌∙◌, subst, arith}
+use Rattle.std.specs.Prelude.{count_by, filter, option_and_then}
+use Rattle.std.specs.List.{AllByRecursion}
+use Rattle.std.specs.Ordering.{is_lt, is_le, is_gt, is_ge, ordering_index}
+use Rattle.std.specs.declared.cmp.Ordering.{Ordering}
+use Rattle.std.proofs.lemmas.List.{length-append}
+use Rattle.std.specs.declared.cmp.Ordering.TheVariants.{Less, Equal, Greater}
+use Rattle.std.specs.declared.ops.Bound.{Bound}
+use Rattle.std.specs.declared.ops.Bound.TheVariants.{Unbounded}
+use Rattle.list_model.specs.Order.{EachPair}
+use Rattle.list_model.specs.Place.{Edge, Inclusive, Exclusive, Open, below, not_above, is_from, is_to, range}
+use Rattle.list_model.proofs.Counts.{count_by-cons, count_by_none}
+use Rattle.list_model.proofs.InOrder.{All-map}
+use Rattle.list_model.proofs.Kept.{EachPair-map}
+use Rattle.linked_set.specs.Edges.{edge_of, Rises}
+use Rattle.linked_set.proofs.Walks.{HasMet, one_met}
+
+-- ---- lists
+
+EachPair-drop : {X : Type 0} (P : X → X → Type 0) (i : ℕ) (xs : List X) → EachPair P xs → EachPair P (drop i xs)
+EachPair-drop P zero xs each = each
+EachPair-drop P (suc i) [] each = tt
+EachPair-drop P (suc i) (x ∷ xs) each = EachPair-drop P i xs each.1
+
+pub slice_get-drop : {X : Type 0} (i k : ℕ) (xs : List X) → slice_get (drop i xs) k ≡ slice_get xs (i + k)
+slice_get-drop zero k xs = let n : k ≡ 0 + k = omega arith in ap (slice_get xs) n
+slice_get-drop (suc i) k [] = refl
+slice_get-drop (suc i) k (x ∷ xs) = let n : suc (i + k) ≡ suc i + k = omega arith in slice_get-drop i k xs ∙ ap (slice_get (x ∷ xs)) n
+
+-- what holds of the first members holds of one more
+pub All-take_more : {X : Type 0} (P : X → Type 0) (xs : List X) (i : ℕ) (x : X) → slice_get xs i ≡ Some x → P x → AllByRecursion P (take i xs) → AllByRecursion P (take (suc i) xs)
+All-take_more P [] i x e p all = cc
+All-take_more P (y ∷ ys) zero x e p all = let same : x ≡ y = cc in (subst P same p, tt)
+All-take_more P (y ∷ ys) (suc i) x e p all = (all.0, All-take_more P ys i x e p all.1)
+
+-- a member that is taken where it passes
+pub passed_is : {X : Type 0} (p : X → Bool) (o : Option X) (x : X) → option_and_then (λ y. cond (p y) (Some y) None) o ≡ Some x → (o ≡ Some x) × (p x ≡ true)
+passed_is p None x e = cc
+passed_is p (Some y) x e = by_test (p y) refl e
+  where
+    by_test : (b : Bool) → p y ≡ b → cond b (Some y) None ≡ Some x → (Some y ≡ Some x) × (p x ≡ true)
+    by_test false t k = cc
+    by_test true t k = let same : y ≡ x = cc in (k, ap p (sym same) ∙ t)
+
+-- those that a test lets through from a place on, where it lets through all after the first
+skip_by : {X : Type 0} (from to : X → Bool) (x : X) (xs : List X) (b : Bool) → from x ≡ b → AllByRecursion (λ y. from x ≡ true → from y ≡ true) xs →
+    filter (λ y. from y && to y) xs ≡ filter to (drop (count_by (λ y. not (from y)) xs) xs) →
+    cond (b && to x) (x ∷ filter (λ y. from y && to y) xs) (filter (λ y. from y && to y) xs) ≡ filter to (drop (cond (not b) 1 0 + count_by (λ y. not (from y)) xs) (x ∷ xs))
+skip_by from to x xs false e later rest =
+    let n : suc (count_by (λ y. not (from y)) xs) ≡ 1 + count_by (λ y. not (from y)) xs = omega arith in
+    rest ∙ ap (λ k. filter to (drop k (x ∷ xs))) n
+skip_by from to x xs true e later rest =
+    let none : count_by (λ y. not (from y)) xs ≡ 0 = count_by_none (λ y. not (from y)) xs (All-map _ _ (λ y f. ap not (f e)) xs later) in
+    let whole : filter (λ y. from y && to y) xs ≡ filter to xs = rest ∙ ap (λ n. filter to (drop n xs)) none in
+    let zero_more : 0 + count_by (λ y. not (from y)) xs ≡ 0 = omega (arith, none) in
+    ap (λ l. cond (to x) (x ∷ l) l) whole ∙ sym (ap (λ n. filter to (drop n (x ∷ xs))) zero_more)
+
+pub skipped : {X : Type 0} (from to : X → Bool) (xs : List X) → EachPair (λ x y. from x ≡ true → from y ≡ true) xs → filter (λ x. from x && to x) xs ≡ filter to (drop (count_by (λ x. not (from x)) xs) xs)
+skipped from to [] each = refl
+skipped from to (x ∷ xs) each =
+    skip_by from to x xs (from x) refl each.0 (skipped from to xs each.1) ∙ ap (λ n. filter to (drop n (x ∷ xs))) (sym (count_by-cons (λ y. not (from y)) x xs))
+
+filter_none : {X : Type 0} (to : X → Bool) (xs : List X) → AllByRecursion (λ x. to x ≡ false) xs → filter to xs ≡ []
+filter_none to [] none = refl
+filter_none to (x ∷ xs) none = ap (λ b. cond b (x ∷ filter to xs) (filter to xs)) none.0 ∙ filter_none to xs none.1
+
+not_passed : {X : Type 0} (to : X → Bool) (x : X) (b : Bool) → to x ≡ b → cond b (Some x) None ≡ None → to x ≡ false
+not_passed to x false t e = t
+not_passed to x true t e = cc
+
+-- and up to a place, where it lets through none after the first that it does not
+pub kept : {X : Type 0} (to : X → Bool) (xs : List X) (k : ℕ) → EachPair (λ x y. to x ≡ false → to y ≡ false) xs → AllByRecursion (λ x. to x ≡ true) (take k xs) →
+    option_and_then (λ x. cond (to x) (Some x) None) (slice_get xs k) ≡ None → filter to xs ≡ take k xs
+kept to [] zero each all end = refl
+kept to [] (suc k) each all end = refl
+kept to (x ∷ xs) zero each all end =
+    let no = not_passed to x (to x) refl end in
+    filter_none to (x ∷ xs) (no, All-map _ _ (λ y f. f no) xs each.0)
+kept to (x ∷ xs) (suc k) each all end =
+    ap (λ b. cond b (x ∷ filter to xs) (filter to xs)) all.0 ∙ ap (λ l. x ∷ l) (kept to xs k each.1 all.1 end)
+
+-- ---- sides that rise
+
+ge_rises : (o p : Ordering) → ordering_index o ≤ ordering_index p → is_ge o ≡ true → is_ge p ≡ true
+ge_rises Less p h e = cc
+ge_rises Equal Less h e = absurd (omega (arith, h))
+ge_rises Greater Less h e = absurd (omega (arith, h))
+ge_rises o Equal h e = refl
+ge_rises o Greater h e = refl
+
+gt_rises : (o p : Ordering) → ordering_index o ≤ ordering_index p → is_gt o ≡ true → is_gt p ≡ true
+gt_rises Less p h e = cc
+gt_rises Equal p h e = cc
+gt_rises Greater Less h e = absurd (omega (arith, h))
+gt_rises Greater Equal h e = absurd (omega (arith, h))
+gt_rises Greater Greater h e = refl
+
+lt_falls : (o p : Ordering) → ordering_index o ≤ ordering_index p → is_lt o ≡ false → is_lt p ≡ false
+lt_falls Less p h e = cc
+lt_falls Equal Less h e = absurd (omega (arith, h))
+lt_falls Greater Less h e = absurd (omega (arith, h))
+lt_falls o Equal h e = refl
+lt_falls o Greater h e = refl
+
+le_falls : (o p : Ordering) → ordering_index o ≤ ordering_index p → is_le o ≡ false → is_le p ≡ false
+le_falls Less p h e = cc
+le_falls Equal p h e = cc
+le_falls Greater Less h e = absurd (omega (arith, h))
+le_falls Greater Equal h e = absurd (omega (arith, h))
+le_falls Greater Greater h e = refl
+
+all_units : {X : Type 0} (xs : List X) → AllByRecursion (λ x. Unit {0}) xs
+all_units [] = tt
+all_units (x ∷ xs) = (tt, all_units xs)
+
+each_unit : {X : Type 0} (P : X → X → Type 0) → ((x y : X) → P x y) → (xs : List X) → EachPair P xs
+each_unit P f [] = tt
+each_unit {X} P f (x ∷ xs) = (all_of xs, each_unit P f xs)
+  where
+    all_of : (ys : List X) → AllByRecursion (P x) ys
+    all_of [] = tt
+    all_of (y ∷ ys) = (f x y, all_of ys)
+
+from_rises : {X : Type 0} (low : Edge X) (xs : List X) → Rises low xs → EachPair (λ x y. is_from low x ≡ true → is_from low y ≡ true) xs
+from_rises (Inclusive side) xs h = EachPair-map (λ x. Unit {0}) _ _ (λ x y _ _ le e. ge_rises (side x) (side y) le e) xs (all_units xs) h
+from_rises (Exclusive side) xs h = EachPair-map (λ x. Unit {0}) _ _ (λ x y _ _ le e. gt_rises (side x) (side y) le e) xs (all_units xs) h
+from_rises Open xs h = each_unit _ (λ x y e. refl) xs
+
+to_falls : {X : Type 0} (high : Edge X) (xs : List X) → Rises high xs → EachPair (λ x y. is_to high x ≡ false → is_to high y ≡ false) xs
+to_falls (Inclusive side) xs h = EachPair-map (λ x. Unit {0}) _ _ (λ x y _ _ le e. le_falls (side x) (side y) le e) xs (all_units xs) h
+to_falls (Exclusive side) xs h = EachPair-map (λ x. Unit {0}) _ _ (λ x y _ _ le e. lt_falls (side x) (side y) le e) xs (all_units xs) h
+to_falls Open xs h = each_unit _ (λ x y e. e) xs
+
+-- how many members stand before the low bound
+abbrev pub before : {X : Type 0} → Edge X → List X → ℕ
+before low xs = count_by (λ x. not (is_from low x)) xs
+
+ge_is_not_lt : (o : Ordering) → not (is_ge o) ≡ is_lt o
+ge_is_not_lt Less = refl
+ge_is_not_lt Equal = refl
+ge_is_not_lt Greater = refl
+
+gt_is_not_le : (o : Ordering) → not (is_gt o) ≡ is_le o
+gt_is_not_le Less = refl
+gt_is_not_le Equal = refl
+gt_is_not_le Greater = refl
+
+pub before_inclusive : {X : Type 0} (side : X → Ordering) (xs : List X) → before (Inclusive side) xs ≡ below side xs
+before_inclusive side xs = λ i. count_by (λ x. ge_is_not_lt (side x) i) xs
+
+pub before_exclusive : {X : Type 0} (side : X → Ordering) (xs : List X) → before (Exclusive side) xs ≡ not_above side xs
+before_exclusive side xs = λ i. count_by (λ x. gt_is_not_le (side x) i) xs
+
+all_no : {X : Type 0} (xs : List X) → AllByRecursion (λ x. false ≡ false) xs
+all_no [] = tt
+all_no (x ∷ xs) = (refl, all_no xs)
+
+pub before_open : {X : Type 0} (xs : List X) → before Open xs ≡ 0
+before_open xs = count_by_none (λ x. false) xs (all_no xs)
+
+pub before_unbounded : {P X : Type 0} (side : P → X → Ordering) (bound : Bound P) (xs : List X) → bound ≡ Unbounded → before (edge_of side bound) xs ≡ 0
+before_unbounded side bound xs e = ap (λ b. before (edge_of side b) xs) e ∙ before_open xs
+
+-- ---- a walk from the low bound to the high one
+
+-- what it has met, and the member that it comes to next
+pub record HasWalked {X Y : Type 0} (f : X → Y) (low high : Edge X) (xs : List X) (met : List Y) (next : Option X) : Type 0 where
+  pub place : next ≡ option_and_then (λ x. cond (is_to high x) (Some x) None) (slice_get xs (before low xs + length met))
+  pub passed : HasMet f (drop (before low xs) xs) met
+  pub within : AllByRecursion (λ x. is_to high x ≡ true) (take (length met) (drop (before low xs) xs))
+
+module _ {X Y : Type 0} (f : X → Y) (low high : Edge X) (xs : List X) where
+  pub walk_begun : (met : List Y) (next first : Option X) → met ≡ [] → first ≡ slice_get xs (before low xs) → next ≡ option_and_then (λ x. cond (is_to high x) (Some x) None) first → HasWalked f low high xs met next
+  walk_begun met next first none start is =
+      let n : before low xs ≡ before low xs + 0 = omega arith in
+      subst (λ l. HasWalked f low high xs l next) (sym none) (record {
+        place = is ∙ ap (option_and_then (λ x. cond (is_to high x) (Some x) None)) (start ∙ ap (slice_get xs) n);
+        passed = refl;
+        within = tt;
+      })
+
+  module _ (met : List Y) (now : Option X) (x : X) (is : now ≡ Some x) (walked : HasWalked f low high xs met now) where
+    come : option_and_then (λ y. cond (is_to high y) (Some y) None) (slice_get xs (before low xs + length met)) ≡ Some x
+    come = sym walked.place ∙ is
+
+    -- the member that it came to
+    pub walk_at : slice_get xs (before low xs + length met) ≡ Some x
+    walk_at = (passed_is (is_to high) (slice_get xs (before low xs + length met)) x come).0
+
+    pub walk_goes_on : (more : List Y) (next after : Option X) → more ≡ met ++ f x ∷ [] → after ≡ slice_get xs ((before low xs + length met) + 1) → next ≡ option_and_then (λ y. cond (is_to high y) (Some y) None) after → HasWalked f low high xs more next
+    walk_goes_on more next after pushed here comes =
+        let ys = drop (before low xs) xs in
+        let p = passed_is (is_to high) (slice_get xs (before low xs + length met)) x come in
+        let longer : length (met ++ f x ∷ []) ≡ length met + 1 = length-append met (f x ∷ []) in
+        let next_place : (before low xs + length met) + 1 ≡ before low xs + length (met ++ f x ∷ []) = omega (arith, longer) in
+        let one_more : suc (length met) ≡ length (met ++ f x ∷ []) = omega (arith, longer) in
+        let there : slice_get ys (length met) ≡ Some x = slice_get-drop (before low xs) (length met) xs ∙ p.0 in
+        subst (λ l. HasWalked f low high xs l next) (sym pushed) (record {
+          place = comes ∙ ap (option_and_then (λ y. cond (is_to high y) (Some y) None)) (here ∙ ap (slice_get xs) next_place);
+          passed = one_met f ys met x there walked.passed;
+          within = subst (λ k. AllByRecursion (λ y. is_to high y ≡ true) (take k ys)) one_more (All-take_more (λ y. is_to high y ≡ true) ys (length met) x there p.1 walked.within);
+        })
+
+  -- at its end all between the bounds have been met
+  pub walk_ended : (met : List Y) (now : Option X) → Rises low xs → Rises high xs → now ≡ None → HasWalked f low high xs met now → met ≡ map f (range low high xs)
+  walk_ended met now rises falls over walked =
+      let ys = drop (before low xs) xs in
+      let past = ap (option_and_then (λ x. cond (is_to high x) (Some x) None)) (slice_get-drop (before low xs) (length met) xs) ∙ (sym walked.place ∙ over) in
+      walked.passed ∙ ap (map f) (sym (skipped (is_from low) (is_to high) xs (from_rises low xs rises)
+      ∙ kept (is_to high) ys (length met) (EachPair-drop _ (before low xs) xs (to_falls high xs falls)) walked.within past))

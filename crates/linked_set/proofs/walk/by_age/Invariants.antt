@@ -1,0 +1,14 @@
+use Rattle.any_index.specs.Side.{AreNodesOf}
+use Rattle.index_set.specs.Set.{store_of, record_of}
+use Rattle.linked_set.specs.Linked.{handle_of}
+use Rattle.linked_set.proofs.Ages.{left, HasPassed}
+use Rattle.linked_set.proofs.walk.by_age.Given as goal
+
+abbrev pub invariant-loop-next : goal.invariant-loop-next
+invariant-loop-next g l = record {
+  nodes : AreNodesOf (store_of l.set) l.next;
+  passed : HasPassed (handle_of (record_of l.set)) (store_of l.set) l.next l.handles.items;
+}
+
+abbrev pub decreases-loop-next : goal.decreases-loop-next
+decreases-loop-next g l = left l.next

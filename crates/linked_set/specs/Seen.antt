@@ -1,0 +1,33 @@
+-- The container that a set of nodes is.
+use Rattle.std.specs.Prelude.{◌≡◌, ℕ, ◌==◌, Bool, false, List, Option, None}
+use Rattle.std.specs.declared.cmp.Ordering.{Ordering}
+use Rattle.list_model.specs.Order.{EachPair}
+use Rattle.node_store.specs.declared.Node.{Node}
+use Rattle.index_set.specs.declared.set.IndexSet.{IndexSet}
+use Rattle.index_set.specs.Set.{store_of, keys_of, specs_of, contents, record_of, lists_of, IsSound, IsKeyed, IsUniqueExcept}
+use Rattle.container_model.specs.declared.handle.Entry.{Entry}
+use Rattle.container_model.specs.State.{State}
+use Rattle.linked_set.specs.declared.by_row.ByRow.{ByRow}
+use Rattle.linked_set.specs.Linked.{entries_in, handles_in}
+use Rattle.linked_set.specs.LeadsTo.{LeadsTo}
+
+module _ {E R : Type 0} where
+  -- the container that a set of nodes is
+  abbrev pub seen : IndexSet (Entry R) (ByRow E) → ℕ → ℕ → State E R
+  seen set max writes =
+      record {
+        keys = (keys_of set).keys;
+        specs = specs_of set;
+        max = max;
+        writes = writes;
+        entries = entries_in (contents set);
+        lists = handles_in (record_of set) (lists_of set);
+      }
+
+  -- a set whose indices each have all of its nodes where their rows' keys put them, and slots that lead to them
+  pub record IsLinked (has_key : E → ℕ → Bool) (order : E → ℕ → R → R → Ordering) (hash : E → ℕ → R → ℕ) (set : IndexSet (Entry R) (ByRow E)) (slots : List (Option Node)) : Type 0 where
+    pub sound : IsSound (λ by. has_key by.keys) set
+    pub keyed : IsKeyed (λ by index a b. order by.keys index a.row b.row) (λ by index a. hash by.keys index a.row) set
+    pub unique : IsUniqueExcept (λ by index a b. order by.keys index a.row b.row) set None
+    pub apart : EachPair (λ a b. (b.handle.slot == a.handle.slot) ≡ false) (entries_in (contents set))
+    pub leads : LeadsTo (store_of set) slots

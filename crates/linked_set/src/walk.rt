@@ -1,0 +1,50 @@
+//! The handles of all records, one after the other.
+ghost use Rattle.std.specs.Prelude.{◌≡◌, ◌<◌, IfOk, IsTrue, length, map, not};
+ghost use Rattle.container_model.specs.State.{is_hashed_kind};
+ghost use Rattle.index_set.specs.Set.{contents, record_of, specs_of, list_of, kind_at, IsSound};
+ghost use Rattle.linked_set.specs.Linked.{handle_of, nodes_in};
+
+use crate::by_row::ByRow;
+use crate::linked::handle_at;
+use container_model::{Entry, Handle};
+use index_set::IndexSet;
+use key_extract::Extract;
+use std::alloc::{AllocError, Global};
+
+/// Those of an index that is not hashed, in its order. O(records).
+pub fn in_order<R, E: Extract<R>>(
+    alloc: Global,
+    set: &IndexSet<Entry<R>, ByRow<E>>,
+    index: usize,
+) -> Result<Vec<Handle>, AllocError>
+    requires sound { IsSound (λ by. E.has_key by.keys) set.now }
+    requires index { index < length (specs_of set.now) }
+    requires kind { IsTrue (not (is_hashed_kind (kind_at set.now index))) }
+    ensures { IfOk result (λ handles. handles.items ≡ map (handle_of (record_of set.now)) (list_of set.now index)) }
+{
+    let mut handles = Vec::with_capacity(alloc, set.len())?;
+    let mut next = set.first(index);
+    while let Some(node) = next {
+        handles.push(handle_at(set, node))?;
+        next = set.next(index, node);
+    }
+    Ok(handles)
+}
+
+/// Those of all records, in the order of their adds. O(records).
+pub fn by_age<R, E: Extract<R>>(
+    alloc: Global,
+    set: &IndexSet<Entry<R>, ByRow<E>>,
+) -> Result<Vec<Handle>, AllocError>
+    requires { IsSound (λ by. E.has_key by.keys) set.now }
+    ensures { IfOk result (λ handles. handles.items ≡ map (handle_of (record_of set.now)) (nodes_in (contents set.now))) }
+{
+    let mut handles = Vec::with_capacity(alloc, set.len())?;
+    let mut next = set.newest();
+    while let Some(node) = next {
+        handles.push(handle_at(set, node))?;
+        next = set.older(node);
+    }
+    handles.reverse();
+    Ok(handles)
+}

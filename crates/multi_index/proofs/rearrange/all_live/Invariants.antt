@@ -1,8 +1,0 @@
-use Rattle.std.proofs.Common.{◌≡◌, true, take}
-use Rattle.std.specs.List.{AllByRecursion}
-use Rattle.container_model.specs.Find.{is_live}
-use Rattle.multi_index.specs.Seen.{seen}
-use Rattle.multi_index.proofs.rearrange.all_live.Given as goal
-
-abbrev pub invariant-loop-handle : goal.invariant-loop-handle
-invariant-loop-handle g l = AllByRecursion (λ h. is_live (seen l.set 0 0) h ≡ true) (take l.handle-index l.handles)
