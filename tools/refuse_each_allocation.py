@@ -60,6 +60,10 @@ CHANGES = b"".join(it + b"\n" + it + b"\n" for it in b"""\
 {"op":"replace","t":"p","h":"2:3","r":{"id":1,"g":"b","n":7}}
 {"op":"replace","t":"p","h":"2:9","r":{"id":2,"g":"b","n":7}}
 {"op":"replace","t":"p","h":"2:3","r":{"id":2,"g":"b"}}
+{"op":"modify","t":"p","h":"2:3","set":{"g":"z"},"add":{"n":-1}}
+{"op":"modify","t":"p","h":"2:3","set":{"id":1,"g":"y"},"rollback":true}
+{"op":"modify","t":"p","h":"2:3","add":{"n":9223372036854775807}}
+{"op":"modify_key","t":"p","i":"c","h":"2:3","k":["b",7]}
 {"op":"move","t":"p","i":"v","h":"0:1","p":4}
 {"op":"move","t":"p","i":"w","h":"1:2","p":9}
 {"op":"move","t":"p","i":"w","h":"1","p":0}
@@ -73,6 +77,7 @@ CHANGES = b"".join(it + b"\n" + it + b"\n" for it in b"""\
 {"op":"erase","t":"p","h":"0:1","i":"w"}
 {"op":"erase","t":"p","h":"3:4","i":"h"}
 {"op":"insert","t":"p","r":{"id":7,"g":"c","n":7}}
+{"op":"modify_key","t":"p","i":"u","h":"0:22","k":[4]}
 {"op":"erase_key","t":"p","i":"c","k":["b",7]}
 {"op":"erase_key","t":"p","i":"x","k":["b"]}
 {"op":"erase_key","t":"p","i":"h","k":["b"]}""".split(b"\n"))
@@ -82,6 +87,8 @@ READS = b"""\
 {"op":"get","t":"p","h":"1:2"}
 {"op":"lower","t":"p","i":"c","k":["a",1]}
 {"op":"upper","t":"p","i":"u","k":[9]}
+{"op":"range","t":"p","i":"c","ge":["a"],"lt":["b",1]}
+{"op":"range","t":"p","i":"u"}
 {"op":"nth","t":"p","i":"r","n":0}
 {"op":"nth","t":"p","i":"v","n":9}
 {"op":"rank","t":"p","i":"r","h":"4:5"}

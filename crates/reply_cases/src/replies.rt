@@ -12,6 +12,9 @@ const LAST: Handle = Handle {
     stamp: u64::MAX,
 };
 
+// The longest name that an index may have.
+const LONGEST_NAME: &str = "a_name_of_32_letters_or_digits_0";
+
 const FAULTS: [Fault; 15] = [
     Fault::Line,
     Fault::Json,
@@ -42,6 +45,14 @@ fn next(at: u64, next: Option<Handle>) -> Reply<'static> {
     Reply::Next { at, next }
 }
 
+fn banned(at: u64, index: &'static str, by: Handle) -> Reply<'static> {
+    Reply::Banned { at, index, by }
+}
+
+fn erased(at: u64, index: &'static str, by: Handle) -> Reply<'static> {
+    Reply::Erased { at, index, by }
+}
+
 fn push(out: &mut Out, text: &str) -> Result<(), AllocError> {
     out.try_push(text.as_bytes()).map_err(|_| AllocError)
 }
@@ -64,14 +75,8 @@ pub fn tell_replies(alloc: Global) -> Result<Out, AllocError> {
     tell(&mut out, &next(4, Some(FIRST)))?;
     tell(&mut out, &next(0, None))?;
     tell(&mut out, &next(u64::MAX, Some(LAST)))?;
-    tell(
-        &mut out,
-        &Reply::Banned {
-            at: 2,
-            index: "u",
-            by: FIRST,
-        },
-    )?;
+    tell(&mut out, &banned(2, "u", FIRST))?;
+    tell(&mut out, &erased(u64::MAX, LONGEST_NAME, LAST))?;
     tell(
         &mut out,
         &Reply::Listed {

@@ -2,7 +2,9 @@
 
 use crate::report::Report;
 use std::alloc::AllocError;
-use table_cmd::{Cell, Command, Fields, HandleText, Handles, Key, Names, Position, Text, Value};
+use table_cmd::{
+    Cell, Changes, Command, Fields, HandleText, Handles, Key, KeyBound, Names, Position, Text, Value,
+};
 
 /// The longest text that is shown whole, in bytes.
 const MAX_SHOWN: usize = 64;
@@ -14,8 +16,11 @@ enum Parts<'a> {
     Handle(HandleText),
     Row(&'a Fields, Option<&'a Position>),
     NewRow(HandleText, &'a Fields),
+    Changes(HandleText, &'a Changes, bool),
     Index(&'a Text),
     Key(&'a Text, &'a Key),
+    NewKey(&'a Text, HandleText, &'a Key, bool),
+    Range(&'a Text, &'a KeyBound, &'a KeyBound),
     // A record, or the end.
     At(&'a Text, Option<HandleText>),
     Place(&'a Text, u64),
@@ -24,7 +29,27 @@ enum Parts<'a> {
     By(&'a Text, &'a Names),
 }
 
-// The op of a change, and the rest.
+// The op of a modification, and the rest.
+fn parts_of_modification(command: &Command) -> Option<(&'static str, Parts<'_>)> {
+    Some(match command {
+        Command::Modify {
+            handle,
+            changes,
+            rollback,
+            ..
+        } => ("modify", Parts::Changes(*handle, changes, *rollback)),
+        Command::ModifyKey {
+            index,
+            handle,
+            key,
+            rollback,
+            ..
+        } => ("modify_key", Parts::NewKey(index, *handle, key, *rollback)),
+        _ => return None,
+    })
+}
+
+// The op of another change, and the rest.
 fn parts_of_change(command: &Command) -> Option<(&'static str, Parts<'_>)> {
     Some(match command {
         Command::Insert { row, position, .. } => ("insert", Parts::Row(row, position.as_ref())),
@@ -62,6 +87,9 @@ fn parts_of_read(command: &Command) -> (&'static str, Parts<'_>) {
         Command::Count { index, key, .. } => ("count", Parts::Key(index, key)),
         Command::Lower { index, key, .. } => ("lower", Parts::Key(index, key)),
         Command::Upper { index, key, .. } => ("upper", Parts::Key(index, key)),
+        Command::Range {
+            index, low, high, ..
+        } => ("range", Parts::Range(index, low, high)),
         Command::Nth { index, place, .. } => ("nth", Parts::Place(index, *place)),
         Command::Rank {
             index,
@@ -164,6 +192,45 @@ fn tell_place(place: u64, report: &mut Report) -> Result<(), AllocError> {
     report.number(place)
 }
 
+fn tell_rollback(rollback: bool, report: &mut Report) -> Result<(), AllocError> {
+    if rollback {
+        tell_word("rollback", report)?;
+    }
+    Ok(())
+}
+
+fn tell_changes(changes: &Changes, report: &mut Report) -> Result<(), AllocError> {
+    if let Changes::Set(set) | Changes::Both { set, .. } = changes {
+        tell_word("set", report)?;
+        tell_row(set, report)?;
+    }
+    if let Changes::Add(add) | Changes::Both { add, .. } = changes {
+        tell_word("add", report)?;
+        tell_row(add, report)?;
+    }
+    Ok(())
+}
+
+// A bound, under one word where its key is in the range and another where it is not.
+fn tell_bound(
+    within: &str,
+    beyond: &str,
+    bound: &KeyBound,
+    report: &mut Report,
+) -> Result<(), AllocError> {
+    match bound {
+        KeyBound::Included(key) => {
+            tell_word(within, report)?;
+            tell_key(key, report)
+        }
+        KeyBound::Excluded(key) => {
+            tell_word(beyond, report)?;
+            tell_key(key, report)
+        }
+        KeyBound::Unbounded => Ok(()),
+    }
+}
+
 fn tell_parts(parts: Parts, report: &mut Report) -> Result<(), AllocError> {
     match parts {
         Parts::Table => Ok(()),
@@ -178,6 +245,29 @@ fn tell_parts(parts: Parts, report: &mut Report) -> Result<(), AllocError> {
         Parts::NewRow(handle, row) => {
             tell_handle(Some(handle), report)?;
             tell_row(row, report)
+        }
+        Parts::Changes(handle, changes, rollback) => {
+            tell_handle(Some(handle), report)?;
+            tell_changes(changes, report)?;
+            tell_rollback(rollback, report)
+        }
+        other => tell_parts_at_index(other, report),
+    }
+}
+
+// What a command on an index has beside its op and its table.
+fn tell_parts_at_index(parts: Parts, report: &mut Report) -> Result<(), AllocError> {
+    match parts {
+        Parts::NewKey(index, handle, key, rollback) => {
+            tell_word(index.as_str(), report)?;
+            tell_handle(Some(handle), report)?;
+            tell_key(key, report)?;
+            tell_rollback(rollback, report)
+        }
+        Parts::Range(index, low, high) => {
+            tell_word(index.as_str(), report)?;
+            tell_bound("ge", "gt", low, report)?;
+            tell_bound("le", "lt", high, report)
         }
         Parts::Index(index) => tell_word(index.as_str(), report),
         Parts::Key(index, key) => {
@@ -205,12 +295,14 @@ fn tell_parts(parts: Parts, report: &mut Report) -> Result<(), AllocError> {
             tell_word(index.as_str(), report)?;
             tell_names(names, report)
         }
+        _ => Ok(()),
     }
 }
 
 /// Adds the command in short: its op, its names, and its values.
 pub fn tell_command(command: &Command, report: &mut Report) -> Result<(), AllocError> {
-    let (op, parts) = match parts_of_change(command) {
+    let change = parts_of_modification(command).or_else(|| parts_of_change(command));
+    let (op, parts) = match change {
         Some(change) => change,
         None => parts_of_read(command),
     };

@@ -1,11 +1,13 @@
 -- A change that is no write leaves the table, and each change its shape.
-use Rattle.std.proofs.Common.{◌≡◌, ℕ, Option, Some, None, Result, Ok, Err, List, refl, sym, ap, ◌∙◌}
+use Rattle.std.proofs.Common.{◌≡◌, ℕ, Bool, true, false, cond, Option, Some, None, Result, Ok, Err, List, refl, sym, ap, ◌∙◌}
 use Rattle.container_model.specs.declared.handle.Handle.{Handle}
 use Rattle.container_model.specs.declared.refusal.Why.{Why}
-use Rattle.container_model.specs.Change.{erase_key_refusal, erase_refusal, replace_refusal, spent}
+use Rattle.container_model.specs.Change.{erase_key_refusal, erase_refusal, modify_refusal, replace_refusal, spent}
 use Rattle.container_model.specs.Insert.{At}
 use Rattle.container_model.specs.Sequence.{rearrange_refusal, relocate_refusal, sequence_refusal}
-use Rattle.container_model.specs.State.{State}
+use Rattle.container_model.specs.State.{State, row_of}
+use Rattle.key_extract.specs.Keys.{parts_at}
+use Rattle.table_cmd.specs.Command.{added_in, set_in}
 use Rattle.table_cmd.specs.declared.command.Command.{Command}
 use Rattle.table_cmd.specs.declared.command.Command.TheVariants as commands
 use Rattle.table_cmd.specs.declared.command.Field.{Field}
@@ -14,6 +16,7 @@ use Rattle.table_cmd.specs.declared.command.Position.{Position}
 use Rattle.table_cmd.specs.declared.command.Value.{Value}
 use Rattle.table_changes.specs.Change.{change_step}
 use Rattle.table_changes.specs.Changes.{clear_step, erase_probe, erase_record, erase_step, erase_text, replace_row, replace_step, insert_fields, insert_row, insert_step}
+use Rattle.table_changes.specs.Modify.{at_row, change_row, edit_record, modify_key_step, modify_row, modify_step, put_key}
 use Rattle.table_changes.specs.Moves.{move_record, move_step, parts_named, rearrange_in, rearrange_step, reverse_in, reverse_step, sort_in, sort_step}
 use Rattle.table_records.specs.Changes.{refusal_at}
 use Rattle.table_reply.specs.Answer.{Answer}
@@ -23,9 +26,10 @@ use Rattle.table_terms.specs.declared.kinds.Kinds.{Kinds}
 use Rattle.table_terms.specs.declared.kinds.Kinds.TheVariants as kinds
 use Rattle.table_terms.specs.declared.outcome.Outcome.{Outcome}
 use Rattle.table_terms.specs.declared.outcome.Outcome.TheVariants as outcomes
+use Rattle.table_terms.specs.Edits.{edited_row, is_edit, keyed_row}
 use Rattle.table_terms.specs.Step.{Step, Steps, Took, changed, refused, then_step}
-use Rattle.table_terms.specs.Table.{TableState, Cells, Keys, row_order}
-use Rattle.table_terms.specs.Words.{at_key, handle_for, key_for, or_fault, place_for, record_for, spelled}
+use Rattle.table_terms.specs.Table.{TableState, Cells, Keys, keys_of, row_order}
+use Rattle.table_terms.specs.Words.{at_key, handle_for, key_for, or_fault, place_for, record_for, spelled, whole_key_for}
 
 -- the table is the same unless it was written to, and of the same shape
 pub record KeepsUnlessWritten (t : TableState) (step : Step) : Type 0 where
@@ -58,9 +62,43 @@ module _ (t : TableState) where
   insert_keeps fields None = fields_keep None fields
   insert_keeps fields (Some position) = after_keeps _ _ (λ place. fields_keep (Some (place, position.place)) fields)
 
-  replace_keeps : (text : HandleText) (fields : List Field) → KeepsUnlessWritten t (replace_step t text fields)
+  replace_row_keeps : (h : Handle) (row : Cells) → KeepsUnlessWritten t (replace_row t h row)
   unfolding replace_row
-  replace_keeps text fields = after_keeps _ _ (λ row. after_keeps (handle_for text) _ (λ h. changed_keeps (replace_refusal row_order t.records h row) _ _))
+  replace_row_keeps h row = changed_keeps (replace_refusal row_order t.records h row) _ _
+
+  replace_keeps : (text : HandleText) (fields : List Field) → KeepsUnlessWritten t (replace_step t text fields)
+  replace_keeps text fields = after_keeps _ _ (λ row. after_keeps (handle_for text) _ (λ h. replace_row_keeps h row))
+
+  modify_row_keeps : (h : Handle) (row : Cells) → KeepsUnlessWritten t (modify_row t h row)
+  unfolding modify_row
+  modify_row_keeps h row = changed_keeps (modify_refusal t.records h) _ _
+
+  change_row_keeps : (rollback : Bool) (h : Handle) (row : Cells) → KeepsUnlessWritten t (change_row t rollback h row)
+  change_row_keeps true h row = replace_row_keeps h row
+  change_row_keeps false h row = modify_row_keeps h row
+
+  at_row_keeps : (h : Handle) (step : Cells → Step) → ((row : Cells) → KeepsUnlessWritten t (step row)) → KeepsUnlessWritten t (at_row t h step)
+  at_row_keeps h step k = after_keeps (or_fault faults.Handle (row_of t.records.entries h)) step k
+
+  edit_keeps : (set add : List Field) (rollback : Bool) (h : Handle) → KeepsUnlessWritten t (edit_record t set add rollback h)
+  unfolding edit_record
+  edit_keeps set add rollback h =
+      at_row_keeps h _ (λ row. after_keeps (or_fault faults.Overflow (edited_row t.shape.columns set add row)) _ (change_row_keeps rollback h))
+
+  tested_keeps : (b : Bool) (step : Step) (why : Fault) → KeepsUnlessWritten t step → KeepsUnlessWritten t (cond b step (refused t why))
+  tested_keeps true step why k = k
+  tested_keeps false step why k = refused_keeps why
+
+  modify_keeps : (text : HandleText) (set add : List Field) (rollback : Bool) → KeepsUnlessWritten t (modify_step t text set add rollback)
+  modify_keeps text set add rollback = tested_keeps (is_edit t.shape.columns set add) _ faults.Row (after_keeps (handle_for text) _ (edit_keeps set add rollback))
+
+  put_key_keeps : (place : ℕ) (key : Cells) (rollback : Bool) (h : Handle) → KeepsUnlessWritten t (put_key t place key rollback h)
+  unfolding put_key
+  put_key_keeps place key rollback h = at_row_keeps h _ (λ row. change_row_keeps rollback h (keyed_row (parts_at (keys_of t.shape) place) key row))
+
+  modify_key_keeps : (name : List ℕ) (text : HandleText) (values : List Value) (rollback : Bool) → KeepsUnlessWritten t (modify_key_step t name text values rollback)
+  modify_key_keeps name text values rollback =
+      after_keeps (whole_key_for t.shape name values) _ (λ key. after_keeps (handle_for text) _ (put_key_keeps key.0 key.1 rollback))
 
   erase_keeps : (text : HandleText) (index : Option ℕ) → KeepsUnlessWritten t (erase_text t text index)
   unfolding erase_record
@@ -101,6 +139,8 @@ module _ (t : TableState) where
   pub change_keeps : (command : Command) → KeepsUnlessWritten t (change_step t command)
   change_keeps (commands.Insert table row position) = insert_keeps row position
   change_keeps (commands.Replace table handle row) = replace_keeps handle row
+  change_keeps (commands.Modify table handle changes rollback) = modify_keeps handle (set_in changes) (added_in changes) rollback
+  change_keeps (commands.ModifyKey table index handle key rollback) = modify_key_keeps index handle key rollback
   change_keeps (commands.Erase table handle index) = erase_at_keeps handle index
   change_keeps (commands.EraseKey table index key) = key_keeps kinds.Keyed index key (erase_probe t) erase_key_keeps
   change_keeps (commands.Clear table) = clear_keeps

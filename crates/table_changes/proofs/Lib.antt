@@ -1,2 +1,3 @@
 pub mod Kept
+pub mod Modified
 pub mod Refused

@@ -1,8 +1,10 @@
 -- One change of a table.
 use Rattle.std.specs.Prelude.{Bool, true, false}
+use Rattle.table_cmd.specs.Command.{added_in, set_in}
 use Rattle.table_cmd.specs.declared.command.Command.{Command}
 use Rattle.table_cmd.specs.declared.command.Command.TheVariants as commands
 use Rattle.table_changes.specs.Changes.{clear_step, erase_key_step, erase_step, insert_step, replace_step}
+use Rattle.table_changes.specs.Modify.{modify_key_step, modify_step}
 use Rattle.table_changes.specs.Moves.{move_step, rearrange_step, reverse_step, sort_step}
 use Rattle.table_reply.specs.declared.fault.Fault.TheVariants as faults
 use Rattle.table_terms.specs.Step.{Step, refused}
@@ -12,6 +14,8 @@ use Rattle.table_terms.specs.Table.{TableState}
 abbrev pub is_change : Command → Bool
 is_change (commands.Insert table row position) = true
 is_change (commands.Replace table handle row) = true
+is_change (commands.Modify table handle changes rollback) = true
+is_change (commands.ModifyKey table index handle key rollback) = true
 is_change (commands.Erase table handle index) = true
 is_change (commands.EraseKey table index key) = true
 is_change (commands.Clear table) = true
@@ -25,6 +29,8 @@ is_change read = false
 abbrev pub change_step : TableState → Command → Step
 change_step t (commands.Insert table row position) = insert_step t row position
 change_step t (commands.Replace table handle row) = replace_step t handle row
+change_step t (commands.Modify table handle changes rollback) = modify_step t handle (set_in changes) (added_in changes) rollback
+change_step t (commands.ModifyKey table index handle key rollback) = modify_key_step t index handle key rollback
 change_step t (commands.Erase table handle index) = erase_step t handle index
 change_step t (commands.EraseKey table index key) = erase_key_step t index key
 change_step t (commands.Clear table) = clear_step t

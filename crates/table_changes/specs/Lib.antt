@@ -1,3 +1,4 @@
 pub mod Changes
 pub mod Moves
+pub mod Modify
 pub mod Change

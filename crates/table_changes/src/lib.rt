@@ -3,6 +3,7 @@
 
 mod erase;
 mod insert;
+mod modify;
 mod moves;
 mod replace;
 mod step;

@@ -38,7 +38,7 @@ pub(crate) fn replace(
 }
 
 #[tactic(auto, unfolding(crate::specs::Changes::replace_row))]
-fn replace_row(records: &mut Records, handle: Handle, row: Row, out: &mut Out) -> Outcome
+pub(crate) fn replace_row(records: &mut Records, handle: Handle, row: Row, out: &mut Out) -> Outcome
     requires { READY_ROOM ≤ out.old.room }
     ensures answer { Steps result out.old.bytes out.new.bytes records.old records.new (replace_row records.old handle row) }
     ensures short { IsShort result out.old.bytes out.new.bytes }

@@ -7,6 +7,7 @@ ghost use Rattle.table_terms.specs.Step.{IsShort, Steps};
 
 use crate::erase::{clear, erase, erase_key};
 use crate::insert::insert;
+use crate::modify::{modify, modify_key};
 use crate::moves::{move_before, rearrange, reverse, sort};
 use crate::replace::replace;
 use std::alloc::Global;
@@ -23,6 +24,8 @@ pub fn is_change(command: &Command) -> bool
         command,
         Command::Insert { .. }
             | Command::Replace { .. }
+            | Command::Modify { .. }
+            | Command::ModifyKey { .. }
             | Command::Erase { .. }
             | Command::EraseKey { .. }
             | Command::Clear { .. }
@@ -37,7 +40,7 @@ pub fn is_change(command: &Command) -> bool
 /// changes none is refused as `command`. A refused command changes nothing. Where memory is refused nothing is changed and
 /// the memory line is appended; an accepted write is always answered.
 ///
-/// An insertion and a replacement read their row in O(columns · fields), besides what the container's own call costs.
+/// An insertion, a replacement and a modification read their row in O(columns · fields), besides what the container's own call costs.
 pub fn change(alloc: Global, records: &mut Records, command: &Command, out: &mut Out) -> Outcome
     requires { READY_ROOM ≤ out.old.room }
     ensures answer { Steps result out.old.bytes out.new.bytes records.old records.new (change_step records.old command.now) }
@@ -49,6 +52,19 @@ pub fn change(alloc: Global, records: &mut Records, command: &Command, out: &mut
             insert(alloc, records, row, position.as_ref(), out)
         }
         Command::Replace { handle, row, .. } => replace(alloc, records, *handle, row, out),
+        Command::Modify {
+            handle,
+            changes,
+            rollback,
+            ..
+        } => modify(alloc, records, *handle, changes, *rollback, out),
+        Command::ModifyKey {
+            index,
+            handle,
+            key,
+            rollback,
+            ..
+        } => modify_key(alloc, records, index, *handle, key, *rollback, out),
         Command::Erase { handle, index, .. } => erase(records, *handle, index.as_ref(), out),
         Command::EraseKey { index, key, .. } => erase_key(alloc, records, index, key, out),
         Command::Clear { .. } => clear(records, out),

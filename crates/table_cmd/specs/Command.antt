@@ -1,12 +1,17 @@
--- What a command says of its table.
-use Rattle.std.specs.Prelude.{ℕ, List}
+-- What a command says of its table, and of the cells that it changes.
+use Rattle.std.specs.Prelude.{ℕ, List, []}
+use Rattle.table_cmd.specs.declared.command.Changes.{Changes}
+use Rattle.table_cmd.specs.declared.command.Changes.TheVariants as changes
 use Rattle.table_cmd.specs.declared.command.Command.{Command}
 use Rattle.table_cmd.specs.declared.command.Command.TheVariants as commands
+use Rattle.table_cmd.specs.declared.command.Field.{Field}
 
 -- the table that a command names
 abbrev pub table_in : Command → List ℕ
 table_in (commands.Insert table row position) = table
 table_in (commands.Replace table handle row) = table
+table_in (commands.Modify table handle changes rollback) = table
+table_in (commands.ModifyKey table index handle key rollback) = table
 table_in (commands.Erase table handle index) = table
 table_in (commands.EraseKey table index key) = table
 table_in (commands.Clear table) = table
@@ -20,6 +25,7 @@ table_in (commands.Find table index key) = table
 table_in (commands.Count table index key) = table
 table_in (commands.Lower table index key) = table
 table_in (commands.Upper table index key) = table
+table_in (commands.Range table index low high) = table
 table_in (commands.Nth table index place) = table
 table_in (commands.Rank table index position) = table
 table_in (commands.Place table index handle) = table
@@ -29,3 +35,15 @@ table_in (commands.UpperRank table index key) = table
 table_in (commands.Next table index position) = table
 table_in (commands.Prev table index position) = table
 table_in (commands.List table index) = table
+
+-- the cells that become a value
+abbrev pub set_in : Changes → List Field
+set_in (changes.Set set) = set
+set_in (changes.Add add) = []
+set_in (changes.Both set add) = set
+
+-- the cells to which a value is added
+abbrev pub added_in : Changes → List Field
+added_in (changes.Set set) = []
+added_in (changes.Add add) = add
+added_in (changes.Both set add) = add

@@ -21,7 +21,7 @@ use Rattle.table_cmd.specs.declared.command.HandleText.{HandleText}
 use Rattle.table_cmd.specs.declared.fault.CommandFault.{CommandFault}
 use Rattle.table_cmd.specs.declared.fault.CommandFault.TheVariants as faults
 use Rattle.table_cmd.specs.Op.{op_of, keys_of}
-use Rattle.table_cmd.specs.Parts.{◌>>=◌, has_only, text_at, key_at, row_at, handle_at, end_at, count_at, handles_at, names_at, text_if_given, position_at, or_fault}
+use Rattle.table_cmd.specs.Parts.{◌>>=◌, has_only, text_at, key_at, row_at, handle_at, end_at, count_at, handles_at, names_at, text_if_given, position_at, changes_at, rollback_at, bound_at, or_fault}
 
 -- an insertion: a table and a row, and perhaps where it goes at an index
 unfoldable pub insert_of : Data → Option Command
@@ -38,6 +38,25 @@ replace_of d = do
   handle ← handle_at d
   row ← row_at d
   Some (commands.Replace table handle row)
+
+-- a modification: a table, a handle and changes, and perhaps whether they are undone at a ban
+unfoldable pub modify_of : Data → Option Command
+modify_of d = do
+  table ← text_at (codes "t") d
+  handle ← handle_at d
+  changes ← changes_at (get (codes "set") d) (get (codes "add") d)
+  rollback ← rollback_at d
+  Some (commands.Modify table handle changes rollback)
+
+-- a modification of a key: a table, an index, a handle and a key, and perhaps whether it is undone at a ban
+unfoldable pub modify_key_of : Data → Option Command
+modify_key_of d = do
+  table ← text_at (codes "t") d
+  index ← text_at (codes "i") d
+  handle ← handle_at d
+  key ← key_at d
+  rollback ← rollback_at d
+  Some (commands.ModifyKey table index handle key rollback)
 
 -- an erasure: a table and a handle, and perhaps an index
 unfoldable pub erase_of : Data → Option Command
@@ -95,6 +114,15 @@ place_of d = do
   handle ← handle_at d
   Some (commands.Place table index handle)
 
+-- the records between bounds: a table and an index, and perhaps a low and a high bound
+unfoldable pub range_of : Data → Option Command
+range_of d = do
+  table ← text_at (codes "t") d
+  index ← text_at (codes "i") d
+  low ← bound_at (get (codes "ge") d) (get (codes "gt") d)
+  high ← bound_at (get (codes "le") d) (get (codes "lt") d)
+  Some (commands.Range table index low high)
+
 -- a command on a table as a whole
 unfoldable pub on_table : TableOp → List ℕ → Command
 on_table Clear table = commands.Clear table
@@ -151,6 +179,8 @@ position_command op d = do
 abbrev pub shaped : Op → Data → Option Command
 shaped ops.Insert d = insert_of d
 shaped ops.Replace d = replace_of d
+shaped ops.Modify d = modify_of d
+shaped ops.ModifyKey d = modify_key_of d
 shaped ops.Erase d = erase_of d
 shaped ops.Move d = move_of d
 shaped ops.Rearrange d = rearrange_of d
@@ -158,6 +188,7 @@ shaped ops.Sort d = sort_of d
 shaped ops.Get d = get_of d
 shaped ops.Nth d = nth_of d
 shaped ops.Place d = place_of d
+shaped ops.Range d = range_of d
 shaped (ops.OnTable op) d = table_command op d
 shaped (ops.OnIndex op) d = index_command op d
 shaped (ops.OnKey op) d = key_command op d

@@ -12,6 +12,8 @@ abbrev pub op_names : List (List ℕ × Op)
 op_names =
     (codes "insert", ops.Insert)
     ∷ (codes "replace", ops.Replace)
+    ∷ (codes "modify", ops.Modify)
+    ∷ (codes "modify_key", ops.ModifyKey)
     ∷ (codes "erase", ops.Erase)
     ∷ (codes "erase_key", ops.OnKey EraseKey)
     ∷ (codes "clear", ops.OnTable Clear)
@@ -25,6 +27,7 @@ op_names =
     ∷ (codes "count", ops.OnKey Count)
     ∷ (codes "lower", ops.OnKey Lower)
     ∷ (codes "upper", ops.OnKey Upper)
+    ∷ (codes "range", ops.Range)
     ∷ (codes "nth", ops.Nth)
     ∷ (codes "rank", ops.OnPosition Rank)
     ∷ (codes "place", ops.Place)
@@ -49,6 +52,8 @@ op_of name = under name op_names
 abbrev pub keys_of : Op → List (List ℕ)
 keys_of ops.Insert = codes "op" ∷ codes "t" ∷ codes "r" ∷ codes "i" ∷ codes "p" ∷ []
 keys_of ops.Replace = codes "op" ∷ codes "t" ∷ codes "h" ∷ codes "r" ∷ []
+keys_of ops.Modify = codes "op" ∷ codes "t" ∷ codes "h" ∷ codes "set" ∷ codes "add" ∷ codes "rollback" ∷ []
+keys_of ops.ModifyKey = codes "op" ∷ codes "t" ∷ codes "i" ∷ codes "h" ∷ codes "k" ∷ codes "rollback" ∷ []
 keys_of ops.Erase = codes "op" ∷ codes "t" ∷ codes "h" ∷ codes "i" ∷ []
 keys_of ops.Move = codes "op" ∷ codes "t" ∷ codes "i" ∷ codes "h" ∷ codes "p" ∷ []
 keys_of ops.Rearrange = codes "op" ∷ codes "t" ∷ codes "i" ∷ codes "hs" ∷ []
@@ -56,6 +61,7 @@ keys_of ops.Sort = codes "op" ∷ codes "t" ∷ codes "i" ∷ codes "by" ∷ []
 keys_of ops.Get = codes "op" ∷ codes "t" ∷ codes "h" ∷ []
 keys_of ops.Nth = codes "op" ∷ codes "t" ∷ codes "i" ∷ codes "n" ∷ []
 keys_of ops.Place = codes "op" ∷ codes "t" ∷ codes "i" ∷ codes "h" ∷ []
+keys_of ops.Range = codes "op" ∷ codes "t" ∷ codes "i" ∷ codes "ge" ∷ codes "gt" ∷ codes "le" ∷ codes "lt" ∷ []
 keys_of (ops.OnTable op) = codes "op" ∷ codes "t" ∷ []
 keys_of (ops.OnIndex op) = codes "op" ∷ codes "t" ∷ codes "i" ∷ []
 keys_of (ops.OnKey op) = codes "op" ∷ codes "t" ∷ codes "i" ∷ codes "k" ∷ []

@@ -1,13 +1,17 @@
 -- The parts of a command in its JSON object.
-use Rattle.std.specs.Prelude.{◌≡◌, ◌&&◌, ℕ, ℤ, List, [], ◌∷◌, Bool, true, Option, Some, None, option_map, option_and_then, Result, Ok, Err, codes, bytes_eq}
+use Rattle.std.specs.Prelude.{◌≡◌, ◌&&◌, ℕ, ℤ, List, [], ◌∷◌, Bool, true, false, Option, Some, None, option_map, option_and_then, Result, Ok, Err, codes, bytes_eq}
 use Rattle.std.specs.List.{list_any}
 use Rattle.serde_json.specs.Data.{Data, null, boolean, number, string, array, object, Items, no_items, item as element, Members, no_members, member}
-use Rattle.serde_json.specs.Find.{get, as_str, as_number, as_array, as_object, as_i64, as_u64}
+use Rattle.serde_json.specs.Find.{get, as_bool, as_str, as_number, as_array, as_object, as_i64, as_u64}
 use Rattle.key_extract.specs.declared.cell.Cell.TheVariants as cells
 use Rattle.table_cmd.specs.declared.command.Value.{Value}
 use Rattle.table_cmd.specs.declared.command.Value.TheVariants.{Cell, Other}
 use Rattle.table_cmd.specs.declared.command.Field.{Field}
 use Rattle.table_cmd.specs.declared.command.Position.{Position}
+use Rattle.table_cmd.specs.declared.command.Changes.{Changes}
+use Rattle.table_cmd.specs.declared.command.Changes.TheVariants.{Set, Add, Both}
+use Rattle.table_cmd.specs.declared.command.KeyBound.{KeyBound}
+use Rattle.table_cmd.specs.declared.command.KeyBound.TheVariants.{Included, Excluded, Unbounded}
 use Rattle.table_cmd.specs.declared.command.HandleText.{HandleText}
 use Rattle.table_cmd.specs.declared.fault.CommandFault.{CommandFault}
 use Rattle.table_cmd.specs.declared.fault.CommandFault.TheVariants as faults
@@ -59,13 +63,21 @@ as_count d = option_and_then as_u64 (as_number d)
 abbrev pub count_at : List ℕ → Data → Option ℕ
 count_at k d = option_and_then as_count (get k d)
 
--- the key: an array
-abbrev pub key_at : Data → Option (List Value)
-key_at d = option_map values_of (option_and_then as_array (get (codes "k") d))
+-- a key: an array
+abbrev pub as_key : Data → Option (List Value)
+as_key d = option_map values_of (as_array d)
 
--- the row: an object
+-- fields: an object
+abbrev pub as_fields : Data → Option (List Field)
+as_fields d = option_map fields_of (as_object d)
+
+-- the key
+abbrev pub key_at : Data → Option (List Value)
+key_at d = option_and_then as_key (get (codes "k") d)
+
+-- the row
 abbrev pub row_at : Data → Option (List Field)
-row_at d = option_map fields_of (option_and_then as_object (get (codes "r") d))
+row_at d = option_and_then as_fields (get (codes "r") d)
 
 -- the handle: a text
 abbrev pub handle_at : Data → Option HandleText
@@ -118,6 +130,32 @@ position_at (Some index) (Some place) = do
   index ← as_str index
   place ← as_count place
   Some (Some (record { index = index; place = place }))
+
+-- what is set and what is added, one of which is there
+abbrev pub changes_at : Option Data → Option Data → Option Changes
+changes_at None None = None
+changes_at (Some set) None = option_map (λ fields. Set fields) (as_fields set)
+changes_at None (Some add) = option_map (λ fields. Add fields) (as_fields add)
+changes_at (Some set) (Some add) = do
+  set ← as_fields set
+  add ← as_fields add
+  Some (Both set add)
+
+-- a truth value that may be left out, and is then false
+abbrev pub truth_if_given : Option Data → Option Bool
+truth_if_given None = Some false
+truth_if_given (Some d) = as_bool d
+
+-- whether a ban undoes the changes
+abbrev pub rollback_at : Data → Option Bool
+rollback_at d = truth_if_given (get (codes "rollback") d)
+
+-- a bound with its key or one without, of which one at most is there
+abbrev pub bound_at : Option Data → Option Data → Option KeyBound
+bound_at None None = Some Unbounded
+bound_at (Some included) None = option_map (λ key. Included key) (as_key included)
+bound_at None (Some excluded) = option_map (λ key. Excluded key) (as_key excluded)
+bound_at (Some included) (Some excluded) = None
 
 -- what is no command is a fault
 abbrev pub or_fault : {X : Type 0} → Option X → Result X CommandFault

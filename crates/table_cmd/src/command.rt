@@ -1,7 +1,7 @@
 //! What a line asks for.
 
 ghost use Rattle.std.specs.Prelude.{◌≡◌};
-ghost use Rattle.table_cmd.specs.Command.{table_in};
+ghost use Rattle.table_cmd.specs.Command.{added_in, set_in, table_in};
 
 use container_model::Handle;
 use key_extract::{Cell, Text};
@@ -85,6 +85,50 @@ impl Key {
         ensures { result.now ≡ self.now }
     {
         &self.values
+    }
+}
+
+/// Where a range of an index ends on one side, by the keys that are this one or begin with it.
+#[derive(Debug, Drop)]
+pub enum KeyBound {
+    /// They are still in the range.
+    Included(Key),
+    /// They are no longer in the range.
+    Excluded(Key),
+    /// There is no bound on this side.
+    Unbounded,
+}
+
+/// What a modification does to the cells of a record.
+#[derive(Debug, Drop)]
+pub enum Changes {
+    /// Each of these cells becomes the value.
+    Set(Fields),
+    /// To each of these cells the value is added.
+    Add(Fields),
+    /// Some cells become a value, and to others one is added.
+    Both { set: Fields, add: Fields },
+}
+
+impl Changes {
+    /// The cells that become a value, as long as they are borrowed. O(1).
+    pub fn set(&self) -> &[Field]
+        ensures { result.now ≡ set_in self.now }
+    {
+        match self {
+            Changes::Set(set) | Changes::Both { set, .. } => set.as_slice(),
+            Changes::Add(_) => &[],
+        }
+    }
+
+    /// The cells to which a value is added, as long as they are borrowed. O(1).
+    pub fn added(&self) -> &[Field]
+        ensures { result.now ≡ added_in self.now }
+    {
+        match self {
+            Changes::Add(add) | Changes::Both { add, .. } => add.as_slice(),
+            Changes::Set(_) => &[],
+        }
     }
 }
 
@@ -183,6 +227,23 @@ pub enum Command {
         handle: HandleText,
         row: Fields,
     },
+    /// A record's cells change. Where another record has the new key at a unique index, the record goes, or with `rollback`
+    /// it stays as it was.
+    Modify {
+        table: Text,
+        handle: HandleText,
+        changes: Changes,
+        rollback: bool,
+    },
+    /// A record gets this key at the index, whole. Where another record has the new key at a unique index, the record
+    /// goes, or with `rollback` it stays as it was.
+    ModifyKey {
+        table: Text,
+        index: Text,
+        handle: HandleText,
+        key: Key,
+        rollback: bool,
+    },
     /// A record goes. With an index, the record after it there is asked for.
     Erase {
         table: Text,
@@ -258,6 +319,13 @@ pub enum Command {
         index: Text,
         key: Key,
     },
+    /// The records at the index between two bounds, in its order.
+    Range {
+        table: Text,
+        index: Text,
+        low: KeyBound,
+        high: KeyBound,
+    },
     /// The record at a place of the index, counted from 0.
     Nth {
         table: Text,
@@ -321,6 +389,8 @@ impl Command {
         match self {
             Command::Insert { table, .. }
             | Command::Replace { table, .. }
+            | Command::Modify { table, .. }
+            | Command::ModifyKey { table, .. }
             | Command::Erase { table, .. }
             | Command::EraseKey { table, .. }
             | Command::Clear { table }
@@ -334,6 +404,7 @@ impl Command {
             | Command::Count { table, .. }
             | Command::Lower { table, .. }
             | Command::Upper { table, .. }
+            | Command::Range { table, .. }
             | Command::Nth { table, .. }
             | Command::Rank { table, .. }
             | Command::Place { table, .. }

@@ -8,7 +8,9 @@ mod op;
 mod parts;
 mod read;
 
-pub use command::{Command, Field, Fields, HandleText, Handles, Key, Names, Position, Value};
+pub use command::{
+    Changes, Command, Field, Fields, HandleText, Handles, Key, KeyBound, Names, Position, Value,
+};
 pub use container_model::Handle;
 pub use fault::CommandFault;
 pub use key_extract::{Cell, Text};

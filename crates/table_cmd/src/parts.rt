@@ -3,9 +3,11 @@
 ghost use Rattle.std.specs.Prelude.{◌≡◌, IfOk, Some, option_map, codes};
 ghost use Rattle.serde_json.specs.Find.{get, as_str};
 ghost use Rattle.serde_json.specs.View.{view, items_view, members_view};
-ghost use Rattle.table_cmd.specs.Parts.{Gives, value_of, values_of, fields_of, text_at, key_at, row_at, handle_at, end_at, count_at, each_read, as_handle, handles_at, names_at, text_if_given, position_at, or_fault};
+ghost use Rattle.table_cmd.specs.Parts.{Gives, value_of, values_of, fields_of, text_at, as_key, as_fields, key_at, row_at, handle_at, end_at, count_at, each_read, as_handle, handles_at, names_at, text_if_given, position_at, changes_at, rollback_at, bound_at, or_fault};
 
-use crate::command::{Field, Fields, HandleText, Handles, Key, Names, Position, Value};
+use crate::command::{
+    Changes, Field, Fields, HandleText, Handles, Key, KeyBound, Names, Position, Value,
+};
 use crate::fault::CommandFault;
 use crate::handle::handle_said;
 use key_extract::{Cell, Text};
@@ -66,11 +68,29 @@ pub(crate) fn text_of(alloc: Global, value: &Json, name: &str) -> Result<Text, C
     }
 }
 
+fn key_from(alloc: Global, key: &Json) -> Result<Key, CommandFault>
+    ensures { Gives result (or_fault (as_key (view key.now))) }
+{
+    match key.as_array() {
+        Some(values) => Ok(values_of(alloc, values)?),
+        None => Err(CommandFault::Command),
+    }
+}
+
 pub(crate) fn key_of(alloc: Global, value: &Json) -> Result<Key, CommandFault>
     ensures { Gives result (or_fault (key_at (view value.now))) }
 {
-    match value.get("k").and_then(Json::as_array) {
-        Some(values) => Ok(values_of(alloc, values)?),
+    match value.get("k") {
+        Some(key) => key_from(alloc, key),
+        None => Err(CommandFault::Command),
+    }
+}
+
+fn fields_from(alloc: Global, fields: &Json) -> Result<Fields, CommandFault>
+    ensures { Gives result (or_fault (as_fields (view fields.now))) }
+{
+    match fields.as_object() {
+        Some(members) => Ok(fields_of(alloc, members)?),
         None => Err(CommandFault::Command),
     }
 }
@@ -78,8 +98,8 @@ pub(crate) fn key_of(alloc: Global, value: &Json) -> Result<Key, CommandFault>
 pub(crate) fn row_of(alloc: Global, value: &Json) -> Result<Fields, CommandFault>
     ensures { Gives result (or_fault (row_at (view value.now))) }
 {
-    match value.get("r").and_then(Json::as_object) {
-        Some(members) => Ok(fields_of(alloc, members)?),
+    match value.get("r") {
+        Some(row) => fields_from(alloc, row),
         None => Err(CommandFault::Command),
     }
 }
@@ -194,4 +214,48 @@ fn position_at(alloc: Global, index: &Json, place: &Json) -> Result<Option<Posit
         index: Text::copy_of(alloc, index)?,
         place,
     }))
+}
+
+// What a modification sets and adds; `Err` where neither is given, or one is no object.
+pub(crate) fn changes_of(alloc: Global, value: &Json) -> Result<Changes, CommandFault>
+    ensures { Gives result (or_fault (changes_at (get (codes "set") (view value.now)) (get (codes "add") (view value.now)))) }
+{
+    match (value.get("set"), value.get("add")) {
+        (None, None) => Err(CommandFault::Command),
+        (Some(set), None) => Ok(Changes::Set(fields_from(alloc, set)?)),
+        (None, Some(add)) => Ok(Changes::Add(fields_from(alloc, add)?)),
+        (Some(set), Some(add)) => Ok(Changes::Both {
+            set: fields_from(alloc, set)?,
+            add: fields_from(alloc, add)?,
+        }),
+    }
+}
+
+// Whether a ban undoes the changes, which the object may leave out: then it does not.
+pub(crate) fn rollback_of(value: &Json) -> Result<bool, CommandFault>
+    ensures { Gives result (or_fault (rollback_at (view value.now))) }
+{
+    match value.get("rollback") {
+        None => Ok(false),
+        Some(Json::Bool(rollback)) => Ok(*rollback),
+        Some(_) => Err(CommandFault::Command),
+    }
+}
+
+// A range's end on one side, by the name of the bound with its key and that of the one without; `Err` where both are
+// given, or one is no array.
+pub(crate) fn bound_of(
+    alloc: Global,
+    value: &Json,
+    included: &str,
+    excluded: &str,
+) -> Result<KeyBound, CommandFault>
+    ensures { Gives result (or_fault (bound_at (get included.now (view value.now)) (get excluded.now (view value.now)))) }
+{
+    match (value.get(included), value.get(excluded)) {
+        (None, None) => Ok(KeyBound::Unbounded),
+        (Some(included), None) => Ok(KeyBound::Included(key_from(alloc, included)?)),
+        (None, Some(excluded)) => Ok(KeyBound::Excluded(key_from(alloc, excluded)?)),
+        (Some(_), Some(_)) => Err(CommandFault::Command),
+    }
 }

@@ -4,14 +4,14 @@ ghost use Rattle.std.specs.Prelude.{◌≡◌, map, bytes_eq};
 ghost use Rattle.std.specs.List.{list_any};
 ghost use Rattle.serde_json.specs.View.{view, members_view};
 ghost use Rattle.table_cmd.specs.Parts.{Gives, has_only, or_fault};
-ghost use Rattle.table_cmd.specs.Meaning.{insert_of, replace_of, erase_of, move_of, rearrange_of, sort_of, get_of, nth_of, place_of, on_table, table_command, on_index, index_command, on_key, key_command, on_position, position_command, shaped, command_of, meaning};
+ghost use Rattle.table_cmd.specs.Meaning.{insert_of, replace_of, modify_of, modify_key_of, erase_of, move_of, rearrange_of, sort_of, get_of, nth_of, place_of, range_of, on_table, table_command, on_index, index_command, on_key, key_command, on_position, position_command, shaped, command_of, meaning};
 
 use crate::command::{Command, HandleText, Key};
 use crate::fault::CommandFault;
 use crate::op::{IndexOp, KeyOp, Op, PositionOp, TableOp};
 use crate::parts::{
-    count_of, end_of, handle_of, handles_of, index_if_given, key_of, names_of, position_of, row_of,
-    text_at, text_of,
+    bound_of, changes_of, count_of, end_of, handle_of, handles_of, index_if_given, key_of,
+    names_of, position_of, rollback_of, row_of, text_at, text_of,
 };
 use key_extract::Text;
 use serde_json::{Map, Value as Json};
@@ -71,6 +71,40 @@ fn replace_of(alloc: Global, value: &Json) -> Result<Command, CommandFault>
     let handle = handle_of(value)?;
     let row = row_of(alloc, value)?;
     Ok(Command::Replace { table, handle, row })
+}
+
+#[tactic(auto, unfolding(crate::specs::Meaning::modify_of))]
+fn modify_of(alloc: Global, value: &Json) -> Result<Command, CommandFault>
+    ensures { Gives result (or_fault (modify_of (view value.now))) }
+{
+    let table = text_of(alloc, value, "t")?;
+    let handle = handle_of(value)?;
+    let changes = changes_of(alloc, value)?;
+    let rollback = rollback_of(value)?;
+    Ok(Command::Modify {
+        table,
+        handle,
+        changes,
+        rollback,
+    })
+}
+
+#[tactic(auto, unfolding(crate::specs::Meaning::modify_key_of))]
+fn modify_key_of(alloc: Global, value: &Json) -> Result<Command, CommandFault>
+    ensures { Gives result (or_fault (modify_key_of (view value.now))) }
+{
+    let table = text_of(alloc, value, "t")?;
+    let index = text_of(alloc, value, "i")?;
+    let handle = handle_of(value)?;
+    let key = key_of(alloc, value)?;
+    let rollback = rollback_of(value)?;
+    Ok(Command::ModifyKey {
+        table,
+        index,
+        handle,
+        key,
+        rollback,
+    })
 }
 
 #[tactic(auto, unfolding(crate::specs::Meaning::erase_of))]
@@ -161,6 +195,22 @@ fn place_of(alloc: Global, value: &Json) -> Result<Command, CommandFault>
         table,
         index,
         handle,
+    })
+}
+
+#[tactic(auto, unfolding(crate::specs::Meaning::range_of))]
+fn range_of(alloc: Global, value: &Json) -> Result<Command, CommandFault>
+    ensures { Gives result (or_fault (range_of (view value.now))) }
+{
+    let table = text_of(alloc, value, "t")?;
+    let index = text_of(alloc, value, "i")?;
+    let low = bound_of(alloc, value, "ge", "gt")?;
+    let high = bound_of(alloc, value, "le", "lt")?;
+    Ok(Command::Range {
+        table,
+        index,
+        low,
+        high,
     })
 }
 
@@ -267,6 +317,8 @@ fn shaped(alloc: Global, op: Op, value: &Json) -> Result<Command, CommandFault>
     match op {
         Op::Insert => insert_of(alloc, value),
         Op::Replace => replace_of(alloc, value),
+        Op::Modify => modify_of(alloc, value),
+        Op::ModifyKey => modify_key_of(alloc, value),
         Op::Erase => erase_of(alloc, value),
         Op::Move => move_of(alloc, value),
         Op::Rearrange => rearrange_of(alloc, value),
@@ -274,6 +326,7 @@ fn shaped(alloc: Global, op: Op, value: &Json) -> Result<Command, CommandFault>
         Op::Get => get_of(alloc, value),
         Op::Nth => nth_of(alloc, value),
         Op::Place => place_of(alloc, value),
+        Op::Range => range_of(alloc, value),
         Op::OnTable(op) => table_command(alloc, op, value),
         Op::OnIndex(op) => index_command(alloc, op, value),
         Op::OnKey(op) => key_command(alloc, op, value),

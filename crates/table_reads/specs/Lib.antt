@@ -1,5 +1,6 @@
 pub mod Searches
 pub mod Reads
 pub mod Positions
+pub mod Ranges
 pub mod Shown
 pub mod Read

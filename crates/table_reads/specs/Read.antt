@@ -4,6 +4,7 @@ use Rattle.table_cmd.specs.declared.command.Command.TheVariants as commands
 use Rattle.table_reads.specs.declared.search.Number.TheVariants as numbers
 use Rattle.table_reads.specs.declared.search.Search.TheVariants as searches
 use Rattle.table_reads.specs.Positions.{position_step}
+use Rattle.table_reads.specs.Ranges.{range_step}
 use Rattle.table_reads.specs.Reads.{count_step, find_step, get_step, list_step, size_step}
 use Rattle.table_terms.specs.Step.{Step}
 use Rattle.table_terms.specs.Table.{TableState}
@@ -16,6 +17,7 @@ read_step t (commands.Find table index key) = find_step t searches.Find index ke
 read_step t (commands.Count table index key) = count_step t numbers.Count index key
 read_step t (commands.Lower table index key) = find_step t searches.Lower index key
 read_step t (commands.Upper table index key) = find_step t searches.Upper index key
+read_step t (commands.Range table index low high) = range_step t index low high
 read_step t (commands.FindRank table index key) = count_step t numbers.FindRank index key
 read_step t (commands.LowerRank table index key) = count_step t numbers.LowerRank index key
 read_step t (commands.UpperRank table index key) = count_step t numbers.UpperRank index key

@@ -59,9 +59,13 @@ get_step t text = then_step t (handle_for text) (get_record t)
 abbrev pub listed_handle : TableState → Handle → Listed
 listed_handle t h = listed_row t h (unwrap_or (row_of t.records.entries h) [])
 
+-- the records of these handles
+unfoldable pub show_handles : TableState → List Handle → Step
+show_handles t handles = told t (listed t.records.writes (map (listed_handle t) handles))
+
 -- the records of an index, in its order
-unfoldable pub list_in : TableState → ℕ → Step
-list_in t place = told t (listed t.records.writes (map (listed_handle t) (list_at t.records.lists place)))
+abbrev pub list_in : TableState → ℕ → Step
+list_in t place = show_handles t (list_at t.records.lists place)
 
 abbrev pub list_step : TableState → List ℕ → Step
 list_step t name = then_step t (place_for kinds.All t.shape.indices name) (list_in t)

@@ -3,6 +3,7 @@
 
 mod list;
 mod positions;
+mod range;
 mod search;
 mod show;
 mod step;

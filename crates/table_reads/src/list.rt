@@ -1,9 +1,9 @@
-//! Listing an index.
+//! Listing records.
 
 ghost use Rattle.std.specs.Prelude.{◌≡◌, ◌<◌, ◌≤◌, IfOk, length, true};
 ghost use Rattle.std.specs.List.{AllByRecursion};
 ghost use Rattle.container_model.specs.Find.{is_live};
-ghost use Rattle.table_reads.specs.Reads.{list_in, list_step};
+ghost use Rattle.table_reads.specs.Reads.{list_in, list_step, show_handles};
 ghost use Rattle.table_reads.specs.Shown.{entries_of, shown_entries};
 ghost use Rattle.table_reply.specs.Buffer.{Keeps};
 ghost use Rattle.table_terms.specs.Step.{IsShort, Steps};
@@ -29,7 +29,6 @@ pub(crate) fn list(alloc: Global, records: &Records, name: &Text, out: &mut Out)
     }
 }
 
-#[tactic(auto, unfolding(crate::specs::Reads::list_in))]
 fn list_in(alloc: Global, records: &Records, place: usize, out: &mut Out) -> Outcome
     requires room { READY_ROOM ≤ out.old.room }
     requires within { place < length records.now.shape.indices }
@@ -39,10 +38,29 @@ fn list_in(alloc: Global, records: &Records, place: usize, out: &mut Out) -> Out
 {
     let container = records.container();
     let at = container.writes();
-    let Ok(handles) = container.view(place) else {
-        return refuse_memory(out);
-    };
-    let Ok(shown) = shown(alloc, container, &handles) else {
+    match container.view(place) {
+        Ok(handles) => show_handles(alloc, records, at, &handles, out),
+        Err(_) => refuse_memory(out),
+    }
+}
+
+/// Tells the records of live handles, in their order, where `at` is the table's write number.
+#[tactic(auto, unfolding(crate::specs::Reads::show_handles))]
+pub(crate) fn show_handles(
+    alloc: Global,
+    records: &Records,
+    at: u64,
+    handles: &[Handle],
+    out: &mut Out,
+) -> Outcome
+    requires room { READY_ROOM ≤ out.old.room }
+    requires number { at ≡ records.now.records.writes }
+    requires live { AllByRecursion (λ h. is_live records.now.records h ≡ true) handles.now }
+    ensures answer { Steps result out.old.bytes out.new.bytes records.now records.now (show_handles records.now handles.now) }
+    ensures short { IsShort result out.old.bytes out.new.bytes }
+    ensures kept { Keeps out.old out.new }
+{
+    let Ok(shown) = shown(alloc, records.container(), handles) else {
         return refuse_memory(out);
     };
     let reply = Reply::Listed {

@@ -7,6 +7,7 @@ ghost use Rattle.table_terms.specs.Step.{IsShort, Steps};
 
 use crate::list::list;
 use crate::positions::read_position;
+use crate::range::range;
 use crate::search::{Number, Search, count, find, size};
 use crate::show::get;
 use std::alloc::Global;
@@ -41,6 +42,9 @@ pub fn read(alloc: Global, records: &Records, command: &Command, out: &mut Out) 
         Command::UpperRank { index, key, .. } => {
             count(alloc, records, Number::UpperRank, index, key, out)
         }
+        Command::Range {
+            index, low, high, ..
+        } => range(alloc, records, index, low, high, out),
         Command::List { index, .. } => list(alloc, records, index, out),
         _ => read_position(records, command, out),
     }

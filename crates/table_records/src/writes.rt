@@ -1,8 +1,8 @@
-//! Records put in, replaced and taken out.
+//! Records put in, replaced, changed and taken out.
 
 ghost use Rattle.std.specs.Prelude.{◌≡◌, ◌<◌, IfErr, IfOk, IfSome, Some, length, option_and_then, unwrap_or};
-ghost use Rattle.container_model.specs.Change.{cleared, erase_key_refusal, erase_refusal, erased_count, next_in, replace_refusal, spent, with_erased, with_key_erased, with_replaced};
-ghost use Rattle.container_model.specs.Insert.{new_handle, with_inserted};
+ghost use Rattle.container_model.specs.Change.{cleared, erase_key_refusal, erase_refusal, erased_count, modify_refusal, next_in, replace_refusal, spent, with_erased, with_key_erased, with_modified, with_replaced};
+ghost use Rattle.container_model.specs.Insert.{ban, new_handle, with_inserted};
 ghost use Rattle.container_model.specs.declared.refusal.Why.TheVariants as whys;
 ghost use Rattle.table_records.specs.Changes.{Leaves, refusal_at};
 ghost use Rattle.table_terms.specs.Table.{probe_order, row_order};
@@ -11,6 +11,8 @@ ghost use Rattle.table_terms.specs.Words.{IsKeyAt};
 use crate::records::Records;
 use container_model::{Handle, Why};
 use key_extract::{Probe, Row};
+use modify_ops::RowEdit;
+use multi_index::Modified;
 
 impl Records {
     /// Puts a row in, before a place of one index, counted from 0, or last at each sequence. Costs what
@@ -35,6 +37,21 @@ impl Records {
     {
         let replaced = self.container.replace(handle, row);
         replaced.map(|_| ()).map_err(|refused| refused.why)
+    }
+
+    /// Changes a record's row. Where another record has the new key at a unique index, the record is lost, and the answer is
+    /// the first such index with the record there. Costs what `MultiIndex::modify` does.
+    pub fn modify(&mut self, handle: Handle, row: Row) -> Result<Option<(usize, Handle)>, Why>
+        ensures lost { IfOk result (λ lost. lost ≡ ban row_order self.old.records (Some handle) row) }
+        ensures leaves { Leaves result self.old self.new (modify_refusal self.old.records handle) (with_modified row_order self.old.records handle row) }
+        ensures why { IfErr result (λ why. Some why ≡ modify_refusal self.old.records handle) }
+    {
+        let mut edit = RowEdit::new(row);
+        match self.container.modify(handle, &mut edit) {
+            Ok(Modified::Kept) => Ok(None),
+            Ok(Modified::Erased { index, by, .. }) => Ok(Some((index, by))),
+            Err(refused) => Err(refused.why),
+        }
     }
 
     /// Takes a record out, and answers the one after it at an index where one is asked. Costs what `MultiIndex::erase` does.

@@ -7,7 +7,7 @@ use Rattle.table_reply.specs.declared.fault.Fault.{Fault}
 use Rattle.table_reply.specs.declared.fault.Fault.TheVariants.{Line, Json, Command, Table, Index, Kind, Row, Key, Handle as StaleHandle, Place, Order, Overflow, Full, Spent, Memory}
 use Rattle.table_reply.specs.Buffer.{joined}
 use Rattle.table_reply.specs.Spelling.{HandleFits, spelling}
-use Rattle.table_reply.specs.Answer.{handle_text, handle_or_null, answer_text, done, found, counted, after, banned, fault}
+use Rattle.table_reply.specs.Answer.{handle_text, handle_or_null, blocked_text, answer_text, done, found, counted, after, banned, erased, fault}
 
 pub fault_is_short : (f : Fault) → length (answer_text (fault f)) ≤ 256
 fault_is_short Line = omega arith
@@ -86,11 +86,18 @@ counted_is_short at number fits number_fits =
     let b = number_is_short number number_fits in
     omega (arith, length-joined (decimal at) next, length-joined (decimal number) last)
 
-pub banned_is_short : (at : ℕ) (index : List ℕ) (by : Handle) → at < 2 ^ 64 → length index ≤ 32 → HandleFits by → length (answer_text (banned at index by)) ≤ 256
-banned_is_short at index by fits name_fits handle_fits =
+blocked_is_short : (word : List ℕ) (at : ℕ) (index : List ℕ) (by : Handle) → length word ≤ 6 → at < 2 ^ 64 → length index ≤ 32 → HandleFits by → length (blocked_text word at index by) ≤ 256
+blocked_is_short word at index by word_fits fits name_fits handle_fits =
     let last = codes "}\n" ∷ [] in
-    let handle = codes "\",\"err\":\"banned\",\"h\":" ∷ handle_text by ∷ last in
-    let name = codes ",\"by\":\"" ∷ index ∷ handle in
+    let handle = codes "\",\"h\":" ∷ handle_text by ∷ last in
+    let outcome = codes "\",\"err\":\"" ∷ word ∷ handle in
+    let name = codes ",\"by\":\"" ∷ index ∷ outcome in
     let a = number_is_short at fits in
     let b = handle_is_short by handle_fits in
-    omega (arith, length-joined (decimal at) name, length-joined index handle, length-joined (handle_text by) last)
+    omega (arith, length-joined (decimal at) name, length-joined index outcome, length-joined word handle, length-joined (handle_text by) last)
+
+pub banned_is_short : (at : ℕ) (index : List ℕ) (by : Handle) → at < 2 ^ 64 → length index ≤ 32 → HandleFits by → length (answer_text (banned at index by)) ≤ 256
+banned_is_short at index by = blocked_is_short (codes "banned") at index by (omega arith)
+
+pub erased_is_short : (at : ℕ) (index : List ℕ) (by : Handle) → at < 2 ^ 64 → length index ≤ 32 → HandleFits by → length (answer_text (erased at index by)) ≤ 256
+erased_is_short at index by = blocked_is_short (codes "erased") at index by (omega arith)

@@ -26,7 +26,7 @@ pub record Listed : Type 0 where
   pub row : List Named
 
 -- what an answer line says: that a write is done, a record or nothing, a number, the record after one that went or the
--- end, a record with its row, a ban, records with their rows, a fault
+-- end, a record with its row, a ban, an erasure by a changed key, records with their rows, a fault
 pub data Answer : Type 0 where
   done : ℕ → Answer
   found : ℕ → Option Handle → Answer
@@ -34,6 +34,7 @@ pub data Answer : Type 0 where
   after : ℕ → Option Handle → Answer
   shown : ℕ → Listed → Answer
   banned : ℕ → List ℕ → Handle → Answer
+  erased : ℕ → List ℕ → Handle → Answer
   listed : ℕ → List Listed → Answer
   fault : Fault → Answer
 
@@ -53,6 +54,7 @@ answer (replies.Counted at n) = counted at n
 answer (replies.Next at next) = after at next
 answer (replies.Shown at headings r) = shown at (listed_of headings.now r)
 answer (replies.Banned at index by) = banned at index.now by
+answer (replies.Erased at index by) = erased at index.now by
 answer (replies.Listed at headings records) = listed at (map (listed_of headings.now) records.now)
 answer (replies.Fault f) = fault f
 
@@ -120,6 +122,10 @@ abbrev pub listed_texts : Bool → List Listed → List ℕ
 listed_texts later [] = codes "]"
 listed_texts later (l ∷ ls) = comma_if later ++ (listed_text l ++ listed_texts true ls)
 
+-- the line where another record stands in the way: what comes of that, the index, and the other record
+abbrev pub blocked_text : List ℕ → ℕ → List ℕ → Handle → List ℕ
+blocked_text word at index by = joined (codes "{\"at\":" ∷ decimal at ∷ codes ",\"by\":\"" ∷ index ∷ codes "\",\"err\":\"" ∷ word ∷ codes "\",\"h\":" ∷ handle_text by ∷ codes "}\n" ∷ [])
+
 -- the line of an answer, with its newline
 abbrev pub answer_text : Answer → List ℕ
 answer_text (done at) = joined (codes "{\"at\":" ∷ decimal at ∷ codes ",\"ok\":true}\n" ∷ [])
@@ -127,6 +133,7 @@ answer_text (found at h) = joined (codes "{\"at\":" ∷ decimal at ∷ codes ",\
 answer_text (counted at n) = joined (codes "{\"at\":" ∷ decimal at ∷ codes ",\"n\":" ∷ decimal n ∷ codes ",\"ok\":true}\n" ∷ [])
 answer_text (after at next) = joined (codes "{\"at\":" ∷ decimal at ∷ codes ",\"next\":" ∷ handle_or_null next ∷ codes ",\"ok\":true}\n" ∷ [])
 answer_text (shown at l) = joined (codes "{\"at\":" ∷ decimal at ∷ codes ",\"h\":" ∷ handle_text l.handle ∷ codes ",\"ok\":true,\"r\":" ∷ compact_text (row_data l.row) ∷ codes "}\n" ∷ [])
-answer_text (banned at index by) = joined (codes "{\"at\":" ∷ decimal at ∷ codes ",\"by\":\"" ∷ index ∷ codes "\",\"err\":\"banned\",\"h\":" ∷ handle_text by ∷ codes "}\n" ∷ [])
+answer_text (banned at index by) = blocked_text (codes "banned") at index by
+answer_text (erased at index by) = blocked_text (codes "erased") at index by
 answer_text (listed at ls) = joined (codes "{\"at\":" ∷ decimal at ∷ codes ",\"ok\":true,\"rs\":[" ∷ listed_texts false ls ∷ codes "}\n" ∷ [])
 answer_text (fault f) = joined (codes "{\"err\":\"" ∷ fault_name f ∷ codes "\"}\n" ∷ [])

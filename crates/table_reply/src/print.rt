@@ -6,7 +6,7 @@ ghost use Rattle.json.specs.Print.{quoted, escape_byte};
 ghost use Rattle.std.specs.Char.{digit_char};
 ghost use Rattle.serde_json.specs.Written.{compact_text, comma_if};
 ghost use Rattle.table_reply.specs.Buffer.{Adds, AddsWhole};
-ghost use Rattle.table_reply.specs.Answer.{done, found, counted, after, shown, banned, fault, listed, shown_front, answer_text, handle_text, handle_or_null, data_of, row_data, named, listed_of, listed_text, listed_texts, listed_front, record_front};
+ghost use Rattle.table_reply.specs.Answer.{done, found, counted, after, shown, banned, erased, blocked_text, fault, listed, shown_front, answer_text, handle_text, handle_or_null, data_of, row_data, named, listed_of, listed_text, listed_texts, listed_front, record_front};
 
 use crate::fault::Fault;
 use crate::handle::{SPELLING_LEN, spelling};
@@ -90,8 +90,14 @@ pub(crate) fn push_counted(out: &mut Out, at: u64, number: u64) -> Result<(), Ou
     ])
 }
 
-pub(crate) fn push_banned(out: &mut Out, at: u64, index: &str, by: Handle) -> Result<(), OutOfRoom>
-    ensures { AddsWhole result out.old out.new (answer_text (banned at index.now by)) }
+fn push_blocked(
+    out: &mut Out,
+    word: &str,
+    at: u64,
+    index: &str,
+    by: Handle,
+) -> Result<(), OutOfRoom>
+    ensures { AddsWhole result out.old out.new (blocked_text word.now at index.now by) }
 {
     let by = handle_text(by);
     out.try_push_all(&[
@@ -99,10 +105,24 @@ pub(crate) fn push_banned(out: &mut Out, at: u64, index: &str, by: Handle) -> Re
         Buffer::new().format(at),
         ",\"by\":\"",
         index,
-        "\",\"err\":\"banned\",\"h\":",
+        "\",\"err\":\"",
+        word,
+        "\",\"h\":",
         by.as_str(),
         "}\n",
     ])
+}
+
+pub(crate) fn push_banned(out: &mut Out, at: u64, index: &str, by: Handle) -> Result<(), OutOfRoom>
+    ensures { AddsWhole result out.old out.new (answer_text (banned at index.now by)) }
+{
+    push_blocked(out, "banned", at, index, by)
+}
+
+pub(crate) fn push_erased(out: &mut Out, at: u64, index: &str, by: Handle) -> Result<(), OutOfRoom>
+    ensures { AddsWhole result out.old out.new (answer_text (erased at index.now by)) }
+{
+    push_blocked(out, "erased", at, index, by)
 }
 
 pub(crate) fn push_fault(out: &mut Out, why: Fault) -> Result<(), OutOfRoom>

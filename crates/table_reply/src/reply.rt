@@ -6,8 +6,8 @@ ghost use Rattle.table_reply.specs.Answer.{answer, answer_text};
 use crate::fault::Fault;
 use crate::out::{Out, OutOfRoom};
 use crate::print::{
-    push_after, push_banned, push_counted, push_done, push_fault, push_found, push_listed,
-    push_shown,
+    push_after, push_banned, push_counted, push_done, push_erased, push_fault, push_found,
+    push_listed, push_shown,
 };
 use container_model::Handle;
 use key_extract::{Row, Text};
@@ -64,6 +64,13 @@ pub enum Reply<'a> {
         index: &'a str,
         by: Handle,
     },
+    /// A changed record went, since a unique index has another record with its new key. The index's name is printed as it
+    /// stands: it must need no escape.
+    Erased {
+        at: u64,
+        index: &'a str,
+        by: Handle,
+    },
     /// Records, whose rows show the cells of the headings in their order.
     Listed {
         at: u64,
@@ -101,6 +108,7 @@ fn push_reply(reply: &Reply, out: &mut Out) -> Result<(), OutOfRoom>
             record,
         } => push_shown(out, at, headings, &record),
         Reply::Banned { at, index, by } => push_banned(out, at, index, by),
+        Reply::Erased { at, index, by } => push_erased(out, at, index, by),
         Reply::Listed {
             at,
             headings,

@@ -3,3 +3,5 @@ pub mod Kinds
 pub mod Table
 pub mod Step
 pub mod Words
+pub mod Edits
+pub mod Bounds

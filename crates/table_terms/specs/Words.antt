@@ -1,5 +1,5 @@
 -- The words of a command in a table.
-use Rattle.std.specs.Prelude.{ℕ, ◌<◌, if◌then◌else◌, List, [], ◌∷◌, length, position, false, IsTrue, Option, Some, None, option_map, option_and_then, Result, Ok, Err, slice_get, bytes_eq}
+use Rattle.std.specs.Prelude.{ℕ, ◌<◌, ◌==◌, if◌then◌else◌, List, [], ◌∷◌, length, position, false, IsTrue, Option, Some, None, option_map, option_and_then, Result, Ok, Err, slice_get, bytes_eq}
 use Rattle.std.specs.Option.{option_map_or}
 use Rattle.container_model.specs.declared.handle.Handle.{Handle}
 use Rattle.container_model.specs.Find.{kind_at}
@@ -13,6 +13,7 @@ use Rattle.table_reply.specs.declared.fault.Fault.TheVariants as faults
 use Rattle.table_schema.specs.declared.column.IndexSpec.{IndexSpec}
 use Rattle.table_schema.specs.Shape.{TableShape}
 use Rattle.table_terms.specs.declared.kinds.Kinds.{Kinds}
+use Rattle.table_terms.specs.declared.kinds.Kinds.TheVariants.{Keyed}
 use Rattle.table_terms.specs.Kinds.{takes}
 use Rattle.table_terms.specs.Step.{Step, then_step}
 use Rattle.table_terms.specs.Table.{Cells, HasIndices, Keys, TableState, keys_of}
@@ -47,6 +48,18 @@ key_of_place shape values (Err why) = Err why
 -- the place of the index of a name, and the search key that values are there
 abbrev pub key_for : TableShape → Kinds → List ℕ → List Value → Result (ℕ × Cells) Fault
 key_for shape kinds name values = key_of_place shape values (place_for kinds shape.indices name)
+
+-- a search key that is all of the key of its index
+abbrev pub if_whole : TableShape → ℕ × Cells → Result (ℕ × Cells) Fault
+if_whole shape key = if length key.1 == length (parts_at (keys_of shape) key.0) then Ok key else Err faults.Key
+
+abbrev pub whole_of : TableShape → Result (ℕ × Cells) Fault → Result (ℕ × Cells) Fault
+whole_of shape (Ok key) = if_whole shape key
+whole_of shape (Err why) = Err why
+
+-- the place of the index of a name, and its whole key that values are there
+abbrev pub whole_key_for : TableShape → List ℕ → List Value → Result (ℕ × Cells) Fault
+whole_key_for shape name values = whole_of shape (key_for shape Keyed name values)
 
 -- what is done by the search key that values are at the index of a name
 abbrev pub at_key : TableState → Kinds → List ℕ → List Value → (ℕ → Cells → Step) → Step

@@ -1,12 +1,14 @@
 //! Search keys at named indices.
 
-ghost use Rattle.std.specs.Prelude.{◌≡◌, Err, IfOk, Ok};
-ghost use Rattle.table_terms.specs.Words.{IsKeyAt, key_for};
+ghost use Rattle.std.specs.Prelude.{◌≡◌, ◌<◌, Err, IfOk, Ok, length};
+ghost use Rattle.key_extract.specs.Keys.{parts_at};
+ghost use Rattle.table_terms.specs.Table.{keys_of};
+ghost use Rattle.table_terms.specs.Words.{IsKeyAt, key_for, whole_key_for};
 
 use crate::indices::place_for;
 use crate::kinds::Kinds;
-use crate::values::probe_from;
-use key_extract::Probe;
+use crate::values::{parts_of, probe_from};
+use key_extract::{Part, Probe};
 use std::alloc::{AllocError, Global};
 use table_cmd::Value;
 use table_reply::Fault;
@@ -31,5 +33,35 @@ pub fn key_for(
     match probe_from(alloc, spec.columns(), &spec.indices()[place], values)? {
         Some(probe) => Ok(Ok((place, probe))),
         None => Ok(Err(Fault::Key)),
+    }
+}
+
+// The parts of the key of the index at a place.
+pub(crate) fn parts_at(spec: &TableSpec, place: usize) -> &[Part]
+    requires { place < length spec.now.indices }
+    ensures { result.now ≡ parts_at (keys_of spec.now) place }
+{
+    parts_of(&spec.indices()[place])
+}
+
+/// The place of the index of a name, where it has a key, and that key whole, which the values are. The faults are `index`,
+/// `kind` and `key`. O(indices + values · longest text).
+pub fn whole_key_for(
+    alloc: Global,
+    spec: &TableSpec,
+    name: &str,
+    values: &[Value],
+) -> Result<Result<(usize, Probe), Fault>, AllocError>
+    ensures key { IfOk result (λ key. key ≡ whole_key_for spec.now name.now values.now) }
+    ensures within { IfOk result (λ key. IfOk key (λ at. at.0 < length spec.now.indices)) }
+{
+    let (place, probe) = match key_for(alloc, spec, Kinds::Keyed, name, values)? {
+        Ok(key) => key,
+        Err(why) => return Ok(Err(why)),
+    };
+    if probe.cells().len() == parts_at(spec, place).len() {
+        Ok(Ok((place, probe)))
+    } else {
+        Ok(Err(Fault::Key))
     }
 }

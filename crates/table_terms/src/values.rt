@@ -24,7 +24,7 @@ fn is_cell_of(kind: CellKind, cell: &Cell) -> bool
 }
 
 // The cell that a value is in a column of the type.
-fn cell_for(kind: CellKind, value: &Value) -> Option<&Cell>
+pub(crate) fn cell_for(kind: CellKind, value: &Value) -> Option<&Cell>
     ensures { option_copied result ≡ cell_for kind value.now }
 {
     match value {
@@ -46,7 +46,7 @@ fn value_named<'a>(name: &str, fields: &'a [Field]) -> Option<&'a Value>
 }
 
 // The cell that the fields give a column.
-fn column_cell<'a>(column: &Column, fields: &'a [Field]) -> Option<&'a Cell>
+pub(crate) fn column_cell<'a>(column: &Column, fields: &'a [Field]) -> Option<&'a Cell>
     ensures { option_copied result ≡ column_cell column.now fields.now }
 {
     let value = value_named(column.name.as_str(), fields)?;
@@ -77,7 +77,7 @@ pub fn row_from(
 }
 
 // The parts of an index's key.
-fn parts_of(index: &IndexSpec) -> &[Part]
+pub(crate) fn parts_of(index: &IndexSpec) -> &[Part]
     ensures { result.now ≡ parts_of index.now }
 {
     match &index.key {
