@@ -1,5 +1,1 @@
 pub mod Command
-pub mod Op
-pub mod Spelling
-pub mod Parts
-pub mod Meaning

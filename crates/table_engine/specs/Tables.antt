@@ -3,11 +3,11 @@ use Rattle.std.specs.Prelude.{◌≡◌, ◌⊎◌, ℕ, List, [], ◌++◌, Opt
 use Rattle.std.specs.Bool.{MatchBool}
 use Rattle.std.specs.Option.{option_map_or}
 use Rattle.table_cmd.specs.declared.command.Command.{Command}
-use Rattle.table_cmd.specs.declared.fault.CommandFault.{CommandFault}
-use Rattle.table_cmd.specs.declared.fault.CommandFault.TheVariants as command_faults
+use Rattle.command_lines.specs.declared.fault.CommandFault.{CommandFault}
+use Rattle.command_lines.specs.declared.fault.CommandFault.TheVariants as command_faults
 use Rattle.table_reply.specs.declared.fault.Fault.{Fault}
 use Rattle.table_reply.specs.declared.fault.Fault.TheVariants as faults
-use Rattle.table_cmd.specs.Meaning.{meaning}
+use Rattle.command_lines.specs.Meaning.{meaning}
 use Rattle.table_reply.specs.Answer.{Answer, fault, answer_text}
 use Rattle.table_cmd.specs.Command.{table_in}
 use Rattle.table_step.specs.Step.{TableState, Step, step_of, memory_line}

@@ -1,0 +1,4 @@
+pub mod Op
+pub mod Spelling
+pub mod Parts
+pub mod Meaning

@@ -1,7 +1,0 @@
-use Rattle.std.proofs.Common.{◌≡◌, map, drop}
-use Rattle.table_cmd.specs.Op.{op_names, under}
-use Rattle.table_cmd.proofs.op.Op.of.Given as goal
-
-abbrev pub invariant-loop-known : goal.invariant-loop-known
-invariant-loop-known l =
-    under l.name (map (λ p. (p.0.now, p.1)) (drop l.known-index l.known-items)) ≡ under l.name op_names

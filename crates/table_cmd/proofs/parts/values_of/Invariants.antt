@@ -1,6 +1,0 @@
-use Rattle.std.proofs.Common.{◌≡◌, take, map}
-use Rattle.table_cmd.proofs.Cells.{value_at}
-use Rattle.table_cmd.proofs.parts.values_of.Given as goal
-
-abbrev pub invariant-loop-value : goal.invariant-loop-value
-invariant-loop-value l = l.key.items ≡ map value_at (take l.value-index l.values.items)
