@@ -1,6 +1,6 @@
 -- Search keys at the indices of a table.
-use Rattle.std.proofs.Common.{◌≡◌, ℕ, ◌<◌, List, length, Option, Some, Ok, ap, sym, subst, ◌∙◌}
-use Rattle.std.specs.Prelude.{slice_get, option_map, option_and_then, IsTrue}
+use Rattle.std.proofs.Common.{◌≡◌, ℕ, ◌<◌, List, length, Option, Some, None, Result, Ok, Err, ap, sym, subst, ◌∙◌}
+use Rattle.std.specs.Prelude.{slice_get, option_map, option_and_then, IsTrue, IfOk, IfSome}
 use Rattle.container_model.specs.State.{is_hashed_kind}
 use Rattle.key_extract.specs.Keys.{parts_at, probe_fits, probe_is_whole}
 use Rattle.table_cmd.specs.declared.command.Value.{Value}
@@ -30,3 +30,10 @@ key_for_is shape kinds name values place index probe placed there is_probe =
     ap (key_of_place shape values) placed
     ∙ (ap (λ o. or_fault faults.Key (option_map (λ p. (place, p)) (option_and_then (λ i. probe_from shape.columns i values) o))) there
     ∙ ap (λ o. or_fault faults.Key (option_map (λ p. (place, p)) o)) is_probe)
+
+-- values that are found to be a search key at a declared index
+pub keys_found : {E : Type 0} (shape : TableShape) (values : List Value) (place : ℕ) (index : IndexSpec) (found : Result (Option Cells) E) → place < length shape.indices → slice_get shape.indices place ≡ Some index →
+    IfOk found (λ probe. probe ≡ probe_from shape.columns index values) → IfOk found (λ probe. IfSome probe (IsKeyAt shape place))
+keys_found shape values place index (Err why) within there is_probe = tt
+keys_found shape values place index (Ok None) within there is_probe = tt
+keys_found shape values place index (Ok (Some probe)) within there is_probe = is_key shape values place index probe within there (sym is_probe)
