@@ -5,8 +5,8 @@ ghost use Rattle.container_model.specs.declared.handle.Handle.{Handle as Named};
 ghost use Rattle.table_reply.specs.Spelling.{HandleFits, spelling};
 ghost use Rattle.command_lines.specs.Spelling.{handle_said};
 
-use table_cmd::HandleText;
 use container_model::Handle;
+use table_cmd::HandleText;
 use table_reply::spelling;
 
 // The handle that a text spells.

@@ -5,14 +5,14 @@ ghost use Rattle.serde_json.specs.Find.{get, as_str};
 ghost use Rattle.serde_json.specs.View.{view, items_view, members_view};
 ghost use Rattle.command_lines.specs.Parts.{Gives, value_of, values_of, fields_of, text_at, as_key, as_fields, key_at, row_at, handle_at, end_at, count_at, each_read, as_handle, handles_at, names_at, text_if_given, position_at, changes_at, rollback_at, bound_at, or_fault};
 
-use table_cmd::{
-    Changes, Field, Fields, HandleText, Handles, Key, KeyBound, Names, Position, Value,
-};
 use crate::fault::CommandFault;
 use crate::handle::handle_said;
 use key_extract::{Cell, Text};
 use serde_json::{Map, Value as Json};
 use std::alloc::{AllocError, Global};
+use table_cmd::{
+    Changes, Field, Fields, HandleText, Handles, Key, KeyBound, Names, Position, Value,
+};
 
 fn value_of(alloc: Global, json: &Json) -> Result<Value, AllocError>
     ensures { IfOk result (λ value. value ≡ value_of (view json.now)) }

@@ -6,7 +6,6 @@ ghost use Rattle.serde_json.specs.View.{view, members_view};
 ghost use Rattle.command_lines.specs.Parts.{Gives, has_only, or_fault};
 ghost use Rattle.command_lines.specs.Meaning.{insert_of, replace_of, modify_of, modify_key_of, erase_of, move_of, rearrange_of, sort_of, get_of, nth_of, place_of, range_of, on_table, table_command, on_index, index_command, on_key, key_command, on_position, position_command, shaped, command_of, meaning};
 
-use table_cmd::{Command, HandleText, Key};
 use crate::fault::CommandFault;
 use crate::op::{IndexOp, KeyOp, Op, PositionOp, TableOp};
 use crate::parts::{
@@ -16,6 +15,7 @@ use crate::parts::{
 use key_extract::Text;
 use serde_json::{Map, Value as Json};
 use std::alloc::Global;
+use table_cmd::{Command, HandleText, Key};
 
 /// Reads a line as a command. The last of repeated names counts. O(n · log n) for n bytes.
 pub fn read_command(alloc: Global, line: &[u8]) -> Result<Command, CommandFault>

@@ -3,7 +3,8 @@
 use crate::report::Report;
 use std::alloc::AllocError;
 use table_cmd::{
-    Cell, Changes, Command, Fields, HandleText, Handles, Key, KeyBound, Names, Position, Text, Value,
+    Cell, Changes, Command, Fields, HandleText, Handles, Key, KeyBound, Names, Position, Text,
+    Value,
 };
 
 /// The longest text that is shown whole, in bytes.
@@ -88,7 +89,10 @@ fn parts_of_read(command: &Command) -> (&'static str, Parts<'_>) {
         Command::Lower { index, key, .. } => ("lower", Parts::Key(index, key)),
         Command::Upper { index, key, .. } => ("upper", Parts::Key(index, key)),
         Command::Range {
-            index, low, high, ..
+            index,
+            low,
+            high,
+            ..
         } => ("range", Parts::Range(index, low, high)),
         Command::Nth { index, place, .. } => ("nth", Parts::Place(index, *place)),
         Command::Rank {

@@ -3,8 +3,8 @@ ghost use Rattle.std.specs.Prelude.{◌≤◌, IfOk};
 
 use crate::meaning::tell_command;
 use crate::report::Report;
-use std::alloc::{AllocError, Global};
 use command_lines::{CommandFault, read_command};
+use std::alloc::{AllocError, Global};
 use table_cmd::Command;
 use table_reply::{Fault, Out, READY_ROOM};
 use table_schema::Schema;

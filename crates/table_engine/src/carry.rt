@@ -5,8 +5,8 @@ ghost use Rattle.table_reply.specs.Buffer.{Keeps};
 ghost use Rattle.command_lines.specs.Meaning.{meaning};
 ghost use Rattle.table_engine.specs.Tables.{Replies, answer_to, carried, table_at};
 
-use std::alloc::Global;
 use command_lines::{CommandFault, read_command};
+use std::alloc::Global;
 use table_cmd::Command;
 use table_reply::{Fault, Out, READY_ROOM};
 use table_step::{Table, refuse};
