@@ -82,7 +82,7 @@ impl<R: Drop, E: Extract<R> + Drop> MultiIndex<R, E> {
         requires { index < length self.now.specs }
         ensures { result ≡ is_sorted_kind (kind_at self.now index) }
     {
-        match self.set.specs()[index].kind {
+        match self.kind(index) {
             Kind::Ordered | Kind::Ranked => true,
             Kind::Sequenced | Kind::Random | Kind::Hashed => false,
         }
@@ -93,7 +93,7 @@ impl<R: Drop, E: Extract<R> + Drop> MultiIndex<R, E> {
         requires { index < length self.now.specs }
         ensures { result ≡ is_ranked_kind (kind_at self.now index) }
     {
-        match self.set.specs()[index].kind {
+        match self.kind(index) {
             Kind::Ranked => true,
             Kind::Sequenced | Kind::Random | Kind::Ordered | Kind::Hashed => false,
         }

@@ -185,12 +185,20 @@ impl<R: Drop, E: Extract<R> + Drop> MultiIndex<R, E> {
         in_order(self.alloc, &self.set, index).map_err(|_| Why::Memory)
     }
 
+    // What the index is.
+    pub(crate) fn kind(&self, index: usize) -> Kind
+        requires { index < length self.now.specs }
+        ensures { result ≡ kind_at self.now index }
+    {
+        self.set.specs()[index].kind
+    }
+
     // Whether the index is searched by whole keys alone.
     pub(crate) fn is_hashed(&self, index: usize) -> bool
         requires { index < length self.now.specs }
         ensures { result ≡ is_hashed_kind (kind_at self.now index) }
     {
-        match self.set.specs()[index].kind {
+        match self.kind(index) {
             Kind::Hashed => true,
             Kind::Sequenced | Kind::Random | Kind::Ordered | Kind::Ranked => false,
         }
@@ -201,7 +209,7 @@ impl<R: Drop, E: Extract<R> + Drop> MultiIndex<R, E> {
         requires { index < length self.now.specs }
         ensures { result ≡ has_key_kind (kind_at self.now index) }
     {
-        match self.set.specs()[index].kind {
+        match self.kind(index) {
             Kind::Sequenced | Kind::Random => false,
             Kind::Ordered | Kind::Ranked | Kind::Hashed => true,
         }

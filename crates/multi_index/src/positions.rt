@@ -132,7 +132,7 @@ impl<R: Drop, E: Extract<R> + Drop> MultiIndex<R, E> {
         requires { index < length self.now.specs }
         ensures { result ≡ has_places_kind (kind_at self.now index) }
     {
-        match self.set.specs()[index].kind {
+        match self.kind(index) {
             Kind::Random | Kind::Ranked => true,
             Kind::Sequenced | Kind::Ordered | Kind::Hashed => false,
         }
@@ -143,7 +143,7 @@ impl<R: Drop, E: Extract<R> + Drop> MultiIndex<R, E> {
         requires { index < length self.now.specs }
         ensures { result ≡ is_random_kind (kind_at self.now index) }
     {
-        match self.set.specs()[index].kind {
+        match self.kind(index) {
             Kind::Random => true,
             Kind::Sequenced | Kind::Ordered | Kind::Ranked | Kind::Hashed => false,
         }
