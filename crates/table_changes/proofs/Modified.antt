@@ -2,7 +2,7 @@
 use Rattle.std.proofs.Common.{◌≡◌, ℕ, ◌+◌, ◌++◌, List, Option, Some, None, refl, ap, sym, subst, ◌∙◌}
 use Rattle.container_model.specs.declared.handle.Handle.{Handle}
 use Rattle.container_model.specs.declared.refusal.Why.{Why}
-use Rattle.container_model.specs.Change.{modify_refusal, with_modified}
+use Rattle.container_model.specs.Change.{with_modified}
 use Rattle.container_model.specs.Insert.{ban}
 use Rattle.container_model.specs.State.{State}
 use Rattle.table_reply.specs.Answer.{Answer, answer_text}
