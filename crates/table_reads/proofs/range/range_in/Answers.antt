@@ -1,28 +1,21 @@
-use Rattle.std.proofs.Common.{◌≡◌, true, Ok, sym, ap, subst, ◌∙◌}
+use Rattle.std.proofs.Common.{◌≡◌, true, sym, subst}
 use Rattle.std.specs.List.{AllByRecursion}
-use Rattle.std.specs.declared.ops.Bound.{Bound}
-use Rattle.container_model.specs.Find.{found_range, is_live, kind_at}
-use Rattle.container_model.specs.State.{is_sorted_kind, list_at}
-use Rattle.key_extract.specs.Keys.{parts_at, probe_fits}
-use Rattle.linked_set.specs.Edges.{KeyFits, edge_of}
-use Rattle.list_model.specs.Place.{range}
-use Rattle.table_terms.specs.Step.{Steps}
-use Rattle.table_reads.specs.Ranges.{edge_at, range_in, shown_by}
-use Rattle.table_reads.specs.Reads.{show_handles}
-use Rattle.table_reads.proofs.Bounded.{bound_fits, range_live, range_refused}
+use Rattle.std.specs.Range.Bound.{bound_map}
+use Rattle.container_model.specs.declared.handle.Handle.{Handle}
+use Rattle.container_model.specs.Find.{is_live, probe_side}
+use Rattle.linked_set.specs.Edges.{edge_of}
+use Rattle.list_model.specs.Place.{Edge}
+use Rattle.table_terms.specs.Table.{probe_order}
+use Rattle.table_reads.proofs.Bounded.{range_live}
 use Rattle.table_reads.proofs.Shown.{all_live}
 use Rattle.table_reads.proofs.range.range_in.Goals as goal
 
-pub range-requires-clause-low_fits : goal.range-requires-clause-low_fits
-range-requires-clause-low_fits c = λ sorted.
-    let t = c.args.records.now in
-    let fits = bound_fits t.shape t.records c.args.place c.args.low.now c.container-container.ensures.indices c.requires.low in
-    subst (λ keys. KeyFits (λ probe. probe_fits (parts_at keys c.args.place) probe) _) (ap (λ s. s.keys) (sym c.container-container.ensures.value))
-    (subst (KeyFits (λ probe. probe_fits (parts_at t.records.keys c.args.place) probe)) (sym c.as_bound.ensures) fits)
-
-pub range-requires-clause-high_fits : goal.range-requires-clause-high_fits
-range-requires-clause-high_fits c = λ sorted.
-    let t = c.args.records.now in
-    let fits = bound_fits t.shape t.records c.args.place c.args.high.now c.container-container.ensures.indices c.requires.high in
-    subst (λ keys. KeyFits (λ probe. probe_fits (parts_at keys c.args.place) probe) _) (ap (λ s. s.keys) (sym c.container-container.ensures.value))
-    (subst (KeyFits (λ probe. probe_fits (parts_at t.records.keys c.args.place) probe)) (sym c.as_bound-2.ensures) fits)
+pub show_handles-requires-clause-live : goal.show_handles-requires-clause-live
+show_handles-requires-clause-live c =
+    let state = c.container-container.result.now in
+    let low : Edge Handle = edge_of (probe_side probe_order state c.args.place) (bound_map (λ p. p.now) c.as_bound.result) in
+    let high : Edge Handle = edge_of (probe_side probe_order state c.args.place) (bound_map (λ p. p.now) c.as_bound-2.result) in
+    let live = all_live _ _ state c.writes-at.ensures.kept c.args.place in
+    let found = range_live state c.args.place low high c.in-Ok.handles.items live c.in-Ok.ensures.ok in
+    subst (AllByRecursion (λ h. is_live c.args.records.now.records h ≡ true)) (sym c.deref.ensures.value)
+    (subst (λ s. AllByRecursion (λ h. is_live s h ≡ true) c.in-Ok.handles.items) c.container-container.ensures.value found)
