@@ -1,3 +1,2 @@
 pub mod Declared
-pub mod Modified
 pub mod Sorting
