@@ -1,10 +1,10 @@
 -- Steps from what was told.
-use Rattle.std.proofs.Common.{◌≡◌, ℕ, ◌++◌, ◌⊎◌, inl, inr, List, Option, Some, None, ap, sym, subst, refl, ◌∙◌}
+use Rattle.std.proofs.Common.{◌≡◌, ℕ, ◌++◌, inl, inr, List, Option, Some, None, sym, subst, refl, ◌∙◌}
 use Rattle.std.specs.Prelude.{unwrap_or}
 use Rattle.container_model.specs.declared.refusal.Why.{Why}
 use Rattle.container_model.specs.declared.refusal.Why.TheVariants as whys
 use Rattle.container_model.specs.State.{State}
-use Rattle.table_reply.specs.Answer.{Answer, answer_text}
+use Rattle.table_reply.specs.Answer.{Answer}
 use Rattle.table_terms.specs.declared.outcome.Outcome.{Outcome}
 use Rattle.table_terms.specs.declared.outcome.Outcome.TheVariants as outcomes
 use Rattle.table_terms.specs.Step.{Answers, Step, Steps, changed, memory_line, refusal_answer, refused_by, told}

@@ -1,6 +1,5 @@
 use Rattle.std.proofs.Common.{ap, subst, sym, ◌∙◌}
-use Rattle.table_terms.specs.Step.{Answers, Steps, changed, refusal_answer}
-use Rattle.table_terms.specs.declared.outcome.Outcome.TheVariants as outcomes
+use Rattle.table_terms.specs.Step.{Steps, changed, refusal_answer}
 use Rattle.table_terms.proofs.Told.{out_of_memory, refused_by_container, steps_kept}
 use Rattle.table_records.proofs.refusal.tell_refusal.Goals as goal
 
