@@ -1,5 +1,5 @@
 -- What the changes of a sequence's order do to a table.
-use Rattle.std.specs.Prelude.{ℕ, ◌+◌, ◌&&◌, if◌then◌else◌, List, [], ◌∷◌, length, map, nat_le, Option, Some, None}
+use Rattle.std.specs.Prelude.{ℕ, ◌+◌, ◌&&◌, if◌then◌else◌, List, length, map, nat_le, Option, None}
 use Rattle.container_model.specs.declared.handle.Handle.{Handle}
 use Rattle.container_model.specs.Sequence.{rearrange_refusal, relocate_refusal, sequence_refusal, with_list, with_relocated, with_reversed, with_sorted}
 use Rattle.key_extract.specs.declared.key.Part.{Part}
