@@ -32,7 +32,7 @@ fn either_of(one: Option<Node>, other: Option<Node>) -> Option<Node>
     if one.is_some() { one } else { other }
 }
 
-/// Takes out `n`, which has at most one child. Answers the root, which was `tree_root`.
+/// Takes out `n`, which has at most one child. Answers the root; `tree_root` is the root before.
 pub(crate) fn splice<T: Tally, R>(
     store: &mut NodeStore<R>,
     col: usize,
@@ -52,7 +52,7 @@ pub(crate) fn splice<T: Tally, R>(
     rise::<T, R>(store, col, tree_root, n, link, either_of(link.a, link.b))
 }
 
-/// Puts `new`, which is not in the tree, in the place of `old`. Answers the root, which was `tree_root`.
+/// Puts `new`, which is not in the tree, in the place of `old`. Answers the root; `tree_root` is the root before.
 pub(crate) fn replace<T: Tally, R>(
     store: &mut NodeStore<R>,
     col: usize,
@@ -74,7 +74,7 @@ pub(crate) fn replace<T: Tally, R>(
     rise::<T, R>(store, col, tree_root, old, link, Some(new))
 }
 
-/// Takes out `n`. Answers the root, which was `tree_root`.
+/// Takes out `n`. Answers the root; `tree_root` is the root before.
 pub(crate) fn take_out<T: Tally, R>(
     store: &mut NodeStore<R>,
     col: usize,

@@ -1,5 +1,5 @@
 //! The steps of a change of a tree.
-ghost use Rattle.std.specs.Prelude.{◌≡◌, ℕ, ◌+◌, ◌<◌, ◌≤◌, Option, Some, None, IsTrue};
+ghost use Rattle.std.specs.Prelude.{◌≡◌, ℕ, ◌+◌, ◌<◌, ◌≤◌, Option, Some, None, IsTrue, ◌↔◌};
 ghost use Rattle.node_store.specs.Column.{IsNode};
 ghost use Rattle.ord_tree.specs.Tree.{Tree, Fork, root, nodes, stored_height, stored_tag, AreNodes, Hangs};
 ghost use Rattle.ord_tree.specs.Path.{Path, plug, IsLike, Replaced, ReplacedAt, Rises, Grafted, GraftedSide, Turned};
@@ -195,7 +195,7 @@ fn is_like<R>(store: &NodeStore<R>, col: usize, new: Option<Node>, old: Node, li
     requires col { col < 8 }
     requires new { AreNodes (column_of store.now col) new }
     requires old { IsNode (column_of store.now col) old }
-    ensures { IsTrue result → IsLike (column_of store.now col) new old link }
+    ensures { IsTrue result ↔ IsLike (column_of store.now col) new old link }
 {
     if !store.is_node(new, old) {
         return false;
@@ -205,8 +205,8 @@ fn is_like<R>(store: &NodeStore<R>, col: usize, new: Option<Node>, old: Node, li
 }
 
 /// Puts the subtree below `new` in the place of the one that had the root `old` with the links `link`,
-/// and balances the nodes from there up, to where a subtree is like the one that it replaces. Answers
-/// the root of the whole tree, which was `tree_root`.
+/// and balances the nodes from there up, as long as a subtree is not like the one that it replaces. Answers
+/// the root of the whole tree; `tree_root` is the root before.
 pub(crate) fn rise<T: Tally, R>(
     store: &mut NodeStore<R>,
     col: usize,
@@ -244,7 +244,7 @@ pub(crate) fn rise<T: Tally, R>(
 }
 
 /// Makes the subtree below `new` a child of `at`, on the right or on the left, and balances the nodes
-/// from there up. Answers the root of the whole tree, which was `tree_root`.
+/// from there up. Answers the root of the whole tree; `tree_root` is the root before.
 pub(crate) fn graft<T: Tally, R>(
     store: &mut NodeStore<R>,
     col: usize,

@@ -20,7 +20,7 @@ is_like-requires-clause-new g c =
     new_node g.T.Tally.of _ _ _ _ _ _ _ _ (c.loop-link.invariant.carried r.path r.was r.now r.is)
 
 pub returns-then-is_like-clause-tree : goal.returns-then-is_like-clause-tree
-returns-then-is_like-clause-tree g c = λ path was now h e. rest g.T.Tally.of _ _ _ path now _ _ _ _ _ (c.loop-link.invariant.carried path was now h) (c.is_like.ensures c.if-is_like.true) c.set_up.ensures.up e
+returns-then-is_like-clause-tree g c = λ path was now h e. rest g.T.Tally.of _ _ _ path now _ _ _ _ _ (c.loop-link.invariant.carried path was now h) (c.is_like.ensures.0 c.if-is_like.true) c.set_up.ensures.up e
 
 pub link-above-requires-clause-node : goal.link-above-requires-clause-node
 link-above-requires-clause-node g c =
