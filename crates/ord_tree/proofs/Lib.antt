@@ -2,6 +2,7 @@ pub mod TreeLinks
 pub mod Rotations
 pub mod Heights
 pub mod Rising
+pub mod Resting
 pub mod Descent
 pub mod Seeking
 pub mod Linking

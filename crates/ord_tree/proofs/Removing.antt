@@ -161,7 +161,7 @@ pub record Spliced (tally : ℕ → ℕ → ℕ) (c : Column) (n : Node) (link :
   pub l : Tree
   pub r : Tree
   pub is : plug path (Fork l n r) ≡ t
-  pub replaced : ReplacedAt tally c n link.up (or_node link.a link.b) path (Fork l n r) (only l r)
+  pub replaced : ReplacedAt tally c n link (or_node link.a link.b) path (Fork l n r) (only l r)
   pub merged : nodes (only l r) ≡ nodes l ++ nodes r
 
 pub spliced : (tally : ℕ → ℕ → ℕ) (c : Column) (n : Node) (link : Link) (t : Tree) → Whole tally c n t → c n ≡ Some link → link.a ≡ None ⊎ link.b ≡ None → Spliced tally c n link t
@@ -187,6 +187,8 @@ spliced tally c n link t w e one =
       replaced = record {
         old_is = refl;
         old_gone = (AreApart-append (nodes at.l) (n ∷ nodes at.r) (outside at.path) parts.apart).1.0;
+        height_was = ap (λ (z : Link). z.height) is;
+        tag_was = ap (λ (z : Link). z.tag) is;
         grafted = record {
           leads = u.leads;
           at_is = ap (λ (z : Link). z.up) is;
@@ -204,7 +206,7 @@ spliced tally c n link t w e one =
     same_link : {x y : Link} → Some x ≡ Some y → x ≡ y
     same_link k = cc
 
-pub spliced_replaced : (tally : ℕ → ℕ → ℕ) (c : Column) (n : Node) (link : Link) (t : Tree) → Spliced tally c n link t → Replaced tally c n link.up (or_node link.a link.b)
+pub spliced_replaced : (tally : ℕ → ℕ → ℕ) (c : Column) (n : Node) (link : Link) (t : Tree) → Spliced tally c n link t → Replaced tally c n link (or_node link.a link.b)
 spliced_replaced tally c n link t s = record { path = s.path; was = Fork s.l n s.r; now = only s.l s.r; is = s.replaced }
 
 pub without : (tally : ℕ → ℕ → ℕ) (c d : Column) (n : Node) (link : Link) (t : Tree) (top : Option Node) → Whole tally c n t → (s : Spliced tally c n link t) → Rises tally c d s.path (only s.l s.r) top → Without tally c d n t top
@@ -241,7 +243,7 @@ pub record Relabelled (tally : ℕ → ℕ → ℕ) (c d : Column) (old new : No
   pub l : Tree
   pub r : Tree
   pub is : plug path (Fork l old r) ≡ t
-  pub replaced : ReplacedAt tally d old link.up (Some new) path (Fork l old r) (Fork l new r)
+  pub replaced : ReplacedAt tally d old link (Some new) path (Fork l old r) (Fork l new r)
   pub changes : ChangesAt c d (new ∷ nodes t)
 
 -- the sides of a node of a whole tree that was read
@@ -252,6 +254,7 @@ pub record WholeSides (tally : ℕ → ℕ → ℕ) (c : Column) (n : Node) (lin
   pub is : plug path (Fork l n r) ≡ t
   pub at_left : IsAt tally c link.a l
   pub at_right : IsAt tally c link.b r
+  pub link_is : link ≡ tree_link tally (bottom path) l r
   pub up_is : link.up ≡ bottom path
   pub leads : Leads tally c path (Fork l n r)
   pub balanced : IsBalanced (plug path (Fork l n r))
@@ -273,6 +276,7 @@ whole_sides tally c n link t w e =
       is = at.is;
       at_left = record { parent = Some n; hangs = u.hangs.1; root = ap (λ (z : Link). z.a) is };
       at_right = record { parent = Some n; hangs = u.hangs.2; root = ap (λ (z : Link). z.b) is };
+      link_is = is;
       up_is = ap (λ (z : Link). z.up) is;
       leads = u.leads;
       balanced = bal;
@@ -309,6 +313,8 @@ relabelled tally c d old new link t w lacks e j =
       replaced = record {
         old_is = refl;
         old_gone = (AreApart-append (nodes s.l) (old ∷ nodes s.r) (outside s.path) old_parts.apart).1.0;
+        height_was = ap (λ (z : Link). z.height) s.link_is;
+        tag_was = ap (λ (z : Link). z.tag) s.link_is;
         grafted = record {
           leads = Leads-same tally c d s.path (Fork s.l old s.r) same s.leads;
           at_is = s.up_is;
@@ -326,7 +332,7 @@ relabelled tally c d old new link t w lacks e j =
           joined.changes m (Lacks-append (nodes s.l) (new ∷ nodes s.r) m (Lacks-front (nodes s.l) (old ∷ nodes s.r) m here) (k.0, (Lacks-back (nodes s.l) (old ∷ nodes s.r) m here).1));
     }
 
-pub relabelled_replaced : (tally : ℕ → ℕ → ℕ) (c d : Column) (old new : Node) (link : Link) (t : Tree) → Relabelled tally c d old new link t → Replaced tally d old link.up (Some new)
+pub relabelled_replaced : (tally : ℕ → ℕ → ℕ) (c d : Column) (old new : Node) (link : Link) (t : Tree) → Relabelled tally c d old new link t → Replaced tally d old link (Some new)
 relabelled_replaced tally c d old new link t s = record { path = s.path; was = Fork s.l old s.r; now = Fork s.l new s.r; is = s.replaced }
 
 pub substituted : (tally : ℕ → ℕ → ℕ) (c d e : Column) (old new : Node) (link : Link) (t : Tree) (top : Option Node) → Whole tally c old t → (s : Relabelled tally c d old new link t) → Rises tally d e s.path (Fork s.l new s.r) top → Substitutes tally c e old new t top

@@ -32,57 +32,58 @@ fn either_of(one: Option<Node>, other: Option<Node>) -> Option<Node>
     if one.is_some() { one } else { other }
 }
 
-/// Takes out `n`, which has at most one child. Answers the root.
-pub(crate) fn splice<T: Tally, R>(store: &mut NodeStore<R>, col: usize, n: Node) -> Option<Node>
+/// Takes out `n`, which has at most one child. Answers the root; `tree_root` is the root before.
+pub(crate) fn splice<T: Tally, R>(
+    store: &mut NodeStore<R>,
+    col: usize,
+    tree_root: Option<Node>,
+    n: Node,
+) -> Option<Node>
     requires col { col < 8 }
-    requires whole { HasWhole T.of (column_of store.old col) n }
+    requires whole { HasWhole T.of (column_of store.old col) tree_root n }
     requires one_child { (left_of (column_of store.old col) n ≡ None) ⊎ (right_of (column_of store.old col) n ≡ None) }
-    ensures tree { (t : Tree) → Whole T.of (column_of store.old col) n t
+    ensures tree { (t : Tree) → Whole T.of (column_of store.old col) n t → tree_root ≡ root t
         → Without T.of (column_of store.old col) (column_of store.new col) n t result }
     ensures nodes { KeepsNodes (column_of store.old col) (column_of store.new col) }
     ensures others { KeepsOthers (column_of store.old) (column_of store.new) col }
     ensures contents { contents store.new ≡ contents store.old }
 {
-    let Link {
-        a: left,
-        b: right,
-        up,
-        ..
-    } = store.link(n, col);
-    rise::<T, R>(store, col, n, up, either_of(left, right))
+    let link = store.link(n, col);
+    rise::<T, R>(store, col, tree_root, n, link, either_of(link.a, link.b))
 }
 
-/// Puts `new`, which is not in the tree, in the place of `old`. Answers the root.
+/// Puts `new`, which is not in the tree, in the place of `old`. Answers the root; `tree_root` is the root before.
 pub(crate) fn replace<T: Tally, R>(
     store: &mut NodeStore<R>,
     col: usize,
+    tree_root: Option<Node>,
     old: Node,
     new: Node,
 ) -> Option<Node>
     requires col { col < 8 }
     requires node { IsNode (column_of store.old col) new }
     requires room { HasRoomFor T.of (column_of store.old col) old new }
-    ensures tree { (t : Tree) → Whole T.of (column_of store.old col) old t → Lacks (nodes t) new
+    ensures tree { (t : Tree) → Whole T.of (column_of store.old col) old t → Lacks (nodes t) new → tree_root ≡ root t
         → Substitutes T.of (column_of store.old col) (column_of store.new col) old new t result }
     ensures nodes { KeepsNodes (column_of store.old col) (column_of store.new col) }
     ensures others { KeepsOthers (column_of store.old) (column_of store.new) col }
     ensures contents { contents store.new ≡ contents store.old }
 {
-    let Link {
-        a: left,
-        b: right,
-        up,
-        ..
-    } = store.link(old, col);
-    join::<T, R>(store, col, left, new, right);
-    rise::<T, R>(store, col, old, up, Some(new))
+    let link = store.link(old, col);
+    join::<T, R>(store, col, link.a, new, link.b);
+    rise::<T, R>(store, col, tree_root, old, link, Some(new))
 }
 
-/// Takes out `n`. Answers the root.
-pub(crate) fn take_out<T: Tally, R>(store: &mut NodeStore<R>, col: usize, n: Node) -> Option<Node>
+/// Takes out `n`. Answers the root; `tree_root` is the root before.
+pub(crate) fn take_out<T: Tally, R>(
+    store: &mut NodeStore<R>,
+    col: usize,
+    tree_root: Option<Node>,
+    n: Node,
+) -> Option<Node>
     requires col { col < 8 }
-    requires whole { HasWhole T.of (column_of store.old col) n }
-    ensures tree { (t : Tree) → Whole T.of (column_of store.old col) n t
+    requires whole { HasWhole T.of (column_of store.old col) tree_root n }
+    ensures tree { (t : Tree) → Whole T.of (column_of store.old col) n t → tree_root ≡ root t
         → Without T.of (column_of store.old col) (column_of store.new col) n t result }
     ensures nodes { KeepsNodes (column_of store.old col) (column_of store.new col) }
     ensures others { KeepsOthers (column_of store.old) (column_of store.new) col }
@@ -94,14 +95,14 @@ pub(crate) fn take_out<T: Tally, R>(store: &mut NodeStore<R>, col: usize, n: Nod
         ..
     } = store.link(n, col);
     if left.is_none() {
-        return splice::<T, R>(store, col, n);
+        return splice::<T, R>(store, col, tree_root, n);
     }
     let Some(below) = right else {
-        return splice::<T, R>(store, col, n);
+        return splice::<T, R>(store, col, tree_root, n);
     };
     let next = first_below::<T, R>(store, col, below);
-    let _ = splice::<T, R>(store, col, next);
-    replace::<T, R>(store, col, n, next)
+    let short_root = splice::<T, R>(store, col, tree_root, next);
+    replace::<T, R>(store, col, short_root, n, next)
 }
 
 /// The nearest node above that has the subtree of `below` on its left, where `at` is its parent.

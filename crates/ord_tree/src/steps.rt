@@ -1,8 +1,8 @@
 //! The steps of a change of a tree.
-ghost use Rattle.std.specs.Prelude.{◌≡◌, ℕ, ◌+◌, ◌<◌, ◌≤◌, Option, Some, None};
+ghost use Rattle.std.specs.Prelude.{◌≡◌, ℕ, ◌+◌, ◌<◌, ◌≤◌, Option, Some, None, IsTrue, ◌↔◌};
 ghost use Rattle.node_store.specs.Column.{IsNode};
 ghost use Rattle.ord_tree.specs.Tree.{Tree, Fork, root, nodes, stored_height, stored_tag, AreNodes, Hangs};
-ghost use Rattle.ord_tree.specs.Path.{Path, Replaced, ReplacedAt, Rises, Grafted, GraftedSide, Turned};
+ghost use Rattle.ord_tree.specs.Path.{Path, plug, IsLike, Replaced, ReplacedAt, Rises, Grafted, GraftedSide, Turned};
 ghost use Rattle.ord_tree.specs.Steps.{CanHang, KeepsOthers, KeepsNodes, SetsUp, Joins, Sides, Becomes, rotated_right, rotated_left, rebalanced};
 ghost use Rattle.node_store.specs.ByNode.{column_of, contents};
 
@@ -190,38 +190,53 @@ fn balance<T: Tally, R>(
     n
 }
 
-/// Puts the subtree below `new` in the place of the one that had the root `old`, below `at`, and
-/// balances the nodes from there up. Answers the root of the whole tree.
+/// Whether the subtree below `new` has the root `old`, and the height and the tally that `link` gives.
+fn is_like<R>(store: &NodeStore<R>, col: usize, new: Option<Node>, old: Node, link: Link) -> bool
+    requires col { col < 8 }
+    requires new { AreNodes (column_of store.now col) new }
+    requires old { IsNode (column_of store.now col) old }
+    ensures { IsTrue result ↔ IsLike (column_of store.now col) new old link }
+{
+    if !store.is_node(new, old) {
+        return false;
+    }
+    let now = store.link(old, col);
+    now.height == link.height && now.tag == link.tag
+}
+
+/// Puts the subtree below `new` in the place of the one that had the root `old` with the links `link`,
+/// and balances the nodes from there up, as long as a subtree is not like the one that it replaces. Answers
+/// the root of the whole tree; `tree_root` is the root before.
 pub(crate) fn rise<T: Tally, R>(
     store: &mut NodeStore<R>,
     col: usize,
+    tree_root: Option<Node>,
     mut old: Node,
-    mut at: Option<Node>,
+    mut link: Link,
     mut new: Option<Node>,
 ) -> Option<Node>
     requires col { col < 8 }
-    requires replaced { Replaced T.of (column_of store.old col) old at new }
+    requires replaced { Replaced T.of (column_of store.old col) old link new }
     requires old { IsNode (column_of store.old col) old }
-    ensures tree { (path : Path) (was now : Tree) → ReplacedAt T.of (column_of store.old col) old at new path was now
-        → Rises T.of (column_of store.old col) (column_of store.new col) path now result }
+    ensures tree { (path : Path) (was now : Tree) → ReplacedAt T.of (column_of store.old col) old link new path was now
+        → tree_root ≡ root (plug path was) → Rises T.of (column_of store.old col) (column_of store.new col) path now result }
     ensures nodes { KeepsNodes (column_of store.old col) (column_of store.new col) }
     ensures others { KeepsOthers (column_of store.old) (column_of store.new) col }
     ensures contents { contents store.new ≡ contents store.old }
 {
-    while let Some(n) = at {
-        let Link {
-            a: left,
-            b: right,
-            up,
-            ..
-        } = store.link(n, col);
-        let top = if store.is_node(left, old) {
-            balance::<T, R>(store, col, new, n, right)
+    while let Some(n) = link.up {
+        if is_like(store, col, new, old, link) {
+            set_up::<T, R>(store, col, new, link.up);
+            return tree_root;
+        }
+        let above = store.link(n, col);
+        let top = if store.is_node(above.a, old) {
+            balance::<T, R>(store, col, new, n, above.b)
         } else {
-            balance::<T, R>(store, col, left, n, new)
+            balance::<T, R>(store, col, above.a, n, new)
         };
         old = n;
-        at = up;
+        link = above;
         new = Some(top);
     }
     set_up::<T, R>(store, col, new, None);
@@ -229,10 +244,11 @@ pub(crate) fn rise<T: Tally, R>(
 }
 
 /// Makes the subtree below `new` a child of `at`, on the right or on the left, and balances the nodes
-/// from there up. Answers the root of the whole tree.
+/// from there up. Answers the root of the whole tree; `tree_root` is the root before.
 pub(crate) fn graft<T: Tally, R>(
     store: &mut NodeStore<R>,
     col: usize,
+    tree_root: Option<Node>,
     at: Option<Node>,
     on_right: bool,
     new: Option<Node>,
@@ -240,7 +256,7 @@ pub(crate) fn graft<T: Tally, R>(
     requires col { col < 8 }
     requires grafted { GraftedSide T.of (column_of store.old col) at on_right new }
     ensures tree { (path : Path) (was now : Tree) → Grafted T.of (column_of store.old col) at new path was now → Turned path on_right
-        → Rises T.of (column_of store.old col) (column_of store.new col) path now result }
+        → tree_root ≡ root (plug path was) → Rises T.of (column_of store.old col) (column_of store.new col) path now result }
     ensures nodes { KeepsNodes (column_of store.old col) (column_of store.new col) }
     ensures others { KeepsOthers (column_of store.old) (column_of store.new) col }
     ensures contents { contents store.new ≡ contents store.old }
@@ -249,17 +265,12 @@ pub(crate) fn graft<T: Tally, R>(
         set_up::<T, R>(store, col, new, None);
         return new;
     };
-    let Link {
-        a: left,
-        b: right,
-        up,
-        ..
-    } = store.link(n, col);
+    let link = store.link(n, col);
     if on_right {
-        let top = balance::<T, R>(store, col, left, n, new);
-        rise::<T, R>(store, col, n, up, Some(top))
+        let top = balance::<T, R>(store, col, link.a, n, new);
+        rise::<T, R>(store, col, tree_root, n, link, Some(top))
     } else {
-        let top = balance::<T, R>(store, col, new, n, right);
-        rise::<T, R>(store, col, n, up, Some(top))
+        let top = balance::<T, R>(store, col, new, n, link.b);
+        rise::<T, R>(store, col, tree_root, n, link, Some(top))
     }
 }

@@ -83,7 +83,7 @@ impl<T: Tally> OrdTree<T> {
     {
         let (parent, on_right) = self.place_of(store, keys, n);
         join::<T, R>(store, self.col, None, n, None);
-        self.root = graft::<T, R>(store, self.col, parent, on_right, Some(n));
+        self.root = graft::<T, R>(store, self.col, self.root, parent, on_right, Some(n));
         self.len += 1;
     }
 
@@ -99,7 +99,7 @@ impl<T: Tally> OrdTree<T> {
         ensures others { KeepsOthers (column_of store.old) (column_of store.new) (col_of self.old) }
         ensures contents { contents store.new ≡ contents store.old }
     {
-        self.root = take_out::<T, R>(store, self.col, n);
+        self.root = take_out::<T, R>(store, self.col, self.root, n);
         self.len -= 1;
         store.set_link(n, self.col, Link::empty());
     }

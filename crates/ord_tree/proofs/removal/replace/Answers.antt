@@ -1,20 +1,21 @@
-use Rattle.ord_tree.specs.Tree.{Fork}
+use Rattle.std.proofs.Common.{ap, sym, ◌∙◌}
+use Rattle.ord_tree.specs.Tree.{Fork, root}
 use Rattle.ord_tree.proofs.Removing.{whole_node, whole_sides, side_low, relabelled, relabelled_replaced, substituted}
 use Rattle.ord_tree.proofs.removal.replace.Goals as goal
 use Rattle.node_store.specs.ByNode.{column_of}
 
-pub link-left-requires-clause-node : goal.link-left-requires-clause-node
-link-left-requires-clause-node g c = whole_node g.T.Tally.of _ _ c.requires.room.tree c.requires.room.is
+pub link-link-requires-clause-node : goal.link-link-requires-clause-node
+link-link-requires-clause-node g c = whole_node g.T.Tally.of _ _ c.requires.room.tree c.requires.room.is
 
 pub join-requires-clause-left : goal.join-requires-clause-left
 join-requires-clause-left g c =
-    let s = whole_sides g.T.Tally.of (column_of c.args.store.now c.args.col) c.args.old c.link-left.result c.requires.room.tree c.requires.room.is c.link-left.ensures in
-    (side_low g.T.Tally.of (column_of c.args.store.now c.args.col) c.args.old c.link-left.result c.requires.room.tree s).0
+    let s = whole_sides g.T.Tally.of (column_of c.args.store.now c.args.col) c.args.old c.link-link.result c.requires.room.tree c.requires.room.is c.link-link.ensures in
+    (side_low g.T.Tally.of (column_of c.args.store.now c.args.col) c.args.old c.link-link.result c.requires.room.tree s).0
 
 pub join-requires-clause-right : goal.join-requires-clause-right
 join-requires-clause-right g c =
-    let s = whole_sides g.T.Tally.of (column_of c.args.store.now c.args.col) c.args.old c.link-left.result c.requires.room.tree c.requires.room.is c.link-left.ensures in
-    (side_low g.T.Tally.of (column_of c.args.store.now c.args.col) c.args.old c.link-left.result c.requires.room.tree s).1
+    let s = whole_sides g.T.Tally.of (column_of c.args.store.now c.args.col) c.args.old c.link-link.result c.requires.room.tree c.requires.room.is c.link-link.ensures in
+    (side_low g.T.Tally.of (column_of c.args.store.now c.args.col) c.args.old c.link-link.result c.requires.room.tree s).1
 
 pub rise-requires-clause-old : goal.rise-requires-clause-old
 rise-requires-clause-old g c = c.join.ensures.joined.nodes _ (whole_node g.T.Tally.of _ _ c.requires.room.tree c.requires.room.is)
@@ -22,9 +23,9 @@ rise-requires-clause-old g c = c.join.ensures.joined.nodes _ (whole_node g.T.Tal
 pub rise-requires-clause-replaced : goal.rise-requires-clause-replaced
 rise-requires-clause-replaced g c =
     let r = c.requires.room in
-    relabelled_replaced g.T.Tally.of _ _ _ _ c.link-left.result r.tree (relabelled g.T.Tally.of (column_of c.args.store.now c.args.col) _ c.args.old c.args.new c.link-left.result r.tree r.is r.lacks c.link-left.ensures c.join.ensures.joined)
+    relabelled_replaced g.T.Tally.of _ _ _ _ c.link-link.result r.tree (relabelled g.T.Tally.of (column_of c.args.store.now c.args.col) _ c.args.old c.args.new c.link-link.result r.tree r.is r.lacks c.link-link.ensures c.join.ensures.joined)
 
 pub returns-clause-tree : goal.returns-clause-tree
-returns-clause-tree g c = λ t w lacks.
-    let s = relabelled g.T.Tally.of (column_of c.args.store.now c.args.col) _ c.args.old c.args.new c.link-left.result t w lacks c.link-left.ensures c.join.ensures.joined in
-    substituted g.T.Tally.of _ _ _ c.args.old c.args.new c.link-left.result t _ w s (c.rise.ensures.tree s.path (Fork s.l c.args.old s.r) (Fork s.l c.args.new s.r) s.replaced)
+returns-clause-tree g c = λ t w lacks e.
+    let s = relabelled g.T.Tally.of (column_of c.args.store.now c.args.col) _ c.args.old c.args.new c.link-link.result t w lacks c.link-link.ensures c.join.ensures.joined in
+    substituted g.T.Tally.of _ _ _ c.args.old c.args.new c.link-link.result t _ w s (c.rise.ensures.tree s.path (Fork s.l c.args.old s.r) (Fork s.l c.args.new s.r) s.replaced (e ∙ ap root (sym s.is)))

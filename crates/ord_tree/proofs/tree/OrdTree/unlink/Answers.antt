@@ -4,7 +4,7 @@ use Rattle.ord_tree.proofs.Removing.{index_whole, whole_node, Spells-without}
 use Rattle.ord_tree.proofs.tree.OrdTree.unlink.Goals as goal
 
 pub take_out-self-requires-clause-whole : goal.take_out-self-requires-clause-whole
-take_out-self-requires-clause-whole g c = record { tree = _; is = index_whole _ _ c.args.n _ (the_tree _ _ c.requires.tree) c.requires.held }
+take_out-self-requires-clause-whole g c = record { tree = _; is = index_whole _ _ c.args.n _ (the_tree _ _ c.requires.tree) c.requires.held; root_is = (the_tree _ _ c.requires.tree).root_is }
 
 pub set_link-requires-clause-node : goal.set_link-requires-clause-node
 set_link-requires-clause-node g c = c.take_out-self.ensures.nodes c.args.n (whole_node g.T.Tally.of _ _ _ (index_whole _ _ c.args.n _ (the_tree _ _ c.requires.tree) c.requires.held))
@@ -14,4 +14,4 @@ returns-clause-list g c =
     let h = c.requires.held in
     let s = the_tree _ _ c.requires.tree in
     Spells_list _ _ _ _ (sym (without_is _ _ h.before h.after c.args.n c.requires.tree h.is))
-    (Spells-without _ _ _ _ _ _ c.args.n _ h.before h.after s (c.take_out-self.ensures.tree _ (index_whole _ _ c.args.n _ s h)) c.set_link.ensures.put refl h.is)
+    (Spells-without _ _ _ _ _ _ c.args.n _ h.before h.after s (c.take_out-self.ensures.tree _ (index_whole _ _ c.args.n _ s h) s.root_is) c.set_link.ensures.put refl h.is)
