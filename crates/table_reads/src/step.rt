@@ -43,7 +43,10 @@ pub fn read(alloc: Global, records: &Records, command: &Command, out: &mut Out) 
             count(alloc, records, Number::UpperRank, index, key, out)
         }
         Command::Range {
-            index, low, high, ..
+            index,
+            low,
+            high,
+            ..
         } => range(alloc, records, index, low, high, out),
         Command::List { index, .. } => list(alloc, records, index, out),
         _ => read_position(records, command, out),
