@@ -5,7 +5,6 @@
 //! answers are the same in other ways.
 #![tactic(auto)]
 
-mod faulty;
 mod input;
 mod repeats;
 mod sent;

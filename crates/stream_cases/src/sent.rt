@@ -6,9 +6,6 @@ use table_engine::Engine;
 use table_reply::Out;
 use table_schema::Schema;
 
-/// The longest stream that is read at once.
-const MAX_READ: usize = 4096;
-
 /// The longest stream that is cut at every place.
 const MAX_CUT: usize = 512;
 
@@ -22,11 +19,6 @@ pub struct Sent<'a> {
 }
 
 impl Sent<'_> {
-    /// Whether the stream is read at once.
-    pub fn is_short(&self) -> bool {
-        self.stream.len() <= MAX_READ
-    }
-
     /// How far apart the places are at which the stream is cut: one byte in a stream of up to 512 bytes, and else so far that
     /// there are at most 32.
     pub fn stride(&self) -> usize

@@ -1,23 +1,10 @@
-//! A script's lines over a reader and a writer, and by two sessions.
+//! A stream's lines, sent by two sessions.
 ghost use Rattle.std.specs.Prelude.{◌≡◌, ◌<◌, length};
 
 use crate::sent::Sent;
 use std::alloc::{AllocError, Global};
-use table_engine::{Engine, Event, run_events, serve_stream};
+use table_engine::{Engine, Event, run_events};
 use table_reply::Out;
-
-/// The stream is served by the last of 16 sessions. Gives the length of the answers where they are others.
-pub fn is_served_alike(sent: Sent) -> Result<Option<usize>, AllocError> {
-    let alloc = sent.alloc;
-    let mut engine = Engine::new(alloc, sent.schema, 16)?;
-    let mut reader = sent.stream;
-    let mut written = Vec::new(alloc);
-    let served = serve_stream(alloc, &mut engine, 15, &mut reader, &mut written);
-    if served.is_ok() && written.as_slice() == sent.answers {
-        return Ok(None);
-    }
-    Ok(Some(written.len()))
-}
 
 // Sends bytes of one session.
 fn send(

@@ -1,9 +1,8 @@
 //! The ways in which a stream is sent.
 
-use crate::faulty::{first_wrong_read, first_wrong_write};
 use crate::input::Stream;
 use crate::sent::{Sent, each_answer, first_wrong_cut, first_wrong_piece};
-use crate::sessions::{are_shared_alike, is_served_alike};
+use crate::sessions::are_shared_alike;
 use itoa::Buffer;
 use std::alloc::{AllocError, Global};
 use table_schema::Schema;
@@ -50,23 +49,8 @@ fn tell_each_way(
     tell_way(b"in small pieces", first_wrong_piece(sent, false)?, report)?;
     let wrong = first_wrong_piece(sent, true)?;
     tell_way(b"without the last newline", wrong, report)?;
-    tell_way(
-        b"over a reader and a writer",
-        is_served_alike(sent)?,
-        report,
-    )?;
     let wrong = are_shared_alike(sent, lines, each)?;
-    tell_way(b"by two sessions", wrong, report)?;
-    tell_way(
-        b"again after a broken read",
-        first_wrong_read(sent)?,
-        report,
-    )?;
-    tell_way(
-        b"again after a broken write",
-        first_wrong_write(sent)?,
-        report,
-    )
+    tell_way(b"by two sessions", wrong, report)
 }
 
 /// Adds to the report the answers to a stream, and whether they are the same in whatever way it is sent.

@@ -1,4 +1,4 @@
-//! A script's lines over readers and writers that fail.
+//! A stream over readers and writers that fail.
 
 use crate::sent::{Sent, apart};
 use std::alloc::AllocError;
@@ -106,11 +106,8 @@ fn sent_twice(sent: Sent, room: usize) -> Result<Twice, AllocError> {
 }
 
 /// The first room of a writer that is too narrow, and what it takes is not the front of the answers, or the lines were not
-/// carried out before it failed. A stream that is too long to be read at once is not sent.
+/// carried out before it failed. The stream is one that is read at once.
 pub fn first_wrong_write(sent: Sent) -> Result<Option<usize>, AllocError> {
-    if !sent.is_short() {
-        return Ok(None);
-    }
     let whole = sent_twice(sent, usize::MAX)?;
     for room in (0..sent.answers.len()).step_by(apart(sent.answers.len())) {
         let twice = sent_twice(sent, room)?;
