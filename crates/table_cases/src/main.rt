@@ -2,11 +2,10 @@
 //! `=== NAME`: a schema file, a line `---`, and lines of commands. A script with no schema file has that of the script before
 //! it, and the first one the built-in schema.
 //!
-//! For each line it prints what the line is read as, what kind of outcome that is for the table, and the answer. After the
-//! scripts come the faults that are told without a table.
+//! For each line it prints the text of the command that the line is read as, or its fault, what kind of outcome that is for
+//! the table, and the answer. After the scripts come the faults that are told without a table.
 #![tactic(auto)]
 
-mod meaning;
 mod refusals;
 mod report;
 mod script;

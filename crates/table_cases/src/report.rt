@@ -1,6 +1,5 @@
 //! What is printed.
 
-use itoa::{Buffer, Integer};
 use std::alloc::{AllocError, Global};
 
 /// Bytes to be printed.
@@ -29,11 +28,5 @@ impl Report {
     /// Adds a text.
     pub fn text(&mut self, text: &str) -> Result<(), AllocError> {
         self.push(text.as_bytes())
-    }
-
-    /// Adds the digits of a number.
-    pub fn number<I: Integer>(&mut self, number: I) -> Result<(), AllocError> {
-        let mut buffer = Buffer::new();
-        self.push(buffer.format(number).as_bytes())
     }
 }

@@ -1,9 +1,9 @@
 //! What each line is to each table.
 ghost use Rattle.std.specs.Prelude.{◌≤◌, IfOk};
 
-use crate::meaning::tell_command;
 use crate::report::Report;
 use command_lines::{CommandFault, read_command};
+use command_text::write_command;
 use std::alloc::{AllocError, Global};
 use table_cmd::Command;
 use table_reply::{Fault, Out, READY_ROOM};
@@ -78,14 +78,39 @@ fn only(alloc: Global, told: Told) -> Result<Vec<Told>, AllocError> {
     Ok(all)
 }
 
-// Adds a command in short, and gives what it is told.
+// The text of a command.
+fn written(alloc: Global, command: &Command) -> Result<Out, AllocError> {
+    let mut text = Out::new(alloc);
+    write_command(command, &mut text).map_err(|_| AllocError)?;
+    Ok(text)
+}
+
+// Whether the text of a command is read as a command of the same text.
+fn is_read_back(alloc: Global, text: &[u8]) -> Result<bool, AllocError> {
+    match read_command(alloc, text) {
+        Ok(command) => Ok(written(alloc, &command)?.bytes() == text),
+        Err(_) => Ok(false),
+    }
+}
+
+// Adds the text of a command.
+fn tell_command(alloc: Global, command: &Command, report: &mut Report) -> Result<(), AllocError> {
+    let text = written(alloc, command)?;
+    report.push(text.bytes())?;
+    if !is_read_back(alloc, text.bytes())? {
+        report.text(" is another command")?;
+    }
+    Ok(())
+}
+
+// Adds the text of a command, and gives what it is told.
 fn meant_and_told(
     alloc: Global,
     tables: &mut [Table],
     command: &Command,
     report: &mut Report,
 ) -> Result<Vec<Told>, AllocError> {
-    tell_command(command, report)?;
+    tell_command(alloc, command, report)?;
     carried_out(alloc, tables, command)
 }
 
@@ -140,8 +165,8 @@ fn new_tables(alloc: Global, schema: &Schema) -> Result<Vec<Table>, AllocError> 
     Ok(tables)
 }
 
-/// Tells each line to new tables of the schema. Adds to the report what the line is read as, and the kind of its outcome
-/// and its answer.
+/// Tells each line to new tables of the schema. Adds to the report the text of the command that the line is read as, and the
+/// kind of its outcome and its answer.
 pub fn tell_lines(
     alloc: Global,
     schema: &Schema,
