@@ -56,8 +56,18 @@ fn run<R: Runtime>(
     count: u64,
 ) -> io::Result<()> {
     let mut kept = ByHand::new(alloc, indices);
+    time_all(rt, report, calls, &mut kept, count)
+}
+
+fn time_all<R: Runtime>(
+    rt: &R,
+    report: &mut Report,
+    calls: &[(&'static str, Call)],
+    kept: &mut ByHand,
+    count: u64,
+) -> io::Result<()> {
     for (name, call) in calls {
-        time(rt, report, name, *call, &mut kept, count)?;
+        time(rt, report, name, *call, kept, count)?;
     }
     Ok(())
 }

@@ -81,11 +81,21 @@ fn run<R: Runtime>(
     script: Script,
     count: u64,
 ) -> io::Result<()> {
-    let Some(mut book) = Book::new(alloc, script.first, script.indices, u32::MAX)? else {
-        return Ok(());
-    };
-    for (name, call) in script.calls {
-        time(rt, report, name, *call, &mut book, count)?;
+    match Book::new(alloc, script.first, script.indices, u32::MAX)? {
+        Some(mut book) => time_all(rt, report, script.calls, &mut book, count),
+        None => Ok(()),
+    }
+}
+
+fn time_all<R: Runtime>(
+    rt: &R,
+    report: &mut Report,
+    calls: &[(&'static str, Call)],
+    book: &mut Book,
+    count: u64,
+) -> io::Result<()> {
+    for (name, call) in calls {
+        time(rt, report, name, *call, book, count)?;
     }
     Ok(())
 }

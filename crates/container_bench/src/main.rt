@@ -59,13 +59,21 @@ fn insert_both(book: &mut Book, kept: &mut ByHand, count: u64) -> Answers {
 
 // Prints the sums of what both answer at so many records.
 fn print_answers<R: Runtime>(rt: &R, alloc: Global, count: u64) -> io::Result<()> {
-    let Some(mut book) = Book::new(alloc, 0, 7, u32::MAX)? else {
-        return Ok(());
-    };
-    let mut kept = ByHand::new(alloc, 7);
-    let answers = insert_both(&mut book, &mut kept, count);
+    match Book::new(alloc, 0, 7, u32::MAX)? {
+        Some(mut book) => print_both(rt, &mut book, &mut ByHand::new(alloc, 7), count),
+        None => Ok(()),
+    }
+}
+
+fn print_both<R: Runtime>(
+    rt: &R,
+    book: &mut Book,
+    kept: &mut ByHand,
+    count: u64,
+) -> io::Result<()> {
+    let answers = insert_both(book, kept, count);
     println!(rt; "{answers}")?;
-    print_finds(rt, &book, &mut kept, count)
+    print_finds(rt, book, kept, count)
 }
 
 fn print_finds<R: Runtime>(rt: &R, book: &Book, kept: &mut ByHand, count: u64) -> io::Result<()> {
@@ -99,15 +107,19 @@ fn print_times<R: Runtime>(
     Ok(())
 }
 
+// The times of all calls at each size.
+fn print_all_times<R: Runtime>(rt: &R, alloc: Global, report: &mut Report) -> io::Result<()> {
+    for (count, rounds) in &SIZES {
+        print_times(rt, alloc, report, *count, *rounds)?;
+    }
+    println!(rt; "sum of the answers: {}", report.met)
+}
+
 fn main(rt: HostRuntime) -> io::Result<()> {
     print_answers(&rt, rt.alloc(), 100)?;
     if env::args(&rt)?.count() < 2 {
         return Ok(());
     }
     memory::record_bytes(&rt, rt.alloc(), 100_000)?;
-    let mut report = Report::new(rt.alloc());
-    for (count, rounds) in &SIZES {
-        print_times(&rt, rt.alloc(), &mut report, *count, *rounds)?;
-    }
-    println!(rt; "sum of the answers: {}", report.met)
+    print_all_times(&rt, rt.alloc(), &mut Report::new(rt.alloc()))
 }

@@ -34,13 +34,27 @@ fn print<R: Runtime>(rt: &R, name: &'static str, before: u64, count: u64) -> io:
 /// only where nothing was freed before.
 pub(crate) fn record_bytes<R: Runtime>(rt: &R, alloc: Global, count: u64) -> io::Result<()> {
     let before = resident(rt)?;
-    let Some(mut book) = Book::new(alloc, 0, 7, u32::MAX)? else {
-        return Ok(());
-    };
-    container_times::insert_each(&mut book, count);
+    match Book::new(alloc, 0, 7, u32::MAX)? {
+        Some(mut book) => print_both(rt, alloc, before, &mut book, count),
+        None => Ok(()),
+    }
+}
+
+// Fills the container and prints its bytes, and then, while it stays, those by hand.
+fn print_both<R: Runtime>(
+    rt: &R,
+    alloc: Global,
+    before: u64,
+    book: &mut Book,
+    count: u64,
+) -> io::Result<()> {
+    container_times::insert_each(book, count);
     print(rt, "container, 7 indices", before, count)?;
     let before = resident(rt)?;
-    let mut kept = ByHand::new(alloc, 7);
-    by_hand_times::insert_each(&mut kept, count);
+    print_by_hand(rt, before, &mut ByHand::new(alloc, 7), count)
+}
+
+fn print_by_hand<R: Runtime>(rt: &R, before: u64, kept: &mut ByHand, count: u64) -> io::Result<()> {
+    by_hand_times::insert_each(kept, count);
     print(rt, "by hand, 7 indices", before, count)
 }

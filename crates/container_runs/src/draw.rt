@@ -1,21 +1,41 @@
 //! Drawn numbers, rows, searches and handles.
 
 use container_model::Handle;
-use key_extract::{Cell, KeySpec, Probe, Row, Text};
+use key_extract::{Cell, KeySpec, Part, Probe, Row, Text};
 use rand_core::utils::NextWord;
 use rand_pcg::Pcg32;
 use std::alloc::{AllocError, Global};
 
-/// A generator: the same seeds give the same draws.
+/// A generator: the same seeds give the same draws. It has how many values the cells of a column have.
 #[derive(Drop)]
 pub(crate) struct Draw {
+    alloc: Global,
     words: Pcg32,
+    range: u32,
 }
 
+// The columns of a whole row.
+const ROW: [Part; 3] = [
+    Part {
+        column: 0,
+        falling: false,
+    },
+    Part {
+        column: 1,
+        falling: false,
+    },
+    Part {
+        column: 2,
+        falling: false,
+    },
+];
+
 impl Draw {
-    pub(crate) fn new(group: u64, script: u64) -> Draw {
+    pub(crate) fn new(alloc: Global, group: u64, script: u64) -> Draw {
         Draw {
+            alloc,
             words: Pcg32::new(script, group),
+            range: 0,
         }
     }
 
@@ -30,9 +50,18 @@ impl Draw {
         self.below(times) == 0
     }
 
-    /// A cell of a column, one of `range`; now and then of another column's type.
-    fn cell(&mut self, alloc: Global, column: usize, range: u32) -> Result<Cell, AllocError> {
-        let number = self.below(range);
+    /// Draws how many values the cells of a column have.
+    pub(crate) fn choose_range(&mut self) {
+        self.range = match self.below(3) {
+            0 => 3,
+            1 => 8,
+            _ => 40,
+        };
+    }
+
+    // A cell of a column; now and then of another column's type.
+    fn cell(&mut self, column: usize) -> Result<Cell, AllocError> {
+        let number = self.below(self.range);
         let of = if self.once_in(16) {
             self.below(3) as usize
         } else {
@@ -40,48 +69,36 @@ impl Draw {
         };
         Ok(match of {
             0 => Cell::Int(i64::from(number) - 2),
-            1 => Cell::Text(Text::copy_of(alloc, text_of(number))?),
+            1 => Cell::Text(Text::copy_of(self.alloc, text_of(number))?),
             _ => Cell::Bool(number % 2 == 1),
         })
     }
 
-    /// A row of three cells, and now and then of fewer.
-    pub(crate) fn row(&mut self, alloc: Global, range: u32) -> Result<Row, AllocError> {
-        let columns = if self.once_in(12) {
-            self.below(3) as usize
-        } else {
-            3
-        };
-        let mut cells = Vec::new(alloc);
-        for column in 0..columns {
-            cells.push(self.cell(alloc, column, range)?)?;
+    // Cells of the first so many parts of a key.
+    fn cells(&mut self, parts: &[Part], count: usize) -> Result<Vec<Cell>, AllocError> {
+        let mut cells = Vec::new(self.alloc);
+        for part in parts.iter().take(count) {
+            cells.push(self.cell(part.column)?)?;
         }
-        Ok(Row::new(cells))
+        Ok(cells)
+    }
+
+    /// A row of three cells, and now and then of fewer.
+    pub(crate) fn row(&mut self) -> Result<Row, AllocError> {
+        let columns = if self.once_in(12) { self.below(3) } else { 3 };
+        Ok(Row::new(self.cells(&ROW, columns as usize)?))
     }
 
     /// A search by a key, or by a leading part of one; by one number where there is no key.
-    pub(crate) fn probe(
-        &mut self,
-        alloc: Global,
-        key: Option<&KeySpec>,
-        range: u32,
-    ) -> Result<Probe, AllocError> {
-        let mut cells = Vec::new(alloc);
-        match key {
-            None => cells.push(self.cell(alloc, 0, range)?)?,
-            Some(key) => {
-                let parts = key.parts();
-                let whole = !self.once_in(3);
-                let count = parts.len();
-                let some = self.below(count as u32) as usize + 1;
-                for part in parts {
-                    if whole || cells.len() < some {
-                        cells.push(self.cell(alloc, part.column, range)?)?;
-                    }
-                }
-            }
-        }
-        Ok(Probe::new(cells))
+    pub(crate) fn probe(&mut self, key: Option<&KeySpec>) -> Result<Probe, AllocError> {
+        let Some(key) = key else {
+            return Ok(Probe::new(self.cells(&ROW, 1)?));
+        };
+        let parts = key.parts();
+        let whole = !self.once_in(3);
+        let some = self.below(parts.len() as u32) as usize + 1;
+        let count = if whole { parts.len() } else { some };
+        Ok(Probe::new(self.cells(parts, count)?))
     }
 
     /// A handle of one of so many records, or of none.

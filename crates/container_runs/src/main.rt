@@ -15,7 +15,6 @@ mod tally;
 use draw::Draw;
 use indices::Indices;
 use script::run_script;
-use std::alloc::Global;
 use std::io;
 use std::process::ExitCode;
 use tally::Tally;
@@ -37,21 +36,21 @@ const GROUPS: [&str; 12] = [
     "hashed!0 hashed!12 ordered!0 ranked!1-02 ranked:01",
 ];
 
-fn run_group(alloc: Global, indices: &Indices, seed: u64) -> io::Result<Tally> {
-    let mut tally = Tally::default();
+// Runs the scripts of a group.
+fn run_group(rt: &HostRuntime, text: &str, seed: u64) -> io::Result<Tally> {
+    let mut tally = Tally::new();
+    let indices = Indices::read(rt.alloc(), text)?;
     for number in 0..SCRIPTS {
-        let mut draw = Draw::new(seed, number);
-        run_script(alloc, indices, &mut draw, &mut tally)?;
+        let mut draw = Draw::new(rt.alloc(), seed, number);
+        run_script(rt.alloc(), &indices, &mut draw, &mut tally)?;
     }
     Ok(tally)
 }
 
 fn run(rt: &HostRuntime) -> io::Result<ExitCode> {
-    let alloc = rt.alloc();
-    let mut total = Tally::default();
+    let mut total = Tally::new();
     for (number, text) in GROUPS.iter().enumerate() {
-        let indices = Indices::read(alloc, text)?;
-        let tally = run_group(alloc, &indices, number as u64)?;
+        let tally = run_group(rt, text, number as u64)?;
         tally.print(rt, text)?;
         total.add(&tally);
     }

@@ -1,16 +1,17 @@
 //! The container and its first version, side by side.
-ghost use Rattle.std.specs.Prelude.{◌≡◌, ◌<◌, IsTrue, is_some, length};
-ghost use Rattle.container_model.specs.State.{KeysMatch, has_key_kind, is_hashed_kind};
+ghost use Rattle.std.specs.Prelude.{◌≡◌, ◌<◌, ◌≤◌, IfOk, IsTrue, is_some, length};
+ghost use Rattle.container_model.specs.State.{KeysMatch, empty, has_key_kind, is_hashed_kind};
 ghost use Rattle.container_model.specs.Find.{kind_at};
 ghost use Rattle.key_extract.specs.Keys.{key_at, parts_at, probe_fits, probe_is_whole};
 
+mod answers;
 mod changes;
 mod reads;
 
 use crate::indices::Indices;
 use crate::plain::PlainIndex;
-use crate::tally::Tally;
-use container_model::{Handle, Kind, Refused, Spec, Why};
+pub(crate) use changes::Write;
+use container_model::{Handle, Kind, Spec};
 use key_extract::{Extract, Probe, Row, RowKeys};
 use multi_index::MultiIndex;
 use std::alloc::{AllocError, Global};
@@ -61,24 +62,21 @@ fn keys_match(keys: &RowKeys, specs: &[Spec]) -> bool
     true
 }
 
-// Whether both inserted under the same handle, or refused for the same cause and handed this row back.
-fn same_insertion(
-    row: &Row,
-    a: &Result<Handle, Refused<Row>>,
-    b: &Result<Handle, Refused<Row>>,
-) -> bool {
-    match (a, b) {
-        (Ok(a), Ok(b)) => *a == *b,
-        (Err(a), Err(b)) => a.why == b.why && is_row(&a.row, row) && is_row(&b.row, row),
-        _ => false,
-    }
-}
-
-fn is_row(back: &Option<Row>, row: &Row) -> bool {
-    match back {
-        Some(back) => back.cells() == row.cells(),
-        None => false,
-    }
+// A container without records.
+fn new_container(
+    alloc: Global,
+    indices: &Indices,
+    max: u32,
+    first_write: u64,
+) -> Result<MultiIndex<Row, RowKeys>, AllocError>
+    requires some { 1 ≤ length indices.now.specs.items }
+    requires few { length indices.now.specs.items ≤ 8 }
+    requires keys { KeysMatch (λ i. is_some (key_at indices.now.keys.items i)) indices.now.specs.items }
+    ensures { IfOk result (λ made. made ≡ empty indices.now.keys.items indices.now.specs.items max first_write) }
+{
+    let specs = indices.specs.to_vec(alloc)?;
+    let keys = RowKeys::new(alloc, &indices.keys)?;
+    MultiIndex::new(alloc, specs, keys, max, first_write)
 }
 
 impl Pair {
@@ -90,30 +88,15 @@ impl Pair {
         first_write: u64,
     ) -> Result<Option<Pair>, AllocError> {
         let keys = RowKeys::new(alloc, &indices.keys)?;
-        let specs = indices.specs.to_vec(alloc)?;
-        let count = specs.len();
-        if count < 1 || count > 8 || !keys_match(&keys, &specs) {
+        let count = indices.specs.len();
+        if count < 1 || count > 8 || !keys_match(&keys, &indices.specs) {
             return Ok(None);
         }
-        let container = MultiIndex::new(
-            alloc,
-            indices.specs.to_vec(alloc)?,
-            RowKeys::new(alloc, &indices.keys)?,
-            max,
-            first_write,
-        )?;
-        let plain = PlainIndex::new(
-            alloc,
-            indices.specs.to_vec(alloc)?,
-            RowKeys::new(alloc, &indices.keys)?,
-            max,
-            first_write,
-        )?;
         Ok(Some(Pair {
             keys,
-            specs,
-            container,
-            plain,
+            specs: indices.specs.to_vec(alloc)?,
+            plain: PlainIndex::new(alloc, indices, max, first_write)?,
+            container: new_container(alloc, indices, max, first_write)?,
         }))
     }
 
@@ -131,39 +114,6 @@ impl Pair {
     /// The handles of the records of the first index.
     pub(crate) fn handles(&self) -> &[Handle] {
         self.plain.view(0)
-    }
-
-    /// Puts a row in, at its usual places or before a place of an index, and compares all views.
-    pub(crate) fn insert(
-        &mut self,
-        at: Option<(usize, u64)>,
-        row: &Row,
-        tally: &mut Tally,
-    ) -> Result<(), AllocError> {
-        let answer = self.insert_in_container(at, row.copy()?);
-        let wanted = match at {
-            Some((index, place)) => self.plain.insert_at(index, place, row.copy()?),
-            None => self.plain.insert(row.copy()?),
-        };
-        let same = same_insertion(row, &answer, &wanted);
-        tally.insertion(wanted.is_ok());
-        tally.call(wanted.err().map(|refused| refused.why), same);
-        tally.check(self.same_views());
-        tally.check(self.same_sizes());
-        Ok(())
-    }
-
-    fn insert_in_container(
-        &mut self,
-        at: Option<(usize, u64)>,
-        row: Row,
-    ) -> Result<Handle, Refused<Row>> {
-        match at {
-            Some((index, place)) if index < self.specs.len() => {
-                self.container.insert_at(index, place, row)
-            }
-            _ => self.container.insert(row),
-        }
     }
 
     // Whether all views are equal.

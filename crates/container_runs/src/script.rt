@@ -3,8 +3,8 @@ ghost use Rattle.std.specs.Prelude.{◌<◌, length};
 
 use crate::draw::Draw;
 use crate::indices::Indices;
-use crate::pair::Pair;
-use crate::tally::Tally;
+use crate::pair::{Pair, Write};
+use crate::tally::{Count, Tally};
 use key_extract::Probe;
 use std::alloc::{AllocError, Global};
 
@@ -31,15 +31,6 @@ fn drawn_calls(draw: &mut Draw) -> u32 {
     if draw.once_in(16) { 600 } else { 120 }
 }
 
-// How many values the cells of a column have.
-fn drawn_range(draw: &mut Draw) -> u32 {
-    match draw.below(3) {
-        0 => 3,
-        1 => 8,
-        _ => 40,
-    }
-}
-
 /// Draws a script and makes its calls on both containers.
 pub(crate) fn run_script(
     alloc: Global,
@@ -47,55 +38,58 @@ pub(crate) fn run_script(
     draw: &mut Draw,
     tally: &mut Tally,
 ) -> Result<(), AllocError> {
-    tally.script();
+    tally.count(Count::Scripts);
     let max = drawn_max(draw);
     let first_write = drawn_first_write(draw);
-    let range = drawn_range(draw);
-    let calls = drawn_calls(draw);
-    let Some(mut pair) = Pair::new(alloc, indices, max, first_write)? else {
-        tally.check(false);
-        return Ok(());
-    };
-    for _ in 0..calls {
-        call(alloc, indices, draw, range, &mut pair, tally)?;
+    match Pair::new(alloc, indices, max, first_write)? {
+        Some(mut pair) => run_calls(indices, draw, &mut pair, tally),
+        None => {
+            tally.count(Count::Differences);
+            Ok(())
+        }
+    }
+}
+
+fn run_calls(
+    indices: &Indices,
+    draw: &mut Draw,
+    pair: &mut Pair,
+    tally: &mut Tally,
+) -> Result<(), AllocError> {
+    draw.choose_range();
+    let count = u32::try_from(pair.indices()).unwrap_or(0);
+    for _ in 0..drawn_calls(draw) {
+        let index = draw.below(count) as usize;
+        if index < pair.indices() {
+            call(indices, draw, index, pair, tally)?;
+        }
     }
     Ok(())
 }
 
 // Draws a call and makes it on both containers.
 fn call(
-    alloc: Global,
     indices: &Indices,
     draw: &mut Draw,
-    range: u32,
+    index: usize,
     pair: &mut Pair,
     tally: &mut Tally,
-) -> Result<(), AllocError> {
-    let count = u32::try_from(indices.specs.len()).unwrap_or(0);
-    let index = draw.below(count) as usize;
-    if index >= pair.indices() {
-        return Ok(());
-    }
-    match draw.below(16) {
-        0..=3 => pair.insert(None, &draw.row(alloc, range)?, tally),
-        4..=5 => {
-            let place = drawn_place(draw, pair.len());
-            pair.insert(Some((index, place)), &draw.row(alloc, range)?, tally)
-        }
-        6..=7 => {
-            let handle = draw.handle(pair.handles());
-            pair.replace(handle, &draw.row(alloc, range)?, tally)
-        }
-        8..=9 => {
-            let handle = draw.handle(pair.handles());
-            pair.modify(handle, &draw.row(alloc, range)?, tally)
+) -> Result<(), AllocError>
+    requires { index < length pair.old.specs }
+{
+    let number = draw.below(16);
+    match number {
+        0..=9 => {
+            let write = drawn_write(draw, number, index, pair);
+            let row = draw.row()?;
+            pair.write(write, &row, tally)
         }
         10 => {
             erase(draw, index, pair, tally);
             Ok(())
         }
         11..=14 => {
-            let probe = drawn_probe(alloc, indices, draw, range, index)?;
+            let probe = drawn_probe(draw, indices, index)?;
             search(draw, index, &probe, pair, tally);
             Ok(())
         }
@@ -103,6 +97,16 @@ fn call(
             read(draw, pair, tally);
             Ok(())
         }
+    }
+}
+
+// Draws what is done with a row.
+fn drawn_write(draw: &mut Draw, number: u32, index: usize, pair: &Pair) -> Write {
+    match number {
+        0..=3 => Write::Insert(None),
+        4..=5 => Write::Insert(Some((index, drawn_place(draw, pair.len())))),
+        6..=7 => Write::Replace(draw.handle(pair.handles())),
+        _ => Write::Modify(draw.handle(pair.handles())),
     }
 }
 
@@ -137,18 +141,11 @@ fn read(draw: &mut Draw, pair: &Pair, tally: &mut Tally) {
 }
 
 // A search by the key of an index.
-fn drawn_probe(
-    alloc: Global,
-    indices: &Indices,
-    draw: &mut Draw,
-    range: u32,
-    index: usize,
-) -> Result<Probe, AllocError> {
-    let key = match indices.keys.get(index) {
-        Some(key) => key.as_ref(),
-        None => None,
-    };
-    draw.probe(alloc, key, range)
+fn drawn_probe(draw: &mut Draw, indices: &Indices, index: usize) -> Result<Probe, AllocError> {
+    match indices.keys.get(index) {
+        Some(Some(key)) => draw.probe(Some(key)),
+        _ => draw.probe(None),
+    }
 }
 
 // A place of a sequence of so many, its end, or one past it.

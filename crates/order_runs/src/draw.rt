@@ -7,18 +7,22 @@ use rand_core::utils::NextWord;
 use rand_pcg::Pcg32;
 use std::alloc::{AllocError, Global};
 
-/// A generator, with how many values its cells have.
+/// A generator, with how many values its cells have, and the record that was taken out last.
 #[derive(Drop)]
 pub(crate) struct Draw {
+    alloc: Global,
     words: Pcg32,
     range: u32,
+    pub(crate) gone: Handle,
 }
 
 impl Draw {
-    pub(crate) fn new(script: u64) -> Draw {
+    pub(crate) fn new(alloc: Global, script: u64) -> Draw {
         let mut draw = Draw {
+            alloc,
             words: Pcg32::new(script, 0),
             range: 0,
+            gone: Handle { slot: 0, stamp: 0 },
         };
         draw.range = match draw.below(3) {
             0 => 3,
@@ -39,31 +43,31 @@ impl Draw {
         u64::from(self.below(len.saturating_add(2)))
     }
 
-    /// A handle of a list, or now and then another one.
-    pub(crate) fn handle(&mut self, list: &[Handle], other: Handle) -> Handle {
+    /// A handle of a list, or now and then the one that is gone.
+    pub(crate) fn handle(&mut self, list: &[Handle]) -> Handle {
         if self.below(8) == 0 {
-            return other;
+            return self.gone;
         }
         let place = self.place(list) as usize;
-        list.get(place).copied().unwrap_or(other)
+        list.get(place).copied().unwrap_or(self.gone)
     }
 
-    fn cells(&mut self, alloc: Global, count: u32) -> Result<Vec<Cell>, AllocError> {
-        let mut cells = Vec::new(alloc);
+    fn cells(&mut self, count: u32) -> Result<Vec<Cell>, AllocError> {
+        let mut cells = Vec::new(self.alloc);
         for _ in 0..count {
             cells.push(Cell::Int(i64::from(self.below(self.range))))?;
         }
         Ok(cells)
     }
 
-    pub(crate) fn row(&mut self, alloc: Global) -> Result<Row, AllocError> {
-        Ok(Row::new(self.cells(alloc, 3)?))
+    pub(crate) fn row(&mut self) -> Result<Row, AllocError> {
+        Ok(Row::new(self.cells(3)?))
     }
 
     /// A search by one or two parts.
-    pub(crate) fn probe(&mut self, alloc: Global) -> Result<Probe, AllocError> {
+    pub(crate) fn probe(&mut self) -> Result<Probe, AllocError> {
         let count = if self.below(2) == 0 { 1 } else { 2 };
-        Ok(Probe::new(self.cells(alloc, count)?))
+        Ok(Probe::new(self.cells(count)?))
     }
 
     /// A key of one or two parts.
@@ -83,19 +87,12 @@ impl Draw {
         }
     }
 
-    /// Puts handles into another order, which now and then lacks one, or has another one in its place or beside it.
-    pub(crate) fn shuffle(
-        &mut self,
-        handles: &mut Vec<Handle>,
-        other: Handle,
-    ) -> Result<(), AllocError> {
-        for place in 0..handles.len() {
-            let with = self.place(handles) as usize;
-            if with < handles.len() {
-                handles.swap(place, with);
-            }
-        }
-        let more = self.handle(handles, other);
+    /// The handles of a list in another order, which now and then lacks one, or has the one that is gone in its place or
+    /// beside it.
+    pub(crate) fn shuffled(&mut self, list: &[Handle]) -> Result<Vec<Handle>, AllocError> {
+        let mut handles = list.to_vec(self.alloc)?;
+        self.swap_some(&mut handles);
+        let more = self.handle(&handles);
         let fault = self.below(8);
         if fault < 2 {
             handles.pop();
@@ -103,6 +100,15 @@ impl Draw {
         if fault == 1 || fault == 2 {
             handles.push(more)?;
         }
-        Ok(())
+        Ok(handles)
+    }
+
+    fn swap_some(&mut self, handles: &mut [Handle]) {
+        for place in 0..handles.len() {
+            let with = self.place(handles) as usize;
+            if with < handles.len() {
+                handles.swap(place, with);
+            }
+        }
     }
 }

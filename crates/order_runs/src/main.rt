@@ -8,6 +8,7 @@ mod draw;
 mod lists;
 mod script;
 mod tally;
+mod views;
 mod watched;
 
 use script::run_script;

@@ -15,15 +15,22 @@ pub(crate) fn run_script(
     number: u64,
     tallies: &mut Tallies,
 ) -> Result<(), AllocError> {
-    let mut draw = Draw::new(number);
+    let mut draw = Draw::new(alloc, number);
     let mut watched = Watched::new(alloc, drawn_first_write(&mut draw))?;
-    let mut gone = Handle { slot: 0, stamp: 0 };
+    run_calls(&mut draw, &mut watched, tallies)
+}
+
+fn run_calls(
+    draw: &mut Draw,
+    watched: &mut Watched,
+    tallies: &mut Tallies,
+) -> Result<(), AllocError> {
     let calls = if draw.below(16) == 0 { 600 } else { 120 };
     let indices = u32::try_from(watched.indices()).unwrap_or(0);
     for _ in 0..calls {
         let index = draw.below(indices) as usize;
         if index < watched.indices() {
-            call(alloc, &mut draw, index, &mut watched, &mut gone, tallies)?;
+            call(draw, index, watched, tallies)?;
         }
     }
     Ok(())
@@ -39,84 +46,76 @@ fn drawn_first_write(draw: &mut Draw) -> u64 {
     }
 }
 
-// Draws a call and makes it. `gone` is the record that was taken out last.
+// Draws a call and makes it.
 fn call(
-    alloc: Global,
     draw: &mut Draw,
     index: usize,
     watched: &mut Watched,
-    gone: &mut Handle,
     tallies: &mut Tallies,
 ) -> Result<(), AllocError>
     requires { index < length watched.old.specs }
 {
-    let list = watched.view(index)?;
     match draw.below(64) {
-        0..=19 => watched.insert(draw.row(alloc)?, tallies),
+        0..=19 => insert(draw, watched, tallies),
         20..=24 => {
-            let handle = draw.handle(&list, *gone);
-            *gone = handle;
-            watched.erase(handle, tallies)
+            draw.gone = draw.handle(watched.list(index));
+            watched.erase(draw.gone, tallies);
+            Ok(())
         }
-        25 => watched.erase_key(index, &draw.probe(alloc)?, tallies),
+        25 => erase_key(draw, index, watched, tallies),
         26..=35 => {
-            let order = drawn_order(draw, list, *gone)?;
+            let order = drawn_order(draw, watched.list(index))?;
             watched.reorder(index, &order, tallies)
         }
-        36..=48 => watched.search(drawn_search(draw), index, &draw.probe(alloc)?, tallies),
-        49..=54 => {
-            let (low, high) = (draw.probe(alloc)?, draw.probe(alloc)?);
-            watched.range(
-                index,
-                drawn_bound(draw, &low),
-                drawn_bound(draw, &high),
-                tallies,
-            )
+        36..=48 => search(draw, index, watched, tallies),
+        49..=54 => range(draw, index, watched, tallies),
+        _ => {
+            read(draw, index, watched, tallies);
+            Ok(())
         }
-        _ => read(draw, index, &list, *gone, watched, tallies),
     }
 }
 
+fn insert(draw: &mut Draw, watched: &mut Watched, tallies: &mut Tallies) -> Result<(), AllocError> {
+    let row = draw.row()?;
+    watched.insert(row, tallies);
+    Ok(())
+}
+
+fn erase_key(
+    draw: &mut Draw,
+    index: usize,
+    watched: &mut Watched,
+    tallies: &mut Tallies,
+) -> Result<(), AllocError> {
+    let probe = draw.probe()?;
+    watched.erase_key(index, &probe, tallies)
+}
+
 // Draws a change of the order of a list.
-fn drawn_order(draw: &mut Draw, mut list: Vec<Handle>, gone: Handle) -> Result<Order, AllocError> {
+fn drawn_order(draw: &mut Draw, list: &[Handle]) -> Result<Order, AllocError> {
     Ok(match draw.below(5) {
         0..=1 => Order::Moved {
-            place: draw.place(&list),
-            handle: draw.handle(&list, gone),
+            place: draw.place(list),
+            handle: draw.handle(list),
         },
         2 => Order::Reversed,
-        3 => {
-            draw.shuffle(&mut list, gone)?;
-            Order::Given(list)
-        }
+        3 => Order::Given(draw.shuffled(list)?),
         _ => Order::Sorted(RowSort::new(draw.key())),
     })
 }
 
-// Draws a question about a place or a position.
-fn read(
+// Draws a search by a key.
+fn search(
     draw: &mut Draw,
     index: usize,
-    list: &[Handle],
-    gone: Handle,
     watched: &Watched,
     tallies: &mut Tallies,
-) -> Result<(), AllocError>
-    requires { index < length watched.now.specs }
-{
-    let handle = draw.handle(list, gone);
-    let position = if draw.below(8) == 0 {
-        None
-    } else {
-        Some(handle)
-    };
-    match draw.below(6) {
-        0 => watched.nth(index, draw.place(list), tallies),
-        1 => watched.place_of(index, handle, tallies),
-        2 => watched.step(Step::Rank, index, position, tallies),
-        3 => watched.step(Step::Prev, index, position, tallies),
-        _ => watched.step(Step::Next, index, position, tallies),
-    }
+) -> Result<(), AllocError> {
+    let search = drawn_search(draw);
+    let probe = draw.probe()?;
+    watched.search(search, index, &probe, tallies);
+    Ok(())
 }
 
 fn drawn_search(draw: &mut Draw) -> Search {
@@ -131,10 +130,45 @@ fn drawn_search(draw: &mut Draw) -> Search {
     }
 }
 
+// Draws a question for the records between two bounds.
+fn range(
+    draw: &mut Draw,
+    index: usize,
+    watched: &Watched,
+    tallies: &mut Tallies,
+) -> Result<(), AllocError>
+    requires { index < length watched.now.specs }
+{
+    let (low, high) = (draw.probe()?, draw.probe()?);
+    let low = drawn_bound(draw, &low);
+    let high = drawn_bound(draw, &high);
+    watched.range(index, low, high, tallies);
+    Ok(())
+}
+
 fn drawn_bound<'a>(draw: &mut Draw, probe: &'a Probe) -> Bound<&'a Probe> {
     match draw.below(5) {
         0..=1 => Bound::Included(probe),
         2..=3 => Bound::Excluded(probe),
         _ => Bound::Unbounded,
+    }
+}
+
+// Draws a question about a place or a position.
+fn read(draw: &mut Draw, index: usize, watched: &Watched, tallies: &mut Tallies)
+    requires { index < length watched.now.specs }
+{
+    let handle = draw.handle(watched.list(index));
+    let position = if draw.below(8) == 0 {
+        None
+    } else {
+        Some(handle)
+    };
+    match draw.below(6) {
+        0 => watched.nth(index, draw.place(watched.list(index)), tallies),
+        1 => watched.place_of(index, handle, tallies),
+        2 => watched.step(Step::Rank, index, position, tallies),
+        3 => watched.step(Step::Prev, index, position, tallies),
+        _ => watched.step(Step::Next, index, position, tallies),
     }
 }

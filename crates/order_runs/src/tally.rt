@@ -51,46 +51,69 @@ const NAMES: [&str; 20] = [
     "project_prev",
 ];
 
-#[derive(Clone, Copy, Default)]
-struct Tally {
-    calls: u64,
-    kind: u64,
-    stale: u64,
-    place: u64,
-    order: u64,
-    spent: u64,
-    differences: u64,
+// What is counted of a call.
+#[derive(Clone, Copy)]
+enum Count {
+    Calls,
+    Kind,
+    Stale,
+    Place,
+    Order,
+    Spent,
+    Differences,
+}
+
+// What a line has behind each count.
+const WORDS: [&str; 7] = [
+    "calls; refused:",
+    "kind,",
+    "stale,",
+    "place,",
+    "order,",
+    "spent;",
+    "differences",
+];
+
+fn refused(why: Why) -> Count {
+    match why {
+        Why::Kind => Count::Kind,
+        Why::Stale => Count::Stale,
+        Why::Place => Count::Place,
+        Why::Order => Count::Order,
+        Why::Spent => Count::Spent,
+        Why::Banned { .. } | Why::Full | Why::Memory => Count::Differences,
+    }
 }
 
 /// What each call answered.
 #[derive(Clone, Copy)]
 pub(crate) struct Tallies {
-    counts: [Tally; 20],
+    counts: [[u64; 7]; 20],
 }
 
 impl Tallies {
     pub(crate) fn new() -> Tallies {
         Tallies {
-            counts: [Tally::default(); 20],
+            counts: [[0; 7]; 20],
+        }
+    }
+
+    fn add_one(&mut self, call: Call, count: Count) {
+        if let Some(counts) = self.counts.get_mut(call as usize) {
+            if let Some(number) = counts.get_mut(count as usize) {
+                *number = number.wrapping_add(1);
+            }
         }
     }
 
     /// Counts a call: what refused it, and whether it answered and left what it should.
     pub(crate) fn count(&mut self, call: Call, why: Option<Why>, same: bool) {
-        if let Some(tally) = self.counts.get_mut(call as usize) {
-            add_one(&mut tally.calls);
-            match why {
-                None => {}
-                Some(Why::Kind) => add_one(&mut tally.kind),
-                Some(Why::Stale) => add_one(&mut tally.stale),
-                Some(Why::Place) => add_one(&mut tally.place),
-                Some(Why::Order) => add_one(&mut tally.order),
-                Some(Why::Spent) => add_one(&mut tally.spent),
-                Some(_) => add_one(&mut tally.differences),
-            }
-            if !same {
-                add_one(&mut tally.differences);
-            }
+        self.add_one(call, Count::Calls);
+        if let Some(why) = why {
+            self.add_one(call, refused(why));
+        }
+        if !same {
+            self.add_one(call, Count::Differences);
         }
     }
 
@@ -115,8 +138,8 @@ impl Tallies {
     }
 
     pub(crate) fn are_clean(&self) -> bool {
-        for tally in &self.counts {
-            if tally.differences != 0 {
+        for counts in &self.counts {
+            if counts[Count::Differences as usize] != 0 {
                 return false;
             }
         }
@@ -124,22 +147,17 @@ impl Tallies {
     }
 
     pub(crate) fn print(&self, rt: &HostRuntime) -> io::Result<()> {
-        for (name, tally) in NAMES.iter().zip(self.counts.iter()) {
-            println!(rt;
-                "{name}: {} calls; refused: {} kind, {} stale, {} place, {} order, {} spent; {} differences",
-                tally.calls,
-                tally.kind,
-                tally.stale,
-                tally.place,
-                tally.order,
-                tally.spent,
-                tally.differences
-            )?;
+        for call in 0..20 {
+            print_counts(rt, NAMES[call], &self.counts[call])?;
         }
         Ok(())
     }
 }
 
-fn add_one(count: &mut u64) {
-    *count = count.wrapping_add(1);
+fn print_counts(rt: &HostRuntime, name: &str, counts: &[u64; 7]) -> io::Result<()> {
+    print!(rt; "{name}:")?;
+    for count in 0..7 {
+        print!(rt; " {} {}", counts[count], WORDS[count])?;
+    }
+    println!(rt; "")
 }

@@ -1,17 +1,18 @@
 //! The container, with what it shows.
-ghost use Rattle.std.specs.Prelude.{◌≡◌, ◌<◌, IsTrue, length};
-ghost use Rattle.container_model.specs.State.{has_key_kind, is_hashed_kind, is_ranked_kind, is_sorted_kind};
+ghost use Rattle.std.specs.Prelude.{◌≡◌, ◌<◌, ◌≤◌, IfOk, IsTrue, is_some, length};
+ghost use Rattle.container_model.specs.State.{KeysMatch, empty, has_key_kind, is_hashed_kind, is_ranked_kind, is_sorted_kind};
 ghost use Rattle.container_model.specs.Find.{kind_at};
-ghost use Rattle.key_extract.specs.Keys.{parts_at, probe_fits, probe_is_whole};
+ghost use Rattle.key_extract.specs.Keys.{key_at, parts_at, probe_fits, probe_is_whole};
 
 mod orders;
 mod positions;
 mod searches;
 
-use crate::lists::{WITH_KEYS, answer_of, place_in};
+use crate::lists::{WITH_KEYS, answer_of};
 use crate::tally::{Call, Tallies};
+use crate::views::Views;
 use arrayvec::ArrayVec;
-use container_model::{Handle, Kind, Spec, Why};
+use container_model::{Handle, Kind, Refused, Spec, Why};
 use key_extract::{Extract, KeySpec, Part, Probe, Row, RowKeys};
 use multi_index::MultiIndex;
 pub(crate) use orders::Order;
@@ -48,13 +49,14 @@ const SPECS: [Spec; 6] = [
     },
 ];
 
-/// A container of rows of three numbers.
+/// A container of rows of three numbers, with the views that it showed after the last change.
 #[derive(Drop)]
 pub(crate) struct Watched {
     alloc: Global,
     keys: RowKeys,
     specs: Vec<Spec>,
     container: MultiIndex<Row, RowKeys>,
+    views: Views,
 }
 
 impl Model for Watched {
@@ -86,6 +88,45 @@ fn key(column: usize, second: Option<usize>) -> KeySpec {
     KeySpec::new(parts)
 }
 
+// What refused a call.
+fn refusal<T>(answer: &Result<T, Refused<Row>>) -> Option<Why> {
+    match answer {
+        Ok(_) => None,
+        Err(refused) => Some(refused.why),
+    }
+}
+
+// Whether a list is another one with this record put in, if there is one.
+fn is_list_with(view: &[Handle], list: &[Handle], inserted: Option<Handle>) -> bool {
+    let mut place = 0usize;
+    for handle in view {
+        if Some(*handle) != inserted {
+            if list.get(place) != Some(handle) {
+                return false;
+            }
+            place = place.saturating_add(1);
+        }
+    }
+    place == list.len() && (inserted.is_none() || view.len() > place)
+}
+
+// A container without records.
+fn new_container(
+    alloc: Global,
+    specs: &[Spec],
+    keys: &[Option<KeySpec>],
+    first_write: u64,
+) -> Result<MultiIndex<Row, RowKeys>, AllocError>
+    requires some { 1 ≤ length specs.now }
+    requires few { length specs.now ≤ 8 }
+    requires keys { KeysMatch (λ i. is_some (key_at keys.now i)) specs.now }
+    ensures { IfOk result (λ made. made ≡ empty keys.now specs.now 1000 first_write) }
+{
+    let specs = specs.to_vec(alloc)?;
+    let keys = RowKeys::new(alloc, keys)?;
+    MultiIndex::new(alloc, specs, keys, 1000, first_write)
+}
+
 impl Watched {
     /// A container without records.
     pub(crate) fn new(alloc: Global, first_write: u64) -> Result<Watched, AllocError> {
@@ -97,18 +138,25 @@ impl Watched {
             Some(key(2, Some(0))),
             Some(key(0, Some(1))),
         ];
-        let container = MultiIndex::new(
-            alloc,
-            SPECS.to_vec(alloc)?,
-            RowKeys::new(alloc, &keys)?,
-            1000,
-            first_write,
-        )?;
+        Watched::under(alloc, &SPECS, &keys, first_write)
+    }
+
+    fn under(
+        alloc: Global,
+        specs: &[Spec],
+        keys: &[Option<KeySpec>],
+        first_write: u64,
+    ) -> Result<Watched, AllocError>
+        requires some { 1 ≤ length specs.now }
+        requires few { length specs.now ≤ 8 }
+        requires keys { KeysMatch (λ i. is_some (key_at keys.now i)) specs.now }
+    {
         Ok(Watched {
             alloc,
-            keys: RowKeys::new(alloc, &keys)?,
-            specs: SPECS.to_vec(alloc)?,
-            container,
+            keys: RowKeys::new(alloc, keys)?,
+            specs: specs.to_vec(alloc)?,
+            views: Views::new(alloc, specs.len())?,
+            container: new_container(alloc, specs, keys, first_write)?,
         })
     }
 
@@ -120,61 +168,30 @@ impl Watched {
     }
 
     /// The records of an index.
-    pub(crate) fn view(&self, index: usize) -> Result<Vec<Handle>, AllocError>
-        requires { index < length self.now.specs }
-    {
-        match self.container.view(index) {
-            Ok(view) => Ok(view),
-            Err(_) => Err(AllocError),
-        }
-    }
-
-    fn views(&self) -> Result<Vec<Vec<Handle>>, AllocError> {
-        let mut views = Vec::new(self.alloc);
-        for index in 0..self.specs.len() {
-            views.push(self.view(index)?)?;
-        }
-        Ok(views)
+    pub(crate) fn list(&self, index: usize) -> &[Handle] {
+        self.views.list(index)
     }
 
     /// Puts a row in, after which each view without it is as it was.
-    pub(crate) fn insert(&mut self, row: Row, tallies: &mut Tallies) -> Result<(), AllocError> {
-        let old = self.views()?;
+    pub(crate) fn insert(&mut self, row: Row, tallies: &mut Tallies) {
         let wanted = self.spent();
         let answer = self.container.insert(row);
-        let mut new = self.views()?;
-        let why = match answer {
-            Ok(handle) => {
-                take_out(&mut new, handle);
-                None
-            }
-            Err(refused) => Some(refused.why),
+        let inserted = match &answer {
+            Ok(handle) => Some(*handle),
+            Err(_) => None,
         };
-        tallies.count(Call::Insert, wanted, why == wanted && are_same(&old, &new));
-        Ok(())
+        let why = refusal(&answer);
+        tallies.count(Call::Insert, wanted, self.shows(inserted) && why == wanted);
     }
 
     /// Takes a record out, after which each view is as it was without it.
-    pub(crate) fn erase(
-        &mut self,
-        handle: Handle,
-        tallies: &mut Tallies,
-    ) -> Result<(), AllocError> {
-        let mut old = self.views()?;
-        let wanted = match self.container.get(handle) {
-            Ok(_) => self.spent(),
-            Err(why) => Some(why),
-        };
+    pub(crate) fn erase(&mut self, handle: Handle, tallies: &mut Tallies) {
+        let wanted = self.container.get(handle).err().or(self.spent());
         if wanted.is_none() {
-            take_out(&mut old, handle);
+            self.views.take_out(handle);
         }
-        let why = match self.container.erase(handle, None) {
-            Ok(_) => None,
-            Err(refused) => Some(refused.why),
-        };
-        let new = self.views()?;
-        tallies.count(Call::Erase, wanted, why == wanted && are_same(&old, &new));
-        Ok(())
+        let why = refusal(&self.container.erase(handle, None));
+        tallies.count(Call::Erase, wanted, self.shows(None) && why == wanted);
     }
 
     /// Takes out all records that have the key, where the index can be searched by it; each view is then as it was
@@ -188,27 +205,54 @@ impl Watched {
         if !self.may_search(index, probe) {
             return Ok(());
         }
-        let mut old = self.views()?;
-        let list = self.view(index)?;
-        let wanted = match answer_of(&WITH_KEYS, self.specs[index].kind, ()) {
-            Ok(()) => self.spent(),
-            Err(why) => Some(why),
+        let kind = self.specs[index].kind;
+        let wanted = answer_of(&WITH_KEYS, kind, ()).err().or(self.spent());
+        let handles = self.with_key(index, probe)?;
+        if wanted.is_none() {
+            self.views.take_out_all(&handles);
+        }
+        let same = match &self.container.erase_key(index, probe) {
+            Ok(count) => wanted.is_none() && *count == handles.len() as u64,
+            Err(refused) => wanted == Some(refused.why),
         };
-        let mut count = 0u64;
-        for handle in &list {
-            if wanted.is_none() && self.side(index, *handle, probe) == Some(Ordering::Equal) {
-                take_out(&mut old, *handle);
-                count = count.saturating_add(1);
+        tallies.count(Call::EraseKey, wanted, self.shows(None) && same);
+        Ok(())
+    }
+
+    // The records of an index that have the key.
+    fn with_key(&self, index: usize, probe: &Probe) -> Result<Vec<Handle>, AllocError> {
+        let mut handles = Vec::new(self.alloc);
+        for handle in self.list(index) {
+            if self.side(index, *handle, probe) == Some(Ordering::Equal) {
+                handles.push(*handle)?;
             }
         }
-        let (why, erased) = match self.container.erase_key(index, probe) {
-            Ok(erased) => (None, erased),
-            Err(refused) => (Some(refused.why), 0),
-        };
-        let new = self.views()?;
-        let same = why == wanted && erased == count && are_same(&old, &new);
-        tallies.count(Call::EraseKey, wanted, same);
-        Ok(())
+        Ok(handles)
+    }
+
+    // Looks at all views again, and tells whether each is as it should be but for a record that was put in.
+    fn shows(&mut self, inserted: Option<Handle>) -> bool {
+        let mut same = true;
+        for index in 0..self.specs.len() {
+            if !self.shows_at(index, inserted) {
+                same = false;
+            }
+        }
+        same
+    }
+
+    fn shows_at(&mut self, index: usize, inserted: Option<Handle>) -> bool {
+        if index >= self.specs.len() {
+            return false;
+        }
+        match self.container.view(index) {
+            Ok(view) => {
+                let same = is_list_with(&view, self.list(index), inserted);
+                self.views.set(index, view);
+                same
+            }
+            Err(_) => false,
+        }
     }
 
     // How a record stands to a search, where the index has a key that it fits.
@@ -250,24 +294,4 @@ impl Watched {
             }
         }
     }
-}
-
-// Takes a record out of each list.
-fn take_out(views: &mut [Vec<Handle>], handle: Handle) {
-    for view in views {
-        if let Some(place) = place_in(view, handle) {
-            if place < view.len() {
-                view.remove(place);
-            }
-        }
-    }
-}
-
-fn are_same(old: &[Vec<Handle>], new: &[Vec<Handle>]) -> bool {
-    for (old, new) in old.iter().zip(new) {
-        if old.as_slice() != new.as_slice() {
-            return false;
-        }
-    }
-    old.len() == new.len()
 }

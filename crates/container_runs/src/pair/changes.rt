@@ -1,80 +1,78 @@
 //! Changes of both containers.
 ghost use Rattle.std.specs.Prelude.{◌<◌, IfSome, length};
 
-use super::{Pair, is_row};
-use crate::tally::Tally;
+use super::Pair;
+use super::answers::{erased, inserted, modified, replaced, without_row};
+use crate::tally::{Count, Tally};
 use container_model::{Handle, Refused, Why};
 use key_extract::{Probe, Row};
 use modify_ops::RowEdit;
-use multi_index::Modified;
 use std::alloc::AllocError;
 
-// Whether the record stays in both, or is lost to the same ban, or both refused for the same cause.
-fn same_modification(
-    a: &Result<Modified<Row>, Refused<Row>>,
-    b: &Result<Option<(Row, usize, Handle)>, Why>,
-) -> bool {
-    match (a, b) {
-        (Ok(Modified::Kept), Ok(None)) => true,
-        (Ok(Modified::Erased { row, index, by }), Ok(Some(lost))) => {
-            row.cells() == lost.0.cells() && *index == lost.1 && *by == lost.2
-        }
-        (Err(a), Err(b)) => a.why == *b && a.row.is_none(),
-        _ => false,
-    }
-}
-
-// Whether both did it, or refused for the same cause.
-fn same_change(a: &Result<(), Refused<Row>>, b: Result<(), Why>) -> bool {
-    match (a, b) {
-        (Ok(()), Ok(())) => true,
-        (Err(a), Err(b)) => a.why == b && a.row.is_none(),
-        _ => false,
-    }
+/// What is done with a row: it is put in, at its usual places or before a place of an index, or given to a record, which
+/// by `Modify` is lost to a ban.
+#[derive(Clone, Copy)]
+pub(crate) enum Write {
+    Insert(Option<(usize, u64)>),
+    Replace(Handle),
+    Modify(Handle),
 }
 
 impl Pair {
+    /// Makes a change with a row, of which the container gets a copy, and compares all views.
+    pub(crate) fn write(
+        &mut self,
+        write: Write,
+        row: &Row,
+        tally: &mut Tally,
+    ) -> Result<(), AllocError> {
+        let copy = row.copy()?;
+        match write {
+            Write::Insert(at) => self.insert(at, row, copy, tally),
+            Write::Replace(handle) => self.replace(handle, row, copy, tally),
+            Write::Modify(handle) => self.modify(handle, row, copy, tally),
+        }
+        Ok(())
+    }
+
     // Counts a change, and compares all views.
-    fn compare(&self, why: Option<Why>, same: bool, tally: &mut Tally) {
-        tally.change(why.is_none());
-        tally.call(why, same);
-        tally.check(self.same_views());
-        tally.check(self.same_sizes());
+    fn compare(&self, count: Count, why: Option<Why>, same: bool, tally: &mut Tally) {
+        tally.count_if(why.is_none(), count);
+        tally.call(why, same && self.same_views() && self.same_sizes());
     }
 
-    /// Gives a record another row.
-    pub(crate) fn replace(
-        &mut self,
-        handle: Handle,
-        row: &Row,
-        tally: &mut Tally,
-    ) -> Result<(), AllocError> {
-        let answer = self.container.replace(handle, row.copy()?);
-        let wanted = self.plain.replace(handle, row.copy()?);
-        let same = match (&answer, &wanted) {
-            (Ok(a), Ok(b)) => a.cells() == b.cells(),
-            (Err(a), Err(b)) => a.why == b.why && is_row(&a.row, row) && is_row(&b.row, row),
-            _ => false,
-        };
-        self.get(handle, tally);
-        self.compare(wanted.err().map(|refused| refused.why), same, tally);
-        Ok(())
+    fn insert(&mut self, at: Option<(usize, u64)>, row: &Row, copy: Row, tally: &mut Tally) {
+        let answer = inserted(&self.insert_in_container(at, copy), row);
+        let wanted = self.plain.insert(at, row);
+        self.compare(Count::Inserted, wanted.err(), answer == Some(wanted), tally);
     }
 
-    /// Gives a record another row, or loses it to a ban.
-    pub(crate) fn modify(
+    fn insert_in_container(
         &mut self,
-        handle: Handle,
-        row: &Row,
-        tally: &mut Tally,
-    ) -> Result<(), AllocError> {
-        let mut edit = RowEdit::new(row.copy()?);
-        let answer = self.container.modify(handle, &mut edit);
-        let wanted = self.plain.modify(handle, row.copy()?);
-        let same = same_modification(&answer, &wanted);
+        at: Option<(usize, u64)>,
+        row: Row,
+    ) -> Result<Handle, Refused<Row>> {
+        match at {
+            Some((index, place)) if index < self.specs.len() => {
+                self.container.insert_at(index, place, row)
+            }
+            _ => self.container.insert(row),
+        }
+    }
+
+    fn replace(&mut self, handle: Handle, row: &Row, copy: Row, tally: &mut Tally) {
+        let answer = self.container.replace(handle, copy);
+        let answer = replaced(&answer, self.plain.get(handle), row);
+        let wanted = self.plain.replace(handle, row);
         self.get(handle, tally);
-        self.compare(wanted.err(), same, tally);
-        Ok(())
+        self.compare(Count::Changed, wanted.err(), answer == Some(wanted), tally);
+    }
+
+    fn modify(&mut self, handle: Handle, row: &Row, copy: Row, tally: &mut Tally) {
+        let answer = modified(&self.container.modify(handle, &mut RowEdit::new(copy)), row);
+        let wanted = self.plain.modify(handle, row);
+        self.get(handle, tally);
+        self.compare(Count::Changed, wanted.err(), answer == Some(wanted), tally);
     }
 
     /// Takes a record out, and compares the records after it in an index.
@@ -82,34 +80,24 @@ impl Pair {
         requires { IfSome index (λ i. i < length self.old.specs) }
     {
         let answer = self.container.erase(handle, index);
+        let answer = erased(&answer, self.plain.get(handle));
         let wanted = self.plain.erase(handle, index);
-        let same = match (&answer, &wanted) {
-            (Ok(a), Ok((row, next))) => a.row.cells() == row.cells() && a.next == *next,
-            (Err(a), Err(b)) => a.why == *b && a.row.is_none(),
-            _ => false,
-        };
-        self.compare(wanted.err(), same, tally);
+        self.compare(Count::Changed, wanted.err(), answer == Some(wanted), tally);
     }
 
     /// Takes out all records that have the key, where the index can be searched by it.
     pub(crate) fn erase_key(&mut self, index: usize, probe: &Probe, tally: &mut Tally) {
         if self.may_search(index, probe) {
-            let answer = self.container.erase_key(index, probe);
+            let answer = without_row(&self.container.erase_key(index, probe));
             let wanted = self.plain.erase_key(index, probe);
-            let same = match (&answer, &wanted) {
-                (Ok(a), Ok(b)) => *a == *b,
-                (Err(a), Err(b)) => a.why == *b && a.row.is_none(),
-                _ => false,
-            };
-            self.compare(wanted.err(), same, tally);
+            self.compare(Count::Changed, wanted.err(), answer == Some(wanted), tally);
         }
     }
 
     /// Takes all records out.
     pub(crate) fn clear(&mut self, tally: &mut Tally) {
-        let answer = self.container.clear();
+        let answer = without_row(&self.container.clear());
         let wanted = self.plain.clear();
-        let same = same_change(&answer, wanted);
-        self.compare(wanted.err(), same, tally);
+        self.compare(Count::Changed, wanted.err(), answer == Some(wanted), tally);
     }
 }

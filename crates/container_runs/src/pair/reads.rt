@@ -1,7 +1,8 @@
 //! Questions to both containers.
 
 use super::Pair;
-use crate::tally::Tally;
+use super::answers::is_row;
+use crate::tally::{Count, Tally};
 use container_model::Handle;
 use key_extract::Probe;
 
@@ -14,10 +15,9 @@ impl Pair {
     /// Compares the rows of a handle.
     pub(crate) fn get(&self, handle: Handle, tally: &mut Tally) {
         let wanted = self.plain.get(handle);
-        let same = match (self.container.get(handle), wanted) {
-            (Ok(a), Ok(b)) => a.cells() == b.cells(),
-            (Err(a), Err(b)) => a == b,
-            _ => false,
+        let same = match self.container.get(handle) {
+            Ok(row) => is_row(row, wanted),
+            Err(why) => wanted.err() == Some(why),
         };
         tally.call(wanted.err(), same);
     }
@@ -27,7 +27,7 @@ impl Pair {
         if self.may_search(index, probe) {
             let wanted = self.plain.find(index, probe);
             let answer = self.container.find(index, probe);
-            tally.search(matches!(wanted, Ok(Some(_))));
+            tally.count_if(matches!(wanted, Ok(Some(_))), Count::Found);
             tally.call(wanted.err(), answer == wanted);
         }
     }
@@ -37,7 +37,7 @@ impl Pair {
         if self.may_search(index, probe) {
             let wanted = self.plain.count(index, probe);
             let answer = self.container.count(index, probe);
-            tally.search(matches!(wanted, Ok(1..)));
+            tally.count_if(matches!(wanted, Ok(1..)), Count::Found);
             tally.call(wanted.err(), answer == wanted);
         }
     }

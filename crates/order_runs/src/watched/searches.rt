@@ -10,7 +10,6 @@ use crate::lists::{Cut, IN_ORDER, WITH_KEYS, WITH_RANKS, answer_of, at};
 use crate::tally::{Call, Tallies};
 use container_model::{Handle, Why};
 use key_extract::Probe;
-use std::alloc::AllocError;
 use std::cmp::Ordering;
 use std::ops::Bound;
 
@@ -34,12 +33,12 @@ impl Watched {
         index: usize,
         probe: &Probe,
         tallies: &mut Tallies,
-    ) -> Result<(), AllocError> {
+    ) {
         if !self.may_search(index, probe) {
-            return Ok(());
+            return;
         }
-        let list = self.view(index)?;
-        let cut = self.cut(index, &list, probe);
+        let list = self.list(index);
+        let cut = self.cut(index, list, probe);
         let (container, kind) = (&self.container, self.specs[index].kind);
         match search {
             Search::Find => tallies.compare_records(
@@ -55,17 +54,17 @@ impl Watched {
             Search::Lower => tallies.compare_records(
                 Call::Lower,
                 container.lower(index, probe),
-                answer_of(&IN_ORDER, kind, at(&list, cut.below)),
+                answer_of(&IN_ORDER, kind, at(list, cut.below)),
             ),
             Search::Upper => tallies.compare_records(
                 Call::Upper,
                 container.upper(index, probe),
-                answer_of(&IN_ORDER, kind, at(&list, cut.up_to())),
+                answer_of(&IN_ORDER, kind, at(list, cut.up_to())),
             ),
             Search::FindRank => tallies.compare_numbers(
                 Call::FindRank,
                 container.find_rank(index, probe),
-                answer_of(&WITH_RANKS, kind, cut.rank(&list) as u64),
+                answer_of(&WITH_RANKS, kind, cut.rank(list) as u64),
             ),
             Search::LowerRank => tallies.compare_numbers(
                 Call::LowerRank,
@@ -78,7 +77,6 @@ impl Watched {
                 answer_of(&WITH_RANKS, kind, cut.up_to() as u64),
             ),
         }
-        Ok(())
     }
 
     /// Compares the records between two bounds, where the index can be searched by them.
@@ -88,31 +86,34 @@ impl Watched {
         low: Bound<&Probe>,
         high: Bound<&Probe>,
         tallies: &mut Tallies,
-    ) -> Result<(), AllocError>
+    )
         requires { index < length self.now.specs }
     {
         if !self.may_bound(index, low) || !self.may_bound(index, high) {
-            return Ok(());
+            return;
         }
-        let list = self.view(index)?;
+        let wanted = answer_of(&IN_ORDER, self.specs[index].kind, ());
+        let same = match &self.container.range(index, low, high) {
+            Ok(handles) => wanted.is_ok() && handles.as_slice() == self.between(index, low, high),
+            Err(why) => wanted == Err(*why),
+        };
+        tallies.count(Call::Range, wanted.err(), same);
+    }
+
+    // The records between two bounds.
+    fn between(&self, index: usize, low: Bound<&Probe>, high: Bound<&Probe>) -> &[Handle] {
+        let list = self.list(index);
         let start = match low {
-            Bound::Included(probe) => self.cut(index, &list, probe).below,
-            Bound::Excluded(probe) => self.cut(index, &list, probe).up_to(),
+            Bound::Included(probe) => self.cut(index, list, probe).below,
+            Bound::Excluded(probe) => self.cut(index, list, probe).up_to(),
             Bound::Unbounded => 0,
         };
         let end = match high {
-            Bound::Included(probe) => self.cut(index, &list, probe).up_to(),
-            Bound::Excluded(probe) => self.cut(index, &list, probe).below,
+            Bound::Included(probe) => self.cut(index, list, probe).up_to(),
+            Bound::Excluded(probe) => self.cut(index, list, probe).below,
             Bound::Unbounded => list.len(),
         };
-        let wanted = answer_of(&IN_ORDER, self.specs[index].kind, ());
-        let same = match (self.container.range(index, low, high), wanted) {
-            (Ok(a), Ok(())) => a.as_slice() == list.get(start..end).unwrap_or(&[]),
-            (Err(a), Err(b)) => a == b,
-            _ => false,
-        };
-        tallies.count(Call::Range, wanted.err(), same);
-        Ok(())
+        list.get(start..end).unwrap_or(&[])
     }
 
     // Whether the index can be searched by the bound.
