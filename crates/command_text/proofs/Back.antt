@@ -1,7 +1,7 @@
 -- The value that is written for a command asks for the same command.
-use Rattle.std.proofs.Common.{◌≡◌, ℕ, ◌^◌, ◌<◌, ℤ, pos, negsuc, List, [], ◌∷◌, map, Bool, true, false, Option, Some, None, cond, option_map, option_and_then, refl, ap, ap₂, ◌∙◌, arith, length, length-append, decimal, lt-ltb}
+use Rattle.std.proofs.Common.{◌≡◌, ℕ, ◌^◌, ℤ, pos, negsuc, List, [], ◌∷◌, map, Bool, true, false, Option, Some, None, cond, option_map, option_and_then, refl, ap, ap₂, ◌∙◌, arith, length, length-append, decimal, lt-ltb}
 use Rattle.std.specs.List.{AllByRecursion}
-use Rattle.serde_json.specs.Data.{Data, string, array}
+use Rattle.serde_json.specs.Data.{string}
 use Rattle.serde_json.specs.Find.{as_str}
 use Rattle.key_extract.specs.declared.cell.Cell.TheVariants as cells
 use Rattle.table_cmd.specs.declared.command.Value.{Value}

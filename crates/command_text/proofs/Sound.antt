@@ -1,5 +1,5 @@
 -- The value that is written for a command that fits can be read back.
-use Rattle.std.proofs.Common.{◌≡◌, ℕ, ◌^◌, ◌<◌, ◌≤◌, ◌&&◌, ℤ, pos, negsuc, List, [], ◌∷◌, ◌++◌, decimal, map, Bool, true, false, Option, Some, None, option_map, IsUtf8, Ordering, Less, Equal, Greater, nat_cmp, codes, refl, arith}
+use Rattle.std.proofs.Common.{◌≡◌, ℕ, ◌^◌, ◌<◌, ◌≤◌, ◌&&◌, ℤ, pos, negsuc, List, [], ◌∷◌, ◌++◌, decimal, map, Bool, true, false, Option, Some, None, IsUtf8, Ordering, Less, Equal, Greater, nat_cmp, codes, refl, arith}
 use Rattle.std.proofs.lemmas.Bool.{and_parts}
 use Rattle.std.specs.Cmp.Lexicographic.{slice_cmp}
 use Rattle.std.specs.List.{AllByRecursion}
@@ -8,24 +8,22 @@ use Rattle.std.specs.Prelude.{⊤}
 use Rattle.std.proofs.lemmas.Str.{IsUtf8-append, IsUtf8-nil}
 use Rattle.container_model.specs.declared.handle.Handle.{Handle}
 use Rattle.json.proofs.Printed.Utf8.{are_ascii, IsUtf8-are_ascii}
-use Rattle.serde_json.specs.Data.{Data, string, array, object, Items, no_items, item, Members, no_members, member, depth, items_depth, members_depth}
+use Rattle.serde_json.specs.Data.{Data, string, array, Members, depth, items_depth, members_depth}
 use Rattle.key_extract.specs.declared.cell.Cell.TheVariants as cells
 use Rattle.table_reply.specs.Spelling.{HandleFits, spelling}
 use Rattle.table_cmd.specs.declared.command.Value.{Value}
 use Rattle.table_cmd.specs.declared.command.Value.TheVariants as values
 use Rattle.table_cmd.specs.declared.command.Field.{Field}
-use Rattle.table_cmd.specs.declared.command.Changes.{Changes}
 use Rattle.table_cmd.specs.declared.command.Changes.TheVariants.{Set, Add, Both}
 use Rattle.table_cmd.specs.declared.command.KeyBound.{KeyBound}
 use Rattle.table_cmd.specs.declared.command.KeyBound.TheVariants.{Included, Excluded, Unbounded}
-use Rattle.table_cmd.specs.declared.command.Position.{Position}
 use Rattle.table_cmd.specs.declared.command.HandleText.{HandleText}
 use Rattle.table_cmd.specs.declared.command.HandleText.TheVariants as texts
 use Rattle.table_cmd.specs.declared.command.Command.{Command}
 use Rattle.table_cmd.specs.declared.command.Command.TheVariants as commands
 use Rattle.table_cmd.specs.Command.{table_in}
-use Rattle.command_text.specs.Text.{items_of, value_data, key_data, field_members, fields_data, handle_data, handles_data, names_data, end_data, count_data, added, changed, included, excluded, if_true, and_member, members_of, add_of, by_of, ge_of, gt_of, h_of, hs_of, i_of, k_of, le_of, lt_of, n_of, op_name, p_of, r_of, rollback_of, set_of, parts, command_data}
-use Rattle.command_text.specs.Fits.{IntFits, ValueFits, FieldFits, FieldsFit, HandleTextFits, EndFits, PositionFits, IndexFits, ChangesFit, KeyFits, BoundFits, CommandFits}
+use Rattle.command_text.specs.Text.{items_of, value_data, key_data, field_members, fields_data, handle_data, end_data, count_data, included, excluded, and_member, members_of, add_of, by_of, ge_of, gt_of, h_of, hs_of, i_of, k_of, le_of, lt_of, n_of, op_name, p_of, r_of, rollback_of, set_of, parts, command_data}
+use Rattle.command_text.specs.Fits.{IntFits, ValueFits, FieldFits, FieldsFit, HandleTextFits, EndFits, KeyFits, BoundFits, CommandFits}
 use Rattle.command_text.proofs.Compact.{decimal_utf8, AreAbove, IsSound, ItemsAreSound, MembersAreSound}
 
 -- a value that can be read back, and how deep it nests

@@ -2,12 +2,11 @@
 use Rattle.std.specs.Prelude.{ℕ, List, ◌++◌, ◌∷◌, Bool, true, Option, option_map, map}
 use denote.Ref.{Bor}
 use Rattle.json.specs.Print.{quoted}
-use Rattle.serde_json.specs.Data.{Data, null, boolean, string, Members, object}
+use Rattle.serde_json.specs.Data.{Data, null, boolean, string, object}
 use Rattle.serde_json.specs.Written.{compact_text, comma_if}
-use Rattle.table_cmd.specs.declared.command.Field.{Field}
 use Rattle.command_text.specs.declared.part.Part.{Part}
 use Rattle.command_text.specs.declared.part.Part.TheVariants as kinds
-use Rattle.command_text.specs.Text.{count_data, handle_data, handles_data, names_data, key_data, fields_data, value_data, members_of}
+use Rattle.command_text.specs.Text.{count_data, handle_data, handles_data, names_data, key_data, fields_data, members_of}
 
 -- a part as JSON
 abbrev pub part_data : Part → Data

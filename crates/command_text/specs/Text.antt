@@ -7,7 +7,6 @@ use Rattle.table_reply.specs.Spelling.{spelling}
 use Rattle.table_cmd.specs.declared.command.Value.{Value}
 use Rattle.table_cmd.specs.declared.command.Value.TheVariants.{Cell, Other}
 use Rattle.table_cmd.specs.declared.command.Field.{Field}
-use Rattle.table_cmd.specs.declared.command.Position.{Position}
 use Rattle.table_cmd.specs.declared.command.Changes.{Changes}
 use Rattle.table_cmd.specs.declared.command.Changes.TheVariants.{Set, Add, Both}
 use Rattle.table_cmd.specs.declared.command.KeyBound.{KeyBound}
