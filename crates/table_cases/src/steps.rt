@@ -78,29 +78,11 @@ fn only(alloc: Global, told: Told) -> Result<Vec<Told>, AllocError> {
     Ok(all)
 }
 
-// The text of a command.
-fn written(alloc: Global, command: &Command) -> Result<Out, AllocError> {
-    let mut text = Out::new(alloc);
-    write_command(command, &mut text).map_err(|_| AllocError)?;
-    Ok(text)
-}
-
-// Whether the text of a command is read as a command of the same text.
-fn is_read_back(alloc: Global, text: &[u8]) -> Result<bool, AllocError> {
-    match read_command(alloc, text) {
-        Ok(command) => Ok(written(alloc, &command)?.bytes() == text),
-        Err(_) => Ok(false),
-    }
-}
-
 // Adds the text of a command.
 fn tell_command(alloc: Global, command: &Command, report: &mut Report) -> Result<(), AllocError> {
-    let text = written(alloc, command)?;
-    report.push(text.bytes())?;
-    if !is_read_back(alloc, text.bytes())? {
-        report.text(" is another command")?;
-    }
-    Ok(())
+    let mut text = Out::new(alloc);
+    write_command(command, &mut text).map_err(|_| AllocError)?;
+    report.push(text.bytes())
 }
 
 // Adds the text of a command, and gives what it is told.

@@ -1,0 +1,58 @@
+//! Prints the canonical text of each command that standard input has on a line, or why the line is none. Where that text, read
+//! again, is written otherwise, it says so.
+#![tactic(auto)]
+
+use command_lines::{CommandFault, read_command};
+use command_text::{Out, write_command};
+use std::alloc::{AllocError, Global};
+use std::io;
+use std::io::{BufRead, Write};
+
+// The canonical text of a line's command.
+fn canonical(alloc: Global, line: &[u8]) -> Result<Out, CommandFault> {
+    let command = read_command(alloc, line)?;
+    let mut text = Out::new(alloc);
+    match write_command(&command, &mut text) {
+        Ok(()) => Ok(text),
+        Err(_) => Err(CommandFault::Memory),
+    }
+}
+
+// Whether a text is read as a command that is written as this text.
+fn stays(alloc: Global, text: &[u8]) -> bool {
+    match canonical(alloc, text) {
+        Ok(again) => again.bytes() == text,
+        Err(_) => false,
+    }
+}
+
+fn name_of(fault: CommandFault) -> &'static str {
+    match fault {
+        CommandFault::Json => "json",
+        CommandFault::Command => "command",
+        CommandFault::Memory => "memory",
+    }
+}
+
+// Adds what is printed for a line.
+fn tell(alloc: Global, line: &[u8], report: &mut Vec<u8>) -> Result<(), AllocError> {
+    match canonical(alloc, line) {
+        Ok(text) => {
+            report.extend_from_slice(text.bytes())?;
+            if !stays(alloc, text.bytes()) {
+                report.extend_from_slice(b" is written otherwise")?;
+            }
+        }
+        Err(fault) => report.extend_from_slice(name_of(fault).as_bytes())?,
+    }
+    Ok(report.push(b'\n')?)
+}
+
+fn main(rt: HostRuntime) -> io::Result<()> {
+    let alloc = rt.alloc();
+    let mut report = Vec::new(alloc);
+    for line in rt.reader().split(alloc, b'\n') {
+        tell(alloc, &line?, &mut report)?;
+    }
+    io::writer(&rt).write_all(&report)
+}

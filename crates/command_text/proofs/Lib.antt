@@ -1,0 +1,5 @@
+pub mod Texts
+pub mod Compact
+pub mod Sound
+pub mod Back
+pub mod Law

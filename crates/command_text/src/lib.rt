@@ -1,0 +1,12 @@
+//! The canonical text of a command.
+#![tactic(auto)]
+
+mod object;
+mod part;
+mod parts;
+mod print;
+mod write;
+
+pub use table_cmd::Command;
+pub use table_reply::{Out, OutOfRoom};
+pub use write::write_command;
