@@ -3,18 +3,24 @@
 #![tactic(auto)]
 
 use command_lines::{CommandFault, read_command};
-use command_text::{Out, write_command};
+use command_text::{Command, Out, write_command};
 use std::alloc::{AllocError, Global};
 use std::io;
 use std::io::{BufRead, Write};
 
-// The canonical text of a line's command.
-fn canonical(alloc: Global, line: &[u8]) -> Result<Out, CommandFault> {
-    let command = read_command(alloc, line)?;
+fn written(alloc: Global, command: &Command) -> Result<Out, CommandFault> {
     let mut text = Out::new(alloc);
-    match write_command(&command, &mut text) {
+    match write_command(command, &mut text) {
         Ok(()) => Ok(text),
         Err(_) => Err(CommandFault::Memory),
+    }
+}
+
+// The canonical text of a line's command.
+fn canonical(alloc: Global, line: &[u8]) -> Result<Out, CommandFault> {
+    match read_command(alloc, line) {
+        Ok(command) => written(alloc, &command),
+        Err(fault) => Err(fault),
     }
 }
 

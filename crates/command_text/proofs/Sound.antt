@@ -22,7 +22,7 @@ use Rattle.table_cmd.specs.declared.command.HandleText.TheVariants as texts
 use Rattle.table_cmd.specs.declared.command.Command.{Command}
 use Rattle.table_cmd.specs.declared.command.Command.TheVariants as commands
 use Rattle.table_cmd.specs.Command.{table_in}
-use Rattle.command_text.specs.Text.{items_of, value_data, key_data, field_members, fields_data, handle_data, end_data, count_data, included, excluded, and_member, members_of, add_of, by_of, ge_of, gt_of, h_of, hs_of, i_of, k_of, le_of, lt_of, n_of, op_name, p_of, r_of, rollback_of, set_of, parts, command_data}
+use Rattle.command_text.specs.Text.{items_of, value_data, key_data, field_members, fields_data, handle_data, end_data, count_data, included, excluded, and_member, members_of, add_of, by_of, low_included_of, low_excluded_of, handle_of, handles_of, index_of, key_of, high_included_of, high_excluded_of, nth_of, op_name, place_of, row_of, rollback_of, set_of, parts, command_data}
 use Rattle.command_text.specs.Fits.{IntFits, ValueFits, FieldFits, FieldsFit, HandleTextFits, EndFits, KeyFits, BoundFits, CommandFits}
 use Rattle.command_text.proofs.Compact.{decimal_utf8, AreAbove, IsSound, ItemsAreSound, MembersAreSound}
 
@@ -128,23 +128,23 @@ excluded_sound (Included key) h = tt
 excluded_sound (Excluded key) h = key_sound key h
 excluded_sound Unbounded h = tt
 
-ge_sound : (c : Command) → CommandFits c → PartIsSound (ge_of c)
+ge_sound : (c : Command) → CommandFits c → PartIsSound (low_included_of c)
 ge_sound (commands.Range table index low high) h = included_sound low h.2
 ge_sound other h = tt
 
-gt_sound : (c : Command) → CommandFits c → PartIsSound (gt_of c)
+gt_sound : (c : Command) → CommandFits c → PartIsSound (low_excluded_of c)
 gt_sound (commands.Range table index low high) h = excluded_sound low h.2
 gt_sound other h = tt
 
-le_sound : (c : Command) → CommandFits c → PartIsSound (le_of c)
+le_sound : (c : Command) → CommandFits c → PartIsSound (high_included_of c)
 le_sound (commands.Range table index low high) h = included_sound high h.3
 le_sound other h = tt
 
-lt_sound : (c : Command) → CommandFits c → PartIsSound (lt_of c)
+lt_sound : (c : Command) → CommandFits c → PartIsSound (high_excluded_of c)
 lt_sound (commands.Range table index low high) h = excluded_sound high h.3
 lt_sound other h = tt
 
-h_sound : (c : Command) → CommandFits c → PartIsSound (h_of c)
+h_sound : (c : Command) → CommandFits c → PartIsSound (handle_of c)
 h_sound (commands.Replace table handle row) h = handle_part handle h.1
 h_sound (commands.Modify table handle changes rollback) h = handle_part handle h.1
 h_sound (commands.ModifyKey table index handle key rollback) h = handle_part handle h.2
@@ -157,11 +157,11 @@ h_sound (commands.Next table index position) h = end_part position h.2
 h_sound (commands.Prev table index position) h = end_part position h.2
 h_sound other h = tt
 
-hs_sound : (c : Command) → CommandFits c → PartIsSound (hs_of c)
+hs_sound : (c : Command) → CommandFits c → PartIsSound (handles_of c)
 hs_sound (commands.Rearrange table index handles) h = array_sound handle_data HandleTextFits handle_sound handles h.2
 hs_sound other h = tt
 
-i_sound : (c : Command) → CommandFits c → PartIsSound (i_of c)
+i_sound : (c : Command) → CommandFits c → PartIsSound (index_of c)
 i_sound (commands.Insert table row None) h = tt
 i_sound (commands.Insert table row (Some p)) h = text_sound p.index h.2.0
 i_sound (commands.ModifyKey table index handle key rollback) h = text_sound index h.1
@@ -188,7 +188,7 @@ i_sound (commands.Prev table index position) h = text_sound index h.1
 i_sound (commands.List table index) h = text_sound index h.1
 i_sound other h = tt
 
-k_sound : (c : Command) → CommandFits c → PartIsSound (k_of c)
+k_sound : (c : Command) → CommandFits c → PartIsSound (key_of c)
 k_sound (commands.ModifyKey table index handle key rollback) h = key_sound key h.3
 k_sound (commands.EraseKey table index key) h = key_sound key h.2
 k_sound (commands.Find table index key) h = key_sound key h.2
@@ -200,17 +200,17 @@ k_sound (commands.LowerRank table index key) h = key_sound key h.2
 k_sound (commands.UpperRank table index key) h = key_sound key h.2
 k_sound other h = tt
 
-n_sound : (c : Command) → CommandFits c → PartIsSound (n_of c)
+n_sound : (c : Command) → CommandFits c → PartIsSound (nth_of c)
 n_sound (commands.Nth table index place) h = count_part place h.2
 n_sound other h = tt
 
-p_sound : (c : Command) → CommandFits c → PartIsSound (p_of c)
+p_sound : (c : Command) → CommandFits c → PartIsSound (place_of c)
 p_sound (commands.Insert table row None) h = tt
 p_sound (commands.Insert table row (Some p)) h = count_part p.place h.2.1
 p_sound (commands.Move table index handle place) h = count_part place h.3
 p_sound other h = tt
 
-r_sound : (c : Command) → CommandFits c → PartIsSound (r_of c)
+r_sound : (c : Command) → CommandFits c → PartIsSound (row_of c)
 r_sound (commands.Insert table row position) h = fields_sound row h.1
 r_sound (commands.Replace table handle row) h = fields_sound row h.2
 r_sound other h = tt

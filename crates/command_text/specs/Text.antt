@@ -94,85 +94,85 @@ excluded (Excluded key) = Some (key_data key)
 excluded Unbounded = None
 
 -- the low bound
-abbrev pub ge_of : Command → Option Data
-ge_of (commands.Range table index low high) = included low
-ge_of other = None
+abbrev pub low_included_of : Command → Option Data
+low_included_of (commands.Range table index low high) = included low
+low_included_of other = None
 
-abbrev pub gt_of : Command → Option Data
-gt_of (commands.Range table index low high) = excluded low
-gt_of other = None
+abbrev pub low_excluded_of : Command → Option Data
+low_excluded_of (commands.Range table index low high) = excluded low
+low_excluded_of other = None
 
 -- the handle, or the position
-abbrev pub h_of : Command → Option Data
-h_of (commands.Replace table handle row) = Some (handle_data handle)
-h_of (commands.Modify table handle changes rollback) = Some (handle_data handle)
-h_of (commands.ModifyKey table index handle key rollback) = Some (handle_data handle)
-h_of (commands.Erase table handle index) = Some (handle_data handle)
-h_of (commands.Move table index handle place) = Some (handle_data handle)
-h_of (commands.Get table handle) = Some (handle_data handle)
-h_of (commands.Place table index handle) = Some (handle_data handle)
-h_of (commands.Rank table index position) = Some (end_data position)
-h_of (commands.Next table index position) = Some (end_data position)
-h_of (commands.Prev table index position) = Some (end_data position)
-h_of other = None
+abbrev pub handle_of : Command → Option Data
+handle_of (commands.Replace table handle row) = Some (handle_data handle)
+handle_of (commands.Modify table handle changes rollback) = Some (handle_data handle)
+handle_of (commands.ModifyKey table index handle key rollback) = Some (handle_data handle)
+handle_of (commands.Erase table handle index) = Some (handle_data handle)
+handle_of (commands.Move table index handle place) = Some (handle_data handle)
+handle_of (commands.Get table handle) = Some (handle_data handle)
+handle_of (commands.Place table index handle) = Some (handle_data handle)
+handle_of (commands.Rank table index position) = Some (end_data position)
+handle_of (commands.Next table index position) = Some (end_data position)
+handle_of (commands.Prev table index position) = Some (end_data position)
+handle_of other = None
 
 -- the handles
-abbrev pub hs_of : Command → Option Data
-hs_of (commands.Rearrange table index handles) = Some (handles_data handles)
-hs_of other = None
+abbrev pub handles_of : Command → Option Data
+handles_of (commands.Rearrange table index handles) = Some (handles_data handles)
+handles_of other = None
 
 -- the index
-abbrev pub i_of : Command → Option Data
-i_of (commands.Insert table row position) = option_map (λ p. string p.index) position
-i_of (commands.ModifyKey table index handle key rollback) = Some (string index)
-i_of (commands.Erase table handle index) = option_map string index
-i_of (commands.EraseKey table index key) = Some (string index)
-i_of (commands.Move table index handle place) = Some (string index)
-i_of (commands.Rearrange table index handles) = Some (string index)
-i_of (commands.Reverse table index) = Some (string index)
-i_of (commands.Sort table index by) = Some (string index)
-i_of (commands.Find table index key) = Some (string index)
-i_of (commands.Count table index key) = Some (string index)
-i_of (commands.Lower table index key) = Some (string index)
-i_of (commands.Upper table index key) = Some (string index)
-i_of (commands.Range table index low high) = Some (string index)
-i_of (commands.Nth table index place) = Some (string index)
-i_of (commands.Rank table index position) = Some (string index)
-i_of (commands.Place table index handle) = Some (string index)
-i_of (commands.FindRank table index key) = Some (string index)
-i_of (commands.LowerRank table index key) = Some (string index)
-i_of (commands.UpperRank table index key) = Some (string index)
-i_of (commands.Next table index position) = Some (string index)
-i_of (commands.Prev table index position) = Some (string index)
-i_of (commands.List table index) = Some (string index)
-i_of other = None
+abbrev pub index_of : Command → Option Data
+index_of (commands.Insert table row position) = option_map (λ p. string p.index) position
+index_of (commands.ModifyKey table index handle key rollback) = Some (string index)
+index_of (commands.Erase table handle index) = option_map string index
+index_of (commands.EraseKey table index key) = Some (string index)
+index_of (commands.Move table index handle place) = Some (string index)
+index_of (commands.Rearrange table index handles) = Some (string index)
+index_of (commands.Reverse table index) = Some (string index)
+index_of (commands.Sort table index by) = Some (string index)
+index_of (commands.Find table index key) = Some (string index)
+index_of (commands.Count table index key) = Some (string index)
+index_of (commands.Lower table index key) = Some (string index)
+index_of (commands.Upper table index key) = Some (string index)
+index_of (commands.Range table index low high) = Some (string index)
+index_of (commands.Nth table index place) = Some (string index)
+index_of (commands.Rank table index position) = Some (string index)
+index_of (commands.Place table index handle) = Some (string index)
+index_of (commands.FindRank table index key) = Some (string index)
+index_of (commands.LowerRank table index key) = Some (string index)
+index_of (commands.UpperRank table index key) = Some (string index)
+index_of (commands.Next table index position) = Some (string index)
+index_of (commands.Prev table index position) = Some (string index)
+index_of (commands.List table index) = Some (string index)
+index_of other = None
 
 -- the key
-abbrev pub k_of : Command → Option Data
-k_of (commands.ModifyKey table index handle key rollback) = Some (key_data key)
-k_of (commands.EraseKey table index key) = Some (key_data key)
-k_of (commands.Find table index key) = Some (key_data key)
-k_of (commands.Count table index key) = Some (key_data key)
-k_of (commands.Lower table index key) = Some (key_data key)
-k_of (commands.Upper table index key) = Some (key_data key)
-k_of (commands.FindRank table index key) = Some (key_data key)
-k_of (commands.LowerRank table index key) = Some (key_data key)
-k_of (commands.UpperRank table index key) = Some (key_data key)
-k_of other = None
+abbrev pub key_of : Command → Option Data
+key_of (commands.ModifyKey table index handle key rollback) = Some (key_data key)
+key_of (commands.EraseKey table index key) = Some (key_data key)
+key_of (commands.Find table index key) = Some (key_data key)
+key_of (commands.Count table index key) = Some (key_data key)
+key_of (commands.Lower table index key) = Some (key_data key)
+key_of (commands.Upper table index key) = Some (key_data key)
+key_of (commands.FindRank table index key) = Some (key_data key)
+key_of (commands.LowerRank table index key) = Some (key_data key)
+key_of (commands.UpperRank table index key) = Some (key_data key)
+key_of other = None
 
 -- the high bound
-abbrev pub le_of : Command → Option Data
-le_of (commands.Range table index low high) = included high
-le_of other = None
+abbrev pub high_included_of : Command → Option Data
+high_included_of (commands.Range table index low high) = included high
+high_included_of other = None
 
-abbrev pub lt_of : Command → Option Data
-lt_of (commands.Range table index low high) = excluded high
-lt_of other = None
+abbrev pub high_excluded_of : Command → Option Data
+high_excluded_of (commands.Range table index low high) = excluded high
+high_excluded_of other = None
 
 -- the place that is looked up
-abbrev pub n_of : Command → Option Data
-n_of (commands.Nth table index place) = Some (count_data place)
-n_of other = None
+abbrev pub nth_of : Command → Option Data
+nth_of (commands.Nth table index place) = Some (count_data place)
+nth_of other = None
 
 -- the name of the operation
 abbrev pub op_name : Command → List ℕ
@@ -205,16 +205,16 @@ op_name (commands.Prev table index position) = codes "prev"
 op_name (commands.List table index) = codes "list"
 
 -- the place before which a record goes
-abbrev pub p_of : Command → Option Data
-p_of (commands.Insert table row position) = option_map (λ p. count_data p.place) position
-p_of (commands.Move table index handle place) = Some (count_data place)
-p_of other = None
+abbrev pub place_of : Command → Option Data
+place_of (commands.Insert table row position) = option_map (λ p. count_data p.place) position
+place_of (commands.Move table index handle place) = Some (count_data place)
+place_of other = None
 
 -- the row
-abbrev pub r_of : Command → Option Data
-r_of (commands.Insert table row position) = Some (fields_data row)
-r_of (commands.Replace table handle row) = Some (fields_data row)
-r_of other = None
+abbrev pub row_of : Command → Option Data
+row_of (commands.Insert table row position) = Some (fields_data row)
+row_of (commands.Replace table handle row) = Some (fields_data row)
+row_of other = None
 
 -- true where a ban undoes the changes; nothing where it does not
 abbrev pub if_true : Bool → Option Data
@@ -253,18 +253,18 @@ abbrev pub parts : Command → List (List ℕ × Option Data)
 parts c =
     (codes "add", add_of c)
     ∷ (codes "by", by_of c)
-    ∷ (codes "ge", ge_of c)
-    ∷ (codes "gt", gt_of c)
-    ∷ (codes "h", h_of c)
-    ∷ (codes "hs", hs_of c)
-    ∷ (codes "i", i_of c)
-    ∷ (codes "k", k_of c)
-    ∷ (codes "le", le_of c)
-    ∷ (codes "lt", lt_of c)
-    ∷ (codes "n", n_of c)
+    ∷ (codes "ge", low_included_of c)
+    ∷ (codes "gt", low_excluded_of c)
+    ∷ (codes "h", handle_of c)
+    ∷ (codes "hs", handles_of c)
+    ∷ (codes "i", index_of c)
+    ∷ (codes "k", key_of c)
+    ∷ (codes "le", high_included_of c)
+    ∷ (codes "lt", high_excluded_of c)
+    ∷ (codes "n", nth_of c)
     ∷ (codes "op", Some (string (op_name c)))
-    ∷ (codes "p", p_of c)
-    ∷ (codes "r", r_of c)
+    ∷ (codes "p", place_of c)
+    ∷ (codes "r", row_of c)
     ∷ (codes "rollback", rollback_of c)
     ∷ (codes "set", set_of c)
     ∷ (codes "t", Some (string (table_in c)))

@@ -1,7 +1,7 @@
 //! What a command has under each key of its text, if it has it.
 
 ghost use Rattle.std.specs.Prelude.{◌≡◌, option_map};
-ghost use Rattle.command_text.specs.Text.{add_of, added, by_of, excluded, ge_of, gt_of, h_of, hs_of, i_of, if_true, included, k_of, le_of, lt_of, n_of, op_name, p_of, r_of, rollback_of, changed, set_of, end_data};
+ghost use Rattle.command_text.specs.Text.{add_of, added, by_of, excluded, low_included_of, low_excluded_of, handle_of, handles_of, index_of, if_true, included, key_of, high_included_of, high_excluded_of, nth_of, op_name, place_of, row_of, rollback_of, changed, set_of, end_data};
 ghost use Rattle.command_text.specs.Part.{part_data};
 
 use crate::part::Part;
@@ -52,8 +52,8 @@ fn excluded(bound: &KeyBound) -> Option<Part<'_>>
     }
 }
 
-pub(crate) fn ge_of(command: &Command) -> Option<Part<'_>>
-    ensures { option_map part_data result ≡ ge_of command.now }
+pub(crate) fn low_included_of(command: &Command) -> Option<Part<'_>>
+    ensures { option_map part_data result ≡ low_included_of command.now }
 {
     match command {
         Command::Range { low, .. } => included(low),
@@ -61,8 +61,8 @@ pub(crate) fn ge_of(command: &Command) -> Option<Part<'_>>
     }
 }
 
-pub(crate) fn gt_of(command: &Command) -> Option<Part<'_>>
-    ensures { option_map part_data result ≡ gt_of command.now }
+pub(crate) fn low_excluded_of(command: &Command) -> Option<Part<'_>>
+    ensures { option_map part_data result ≡ low_excluded_of command.now }
 {
     match command {
         Command::Range { low, .. } => excluded(low),
@@ -79,8 +79,8 @@ fn end_part(position: Option<HandleText>) -> Part<'static>
     }
 }
 
-pub(crate) fn h_of(command: &Command) -> Option<Part<'_>>
-    ensures { option_map part_data result ≡ h_of command.now }
+pub(crate) fn handle_of(command: &Command) -> Option<Part<'_>>
+    ensures { option_map part_data result ≡ handle_of command.now }
 {
     match command {
         Command::Replace { handle, .. }
@@ -97,8 +97,8 @@ pub(crate) fn h_of(command: &Command) -> Option<Part<'_>>
     }
 }
 
-pub(crate) fn hs_of(command: &Command) -> Option<Part<'_>>
-    ensures { option_map part_data result ≡ hs_of command.now }
+pub(crate) fn handles_of(command: &Command) -> Option<Part<'_>>
+    ensures { option_map part_data result ≡ handles_of command.now }
 {
     match command {
         Command::Rearrange { handles, .. } => Some(Part::Handles(handles.as_slice())),
@@ -106,8 +106,8 @@ pub(crate) fn hs_of(command: &Command) -> Option<Part<'_>>
     }
 }
 
-pub(crate) fn i_of(command: &Command) -> Option<Part<'_>>
-    ensures { option_map part_data result ≡ i_of command.now }
+pub(crate) fn index_of(command: &Command) -> Option<Part<'_>>
+    ensures { option_map part_data result ≡ index_of command.now }
 {
     match command {
         Command::Insert {
@@ -142,8 +142,8 @@ pub(crate) fn i_of(command: &Command) -> Option<Part<'_>>
     }
 }
 
-pub(crate) fn k_of(command: &Command) -> Option<Part<'_>>
-    ensures { option_map part_data result ≡ k_of command.now }
+pub(crate) fn key_of(command: &Command) -> Option<Part<'_>>
+    ensures { option_map part_data result ≡ key_of command.now }
 {
     match command {
         Command::ModifyKey { key, .. }
@@ -159,8 +159,8 @@ pub(crate) fn k_of(command: &Command) -> Option<Part<'_>>
     }
 }
 
-pub(crate) fn le_of(command: &Command) -> Option<Part<'_>>
-    ensures { option_map part_data result ≡ le_of command.now }
+pub(crate) fn high_included_of(command: &Command) -> Option<Part<'_>>
+    ensures { option_map part_data result ≡ high_included_of command.now }
 {
     match command {
         Command::Range { high, .. } => included(high),
@@ -168,8 +168,8 @@ pub(crate) fn le_of(command: &Command) -> Option<Part<'_>>
     }
 }
 
-pub(crate) fn lt_of(command: &Command) -> Option<Part<'_>>
-    ensures { option_map part_data result ≡ lt_of command.now }
+pub(crate) fn high_excluded_of(command: &Command) -> Option<Part<'_>>
+    ensures { option_map part_data result ≡ high_excluded_of command.now }
 {
     match command {
         Command::Range { high, .. } => excluded(high),
@@ -177,8 +177,8 @@ pub(crate) fn lt_of(command: &Command) -> Option<Part<'_>>
     }
 }
 
-pub(crate) fn n_of(command: &Command) -> Option<Part<'_>>
-    ensures { option_map part_data result ≡ n_of command.now }
+pub(crate) fn nth_of(command: &Command) -> Option<Part<'_>>
+    ensures { option_map part_data result ≡ nth_of command.now }
 {
     match command {
         Command::Nth { place, .. } => Some(Part::Count(*place)),
@@ -220,8 +220,8 @@ pub(crate) fn op_name(command: &Command) -> &'static str
     }
 }
 
-pub(crate) fn p_of(command: &Command) -> Option<Part<'_>>
-    ensures { option_map part_data result ≡ p_of command.now }
+pub(crate) fn place_of(command: &Command) -> Option<Part<'_>>
+    ensures { option_map part_data result ≡ place_of command.now }
 {
     match command {
         Command::Insert {
@@ -233,8 +233,8 @@ pub(crate) fn p_of(command: &Command) -> Option<Part<'_>>
     }
 }
 
-pub(crate) fn r_of(command: &Command) -> Option<Part<'_>>
-    ensures { option_map part_data result ≡ r_of command.now }
+pub(crate) fn row_of(command: &Command) -> Option<Part<'_>>
+    ensures { option_map part_data result ≡ row_of command.now }
 {
     match command {
         Command::Insert { row, .. } | Command::Replace { row, .. } => {

@@ -1,12 +1,11 @@
 //! The texts of values.
 
-ghost use Rattle.std.specs.Prelude.{◌≡◌, ◌<◌, ◌∷◌, ◌++◌, [], false};
+ghost use Rattle.std.specs.Prelude.{◌≡◌, ◌<◌, ◌∷◌, ◌++◌, []};
 ghost use Rattle.std.specs.Char.{digit_char};
 ghost use Rattle.json.specs.Print.{quoted, escape_byte};
-ghost use Rattle.serde_json.specs.Data.{string};
-ghost use Rattle.serde_json.specs.Written.{compact_text, items_text, comma_if};
+ghost use Rattle.serde_json.specs.Written.{compact_text, comma_if};
 ghost use Rattle.table_reply.specs.Buffer.{Adds};
-ghost use Rattle.command_text.specs.Text.{count_data, handle_data, handles_data, names_data, key_data, fields_data, value_data, items_of};
+ghost use Rattle.command_text.specs.Text.{count_data, handle_data, handles_data, names_data, key_data, fields_data, value_data};
 ghost use Rattle.command_text.specs.Part.{member_text};
 
 use itoa::Buffer;

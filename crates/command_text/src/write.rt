@@ -6,8 +6,8 @@ ghost use Rattle.command_text.specs.Text.{command_text};
 use crate::object::push_object;
 use crate::part::Part;
 use crate::parts::{
-    add_of, by_of, ge_of, gt_of, h_of, hs_of, i_of, k_of, le_of, lt_of, n_of, op_name, p_of, r_of,
-    rollback_of, set_of,
+    add_of, by_of, handle_of, handles_of, high_excluded_of, high_included_of, index_of, key_of,
+    low_excluded_of, low_included_of, nth_of, op_name, place_of, rollback_of, row_of, set_of,
 };
 use table_cmd::Command;
 use table_reply::{Out, OutOfRoom};
@@ -34,18 +34,18 @@ fn push_command(command: &Command, out: &mut Out) -> Result<(), OutOfRoom>
         &[
             ("add", add_of(command)),
             ("by", by_of(command)),
-            ("ge", ge_of(command)),
-            ("gt", gt_of(command)),
-            ("h", h_of(command)),
-            ("hs", hs_of(command)),
-            ("i", i_of(command)),
-            ("k", k_of(command)),
-            ("le", le_of(command)),
-            ("lt", lt_of(command)),
-            ("n", n_of(command)),
+            ("ge", low_included_of(command)),
+            ("gt", low_excluded_of(command)),
+            ("h", handle_of(command)),
+            ("hs", handles_of(command)),
+            ("i", index_of(command)),
+            ("k", key_of(command)),
+            ("le", high_included_of(command)),
+            ("lt", high_excluded_of(command)),
+            ("n", nth_of(command)),
             ("op", Some(Part::Text(op_name(command)))),
-            ("p", p_of(command)),
-            ("r", r_of(command)),
+            ("p", place_of(command)),
+            ("r", row_of(command)),
             ("rollback", rollback_of(command)),
             ("set", set_of(command)),
             ("t", Some(Part::Text(command.table()))),
