@@ -8,3 +8,4 @@ pub mod NodeLists
 pub mod ByNode
 pub mod Members
 pub mod Age
+pub mod Crossing

@@ -7,13 +7,17 @@ ghost use Rattle.node_store.specs.Blocks.{Lying, lying, block_of, without_block,
 ghost use Rattle.node_store.specs.Ownership.{blocks_own, blocks_lent};
 
 use std::alloc::Allocator;
-use std::marker::{Model, PhantomData};
+use std::marker::{Model, PhantomData, Send, Sync};
 
 /// Where a block lies. It owns nothing, and says nothing of whether the block is still there.
 #[derive(Clone, Copy)]
 pub(crate) struct Place {
     ptr: *const u8,
 }
+
+unsafe impl Send for Place {}
+
+unsafe impl Sync for Place {}
 
 impl Place {
     /// A place where no block lies.
@@ -37,6 +41,11 @@ impl<T, A: Allocator> Model for Blocks<T, A> {
 
     ghost also_shares = { λ b _ κ. blocks_lent T.row b.held κ };
 }
+
+// A block goes with its owner, and a `&` to it reaches no handle.
+unsafe impl<T: Send, A: Allocator + Send> Send for Blocks<T, A> {}
+
+unsafe impl<T: Sync, A: Allocator> Sync for Blocks<T, A> {}
 
 impl<T, A: Allocator> Blocks<T, A> {
     ghost use Rattle.node_store.specs.BlocksLends.{lends_block};

@@ -29,7 +29,7 @@ pub struct Field {
 /// The fields of a row. Those that were read from a line are in ascending order of their names' bytes, each name once.
 #[derive(Debug, Drop)]
 pub struct Fields {
-    fields: Vec<Field>,
+    pub(crate) fields: Vec<Field>,
 }
 
 impl Model for Fields {
@@ -60,7 +60,7 @@ impl Fields {
 /// The values of a key, or of its leading parts, first part first.
 #[derive(Debug, Drop)]
 pub struct Key {
-    values: Vec<Value>,
+    pub(crate) values: Vec<Value>,
 }
 
 impl Model for Key {
@@ -145,7 +145,7 @@ pub enum HandleText {
 /// Handles in an order, as texts say them.
 #[derive(Debug, Drop)]
 pub struct Handles {
-    handles: Vec<HandleText>,
+    pub(crate) handles: Vec<HandleText>,
 }
 
 impl Model for Handles {
@@ -176,7 +176,7 @@ impl Handles {
 /// Names of columns in an order, each perhaps with a `-` before it.
 #[derive(Debug, Drop)]
 pub struct Names {
-    names: Vec<Text>,
+    pub(crate) names: Vec<Text>,
 }
 
 impl Model for Names {

@@ -2,6 +2,10 @@
 #![tactic(auto)]
 
 mod command;
+mod copy;
+mod same;
+#[cfg(test)]
+mod tests;
 
 pub use command::{
     Changes, Command, Field, Fields, HandleText, Handles, Key, KeyBound, Names, Position, Value,
