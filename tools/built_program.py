@@ -1,0 +1,13 @@
+"""Where the built program lies."""
+import os
+import sys
+
+TOP = os.path.join(os.path.dirname(os.path.abspath(__file__)), "..")
+PROGRAM = f"{TOP}/crates/table_server/out/table_server"
+
+
+def built_program():
+    """The path of the program that `rt ci` or `rt run` left; where there is none, ends the tool with a sentence."""
+    if not os.path.isfile(PROGRAM):
+        sys.exit("there is no built program: `rt run` in crates/table_server proves it and makes it, and so does `rt ci`")
+    return PROGRAM

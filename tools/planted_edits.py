@@ -1,0 +1,64 @@
+"""A crate with planted edits, right ones among them, by which tools/try_edits checks itself."""
+import os
+
+SOURCE = """//! Functions in which edits are planted.
+#![tactic(auto)]
+
+ghost use Rattle.std.specs.Prelude.{◌≡◌, ◌≤◌, ◌+◌, nat_lt};
+
+/// The sum of two small numbers.
+pub fn sum(a: u32, b: u32) -> u64
+    ensures { result ≡ a + b }
+{
+    u64::from(a) + u64::from(b)
+}
+
+/// Twice the sum of two small numbers.
+pub fn twice(a: u32, b: u32) -> u64
+    ensures { result ≡ (a + b) + (a + b) }
+{
+    let once = sum(a, b);
+    once + once
+}
+
+/// The greater of two numbers.
+pub fn greater(a: u64, b: u64) -> u64
+    ensures first { a ≤ result }
+    ensures second { b ≤ result }
+{
+    if a < b { b } else { a }
+}
+
+const LIMIT: u64 = 7;
+
+/// Whether a number is below 7.
+pub fn is_small(a: u64) -> bool
+    ensures { result ≡ nat_lt a 7 }
+{
+    a < LIMIT
+}
+"""
+
+# An edit's name, what it changes to what, and the verdict with which it has to end, and how its reason begins.
+PLANTS = [
+    ("a_sum_is_one_more", "u64::from(a) + u64::from(b)", "1 + u64::from(a) + u64::from(b)", "refused", "planted::sum: "),
+    ("b_right_beside_a_refused_callee", "once + once", "sum(a, b) + once", "NOT REFUSED", ""),
+    ("c_wrong_beside_a_refused_callee", "once + once", "once", "refused", "planted::twice: "),
+    ("d_right_turned_round", "if a < b { b } else { a }", "if b < a { a } else { b }", "NOT REFUSED", ""),
+    ("e_least_of_the_two", "if a < b { b } else { a }", "if a < b { a } else { b }", "refused", "planted::greater: "),
+    ("f_constant", "u64 = 7", "u64 = 8", "refused", "alone, planted::is_small: "),
+    ("g_unknown_name", "a < LIMIT", "a < LIMITS", "FAULT", ""),
+    ("h_spaces", "a < LIMIT", "a <  LIMIT", "FAULT", "it changes nothing"),
+    ("i_text_that_is_not_there", "a > LIMIT", "a < LIMIT", "FAULT", "an 'old:' text"),
+]
+
+
+def plant(top, write):
+    """Makes a repository of one crate with the planted edits."""
+    os.makedirs(f"{top}/crates/planted/src")
+    os.makedirs(f"{top}/crates/planted/edits")
+    write(f"{top}/crates.txt", "planted:\n")
+    write(f"{top}/HANDLES", "Handles allowed: none.\n")
+    write(f"{top}/crates/planted/src/lib.rt", SOURCE)
+    for name, old, new, *_ in PLANTS:
+        write(f"{top}/crates/planted/edits/{name}.edit", f"file: src/lib.rt\nold: {old}\nnew: {new}\n")
