@@ -8,7 +8,5 @@ mod index;
 mod order;
 mod reads;
 mod seek;
-#[cfg(test)]
-mod tests;
 
 pub use index::AnyIndex;

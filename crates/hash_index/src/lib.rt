@@ -17,8 +17,6 @@ mod chain;
 mod grow;
 mod search;
 mod settle;
-#[cfg(test)]
-mod tests;
 
 use chain::{first_beside, set_next, set_prev};
 use key_extract::Extract;

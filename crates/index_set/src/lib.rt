@@ -10,7 +10,5 @@ mod every;
 mod order;
 mod reads;
 mod set;
-#[cfg(test)]
-mod tests;
 
 pub use set::IndexSet;

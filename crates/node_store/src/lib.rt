@@ -15,12 +15,11 @@ ghost use Rattle.node_store.specs.Chain.{HasBlock, with_next, with_prev, first_w
 
 mod blocks;
 mod stored;
-#[cfg(test)]
-mod tests;
 
 use blocks::{Blocks, Place};
 use std::alloc::{AllocFailed, Global};
 use std::marker::Model;
+use std::mem::size_of;
 use stored::Stored;
 
 /// How many columns of links each node has. A column is named by a number below it.
@@ -58,6 +57,9 @@ struct Block<R> {
     value: R,
     links: [Stored; 8],
 }
+
+/// The bytes of the block of a record of 8 bytes, of which the links in each column take 64.
+pub const BLOCK_BYTES: usize = size_of::<Block<u64>>();
 
 /// Records with their links, each in a heap block of its own.
 pub struct NodeStore<R> {

@@ -11,8 +11,6 @@ mod seek;
 mod settle;
 mod steps;
 mod tally;
-#[cfg(test)]
-mod tests;
 mod tree;
 mod walk;
 

@@ -8,8 +8,6 @@ mod places;
 mod ranks;
 mod reads;
 mod sizes;
-#[cfg(test)]
-mod tests;
 mod tree;
 
 pub use sizes::Sizes;

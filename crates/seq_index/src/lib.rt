@@ -16,8 +16,6 @@ ghost use Rattle.seq_index.specs.Links.{AreNodesOf};
 mod ends;
 mod order;
 mod reads;
-#[cfg(test)]
-mod tests;
 mod walk;
 
 use ends::{chain_link, end_beside, set_next, set_prev};

@@ -6,9 +6,6 @@
 ghost use Rattle.std.specs.Prelude.{◌≡◌, ◌≢◌, ◌<◌, ◌≤◌, ◌∷◌, [], None, Some, OnOk, OnErr};
 ghost use Rattle.slot_table.specs.Slots.{HasRoom, first_free, item_at, with_item};
 
-#[cfg(test)]
-mod tests;
-
 use std::alloc::{AllocError, Global};
 use std::cmp::Reverse;
 use std::collections::BinaryHeap;

@@ -1,6 +1,0 @@
-use Rattle.node_store.specs.ByNode.{column_of}
-use Rattle.seq_index.proofs.Laws.{IsSound_from}
-use Rattle.index_tests.proofs.tests.drop_half_linked.Goals as goal
-
-pub loop-name-init : goal.loop-name-init
-loop-name-init c = (c.new.ensures.col, IsSound_from _ _ _ (c.new.ensures.empty (column_of c.new-store.result)), tt)

@@ -1,0 +1,151 @@
+//! Two rows over one store, each in a column of its own.
+ghost use Rattle.std.specs.Prelude.{◌≡◌};
+ghost use Rattle.node_store.specs.ByNode.{column_of};
+ghost use Rattle.row_index.specs.Spelled.{IsSound, spelled, col_of};
+ghost use Rattle.row_index.specs.Props.{Spells_prop};
+
+use node_store::NodeStore;
+use row_index::RowIndex;
+use std::alloc::Global;
+use std::test::Fail;
+
+#[derive(Drop)]
+struct Pair {
+    store: NodeStore<u64>,
+    left: RowIndex,
+    right: RowIndex,
+    ghost left_col: { col_of left ≡ 1 },
+    ghost right_col: { col_of right ≡ 2 },
+    ghost left_sound: { IsSound (column_of store) left } by { Spells_prop (column_of store) left (spelled (column_of store) left) },
+    ghost right_sound: { IsSound (column_of store) right } by { Spells_prop (column_of store) right (spelled (column_of store) right) },
+}
+
+impl Pair {
+    fn new(alloc: Global) -> Pair {
+        Pair {
+            store: NodeStore::new(alloc),
+            left: RowIndex::new(alloc, 1),
+            right: RowIndex::new(alloc, 2),
+        }
+    }
+
+    // Puts a new node last on the left, and first on the right.
+    fn add(&mut self) -> Option<u64> {
+        if self.store.added() == u64::MAX {
+            return None;
+        }
+        self.left.reserve_one(&self.store).ok()?;
+        self.right.reserve_one(&self.store).ok()?;
+        let Ok(node) = self.store.add(0) else {
+            return None;
+        };
+        self.left.push(&mut self.store, node);
+        self.right.insert_at(&mut self.store, 0, node);
+        Some(node.number())
+    }
+
+    fn unlink_left(&mut self, place: u64) {
+        if let Some(node) = self.left.nth(&self.store, place) {
+            self.left.unlink(&mut self.store, node);
+        }
+    }
+
+    fn unlink_right(&mut self, place: u64) {
+        if let Some(node) = self.right.nth(&self.store, place) {
+            self.right.unlink(&mut self.store, node);
+        }
+    }
+
+    // Moves the node at one place before the node at another.
+    fn move_left(&mut self, from: u64, to: u64) {
+        let Some(node) = self.left.nth(&self.store, from) else {
+            return;
+        };
+        let Some(_before) = self.left.nth(&self.store, to) else {
+            return;
+        };
+        self.left.move_to(&mut self.store, to, node);
+    }
+
+    fn reverse_left(&mut self) {
+        self.left.reverse(&mut self.store);
+    }
+
+    fn left_at(&self, place: u64) -> Option<u64> {
+        let node = self.left.nth(&self.store, place)?;
+        Some(node.number())
+    }
+
+    fn right_at(&self, place: u64) -> Option<u64> {
+        let node = self.right.nth(&self.store, place)?;
+        Some(node.number())
+    }
+}
+
+#[test]
+fn one_node_stands_in_two_rows(rt: HostRuntime) -> Result<(), Fail> {
+    let mut pair = Pair::new(rt.alloc());
+    for _ in 0..3u64 {
+        assert!(rt; pair.add().is_some());
+    }
+    assert!(rt; pair.left_at(0) == Some(0));
+    assert!(rt; pair.right_at(0) == Some(2));
+    pair.unlink_left(1);
+    assert!(rt; pair.left_at(0) == Some(0));
+    assert!(rt; pair.left_at(1) == Some(2));
+    assert!(rt; pair.left_at(2) == None);
+    assert!(rt; pair.right_at(1) == Some(1));
+    pair.unlink_right(1);
+    assert!(rt; pair.right_at(0) == Some(2));
+    assert!(rt; pair.right_at(1) == Some(0));
+    assert!(rt; pair.right_at(2) == None);
+    assert!(rt; pair.left_at(1) == Some(2));
+    Ok(())
+}
+
+// One drawn change of the left row, and the same of a plain vector.
+fn change(pair: &mut Pair, plain: &mut Vec<u64>, draw: u32) -> Option<()> {
+    let from = (draw / 8 % 16) as usize;
+    let to = (draw / 128 % 16) as usize;
+    match draw % 8 {
+        0 => {
+            pair.reverse_left();
+            plain.reverse();
+        }
+        1 | 2 => {
+            pair.move_left(from as u64, to as u64);
+            if from < plain.len() && to < plain.len() {
+                let number = plain.remove(from);
+                plain
+                    .insert(if to <= from { to } else { to - 1 }, number)
+                    .ok()?;
+            }
+        }
+        3 => {
+            pair.unlink_left(from as u64);
+            if from < plain.len() {
+                plain.remove(from);
+            }
+        }
+        _ => {
+            let number = pair.add()?;
+            plain.push(number).ok()?;
+        }
+    }
+    Some(())
+}
+
+#[test]
+fn drawn_changes_as_of_a_plain_vector(rt: HostRuntime) -> Result<(), Fail> {
+    let mut pair = Pair::new(rt.alloc());
+    let mut plain = Vec::new(rt.alloc());
+    let mut draw = 7u32;
+    for _ in 0..60u64 {
+        draw = draw.wrapping_mul(1_664_525).wrapping_add(1_013_904_223);
+        assert!(rt; change(&mut pair, &mut plain, draw / 65_536).is_some());
+        for place in 0..20u64 {
+            assert!(rt; pair.left_at(place) == plain.get(place as usize).copied());
+        }
+    }
+    Ok(())
+}

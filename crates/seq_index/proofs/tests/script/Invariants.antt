@@ -1,7 +1,0 @@
-use Rattle.std.proofs.Common.{◌≤◌}
-use Rattle.node_store.specs.ByNode.{column_of}
-use Rattle.seq_index.specs.Spelled.{IsSound}
-use Rattle.seq_index.proofs.tests.script.Given as goal
-
-abbrev pub invariant-loop : goal.invariant-loop
-invariant-loop l = record { sound : IsSound (column_of l.store) l.index; count : l.store.added ≤ l.counter }

@@ -1,9 +1,0 @@
-use Rattle.node_store.proofs.ByNode.{added_kept}
-use Rattle.seq_index.proofs.Laws.{IsSound_from}
-use Rattle.seq_index.proofs.tests.take_out.Goals as goal
-
-pub returns-in-Some-clause-sound : goal.returns-in-Some-clause-sound
-returns-in-Some-clause-sound c = IsSound_from _ _ _ c.unlink.ensures.list
-
-pub returns-in-Some-clause-count : goal.returns-in-Some-clause-count
-returns-in-Some-clause-count c = added_kept c.args.store.now c.unlink.new.store c.unlink.ensures.contents

@@ -1,9 +1,0 @@
-use Rattle.node_store.proofs.ByNode.{added_kept}
-use Rattle.seq_index.proofs.Laws.{IsSound_from}
-use Rattle.seq_index.proofs.tests.turn.Goals as goal
-
-pub returns-clause-sound : goal.returns-clause-sound
-returns-clause-sound c = IsSound_from _ _ _ c.reverse.ensures.list
-
-pub returns-clause-count : goal.returns-clause-count
-returns-clause-count c = added_kept c.args.store.now c.reverse.new.store c.reverse.ensures.contents
