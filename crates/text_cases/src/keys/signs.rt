@@ -3,7 +3,7 @@
 use std::cmp::Ordering;
 
 /// The sign of an order.
-pub fn sign_of(order: Ordering) -> char {
+pub(crate) fn sign_of(order: Ordering) -> char {
     match order {
         Ordering::Less => '<',
         Ordering::Equal => '=',
@@ -12,6 +12,6 @@ pub fn sign_of(order: Ordering) -> char {
 }
 
 /// The sign of an order, if the other ways to ask agree.
-pub fn agreed(order: Ordering, do_agree: bool) -> char {
+pub(crate) fn agreed(order: Ordering, do_agree: bool) -> char {
     if do_agree { sign_of(order) } else { '!' }
 }

@@ -1,6 +1,6 @@
 //! Rows under a key.
 
-use crate::signs::{agreed, sign_of};
+use super::signs::{agreed, sign_of};
 use key_extract::{Extract, KeySpec, Probe, Row, RowKeys, RowOrder, RowSort};
 use std::alloc::{AllocError, Global};
 use std::cmp::Ordering;
@@ -10,7 +10,7 @@ const INDEX: usize = 1;
 
 /// Rows, and a key of theirs at the second of two indices.
 #[derive(Drop)]
-pub struct Keyed {
+pub(crate) struct Keyed {
     keys: RowKeys,
     sort: RowSort,
     rows: Vec<Row>,
@@ -18,7 +18,7 @@ pub struct Keyed {
 
 impl Keyed {
     /// No rows under a key, if there is one.
-    pub fn new(alloc: Global, key: Option<KeySpec>) -> Result<Option<Keyed>, AllocError> {
+    pub(crate) fn new(alloc: Global, key: Option<KeySpec>) -> Result<Option<Keyed>, AllocError> {
         let Some(key) = key else {
             return Ok(None);
         };
@@ -30,7 +30,7 @@ impl Keyed {
     }
 
     /// Which of three indices have a key.
-    pub fn tell_indices(&self, alloc: Global) -> Result<String, AllocError> {
+    pub(crate) fn tell_indices(&self, alloc: Global) -> Result<String, AllocError> {
         let mut said = String::from_str(alloc, " ")?;
         for index in 0..3 {
             said.push_str(if self.keys.has(index) { " yes" } else { " no" })?;
@@ -66,7 +66,7 @@ impl Keyed {
     }
 
     /// Takes a row, and says how it stands to the rows so far and to itself.
-    pub fn tell_row(&mut self, alloc: Global, row: Row) -> Result<String, AllocError> {
+    pub(crate) fn tell_row(&mut self, alloc: Global, row: Row) -> Result<String, AllocError> {
         let mut said = String::from_str(alloc, "  ")?;
         let copy = row.copy()?;
         said.push_str(if copy.cells() == row.cells() {
@@ -116,7 +116,7 @@ impl Keyed {
     }
 
     /// Says what a search is to the key and to the rows so far.
-    pub fn tell_probe(&self, alloc: Global, probe: &Probe) -> Result<String, AllocError> {
+    pub(crate) fn tell_probe(&self, alloc: Global, probe: &Probe) -> Result<String, AllocError> {
         let copy = probe.copy()?;
         let mut said = format!(in alloc; "  {} ", self.kind(&copy))?;
         said.push_str(if copy.cells() == probe.cells() {

@@ -1,6 +1,5 @@
-//! Prints what schema files mean. Standard input holds the files one after the other, each below a line `=== NAME`.
-//! Each is answered by `NAME: FAULT`, or by `NAME: valid` and a line for each of its tables.
-#![tactic(auto)]
+//! What schema files mean. The lines hold the files one after the other, each below a line `=== NAME`. Each is answered by
+//! `NAME: FAULT`, or by `NAME: valid` and a line for each of its tables; the built-in schema comes first.
 
 mod spelled;
 
@@ -8,7 +7,6 @@ use schema_file::read_schema;
 use spelled::table_line;
 use std::alloc::Global;
 use std::io;
-use std::io::BufRead;
 use table_schema::{Schema, builtin};
 
 /// A schema file, and what it is called here.
@@ -36,7 +34,7 @@ fn tell_tables(rt: &HostRuntime, name: &str, schema: &Schema) -> io::Result<()> 
     Ok(())
 }
 
-fn tell(rt: &HostRuntime, case: &Case) -> io::Result<()> {
+fn tell_case(rt: &HostRuntime, case: &Case) -> io::Result<()> {
     let name = case.name.as_str();
     match read_schema(rt.alloc(), &case.file) {
         Ok(schema) => tell_tables(rt, name, &schema),
@@ -51,23 +49,23 @@ fn begun(alloc: Global, name: &[u8]) -> io::Result<Case> {
     })
 }
 
-fn main(rt: HostRuntime) -> io::Result<()> {
+/// The built-in schema, and what each file means.
+pub(crate) fn tell(rt: &HostRuntime, lines: &[Vec<u8>]) -> io::Result<()> {
     let alloc = rt.alloc();
-    tell_tables(&rt, "built in", &builtin(alloc)?)?;
+    tell_tables(rt, "built in", &builtin(alloc)?)?;
     let mut case: Option<Case> = None;
-    for line in rt.reader().split(alloc, b'\n') {
-        let line = line?;
-        if let Some(name) = heading(&line) {
+    for line in lines {
+        if let Some(name) = heading(line) {
             if let Some(ended) = case.replace(begun(alloc, name)?) {
-                tell(&rt, &ended)?;
+                tell_case(rt, &ended)?;
             }
         } else if let Some(open) = &mut case {
-            open.file.extend_from_slice(&line)?;
+            open.file.extend_from_slice(line)?;
             open.file.push(b'\n')?;
         }
     }
     match case {
-        Some(last) => tell(&rt, &last),
+        Some(last) => tell_case(rt, &last),
         None => Ok(()),
     }
 }

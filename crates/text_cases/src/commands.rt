@@ -1,12 +1,11 @@
-//! Prints the canonical text of each command that standard input has on a line, or why the line is none. Where that text, read
-//! again, is written otherwise, it says so.
-#![tactic(auto)]
+//! The canonical text of the command on each line, or why the line is none. Where that text, read again, is written otherwise,
+//! it says so.
 
 use command_lines::{CommandFault, read_command};
 use command_text::{Command, Out, write_command};
 use std::alloc::{AllocError, Global};
 use std::io;
-use std::io::{BufRead, Write};
+use std::io::Write;
 
 fn written(alloc: Global, command: &Command) -> Result<Out, CommandFault> {
     let mut text = Out::new(alloc);
@@ -41,7 +40,7 @@ fn name_of(fault: CommandFault) -> &'static str {
 }
 
 // Adds what is printed for a line.
-fn tell(alloc: Global, line: &[u8], report: &mut Vec<u8>) -> Result<(), AllocError> {
+fn tell_line(alloc: Global, line: &[u8], report: &mut Vec<u8>) -> Result<(), AllocError> {
     match canonical(alloc, line) {
         Ok(text) => {
             report.extend_from_slice(text.bytes())?;
@@ -54,11 +53,12 @@ fn tell(alloc: Global, line: &[u8], report: &mut Vec<u8>) -> Result<(), AllocErr
     Ok(report.push(b'\n')?)
 }
 
-fn main(rt: HostRuntime) -> io::Result<()> {
+/// What each line is.
+pub(crate) fn tell(rt: &HostRuntime, lines: &[Vec<u8>]) -> io::Result<()> {
     let alloc = rt.alloc();
     let mut report = Vec::new(alloc);
-    for line in rt.reader().split(alloc, b'\n') {
-        tell(alloc, &line?, &mut report)?;
+    for line in lines {
+        tell_line(alloc, line, &mut report)?;
     }
-    io::writer(&rt).write_all(&report)
+    io::writer(rt).write_all(&report)
 }

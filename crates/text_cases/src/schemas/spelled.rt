@@ -57,7 +57,7 @@ fn push_indices(alloc: Global, line: &mut String, indices: &[IndexSpec]) -> Resu
 }
 
 /// The place of a table, its name, and how many records it may hold; its columns; its indices.
-pub fn table_line(alloc: Global, table: &TableSpec) -> Result<String, AllocError> {
+pub(crate) fn table_line(alloc: Global, table: &TableSpec) -> Result<String, AllocError> {
     let mut line = format!(in alloc;
         "{} of {}: {} {}",
         table.place(),

@@ -1,4 +1,4 @@
-//! Prints how rows and search keys stand to one another. Each line of standard input is printed, and below it what it says:
+//! How rows and search keys stand to one another. Each line is printed, and below it what it says:
 //!
 //! - `cells V ..`: how each of these cells compares to each, and the length of each text.
 //! - `key C ..`: begins with no rows, and with a key of these columns, of which those below `-` fall. Which of three
@@ -8,7 +8,6 @@
 //!
 //! A value is a whole number, `true`, `false` or a text between two `'`. Signs are `<`, `=` and `>`, and `!` where two
 //! ways to ask have different answers; a shared hash is `=`, and another one `.`.
-#![tactic(auto)]
 
 mod cells;
 mod keyed;
@@ -19,7 +18,7 @@ use key_extract::{Probe, Row};
 use keyed::Keyed;
 use std::alloc::{AllocError, Global};
 use std::io;
-use std::io::{BufRead, Write};
+use std::io::Write;
 
 // What a line says, which may begin a new key.
 fn told(alloc: Global, keyed: &mut Option<Keyed>, line: &str) -> Result<String, AllocError> {
@@ -41,12 +40,13 @@ fn told(alloc: Global, keyed: &mut Option<Keyed>, line: &str) -> Result<String, 
     }
 }
 
-fn main(rt: HostRuntime) -> io::Result<()> {
+/// What each line says.
+pub(crate) fn tell(rt: &HostRuntime, lines: &[Vec<u8>]) -> io::Result<()> {
     let alloc = rt.alloc();
-    let mut output = io::writer(&rt);
+    let mut output = io::writer(rt);
     let mut keyed = None;
-    for line in rt.reader().split(alloc, b'\n') {
-        let line = String::from_utf8_lossy(alloc, &line?)?;
+    for line in lines {
+        let line = String::from_utf8_lossy(alloc, line)?;
         let said = told(alloc, &mut keyed, line.as_str())?;
         let text = format!(in alloc; "{}\n{}", line.as_str(), said.as_str())?;
         output.write_all(text.as_bytes())?;

@@ -1,6 +1,6 @@
 //! Cells and keys from words.
 
-use crate::signs::agreed;
+use super::signs::agreed;
 use arrayvec::ArrayVec;
 use key_extract::{Cell, KeySpec, Part, Text};
 use std::alloc::{AllocError, Global};
@@ -26,7 +26,7 @@ fn cell_of(alloc: Global, word: &str) -> Result<Option<Cell>, AllocError> {
 }
 
 /// The cells of the words.
-pub fn cells_of(alloc: Global, words: &str) -> Result<Vec<Cell>, AllocError> {
+pub(crate) fn cells_of(alloc: Global, words: &str) -> Result<Vec<Cell>, AllocError> {
     let mut cells = Vec::new(alloc);
     for word in words.split_whitespace() {
         if let Some(cell) = cell_of(alloc, word)? {
@@ -46,7 +46,7 @@ fn part_of(word: &str) -> Option<Part> {
 }
 
 /// The key of the words' columns, if there is one.
-pub fn key_of(words: &str) -> Option<KeySpec> {
+pub(crate) fn key_of(words: &str) -> Option<KeySpec> {
     let mut parts = ArrayVec::<Part, 4>::new();
     for word in words.split_whitespace() {
         let part = part_of(word)?;
@@ -98,7 +98,7 @@ fn push_cell(
 }
 
 /// How each cell compares to each, and what texts and copies are like.
-pub fn tell_cells(alloc: Global, cells: &[Cell]) -> Result<String, AllocError> {
+pub(crate) fn tell_cells(alloc: Global, cells: &[Cell]) -> Result<String, AllocError> {
     let mut said = String::new(alloc);
     for cell in cells {
         push_cell(alloc, &mut said, cells, cell)?;

@@ -1,6 +1,8 @@
-//! Replies at the ends of their ranges, rows under headings, and the buffer.
+//! Replies of each form at the ends of their ranges, all faults, rows under headings, and a buffer's states.
 
 use std::alloc::{AllocError, Global};
+use std::io;
+use std::io::Write;
 use table_reply::{
     Cell, Fault, Handle, Heading, Out, READY_ROOM, Record, Reply, Row, Text, write_reply,
 };
@@ -57,27 +59,27 @@ fn push(out: &mut Out, text: &str) -> Result<(), AllocError> {
     out.try_push(text.as_bytes()).map_err(|_| AllocError)
 }
 
-fn tell(out: &mut Out, reply: &Reply) -> Result<(), AllocError> {
+fn push_reply(out: &mut Out, reply: &Reply) -> Result<(), AllocError> {
     write_reply(reply, out).map_err(|_| AllocError)
 }
 
-/// Replies of each form without rows.
-pub fn tell_replies(alloc: Global) -> Result<Out, AllocError> {
+// Replies of each form without rows.
+fn tell_replies(alloc: Global) -> Result<Out, AllocError> {
     let mut out = Out::new(alloc);
     push(&mut out, "=== replies\n")?;
-    tell(&mut out, &found(1, Some(FIRST)))?;
-    tell(&mut out, &found(0, None))?;
-    tell(&mut out, &found(u64::MAX, Some(LAST)))?;
-    tell(&mut out, &counted(3, 2))?;
-    tell(&mut out, &counted(u64::MAX, u64::MAX))?;
-    tell(&mut out, &Reply::Done { at: 0 })?;
-    tell(&mut out, &Reply::Done { at: u64::MAX })?;
-    tell(&mut out, &next(4, Some(FIRST)))?;
-    tell(&mut out, &next(0, None))?;
-    tell(&mut out, &next(u64::MAX, Some(LAST)))?;
-    tell(&mut out, &banned(2, "u", FIRST))?;
-    tell(&mut out, &erased(u64::MAX, LONGEST_NAME, LAST))?;
-    tell(
+    push_reply(&mut out, &found(1, Some(FIRST)))?;
+    push_reply(&mut out, &found(0, None))?;
+    push_reply(&mut out, &found(u64::MAX, Some(LAST)))?;
+    push_reply(&mut out, &counted(3, 2))?;
+    push_reply(&mut out, &counted(u64::MAX, u64::MAX))?;
+    push_reply(&mut out, &Reply::Done { at: 0 })?;
+    push_reply(&mut out, &Reply::Done { at: u64::MAX })?;
+    push_reply(&mut out, &next(4, Some(FIRST)))?;
+    push_reply(&mut out, &next(0, None))?;
+    push_reply(&mut out, &next(u64::MAX, Some(LAST)))?;
+    push_reply(&mut out, &banned(2, "u", FIRST))?;
+    push_reply(&mut out, &erased(u64::MAX, LONGEST_NAME, LAST))?;
+    push_reply(
         &mut out,
         &Reply::Listed {
             at: 7,
@@ -88,7 +90,7 @@ pub fn tell_replies(alloc: Global) -> Result<Out, AllocError> {
     for fault in FAULTS {
         push(&mut out, fault.name())?;
         push(&mut out, " ")?;
-        tell(&mut out, &Reply::Fault(fault))?;
+        push_reply(&mut out, &Reply::Fault(fault))?;
     }
     Ok(out)
 }
@@ -133,7 +135,7 @@ fn tell_records(alloc: Global, out: &mut Out, headings: &[Heading]) -> Result<()
             row: &wide,
         },
     ];
-    tell(
+    push_reply(
         out,
         &Reply::Listed {
             at: 2,
@@ -152,21 +154,21 @@ fn shown<'a>(at: u64, headings: &'a [Heading], handle: Handle, row: &'a Row) -> 
     }
 }
 
-/// One record below headings.
-pub fn tell_shown(alloc: Global) -> Result<Out, AllocError> {
+// One record below headings.
+fn tell_shown(alloc: Global) -> Result<Out, AllocError> {
     let mut out = Out::new(alloc);
     push(&mut out, "=== shown\n")?;
     let escaped = row(alloc, i64::MAX, "\"\u{1}")?;
     let by_name = [heading(alloc, "g", 1)?, heading(alloc, "id", 0)?];
     let wide = [heading(alloc, "z", 0)?, heading(alloc, "\"", 3)?];
-    tell(&mut out, &shown(1, &by_name, FIRST, &escaped))?;
-    tell(&mut out, &shown(0, &[], FIRST, &escaped))?;
-    tell(&mut out, &shown(u64::MAX, &wide, LAST, &escaped))?;
+    push_reply(&mut out, &shown(1, &by_name, FIRST, &escaped))?;
+    push_reply(&mut out, &shown(0, &[], FIRST, &escaped))?;
+    push_reply(&mut out, &shown(u64::MAX, &wide, LAST, &escaped))?;
     Ok(out)
 }
 
-/// Rows below headings that are in the order of their names, and below others, of which two are of no cell of some rows.
-pub fn tell_rows(alloc: Global) -> Result<Out, AllocError> {
+// Rows below headings that are in the order of their names, and below others, of which two are of no cell of some rows.
+fn tell_rows(alloc: Global) -> Result<Out, AllocError> {
     let mut out = Out::new(alloc);
     push(&mut out, "=== rows\n")?;
     let by_name = [heading(alloc, "g", 1)?, heading(alloc, "id", 0)?];
@@ -186,8 +188,8 @@ fn push_state(alloc: Global, out: &Out, report: &mut String) -> Result<(), Alloc
     report.push_str(state.as_str())
 }
 
-/// A buffer's length and bytes as it takes texts and gives them back.
-pub fn tell_buffer(alloc: Global) -> Result<String, AllocError> {
+// A buffer's length and bytes as it takes texts and gives them back.
+fn tell_buffer(alloc: Global) -> Result<String, AllocError> {
     let mut report = String::from_str(alloc, "=== buffer\n")?;
     let mut out = Out::new(alloc);
     push_state(alloc, &out, &mut report)?;
@@ -205,4 +207,14 @@ pub fn tell_buffer(alloc: Global) -> Result<String, AllocError> {
     out.push(&[b'x'; READY_ROOM]);
     push_state(alloc, &out, &mut report)?;
     Ok(report)
+}
+
+/// All of them. It takes no lines.
+pub(crate) fn tell(rt: &HostRuntime) -> io::Result<()> {
+    let alloc = rt.alloc();
+    let mut output = io::writer(rt);
+    output.write_all(tell_replies(alloc)?.bytes())?;
+    output.write_all(tell_rows(alloc)?.bytes())?;
+    output.write_all(tell_shown(alloc)?.bytes())?;
+    output.write_all(tell_buffer(alloc)?.as_bytes())
 }
