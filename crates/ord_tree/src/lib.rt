@@ -4,6 +4,7 @@
 //! stand in one tree of each column at once.
 #![tactic(auto)]
 
+mod height;
 mod parts;
 mod removal;
 mod same;

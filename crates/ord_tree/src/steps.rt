@@ -10,7 +10,7 @@ use crate::tally::Tally;
 use node_store::{Link, Node, NodeStore};
 
 /// The height of the subtree below `child`.
-fn height_of<R>(store: &NodeStore<R>, col: usize, child: Option<Node>) -> u8
+pub(crate) fn height_of<R>(store: &NodeStore<R>, col: usize, child: Option<Node>) -> u8
     requires col { col < 8 }
     requires node { AreNodes (column_of store.now col) child }
     ensures { result ≡ stored_height (column_of store.now col) child }

@@ -3,6 +3,7 @@ use Rattle.std.specs.Prelude.{ℕ, List}
 use Rattle.node_store.specs.declared.Node.{Node}
 use Rattle.node_store.specs.Column.{Column}
 pub use Rattle.ord_tree.specs.Spelled.{Holds, KeepsOthers}
+use Rattle.ord_tree.specs.Tree.{Tree}
 use Rattle.ord_tree.specs.Spelled as ord
 use Rattle.rank_tree.specs.declared.tree.RankTree.{RankTree}
 
@@ -13,6 +14,10 @@ Spells cs i xs = ord.Spells cs i.tree xs
 -- the list that the column spells
 abbrev pub spelled : (ℕ → Column) → RankTree → List Node
 spelled cs i = ord.spelled cs i.tree
+
+-- the tree whose links the column has
+abbrev pub tree_of : (ℕ → Column) → RankTree → Tree
+tree_of cs i = ord.tree_of cs i.tree
 
 -- the index is a balanced tree
 abbrev pub IsSound : (ℕ → Column) → RankTree → Type 0

@@ -2,7 +2,8 @@
 ghost use Rattle.std.specs.Prelude.{◌≡◌, ℕ, ◌*◌, ◌^◌, ◌<◌, ◌≤◌, length, slice_get};
 ghost use Rattle.list_model.specs.Walk.{place_of};
 ghost use Rattle.node_store.specs.ByNode.{column_of, same_node};
-ghost use Rattle.ord_tree.specs.Tree.{AreNodes, stored_tag};
+ghost use Rattle.ord_tree.specs.Tree.{AreNodes, height, stored_tag};
+ghost use Rattle.ord_tree.specs.Path.{AllDepthsBelow};
 
 use crate::tree::RankTree;
 use node_store::{Link, Node, NodeStore};
@@ -20,7 +21,18 @@ pub(crate) fn size_of<R>(store: &NodeStore<R>, col: usize, child: Option<Node>) 
 }
 
 impl RankTree {
-    ghost use Rattle.rank_tree.specs.Spelled.{IsSound, Holds, spelled};
+    ghost use Rattle.rank_tree.specs.Spelled.{IsSound, Holds, spelled, tree_of};
+
+    /// How many nodes the longest way from the root down has. Where there are fewer than 2^k nodes they are at most 2·k, and
+    /// fewer than 2·k links lead from each node up to the root. O(1).
+    pub fn height<R>(&self, store: &NodeStore<R>) -> u8
+        requires { IsSound (column_of store.now) self.now }
+        ensures exact { result ≡ height (tree_of (column_of store.now) self.now) }
+        ensures low { (k : ℕ) → length (spelled (column_of store.now) self.now) < 2 ^ k → result ≤ 2 * k }
+        ensures near { (k : ℕ) → length (spelled (column_of store.now) self.now) < 2 ^ k → AllDepthsBelow (2 * k) (tree_of (column_of store.now) self.now) }
+    {
+        self.tree.height(store)
+    }
 
     /// The node at a place, counted from 0, or `None` past the end. O(log n).
     pub fn nth<R>(&self, store: &NodeStore<R>, place: u64) -> Option<Node>
