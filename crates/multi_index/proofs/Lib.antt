@@ -11,4 +11,3 @@ pub mod Refusing
 pub mod Replaced
 pub mod Rising
 pub mod Shrunk
-pub mod Undone

@@ -20,9 +20,9 @@ use Rattle.linked_set.specs.declared.by_row.ByRow.{ByRow}
 use Rattle.linked_set.specs.Linked.{entries_in}
 use Rattle.linked_set.specs.Seen.{seen, IsLinked}
 use Rattle.multi_index.specs.Container.{IsContainer}
-use Rattle.multi_index.specs.Undone.{modify_or_undo_refusal, with_modified_or_undone, with_undone}
+use Rattle.container_model.specs.Undone.{modify_or_undo_refusal, with_modified_or_undone, with_undone}
 use Rattle.multi_index.proofs.Replaced.{refused_live, not_banned, not_spent}
-use Rattle.multi_index.proofs.Undone.{IsState-undone}
+use Rattle.container_model.proofs.Undone.{IsState-undone}
 
 module _ {E R : Type 0} (order : E → ℕ → R → R → Ordering) (s : State E R) (h : Handle) (change undo : R → R) where
   -- a change of a handle that names nothing is refused, and leaves all as it was

@@ -1,7 +1,7 @@
 //! Taking out all records of a key.
-ghost use Rattle.std.specs.Prelude.{◌≡◌, ◌+◌, ◌<◌, length, None, Some, IsTrue, IfErr, IfOk, OnErr, OnOk};
+ghost use Rattle.std.specs.Prelude.{◌≡◌, ◌+◌, ◌<◌, ◌≤◌, length, None, Some, IsTrue, IfErr, IfOk, OnErr, OnOk};
 ghost use Rattle.container_model.specs.State.{has_key_kind, is_hashed_kind};
-ghost use Rattle.container_model.specs.Find.{kind_at};
+ghost use Rattle.container_model.specs.Find.{is_unique_at, kind_at};
 ghost use Rattle.container_model.specs.Change.{erase_key_refusal, erased_count, with_key_erased};
 
 use crate::container::MultiIndex;
@@ -10,14 +10,15 @@ use key_extract::Extract;
 use linked_set::take_key;
 
 impl<R: Drop, E: Extract<R> + Drop> MultiIndex<R, E> {
-    /// Takes out every record that has the key at the index, also a leading part of one, and answers how many there were. A
-    /// refusal changes nothing: `Kind`, where the index is a sequence, comes before `Spent`. It takes no memory. For each
-    /// record that goes, what `erase` costs and a look-up.
+    /// Takes out every record that has the key at the index, also a leading part of one, and answers how many there were: at
+    /// most one of a whole key, where the index is unique. A refusal changes nothing: `Kind`, where the index is a sequence,
+    /// comes before `Spent`. It takes no memory. For each record that goes, what `erase` costs and a look-up.
     pub fn erase_key(&mut self, index: usize, probe: &E::Probe) -> Result<u64, Refused<R>>
         requires in_range { index < length self.old.specs }
         requires fits { IsTrue (has_key_kind (kind_at self.old index)) → IsTrue (E.does_fit self.old.keys index probe.now) }
         requires whole { IsTrue (is_hashed_kind (kind_at self.old index)) → IsTrue (E.is_whole self.old.keys index probe.now) }
         ensures count { IfOk result (λ count. count ≡ erased_count E.probe_order_of self.old index probe.now) }
+        ensures one { IsTrue (is_unique_at self.old index) → IsTrue (E.is_whole self.old.keys index probe.now) → IfOk result (λ count. count ≤ 1) }
         ensures allowed { OnOk result (erase_key_refusal self.old index ≡ None) }
         ensures ok { OnOk result (self.new ≡ with_key_erased E.probe_order_of self.old index probe.now) }
         ensures why { IfErr result (λ refused. Some refused.why ≡ erase_key_refusal self.old index) }

@@ -1,7 +1,7 @@
 //! Changing a record in place, and undoing the change where it is refused.
 ghost use Rattle.std.specs.Prelude.{◌≡◌, ◌+◌, None, Some, IfErr, OnErr, OnOk};
 ghost use Rattle.container_model.specs.State.{row_of};
-ghost use Rattle.multi_index.specs.Undone.{KeepsKeys, modify_or_undo_refusal, with_modified_or_undone};
+ghost use Rattle.container_model.specs.Undone.{KeepsKeys, modify_or_undo_refusal, with_modified_or_undone};
 
 use crate::container::MultiIndex;
 use container_model::{Handle, Refused, Why};

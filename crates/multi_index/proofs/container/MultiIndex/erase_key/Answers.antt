@@ -1,7 +1,14 @@
-use Rattle.std.proofs.Common.{◌≡◌, ◌+◌, ◌<◌, ◌∙◌, length, ap, sym, subst, arith}
+use Rattle.std.proofs.Common.{◌≡◌, ◌+◌, ◌<◌, ◌≤◌, ◌∙◌, false, length, ap, sym, subst, arith}
 use Rattle.std.specs.Prelude.{filter}
+use Rattle.std.specs.Option.{option_map_or}
+use Rattle.list_model.proofs.Lists.{slice_get_at}
 use Rattle.node_store.specs.Store.{len_of}
+use Rattle.container_model.specs.declared.handle.Kind.TheVariants.{Sequenced}
+use Rattle.container_model.specs.declared.handle.Spec.{Spec}
+use Rattle.container_model.specs.State.{IsState}
 use Rattle.container_model.specs.Change.{erase_key_refusal, erased_count, with_key_erased}
+use Rattle.container_model.proofs.Keys.{has_key-of_unique}
+use Rattle.container_model.proofs.OneOfKey.{one_of_a_key}
 use Rattle.index_set.specs.Set.{store_of, specs_of, contents}
 use Rattle.linked_set.specs.Held.{has_other_key}
 use Rattle.linked_set.specs.Linked.{entries_in}
@@ -49,3 +56,15 @@ returns-clause-ok g c =
     let taken = c.take_key-count.ensures in
     seen_only inside.set c.take_key-count.new.set (has_other_key g.E.Extract.probe_order_of inside.set c.args.index c.args.probe.now) inside.max inside.writes taken.same taken.entries taken.lists
     ∙ ap (λ s. with_key_erased g.E.Extract.probe_order_of s c.args.index c.args.probe.now) c.self.view_is
+
+some_spec : Spec
+some_spec = record { kind = Sequenced; unique = false }
+
+-- records of one whole key have one key, and a unique index has one of them
+pub returns-clause-one : goal.returns-clause-one
+returns-clause-one g c = λ unique whole.
+    let now = c.args.self.now in
+    let state = subst (λ t. IsState g.E.Extract.has_key g.E.Extract.order_of t) c.self.view_is c.self.invariant.state in
+    let key = has_key-of_unique state.keys c.args.index some_spec c.requires.in_range (sym (ap (λ o. option_map_or (λ spec. spec.unique) o false) (slice_get_at now.specs c.args.index some_spec c.requires.in_range)) ∙ unique) in
+    let few = one_of_a_key g.E.Extract.has_key g.E.Extract.order_of g.E.Extract.probe_order_of now state c.args.index c.args.probe.now unique (g.met.E.Extract.whole_is_one_key now.keys c.args.index c.args.probe.now key whole) in
+    subst (λ n. n ≤ 1) (sym (returns-clause-count g c)) few

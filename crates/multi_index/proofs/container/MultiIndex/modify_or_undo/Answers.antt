@@ -6,7 +6,7 @@ use Rattle.container_model.specs.State.{row_of}
 use Rattle.index_set.specs.Set.{record_of}
 use Rattle.linked_set.specs.Linked.{handle_of}
 use Rattle.linked_set.specs.Seen.{seen}
-use Rattle.multi_index.specs.Undone.{KeepsKeys, modify_or_undo_refusal, with_modified_or_undone}
+use Rattle.container_model.specs.Undone.{KeepsKeys, modify_or_undo_refusal, with_modified_or_undone}
 use Rattle.multi_index.proofs.InPlace.{IsContainer_modified}
 use Rattle.multi_index.proofs.HeldByAll.{held_by_all}
 use Rattle.linked_set.proofs.Live.{none_seen}

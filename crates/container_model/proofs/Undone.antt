@@ -2,7 +2,7 @@
 use Rattle.std.proofs.Common.{◌≡◌, ℕ, ◌+◌, ◌<◌, ◌≤◌, Bool, true, false, cond, ◌==◌, List, [], ◌∷◌, length, drop, refl, ap, sym, ◌∙◌, subst, arith, Option, Some, None}
 use Rattle.std.specs.Prelude.{IsTrue, IsPermutation, is_some}
 use Rattle.std.specs.List.{AllByRecursion}
-use Rattle.std.specs.Option.{option_cmp}
+use Rattle.std.specs.Option.{option_cmp, option_map_or}
 use Rattle.std.specs.Ordering.{is_eq}
 use Rattle.std.specs.Cmp.{IsTotalOrder}
 use Rattle.std.specs.declared.cmp.Ordering.{Ordering}
@@ -20,11 +20,13 @@ use Rattle.container_model.specs.declared.handle.Spec.{Spec}
 use Rattle.container_model.specs.declared.handle.Kind.TheVariants.{Sequenced}
 use Rattle.container_model.specs.State.{State, KeysMatch, row_of, is_handle, compare_of, has_key_kind, is_sorted_kind, IsIndex, AreIndices, IsState}
 use Rattle.container_model.specs.Find.{kind_at}
-use Rattle.container_model.specs.Change.{with_row}
+use Rattle.container_model.specs.declared.refusal.Why.{Why}
+use Rattle.container_model.specs.declared.refusal.Why.TheVariants.{Stale}
+use Rattle.container_model.specs.Change.{replace_refusal, with_replaced, with_row}
 use Rattle.container_model.proofs.Found.{is_handle_same, row_of_members}
 use Rattle.container_model.proofs.Keys.{has_key-of_sorted, has_key-of_unique, kind_at_is}
 use Rattle.container_model.proofs.Replaced.{changed, handle-changed, handles-with_row, row_of-with_row, row_of-with_row_other}
-use Rattle.multi_index.specs.Undone.{with_undone}
+use Rattle.container_model.specs.Undone.{modify_or_undo_refusal, with_modified_or_undone, with_undone}
 
 module _ {R : Type 0} (h : Handle) (row : R) where
   -- what holds of each two handles still does
@@ -156,3 +158,24 @@ module _ {E R : Type 0} (s : State E R) (h : Handle) (row : R) where
 
   pub with_undone-same : EachPair (λ a b. (b.handle.slot == a.handle.slot) ≡ false) s.entries → row_of s.entries h ≡ Some row → with_undone s h row ≡ s
   with_undone-same slots had = λ i. record s { entries = own_row s.entries (all_had h row row s.entries slots had) i }
+
+module _ {E R : Type 0} (order : E → ℕ → R → R → Ordering) (s : State E R) (h : Handle) (change undo : R → R) where
+  -- a refused change leaves the container as it was, where undoing gives the record its very row back
+  pub undone-same : EachPair (λ a b. (b.handle.slot == a.handle.slot) ≡ false) s.entries → ((row : R) → row_of s.entries h ≡ Some row → undo row ≡ row) →
+      (why : Why) → modify_or_undo_refusal order s h change ≡ Some why → with_modified_or_undone order s h change undo ≡ s
+  undone-same slots back why refused = by_row (row_of s.entries h) refl refused
+    where
+      by_why : (row : R) → row_of s.entries h ≡ Some row → (o : Option Why) → o ≡ Some why → option_map_or (λ _. with_undone s h (undo row)) o (with_replaced order s h (change row)) ≡ s
+      by_why row had None e = cc
+      by_why row had (Some w) e = ap (with_undone s h) (back row had) ∙ with_undone-same s h row slots had
+
+      by_row : (o : Option R) → row_of s.entries h ≡ o → option_map_or (λ row. replace_refusal order s h (change row)) o (Some Stale) ≡ Some why →
+          option_map_or (λ row. option_map_or (λ _. with_undone s h (undo row)) (replace_refusal order s h (change row)) (with_replaced order s h (change row))) o s ≡ s
+      by_row None had e = refl
+      by_row (Some row) had e = by_why row had (replace_refusal order s h (change row)) e
+
+  -- one that nothing refuses is a replacement
+  pub changed-same : (row : R) → row_of s.entries h ≡ Some row → modify_or_undo_refusal order s h change ≡ None → with_modified_or_undone order s h change undo ≡ with_replaced order s h (change row)
+  changed-same row had allowed =
+      ap (λ o. option_map_or (λ row. option_map_or (λ _. with_undone s h (undo row)) (replace_refusal order s h (change row)) (with_replaced order s h (change row))) o s) had
+      ∙ ap (λ o. option_map_or (λ _. with_undone s h (undo row)) o (with_replaced order s h (change row))) (sym (ap (λ o. option_map_or (λ row. replace_refusal order s h (change row)) o (Some Stale)) had) ∙ allowed)
