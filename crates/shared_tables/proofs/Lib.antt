@@ -1,0 +1,11 @@
+pub mod Entries
+pub mod Kept
+pub mod Calls
+pub mod Hears
+pub mod Schemas
+pub mod Prefixes
+pub mod Alike
+pub mod Passes
+pub mod Tables
+pub mod Fresh
+pub mod Lines

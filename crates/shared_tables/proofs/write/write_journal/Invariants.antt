@@ -1,0 +1,7 @@
+use Rattle.std.proofs.Common.{take}
+use Rattle.std.specs.Io.KnownBytes.{Appends}
+use Rattle.shared_tables.specs.Text.{journal_text}
+use Rattle.shared_tables.proofs.write.write_journal.Given as goal
+
+abbrev pub invariant-loop-entry : goal.invariant-loop-entry
+invariant-loop-entry g l = Appends (g.W.Write.contents l.fn.writer) (g.W.Write.contents l.writer) (journal_text (take l.entry-index l.journal))

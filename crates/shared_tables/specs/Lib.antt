@@ -1,0 +1,9 @@
+pub mod Journal
+pub mod Pass
+pub mod Kept
+pub mod Call
+pub mod Hears
+pub mod Gathered
+pub mod Journals
+pub mod Holders
+pub mod Text

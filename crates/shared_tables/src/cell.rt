@@ -1,0 +1,199 @@
+//! A table with the journal of its writes.
+
+ghost use Rattle.std.specs.Prelude.{◌≡◌, ◌<◌, ◌≤◌, [], length, OnErr, OnOk, IfOk, IsTrue};
+ghost use Rattle.table_reply.specs.Buffer.{Keeps};
+ghost use Rattle.shared_tables.specs.Journal.{IsLegal, own};
+ghost use Rattle.shared_tables.specs.Call.{Told, TrackTold, fault_of, fault_in};
+
+use crate::entry::Entry;
+use crate::fault::CallFault;
+use crate::line::first_bytes;
+use crate::pass::{Answered, Pass, Track};
+use crate::same::is_same_table;
+use crate::tally::Tally;
+use std::alloc::{AllocError, Global};
+use std::marker::Model;
+use table_cmd::Command;
+use table_reply::{Out, READY_ROOM};
+use table_schema::TableSpec;
+use table_step::{Outcome, Table, refuse_memory};
+
+/// A table, its declaration, the number of sessions, and the journal of the accepted writes. The table is what the
+/// journal's commands make of an empty one, and each of them was accepted with the answer that the journal has.
+#[derive(Drop)]
+pub struct TableCell {
+    pub(crate) spec: TableSpec,
+    pub(crate) table: Table,
+    pub(crate) journal: Vec<Entry>,
+    pub(crate) tallies: Vec<Tally>,
+}
+
+impl Model for TableCell {
+    ghost use Rattle.std.specs.Prelude.{length};
+    ghost use Rattle.shared_tables.specs.Call.{CellData};
+    ghost use Rattle.shared_tables.specs.Kept.{IsKept};
+
+    ghost Value = { CellData };
+
+    ghost view = { λ c. record { shape = c.spec; workers = length c.tallies.items; journal = c.journal.items } };
+
+    ghost invariant = { λ c. IsKept c.spec c.table c.journal.items c.tallies.items };
+}
+
+impl TableCell {
+    /// An empty table of this declaration with an empty journal, for so many sessions. O(columns² + indices + sessions).
+    pub fn new(alloc: Global, spec: &TableSpec, workers: u32) -> Result<TableCell, AllocError>
+        ensures { IfOk result (λ cell. cell ≡ record { shape = spec.now; workers = workers; journal = [] }) }
+    {
+        let tallies = vec![in alloc; Tally { count: 0, last: 0 }; workers as usize]?;
+        let table = Table::new(alloc, spec)?;
+        let spec = spec.copy()?;
+        Ok(TableCell {
+            spec,
+            table,
+            journal: Vec::new(alloc),
+            tallies,
+        })
+    }
+
+    /// Whether it is the table of this declaration, for so many sessions. O(columns + indices).
+    pub(crate) fn is_of(&self, spec: &TableSpec, workers: u32) -> bool
+        ensures same { IsTrue result → (self.now.shape ≡ spec.now) × (self.now.workers ≡ workers) }
+        ensures legal { IsLegal self.now.shape self.now.journal }
+    {
+        self.tallies.len() == workers as usize && is_same_table(&self.spec, spec)
+    }
+
+    /// Why a call with this pass is refused. O(1).
+    pub(crate) fn fault(&self, pass: &Pass) -> Option<CallFault>
+        ensures { result ≡ fault_of self.now pass.now }
+    {
+        let Some(tally) = self.tallies.get(pass.session as usize) else {
+            return Some(CallFault::Stranger);
+        };
+        if pass.tracks.len() != self.spec.tables() {
+            return Some(CallFault::Stranger);
+        }
+        let track = &pass.tracks[self.spec.place()];
+        let expected = track.last_write();
+        if expected != tally.last {
+            return Some(CallFault::Regressed {
+                expected,
+                found: tally.last,
+            });
+        }
+        let found = self.journal.len() as u64;
+        if found < track.seen {
+            return Some(CallFault::Regressed {
+                expected: track.seen,
+                found,
+            });
+        }
+        None
+    }
+
+    /// Carries out a command of the pass's session, and appends the line of its answer, or else the memory line. An accepted
+    /// write goes to the end of the journal and to the pass's writes, with the line as its answer; any other command that
+    /// is answered becomes the pass's last look. Where memory is refused nothing is changed and the memory line is
+    /// appended; a pass that does not fit changes and appends nothing.
+    ///
+    /// Apart from what the command costs, O(length of the command).
+    pub fn call(
+        &mut self,
+        pass: &mut Pass,
+        command: Command,
+        out: &mut Out,
+    ) -> Result<(), CallFault>
+        requires { READY_ROOM ≤ out.old.room }
+        ensures fault { fault_in result ≡ fault_of self.old pass.old }
+        ensures refused { OnErr result ((self.new ≡ self.old) × (pass.new ≡ pass.old) × (out.new ≡ out.old)) }
+        ensures answered { OnOk result (Told self.old pass.old command out.old.bytes out.new.bytes self.new pass.new) }
+        ensures legal { IsLegal self.old.shape self.old.journal }
+        ensures kept { Keeps out.old out.new }
+    {
+        if let Some(fault) = self.fault(pass) {
+            return Err(fault);
+        }
+        let session = pass.session;
+        let track = &mut pass.tracks[self.spec.place()];
+        self.answer(session, track, command, out);
+        Ok(())
+    }
+
+    // The same for a session of this table, at what it knows of the table.
+    fn answer(&mut self, session: u32, track: &mut Track, command: Command, out: &mut Out)
+        requires ready { READY_ROOM ≤ out.old.room }
+        requires session { session < self.old.workers }
+        ensures answered { TrackTold self.old session track.old command out.old.bytes out.new.bytes self.new track.new }
+        ensures kept { Keeps out.old out.new }
+    {
+        if self.journal.reserve(1).is_err() || track.writes.reserve(1).is_err() {
+            refuse_memory(out);
+            drop(command);
+            return;
+        }
+        let Ok(copied) = command.copy() else {
+            refuse_memory(out);
+            drop(command);
+            return;
+        };
+        let start = out.bytes().len();
+        let outcome = self.table.step(&command, out);
+        if let Outcome::Memory = outcome {
+            drop(command);
+            drop(copied);
+            return;
+        }
+        let number = self.journal.len() as u64;
+        if let Outcome::Write = outcome {
+            let tally = &mut self.tallies[session as usize];
+            let serial = tally.count + 1;
+            *tally = Tally {
+                count: serial,
+                last: number + 1,
+            };
+            self.journal.push_reserved(Entry {
+                session,
+                serial,
+                command,
+                answer: first_bytes(out, start),
+            });
+            track.writes.push_reserved(Answered {
+                number: number + 1,
+                command: copied,
+                answer: first_bytes(out, start),
+            });
+            track.seen = number + 1;
+            return;
+        }
+        drop(copied);
+        track.set_look(Answered {
+            number,
+            command,
+            answer: first_bytes(out, start),
+        });
+    }
+
+    /// How many entries a session has.
+    pub(crate) fn count(&self, session: u32) -> u64
+        ensures { result ≡ length (own session self.now.journal) }
+    {
+        match self.tallies.get(session as usize) {
+            Some(tally) => tally.count,
+            None => 0,
+        }
+    }
+
+    /// The journal alone.
+    pub(crate) fn into_journal(self) -> Vec<Entry>
+        ensures { result.items ≡ self.journal }
+    {
+        let TableCell {
+            spec: _,
+            table: _,
+            journal,
+            tallies: _,
+        } = self;
+        journal
+    }
+}

@@ -1,0 +1,25 @@
+//! The tables of a schema, called by several threads: each table behind a lock of its own, with the journal of its accepted
+//! writes, and for each session a pass that keeps what the session was told.
+#![tactic(auto)]
+
+mod cell;
+mod compare;
+mod entry;
+mod fault;
+mod gathering;
+mod holder;
+mod journals;
+mod line;
+mod pass;
+mod same;
+mod shared;
+mod tally;
+mod write;
+
+pub use cell::TableCell;
+pub use entry::Entry;
+pub use fault::{CallFault, GatherWhy, WriteFault};
+pub use gathering::{GatherFault, gather};
+pub use journals::Journals;
+pub use pass::Pass;
+pub use shared::{Gate, OpenGate, Shared};

@@ -1,0 +1,131 @@
+//! What a session knows of its calls.
+
+ghost use Rattle.std.specs.Prelude.{◌≡◌, ◌↔◌, ◌+◌, IsTrue, IfOk, Some};
+ghost use Rattle.std.specs.Option.{option_copied};
+ghost use Rattle.shared_tables.specs.Journal.{last_number};
+ghost use Rattle.shared_tables.specs.Pass.{fresh, fresh_pass};
+ghost use Rattle.shared_tables.specs.Call.{is_known};
+
+use crate::entry::Entry;
+use arrayvec::ArrayVec;
+use std::alloc::{AllocError, Global};
+use std::marker::Model;
+use table_cmd::Command;
+
+/// A command that was answered, with the number of writes then, and how the answer began.
+#[derive(Drop)]
+pub(crate) struct Answered {
+    pub(crate) number: u64,
+    pub(crate) command: Command,
+    pub(crate) answer: ArrayVec<u8, 256>,
+}
+
+impl Model for Answered {
+    ghost use Rattle.shared_tables.specs.Journal.{AnsweredData};
+
+    ghost Value = { AnsweredData };
+
+    ghost view = { λ a. record { number = a.number; command = a.command; answer = a.answer.items } };
+}
+
+impl Answered {
+    /// Whether it is the entry before which so many stand.
+    pub(crate) fn is_entry(&self, before: usize, entry: &Entry) -> bool
+        ensures { IsTrue result ↔ (self.now ≡ record { number = before + 1; command = entry.now.command; answer = entry.now.answer }) }
+    {
+        self.number > 0
+            && self.number - 1 == before as u64
+            && self.answer.as_slice() == entry.answer.as_slice()
+            && self.command.is_same(&entry.command)
+    }
+}
+
+/// What a session knows of one table.
+#[derive(Drop)]
+pub(crate) struct Track {
+    pub(crate) writes: Vec<Answered>,
+    pub(crate) seen: u64,
+    pub(crate) look: Option<Answered>,
+}
+
+impl Model for Track {
+    ghost use Rattle.shared_tables.specs.Pass.{TrackData};
+
+    ghost Value = { TrackData };
+
+    ghost view = { λ t. record { writes = t.writes.items; seen = t.seen; look = t.look } };
+}
+
+impl Track {
+    /// Nothing is known yet.
+    pub(crate) fn new(alloc: Global) -> Track
+        ensures { result ≡ fresh }
+    {
+        Track {
+            writes: Vec::new(alloc),
+            seen: 0,
+            look: None,
+        }
+    }
+
+    /// Keeps what was answered to a command that was no accepted write.
+    pub(crate) fn set_look(&mut self, look: Answered)
+        ensures { self.new ≡ record { writes = self.old.writes; seen = look.number; look = Some look } }
+    {
+        self.seen = look.number;
+        self.look = Some(look);
+    }
+
+    /// The last look at the table.
+    pub(crate) fn look(&self) -> Option<&Answered>
+        ensures { option_copied result ≡ self.now.look }
+    {
+        self.look.as_ref()
+    }
+
+    /// The number of the last own write, or 0.
+    pub(crate) fn last_write(&self) -> u64
+        ensures { result ≡ last_number self.now.writes }
+    {
+        match self.writes.last() {
+            Some(write) => write.number,
+            None => 0,
+        }
+    }
+}
+
+/// What one session knows of each table: its accepted writes, how many writes it saw there, and its last look. It can't be
+/// copied.
+#[derive(Drop)]
+pub struct Pass {
+    pub(crate) session: u32,
+    pub(crate) tracks: Vec<Track>,
+}
+
+impl Model for Pass {
+    ghost use Rattle.shared_tables.specs.Pass.{PassData};
+
+    ghost Value = { PassData };
+
+    ghost view = { λ p. record { session = p.session; tracks = p.tracks.items } };
+}
+
+impl Pass {
+    /// A pass of a session that was answered nothing yet in so many tables.
+    pub(crate) fn new(alloc: Global, session: u32, tables: usize) -> Result<Pass, AllocError>
+        ensures { IfOk result (λ pass. pass ≡ fresh_pass tables session) }
+    {
+        let mut tracks = Vec::with_capacity(alloc, tables)?;
+        for _ in 0..tables {
+            tracks.push(Track::new(alloc))?;
+        }
+        Ok(Pass { session, tracks })
+    }
+
+    /// Whether the pass is of so many tables, and one of so many sessions.
+    pub(crate) fn is_known(&self, tables: usize, workers: usize) -> bool
+        ensures { result ≡ is_known tables workers self.now }
+    {
+        self.tracks.len() == tables && (self.session as usize) < workers
+    }
+}

@@ -1,0 +1,149 @@
+//! Tables behind locks of their own.
+
+ghost use Rattle.std.specs.Prelude.{◌≡◌, ◌≤◌, OnErr, OnOk, IfErr, IfOk, length};
+ghost use Rattle.table_reply.specs.Buffer.{Keeps};
+ghost use Rattle.shared_tables.specs.Hears.{Hears, Refuses, table_at};
+ghost use Rattle.shared_tables.specs.Pass.{fresh_passes};
+
+use crate::cell::TableCell;
+use crate::fault::CallFault;
+use crate::pass::Pass;
+use std::alloc::{AllocError, Global};
+use std::marker::Model;
+use std::sync::{Mutex, Wait};
+use table_cmd::Command;
+use table_reply::{Fault, Out, READY_ROOM};
+use table_schema::{Schema, TableSpec};
+use table_step::{refuse, refuse_memory};
+
+/// What each call passes under its table's lock, before the command is carried out.
+pub trait Gate {
+    fn enter(&self, table: usize, session: u32);
+}
+
+/// A gate that does nothing.
+#[derive(Clone, Copy, Debug)]
+pub struct OpenGate;
+
+impl Gate for OpenGate {
+    fn enter(&self, _table: usize, _session: u32) {}
+}
+
+/// The tables of a schema, each behind a lock of its own, which several sessions call.
+#[derive(Drop)]
+pub struct Shared<G: Gate> {
+    pub(crate) schema: Schema,
+    pub(crate) workers: u32,
+    pub(crate) cells: Vec<Mutex<TableCell>>,
+    pub(crate) gate: G,
+}
+
+impl<G: Gate> Model for Shared<G> {
+    ghost use Rattle.std.specs.Prelude.{◌≡◌, length};
+    ghost use Rattle.shared_tables.specs.Hears.{SharedData};
+
+    ghost Value = { SharedData };
+
+    ghost view = { λ s. record { schema = s.schema; workers = s.workers } };
+
+    ghost invariant = { λ s. length s.cells.items ≡ length s.schema };
+}
+
+impl<G: Gate + Drop> Shared<G> {
+    /// Empty tables of the schema, and a pass for each session, which are numbered from 0.
+    /// O(sessions · tables), and what it costs to make the tables.
+    pub fn new(
+        alloc: Global,
+        schema: Schema,
+        workers: u32,
+        gate: G,
+    ) -> Result<(Shared<G>, Vec<Pass>), AllocError>
+        ensures shared { IfOk result (λ made. made.0 ≡ record { schema = schema; workers = workers }) }
+        ensures passes { IfOk result (λ made. made.1.items ≡ fresh_passes (length schema) workers) }
+    {
+        let cells = new_cells(alloc, &schema, workers)?;
+        let passes = new_passes(alloc, schema.tables().len(), workers)?;
+        let shared = Shared {
+            schema,
+            workers,
+            cells,
+            gate,
+        };
+        Ok((shared, passes))
+    }
+}
+
+// Empty tables under locks.
+fn new_cells(
+    alloc: Global,
+    schema: &Schema,
+    workers: u32,
+) -> Result<Vec<Mutex<TableCell>>, AllocError>
+    ensures { IfOk result (λ cells. length cells.items ≡ length schema.now) }
+{
+    let specs = schema.tables();
+    let mut cells = Vec::with_capacity(alloc, specs.len())?;
+    for spec in specs {
+        cells.push(Mutex::new(TableCell::new(alloc, spec, workers)?))?;
+    }
+    Ok(cells)
+}
+
+// A pass for each session.
+fn new_passes(alloc: Global, tables: usize, workers: u32) -> Result<Vec<Pass>, AllocError>
+    ensures { IfOk result (λ passes. passes.items ≡ fresh_passes tables workers) }
+{
+    let mut passes = Vec::new(alloc);
+    for session in 0..workers {
+        passes.push(Pass::new(alloc, session, tables)?)?;
+    }
+    Ok(passes)
+}
+
+// The place of the first table of a name.
+fn table_at(tables: &[TableSpec], name: &str) -> Option<usize>
+    ensures { result ≡ table_at tables.now name.now }
+{
+    tables.iter().position(|table| table.name() == name)
+}
+
+impl<G: Gate> Shared<G> {
+    /// Carries out a command under the lock of the table that it names, and appends the line of its answer, or else the
+    /// memory line. Where no table has the name, the line says so, and no lock is taken. A pass that does not fit is
+    /// refused: then nothing is changed or appended.
+    ///
+    /// It waits while another session has the table. Apart from that and from what the command costs, O(tables + columns +
+    /// indices + length of the command).
+    pub fn call(
+        &self,
+        rt: &impl Wait,
+        pass: &mut Pass,
+        command: Command,
+        out: &mut Out,
+    ) -> Result<(), CallFault>
+        requires { READY_ROOM ≤ out.old.room }
+        ensures refused { IfErr result (λ fault. Refuses self.now pass.old command fault) }
+        ensures unchanged { OnErr result ((pass.new ≡ pass.old) × (out.new ≡ out.old)) }
+        ensures answered { OnOk result (Hears self.now pass.old command out.old.bytes out.new.bytes pass.new) }
+        ensures kept { Keeps out.old out.new }
+    {
+        let tables = self.schema.tables();
+        if !pass.is_known(tables.len(), self.workers as usize) {
+            return Err(CallFault::Stranger);
+        }
+        let Some(place) = table_at(tables, command.table()) else {
+            refuse(Fault::Table, out);
+            drop(command);
+            return Ok(());
+        };
+        let mut cell = self.cells[place].lock(rt);
+        // It always is, but of what a lock holds only its type is known.
+        if !cell.is_of(&tables[place], self.workers) {
+            refuse_memory(out);
+            drop(command);
+            return Ok(());
+        }
+        self.gate.enter(place, pass.session);
+        cell.call(pass, command, out)
+    }
+}
