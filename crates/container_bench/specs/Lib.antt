@@ -1,2 +1,5 @@
 pub mod Keys
 pub mod Pairs
+pub mod Trees
+pub mod Ranks
+pub mod Keyed

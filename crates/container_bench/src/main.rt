@@ -1,125 +1,128 @@
-//! Prints what the container and std's collections kept by hand answer to some finds, which is the same, and with any
-//! word also the nanoseconds that each call takes, and the bytes of a record: `rt run -- times` in this folder.
+//! Prints what the container and std's collections kept by hand answer to some finds, which is the same, the sizes of nodes
+//! and links, and sums of what the calls of the indices answer. With the words `times`, `times sequences` or `times keys`
+//! it prints the nanoseconds that each call takes in their place: of the container and of the collections, with the bytes
+//! of a record; of the store, a sequence and a row; of the indices that have keys, beside std's maps.
 //!
-//! A line has the call, the size, the least time of several rounds, and its growth since the size before.
+//! A line has the call, the size, the least time of several rounds, and its growth since the size before. Where a line
+//! names several calls, the time is that of all; lines for the first ones alone stand beside it.
 #![tactic(auto)]
 
+mod answers;
 mod book;
 mod by_hand;
 mod by_hand_times;
 mod container_times;
+mod keyed;
 mod keys;
 mod memory;
 mod record;
+mod sequences;
 
 use bench_report::Report;
-use book::Book;
-use by_hand::ByHand;
-use by_hand_times::Call;
 use std::alloc::Global;
 use std::rt::Runtime;
-use std::{env, fmt, io};
+use std::{env, io};
 
-// Each way to find by hand, with the index of the container that finds the same.
-const FINDS: [(&str, usize, Call); 5] = [
-    ("ranked, by price", 2, Call::FindPrice),
-    ("ordered and unique, by id", 3, Call::FindId),
-    ("hashed, by owner", 4, Call::FindOwner),
-    ("hashed and unique, by id", 5, Call::FindHashedId),
-    ("ordered, by owner and price", 6, Call::FindOwnerAndPrice),
-];
+// Sizes with their rounds.
+const UP_TO_A_MILLION: [(u64, u64); 3] = [(1_000, 9), (100_000, 3), (1_000_000, 1)];
 
-// The sums of what both answer to the same calls.
+const UP_TO_100_000: [(u64, u64); 2] = [(1_000, 9), (100_000, 3)];
+
+// What is timed.
 #[derive(Clone, Copy)]
-struct Answers {
-    name: &'static str,
-    container: u64,
-    by_hand: u64,
+enum Part {
+    Container,
+    Sequences,
+    Keys,
 }
 
-impl fmt::Display for Answers {
-    fn fmt<W: fmt::Write>(&self, f: &mut fmt::Formatter<W>) -> fmt::Result {
-        let Answers {
-            name,
-            container,
-            by_hand,
-        } = self;
-        write!(f, "{name}: {container}, by hand {by_hand}")
+impl Part {
+    // That of the word behind `times`, if there is one.
+    fn named(word: Option<&str>) -> Part {
+        match word {
+            Some("sequences") => Part::Sequences,
+            Some("keys") => Part::Keys,
+            _ => Part::Container,
+        }
+    }
+
+    // The sizes at which it is.
+    fn sizes(self) -> &'static [(u64, u64)] {
+        match self {
+            Part::Container | Part::Keys => &UP_TO_A_MILLION,
+            Part::Sequences => &UP_TO_100_000,
+        }
     }
 }
 
-// Puts so many records into both.
-fn insert_both(book: &mut Book, kept: &mut ByHand, count: u64) -> Answers {
-    Answers {
-        name: "insert",
-        container: container_times::insert_each(book, count),
-        by_hand: by_hand_times::insert_each(kept, count),
-    }
-}
-
-// Prints the sums of what both answer at so many records.
-fn print_answers<R: Runtime>(rt: &R, alloc: Global, count: u64) -> io::Result<()> {
-    match Book::new(alloc, 0, 7, u32::MAX)? {
-        Some(mut book) => print_both(rt, &mut book, &mut ByHand::new(alloc, 7), count),
-        None => Ok(()),
-    }
-}
-
-fn print_both<R: Runtime>(
+// The calls of a part at a size.
+fn times<R: Runtime>(
     rt: &R,
-    book: &mut Book,
-    kept: &mut ByHand,
+    alloc: Global,
+    report: &mut Report,
+    part: Part,
     count: u64,
 ) -> io::Result<()> {
-    let answers = insert_both(book, kept, count);
-    println!(rt; "{answers}")?;
-    print_finds(rt, book, kept, count)
-}
-
-fn print_finds<R: Runtime>(rt: &R, book: &Book, kept: &mut ByHand, count: u64) -> io::Result<()> {
-    for (name, index, call) in &FINDS {
-        let answers = Answers {
-            name,
-            container: container_times::find_each(book, *index, count),
-            by_hand: by_hand_times::each(*call, kept, count),
-        };
-        println!(rt; "{answers}")?;
+    match part {
+        Part::Container => {
+            container_times::times(rt, alloc, report, count)?;
+            by_hand_times::times(rt, alloc, report, count)
+        }
+        Part::Sequences => sequences::times(rt, alloc, report, count),
+        Part::Keys => keyed::times(rt, alloc, report, count),
     }
-    Ok(())
 }
 
-// Each size with its rounds.
-const SIZES: [(u64, u64); 3] = [(1_000, 9), (100_000, 3), (1_000_000, 1)];
-
-// The times of all calls at a size.
+// The same in so many rounds, and their lines.
 fn print_times<R: Runtime>(
     rt: &R,
     alloc: Global,
     report: &mut Report,
-    count: u64,
-    rounds: u64,
+    part: Part,
+    (count, rounds): (u64, u64),
 ) -> io::Result<()> {
     for _ in 0..rounds {
-        container_times::times(rt, alloc, report, count)?;
-        by_hand_times::times(rt, alloc, report, count)?;
+        times(rt, alloc, report, part, count)?;
     }
     report.print(rt, count)?;
     Ok(())
 }
 
-// The times of all calls at each size.
-fn print_all_times<R: Runtime>(rt: &R, alloc: Global, report: &mut Report) -> io::Result<()> {
-    for (count, rounds) in &SIZES {
-        print_times(rt, alloc, report, *count, *rounds)?;
+// The bytes that a record takes, if the part is of records.
+fn print_bytes<R: Runtime>(rt: &R, alloc: Global, part: Part) -> io::Result<()> {
+    match part {
+        Part::Container => memory::record_bytes(rt, alloc, 100_000),
+        Part::Sequences => sequences::record_bytes(rt, alloc, 100_000),
+        Part::Keys => Ok(()),
+    }
+}
+
+// The bytes of a record and the times of all calls of a part at each size.
+fn print_part<R: Runtime>(rt: &R, alloc: Global, part: Part) -> io::Result<()> {
+    print_bytes(rt, alloc, part)?;
+    let mut report = Report::new(alloc);
+    for size in part.sizes() {
+        print_times(rt, alloc, &mut report, part, *size)?;
     }
     println!(rt; "sum of the answers: {}", report.met)
 }
 
+// The sum of what the calls of a part answer at 100 records.
+fn print_sum<R: Runtime>(rt: &R, alloc: Global, part: Part, name: &str) -> io::Result<()> {
+    let mut report = Report::new(alloc);
+    times(rt, alloc, &mut report, part, 100)?;
+    println!(rt; "sum of the answers at 100 {name}: {}", report.met)
+}
+
 fn main(rt: HostRuntime) -> io::Result<()> {
-    print_answers(&rt, rt.alloc(), 100)?;
-    if env::args(&rt)?.count() < 2 {
-        return Ok(());
+    let alloc = rt.alloc();
+    let words: Vec<String> = env::args(&rt)?.skip(1).collect(alloc)?;
+    if words.is_empty() {
+        answers::print_answers(&rt, alloc, 100)?;
+        sequences::print_sizes(&rt)?;
+        print_sum(&rt, alloc, Part::Sequences, "records")?;
+        return print_sum(&rt, alloc, Part::Keys, "words");
     }
-    memory::record_bytes(&rt, rt.alloc(), 100_000)?;
-    print_all_times(&rt, rt.alloc(), &mut Report::new(rt.alloc()))
+    let part = Part::named(words.get(1).map(|word| word.as_str()));
+    print_part(&rt, alloc, part)
 }

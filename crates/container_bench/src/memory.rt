@@ -24,7 +24,13 @@ impl fmt::Display for Taken {
     }
 }
 
-fn print<R: Runtime>(rt: &R, name: &'static str, before: u64, count: u64) -> io::Result<()> {
+/// Prints the bytes that came to memory since it had so many, for each of so many records.
+pub(crate) fn print<R: Runtime>(
+    rt: &R,
+    name: &'static str,
+    before: u64,
+    count: u64,
+) -> io::Result<()> {
     let bytes = resident(rt)?.saturating_sub(before);
     let taken = Taken { name, bytes, count };
     println!(rt; "{taken}")

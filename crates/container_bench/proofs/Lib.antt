@@ -1,0 +1,6 @@
+pub mod Walks
+pub mod Kept
+pub mod Found
+pub mod Rewritten
+pub mod Trees
+pub mod KeyedBuckets

@@ -1,0 +1,31 @@
+use Rattle.std.proofs.Common.{sym, subst}
+use Rattle.container_bench.specs.Trees.{IsSorted}
+use Rattle.ord_tree.proofs.Laws.{Lacks_spelled_added}
+use Rattle.container_bench.proofs.Trees.{sorted_added, sorted_linked}
+use Rattle.container_bench.proofs.keyed.ranks.insert.Goals as goal
+
+pub link-requires-clause-tree : goal.link-requires-clause-tree
+link-requires-clause-tree c =
+    let h = subst (λ z. IsSorted c.args.store.now z.tree) (sym c.reserve_one.ensures.same) c.requires in
+    (sorted_added c.args.store.now c.add.new.self c.in-Ok.n c.args.word c.reserve_one.new.self.tree c.in-Ok.ensures.added h).sound
+
+pub link-requires-clause-new : goal.link-requires-clause-new
+link-requires-clause-new c =
+    let h = subst (λ z. IsSorted c.args.store.now z.tree) (sym c.reserve_one.ensures.same) c.requires in
+    Lacks_spelled_added c.args.store.now c.add.new.self c.in-Ok.n c.args.word c.reserve_one.new.self.tree c.in-Ok.ensures.added h.sound
+
+pub link-requires-clause-order : goal.link-requires-clause-order
+link-requires-clause-order c =
+    let h = subst (λ z. IsSorted c.args.store.now z.tree) (sym c.reserve_one.ensures.same) c.requires in
+    (sorted_added c.args.store.now c.add.new.self c.in-Ok.n c.args.word c.reserve_one.new.self.tree c.in-Ok.ensures.added h).order
+
+pub returns : goal.returns
+returns c =
+    let h = subst (λ z. IsSorted c.args.store.now z.tree) (sym c.reserve_one.ensures.same) c.requires in
+    sorted_linked c.add.new.self c.link.new.store c.reserve_one.new.self.tree c.link.new.self.tree c.in-Ok.n
+    (sorted_added c.args.store.now c.add.new.self c.in-Ok.n c.args.word c.reserve_one.new.self.tree c.in-Ok.ensures.added h) c.link.ensures.contents c.link.ensures.list
+
+pub returns-in_default : goal.returns-in_default
+returns-in_default c =
+    subst (λ z. IsSorted z c.reserve_one.new.self.tree) (sym c.in_default.ensures.unchanged)
+    (subst (λ z. IsSorted c.args.store.now z.tree) (sym c.reserve_one.ensures.same) c.requires)

@@ -1,0 +1,91 @@
+//! The calls of a ranked index that an ordered one lacks.
+ghost use Rattle.std.specs.Prelude.{◌≡◌};
+ghost use Rattle.node_store.specs.ByNode.{column_of};
+ghost use Rattle.rank_tree.specs.Spelled.{IsSound};
+ghost use Rattle.container_bench.specs.Ranks.{IsRanked};
+
+use super::words::Words;
+use bench_report::{Report, scattered};
+use node_store::NodeStore;
+use rank_tree::RankTree;
+use std::alloc::Global;
+use std::io;
+use std::rt::Runtime;
+use std::time::Instant;
+
+#[derive(Clone, Copy)]
+enum Call {
+    Link,
+    Nth,
+    Rank,
+}
+
+const CALLS: [(&str, Call); 3] = [
+    ("rank_tree: add and link", Call::Link),
+    ("rank_tree: nth", Call::Nth),
+    ("rank_tree: nth, rank", Call::Rank),
+];
+
+/// The calls at a size.
+pub(crate) fn times<R: Runtime>(
+    rt: &R,
+    alloc: Global,
+    report: &mut Report,
+    count: u64,
+) -> io::Result<()> {
+    let mut store = NodeStore::new(alloc);
+    let mut tree = RankTree::new(0, 0);
+    for (name, call) in &CALLS {
+        let start = Instant::now(rt)?;
+        let met = each(*call, &mut store, &mut tree, count);
+        report.line(start.elapsed(rt)?, name, count, count, met)?;
+    }
+    Ok(())
+}
+
+fn each(call: Call, store: &mut NodeStore<u64>, tree: &mut RankTree, count: u64) -> u64
+    requires { IsRanked store.old tree.old }
+    ensures { IsRanked store.new tree.new }
+{
+    let mut met = 0u64;
+    for number in 0..count {
+        let word = scattered(number);
+        let answer = match call {
+            Call::Link => insert(store, tree, word),
+            Call::Nth => nth(store, tree, word % count),
+            Call::Rank => rank(store, tree, word % count),
+        };
+        met = met.wrapping_add(answer);
+    }
+    met
+}
+
+// Adds a word and puts it in, if there is room.
+fn insert(store: &mut NodeStore<u64>, tree: &mut RankTree, word: u64) -> u64
+    requires { IsRanked store.old tree.old }
+    ensures { IsRanked store.new tree.new }
+{
+    if store.added() == u64::MAX || tree.reserve_one(store).is_err() {
+        return 0;
+    }
+    let Ok(n) = store.add(word) else {
+        return 0;
+    };
+    tree.link(store, &Words, n);
+    1
+}
+
+fn nth(store: &NodeStore<u64>, tree: &RankTree, place: u64) -> u64
+    requires { IsSound (column_of store.now) tree.now }
+{
+    tree.nth(store, place).map_or(0, |n| n.number())
+}
+
+fn rank(store: &NodeStore<u64>, tree: &RankTree, place: u64) -> u64
+    requires { IsSound (column_of store.now) tree.now }
+{
+    match tree.nth(store, place) {
+        Some(n) => tree.rank(store, n),
+        None => 0,
+    }
+}

@@ -1,0 +1,169 @@
+//! The calls of an ordered index.
+ghost use Rattle.std.specs.Prelude.{◌≡◌, Some};
+ghost use Rattle.std.specs.Ordering.{nat_cmp};
+ghost use Rattle.node_store.specs.declared.Node.{Node};
+ghost use Rattle.node_store.specs.Store.{IsNodeOf};
+ghost use Rattle.node_store.specs.ByNode.{column_of};
+ghost use Rattle.ord_tree.specs.Spelled.{IsSound, spelled, Holds};
+ghost use Rattle.container_bench.specs.Trees.{IsSorted};
+
+use super::words::Words;
+use bench_report::{Report, scattered};
+use node_store::{Node, NodeStore};
+use ord_tree::{NoTally, OrdTree};
+use std::alloc::Global;
+use std::io;
+use std::rt::Runtime;
+use std::time::Instant;
+
+#[derive(Clone, Copy)]
+enum Call {
+    Link,
+    Find,
+    SettleNear,
+    SettleFar,
+    Unlink,
+    Remove,
+}
+
+const CALLS: [(&str, Call); 6] = [
+    ("ord_tree: add and link", Call::Link),
+    ("ord_tree: find", Call::Find),
+    ("ord_tree: find, settle near", Call::SettleNear),
+    ("ord_tree: find, settle far", Call::SettleFar),
+    ("ord_tree: find, unlink (half of them)", Call::Unlink),
+    ("ord_tree: find, unlink, remove (the rest)", Call::Remove),
+];
+
+/// The calls at a size.
+pub(crate) fn times<R: Runtime>(
+    rt: &R,
+    alloc: Global,
+    report: &mut Report,
+    count: u64,
+) -> io::Result<()> {
+    let mut store = NodeStore::new(alloc);
+    let mut tree = OrdTree::new(0, 0);
+    for (name, call) in &CALLS {
+        let (from, to) = match call {
+            Call::Unlink => (0, count / 2),
+            Call::Remove => (count / 2, count),
+            _ => (0, count),
+        };
+        let start = Instant::now(rt)?;
+        let met = each(*call, &mut store, &mut tree, from, to);
+        report.line(
+            start.elapsed(rt)?,
+            name,
+            count,
+            to.saturating_sub(from),
+            met,
+        )?;
+    }
+    Ok(())
+}
+
+// Makes the call at the words of these numbers. Answers the sum of the numbers of the nodes that were met.
+fn each(
+    call: Call,
+    store: &mut NodeStore<u64>,
+    tree: &mut OrdTree<NoTally>,
+    from: u64,
+    to: u64,
+) -> u64
+    requires { IsSorted store.old tree.old }
+    ensures { IsSorted store.new tree.new }
+{
+    let mut met = 0u64;
+    for number in from..to {
+        if let Some(n) = step(call, store, tree, scattered(number)) {
+            met = met.wrapping_add(n.number());
+        }
+    }
+    met
+}
+
+// The word that a word becomes where it settles near, and where it settles far.
+fn near(word: u64) -> u64 {
+    word ^ 1
+}
+
+fn far(word: u64) -> u64 {
+    word ^ (1 << 63)
+}
+
+fn step(
+    call: Call,
+    store: &mut NodeStore<u64>,
+    tree: &mut OrdTree<NoTally>,
+    word: u64,
+) -> Option<Node>
+    requires { IsSorted store.old tree.old }
+    ensures { IsSorted store.new tree.new }
+{
+    match call {
+        Call::Link => insert(store, tree, word),
+        Call::Find => find(store, tree, word),
+        Call::SettleNear => settle(store, tree, word, near(word)),
+        Call::SettleFar => settle(store, tree, near(word), far(word)),
+        Call::Unlink => unlink(store, tree, far(word)),
+        Call::Remove => remove(store, tree, far(word)),
+    }
+}
+
+// Adds a word and puts it in, if there is room.
+fn insert(store: &mut NodeStore<u64>, tree: &mut OrdTree<NoTally>, word: u64) -> Option<Node>
+    requires { IsSorted store.old tree.old }
+    ensures { IsSorted store.new tree.new }
+{
+    if store.added() == u64::MAX || tree.reserve_one(store).is_err() {
+        return None;
+    }
+    let Ok(n) = store.add(word) else {
+        return None;
+    };
+    tree.link(store, &Words, n);
+    Some(n)
+}
+
+fn find(store: &NodeStore<u64>, tree: &OrdTree<NoTally>, word: u64) -> Option<Node>
+    requires { IsSorted store.now tree.now }
+    ensures { (n : Node) → result ≡ Some n → Holds (spelled (column_of store.now) tree.now) n }
+{
+    tree.find(store, &Words, &word)
+}
+
+// Finds a word, changes it, and puts its node in order.
+fn settle(
+    store: &mut NodeStore<u64>,
+    tree: &mut OrdTree<NoTally>,
+    word: u64,
+    changed: u64,
+) -> Option<Node>
+    requires { IsSorted store.old tree.old }
+    ensures { IsSorted store.new tree.new }
+{
+    let n = find(store, tree, word)?;
+    *store.get_mut(n) = changed;
+    tree.settle(store, &Words, n);
+    Some(n)
+}
+
+fn unlink(store: &mut NodeStore<u64>, tree: &mut OrdTree<NoTally>, word: u64) -> Option<Node>
+    requires { IsSorted store.old tree.old }
+    ensures { IsSorted store.new tree.new }
+{
+    let n = find(store, tree, word)?;
+    tree.unlink(store, n);
+    Some(n)
+}
+
+fn remove(store: &mut NodeStore<u64>, tree: &mut OrdTree<NoTally>, word: u64) -> Option<Node>
+    requires { IsSorted store.old tree.old }
+    ensures { IsSorted store.new tree.new }
+{
+    let n = find(store, tree, word)?;
+    tree.unlink(store, n);
+    store.remove(n);
+    Some(n)
+}

@@ -1,4 +1,0 @@
-pub mod Found
-pub mod Rewritten
-pub mod Trees
-pub mod KeyedBuckets

@@ -1,6 +1,0 @@
-use Rattle.std.proofs.Common.{sym}
-use Rattle.rank_tree.proofs.Laws.{Holds_at}
-use Rattle.keyed_bench.proofs.ranks.rank.Goals as goal
-
-pub rank-requires-clause-held : goal.rank-requires-clause-held
-rank-requires-clause-held c = Holds_at _ _ c.in-Some.n (sym c.in-Some.ensures)

@@ -1,5 +1,0 @@
-use Rattle.seq_index.proofs.Laws.{IsSound_from}
-use Rattle.sequence_bench.proofs.chain.step.Goals as goal
-
-pub returns-in-Reverse : goal.returns-in-Reverse
-returns-in-Reverse c = IsSound_from _ _ _ c.reverse.ensures.list

@@ -1,6 +1,0 @@
-use Rattle.node_store.specs.ByNode.{column_of}
-use Rattle.seq_index.specs.Spelled.{IsSound}
-use Rattle.sequence_bench.proofs.chain.step_each.Given as goal
-
-abbrev pub invariant-loop : goal.invariant-loop
-invariant-loop l = IsSound (column_of l.store) l.index

@@ -1,6 +1,0 @@
-use Rattle.std.specs.List.{AllByRecursion}
-use Rattle.node_store.specs.Store.{IsNodeOf}
-use Rattle.sequence_bench.proofs.store.add_each.Given as goal
-
-abbrev pub invariant-loop-number : goal.invariant-loop-number
-invariant-loop-number l = AllByRecursion (IsNodeOf l.store) l.nodes.items
