@@ -6,8 +6,8 @@ use table_engine::Engine;
 use table_reply::Out;
 use table_schema::Schema;
 
-/// The longest stream that is cut at every place.
-const MAX_CUT: usize = 512;
+/// The longest stream or answers that are cut at every place.
+const MAX_CUT: usize = 2048;
 
 /// A stream on a schema, and the answers to it.
 #[derive(Clone, Copy)]
@@ -19,24 +19,32 @@ pub struct Sent<'a> {
 }
 
 impl Sent<'_> {
-    /// How far apart the places are at which the stream is cut: one byte in a stream of up to 512 bytes, and else so far that
-    /// there are at most 32.
+    /// How far apart the places are at which the stream is cut.
     pub fn stride(&self) -> usize
         ensures { 0 < result }
     {
-        if self.stream.len() <= MAX_CUT {
-            1
-        } else {
-            apart(self.stream.len())
-        }
+        apart(self.stream.len())
     }
 }
 
-/// How far apart at most 32 places of so many are.
+/// How far apart the places are at which so many bytes are cut: one byte where there are up to 2,048, and else so far that
+/// there are at most 32.
 pub fn apart(places: usize) -> usize
     ensures { 0 < result }
 {
-    places / 32 + 1
+    if places <= MAX_CUT {
+        1
+    } else {
+        places / 32 + 1
+    }
+}
+
+/// What the one session of a new engine is answered that sends whole lines in one piece.
+pub fn at_once(alloc: Global, schema: &Schema, lines: &[u8]) -> Result<Out, AllocError> {
+    let mut engine = Engine::new(alloc, schema, 1)?;
+    let mut out = Out::new(alloc);
+    engine.feed(0, lines, &mut out).map_err(|_| AllocError)?;
+    Ok(out)
 }
 
 // What the one session of a new engine is answered, where its stream comes as a first piece of so many bytes, and then

@@ -1,7 +1,9 @@
 //! The ways in which a stream is sent.
 
+use crate::faulty::{first_wrong_read, first_wrong_write};
 use crate::input::Stream;
 use crate::sent::{Sent, each_answer, first_wrong_cut, first_wrong_piece};
+use crate::served::{is_served_alike, is_written_early};
 use crate::sessions::are_shared_alike;
 use itoa::Buffer;
 use std::alloc::{AllocError, Global};
@@ -50,7 +52,37 @@ fn tell_each_way(
     let wrong = first_wrong_piece(sent, true)?;
     tell_way(b"without the last newline", wrong, report)?;
     let wrong = are_shared_alike(sent, lines, each)?;
-    tell_way(b"by two sessions", wrong, report)
+    tell_way(b"by two sessions", wrong, report)?;
+    tell_each_device(sent, report)
+}
+
+// Tells the same of ways over a reader and a writer. The place of a stream that is served otherwise without a fault is 0.
+fn tell_each_device(sent: Sent, report: &mut Vec<u8>) -> Result<(), AllocError> {
+    let wrong = if is_served_alike(sent)? {
+        None
+    } else {
+        Some(0)
+    };
+    tell_way(b"by the last session", wrong, report)?;
+    tell_way(
+        b"again after a broken read",
+        first_wrong_read(sent)?,
+        report,
+    )?;
+    tell_way(
+        b"again after a broken write",
+        first_wrong_write(sent)?,
+        report,
+    )
+}
+
+/// Adds to the report whether many answers to one piece are written before they are all gathered.
+pub fn tell_early(alloc: Global, schema: &Schema, report: &mut Vec<u8>) -> Result<(), AllocError> {
+    report.extend_from_slice(if is_written_early(alloc, schema)? {
+        b"many answers of one piece: written early\n"
+    } else {
+        b"many answers of one piece: gathered first\n"
+    })
 }
 
 /// Adds to the report the answers to a stream, and whether they are the same in whatever way it is sent.

@@ -5,3 +5,4 @@ pub mod Told
 pub mod Events
 pub mod Whole
 pub mod Serving
+pub mod Devices

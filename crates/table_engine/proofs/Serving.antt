@@ -1,10 +1,8 @@
 -- Parts of a stream, one after another.
-use Rattle.std.proofs.Common.{◌≡◌, ℕ, ◌<◌, List, [], ◌∷◌, ◌++◌, length, take, drop, Result, Ok, Err, refl, sym, ap, ◌∙◌, append-nil, append_assoc}
-use Rattle.std.proofs.lemmas.List.{map-append, take-append-drop, take-map}
+use Rattle.std.proofs.Common.{◌≡◌, ℕ, ◌<◌, List, [], ◌∷◌, ◌++◌, length, refl, sym, ap, ◌∙◌, append_assoc}
+use Rattle.std.proofs.lemmas.List.{map-append}
 use Rattle.std.proofs.lemmas.List.Elements.{All-nil}
 use Rattle.table_reply.specs.Buffer.{joined}
-use Rattle.table_engine.specs.declared.event.Stop.{Stop}
-use Rattle.table_engine.specs.Events.{taken_of}
 use Rattle.table_engine.specs.Run.{Machine, Run, byte, bytes_of, end}
 use Rattle.table_engine.specs.Whole.{Serves}
 use Rattle.table_engine.proofs.Runs.{Run-append}
@@ -21,22 +19,6 @@ Serves-end s old mid new bytes done told within first last =
       text = refl;
       lines = λ line. lines-from_Run s old new [] bytes (done ++ told) within line (All-nil IsWithin) run;
     }
-
--- what was taken of a piece is its front
-pub record Fed (r : Result (Unit {0}) Stop) (s : ℕ) (piece : List ℕ) : Type 0 where
-  pub front : List ℕ
-  pub back : List ℕ
-  pub split : front ++ back ≡ piece
-  pub same : taken_of r (bytes_of s piece) ≡ bytes_of s front
-
-pub fed_front : (r : Result (Unit {0}) Stop) (s : ℕ) (piece : List ℕ) → Fed r s piece
-fed_front (Ok x) s piece = record { front = piece; back = []; split = append-nil piece; same = refl }
-fed_front (Err stop) s piece = record {
-  front = take stop.taken piece;
-  back = drop stop.taken piece;
-  split = take-append-drop stop.taken piece;
-  same = take-map (byte s) stop.taken piece;
-}
 
 -- a front of what was read, and what is left of it before the end
 pub front_of : (s : ℕ) (bytes front back piece : List ℕ) → front ++ back ≡ piece

@@ -1,11 +1,11 @@
 -- What the sessions are told.
-use Rattle.std.proofs.Common.{Result, Ok, Err, IfErr, Some, slice_get, ◌≡◌, ℕ, zero, suc, ◌<◌, List, [], ◌∷◌, ◌++◌, length, take, get_or, slice_set, cond, eqb, ◌⊎◌, inl, inr, true, false, refl, sym, ap, ◌∙◌, arith, append-nil, append_assoc}
+use Rattle.std.proofs.Common.{Result, Ok, Err, IfErr, Some, slice_get, ◌≡◌, ℕ, zero, suc, ◌<◌, List, [], ◌∷◌, ◌++◌, length, take, get_or, slice_set, cond, eqb, ◌⊎◌, inl, inr, true, false, refl, sym, ap, subst, ◌∙◌, arith, append-nil, append_assoc}
 use Rattle.std.proofs.lemmas.Bool.{eq-eqb, ne_eqb}
 use Rattle.std.proofs.lemmas.Bool.Decides.{eqb_tells}
 use Rattle.std.proofs.lemmas.List.{get_or-set_same, get_or-set_other, length-set, get_or_default}
 use Rattle.std.proofs.lemmas.Option.{get_or_from_slice_get, slice_get_within}
-use Rattle.table_reply.specs.Buffer.{Buffer, joined}
-use Rattle.table_engine.specs.Run.{Machine, Signal, session_of, Run, told_to, bytes_of, bytes_at, room_at, Tells, Waits}
+use Rattle.table_reply.specs.Buffer.{Buffer, Keeps, joined}
+use Rattle.table_engine.specs.Run.{Machine, Signal, session_of, Run, told_to, bytes_of, buffer_at, bytes_at, room_at, KeepsEach, Tells, Waits}
 use Rattle.table_engine.specs.declared.event.Stop.{Stop}
 use Rattle.table_engine.specs.Events.{taken_of}
 
@@ -112,3 +112,29 @@ pub Waits-each : (m : Machine) (outs : List Buffer) (s : ℕ) (new : Buffer) (ss
     → IfErr r (λ stop. Waits m (λ _. new.room) (slice_get ss stop.taken)) → IfErr r (λ stop. Waits m (room_at (slice_set outs s new)) (slice_get ss stop.taken))
 Waits-each m outs s new ss within all (Ok x) h = tt
 Waits-each m outs s new ss within all (Err stop) h = Waits-one m outs s new ss stop.taken within all h
+
+-- ---- no memory is given back
+
+Keeps-same : (b : Buffer) → Keeps b b
+Keeps-same b = omega arith
+
+pub KeepsEach-same : (outs : List Buffer) → KeepsEach outs outs
+KeepsEach-same outs = λ k h. Keeps-same (buffer_at outs k)
+
+Keeps-then : (a b c : Buffer) → Keeps a b → Keeps b c → Keeps a c
+Keeps-then a b c first then = omega arith
+
+pub KeepsEach-then : (a b c : List Buffer) → length b ≡ length a → KeepsEach a b → KeepsEach b c → KeepsEach a c
+KeepsEach-then a b c e first then = λ k h. Keeps-then (buffer_at a k) (buffer_at b k) (buffer_at c k) (first k h) (then k (omega arith))
+
+each_kept : (outs : List Buffer) (s : ℕ) (old new : Buffer) → s < length outs → old ≡ get_or outs s old → Keeps old new
+    → (k : ℕ) → ((eqb k s ≡ true) × (k ≡ s)) ⊎ ((eqb k s ≡ false) × (k ≡ s → ⊥)) → Keeps (buffer_at outs k) (buffer_at (slice_set outs s new) k)
+each_kept outs s old new within is kept k (inl same) =
+    subst (λ (j : ℕ). Keeps (buffer_at outs j) (buffer_at (slice_set outs s new) j)) (sym same.1)
+    (subst (λ (b : Buffer). Keeps b (buffer_at (slice_set outs s new) s)) (is ∙ get_or_default outs s old empty within)
+    (subst (λ (b : Buffer). Keeps old b) (sym (get_or-set_same outs s new empty within)) kept))
+each_kept outs s old new within is kept k (inr other) =
+    subst (λ (b : Buffer). Keeps (buffer_at outs k) b) (sym (get_or-set_other outs s k new empty other.1)) (Keeps-same (buffer_at outs k))
+
+pub KeepsEach-one : (outs : List Buffer) (s : ℕ) (old new : Buffer) → s < length outs → old ≡ get_or outs s old → Keeps old new → KeepsEach outs (slice_set outs s new)
+KeepsEach-one outs s old new within is kept = λ k h. each_kept outs s old new within is kept k (eqb_tells k s)

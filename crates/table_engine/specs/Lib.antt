@@ -4,3 +4,4 @@ pub mod Run
 pub mod State
 pub mod Events
 pub mod Whole
+pub mod Devices

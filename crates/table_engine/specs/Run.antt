@@ -1,7 +1,7 @@
 -- What is answered to streams that come in pieces, as one machine over whole lines would.
 use Rattle.std.specs.Prelude.{◌≡◌, ℕ, ◌<◌, ◌==◌, List, [], ◌∷◌, ◌++◌, length, Bool, true, false, ◌&&◌, if◌then◌else◌, IsTrue, Option, Some, slice_set, map, slice_index_or}
 use Rattle.std.specs.Bool.{MatchBool}
-use Rattle.table_reply.specs.Buffer.{Buffer}
+use Rattle.table_reply.specs.Buffer.{Buffer, Keeps}
 use Rattle.table_step.specs.Step.{TableState}
 use Rattle.table_engine.specs.Lines.{Unfinished, short, long, add, has_answer}
 use Rattle.table_engine.specs.Tables.{AnswersLine}
@@ -98,6 +98,10 @@ room_at outs k = (buffer_at outs k).room
 pub record Tells (old : List Buffer) (ss : List Signal) (ts : List (List ℕ)) (new : List Buffer) : Type 0 where
   pub sessions : length new ≡ length old
   pub each : (k : ℕ) → k < length old → bytes_at new k ≡ bytes_at old k ++ told_to k ss ts
+
+-- no session's memory is given back
+abbrev pub KeepsEach : List Buffer → List Buffer → Type 0
+KeepsEach old new = (k : ℕ) → k < length old → Keeps (buffer_at old k) (buffer_at new k)
 
 -- ---- where a run stops
 

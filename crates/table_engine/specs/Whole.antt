@@ -30,10 +30,6 @@ pub record Serves (old : Machine) (session : ℕ) (bytes : List ℕ) (written : 
   pub text : written ≡ joined told
   pub lines : line_of old session ≡ short [] → AnswersLines old.tables (lines_of bytes) written new.tables
 
--- the first elements of a list
-abbrev pub IsFront : {X : Type 0} → List X → List X → Type 0
-IsFront {X} front whole = (back : List X) × (front ++ back ≡ whole)
-
 -- The machine takes the signals of a session's stream up to a device's fault, tells this text, and forgets what the
 -- session has of a further line.
 pub record BreaksOff (old : Machine) (session : ℕ) (ss : List Signal) (text : List ℕ) (new : Machine) : Type 0 where

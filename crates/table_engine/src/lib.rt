@@ -2,15 +2,21 @@
 #![tactic(auto)]
 
 mod carry;
+mod count;
 mod cutter;
 mod engine;
 mod event;
+mod piece;
 mod run;
 mod session;
+mod sink;
+mod source;
 mod stream;
 
 pub use cutter::{Cut, LineCutter, MAX_LINE};
 pub use engine::Engine;
 pub use event::{Event, Stop};
 pub use run::run_events;
+pub use sink::{Sink, Unwritten};
+pub use source::Source;
 pub use stream::{StreamFault, serve_stream};

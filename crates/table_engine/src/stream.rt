@@ -1,12 +1,16 @@
 //! One session over a reader and a writer.
 
-ghost use Rattle.std.specs.Prelude.{◌≡◌, ◌<◌, ◌≤◌, ◌++◌, [], ◌∷◌, List, ℕ, length, Err, OnOk, OnErr, IfErr};
+ghost use Rattle.std.specs.Prelude.{◌≡◌, ◌<◌, ◌≤◌, ◌++◌, ◌⊎◌, [], ◌∷◌, List, ℕ, length, Err, OnOk};
 ghost use Rattle.std.specs.Io.KnownBytes.{Consumes, Appends, IsAtEnd};
 ghost use Rattle.table_reply.specs.Buffer.{joined};
+ghost use Rattle.table_engine.specs.Devices.{AppendsFront, IsFront, failures_after_stream, raised, raised_by};
 ghost use Rattle.table_engine.specs.Run.{Run, Signal, bytes_of, end};
-ghost use Rattle.table_engine.specs.Whole.{BreaksOff, IsFront, Serves};
+ghost use Rattle.table_engine.specs.Whole.{BreaksOff, Serves};
 
 use crate::engine::Engine;
+use crate::piece::{feed_piece, new_out, serve_end};
+use crate::sink::{Sink, Unwritten};
+use crate::source::Source;
 use std::alloc::Global;
 use std::io::{Read, Write};
 use table_reply::{Out, READY_ROOM};
@@ -19,42 +23,59 @@ const PIECE: usize = 4096;
 pub enum StreamFault {
     /// A read failed, or 4,294,967,295 reads were made.
     Read,
-    /// A write failed.
+    /// A write failed, or took no byte.
     Write,
     /// Memory was refused before anything was read.
     Memory,
 }
 
+impl From<Unwritten> for StreamFault {
+    ghost use Rattle.table_engine.specs.declared.stream.StreamFault.TheVariants.{Write};
+
+    ghost from_gives = { λ _ fault. fault ≡ Write };
+
+    fn from(_unwritten: Unwritten) -> StreamFault {
+        StreamFault::Write
+    }
+}
+
 /// Serves a session's stream to its end. Up to 4,096 bytes are read at a time, and what they are answered is written
-/// before more are read. The writer is not flushed.
+/// before more are read, in one write where it is at most 64 KiB and the writer takes it whole. The writer is not flushed.
 ///
-/// At `Read` all lines that were completed are answered. At `Read` and `Write` what the session has of a further line is
-/// forgotten, and the session can serve a new stream.
+/// It ends where the reader tells its end. A fault is answered only where a read or a write failed in the call, or as many
+/// reads were made as `StreamFault` says. At `Read` all lines that were completed are answered, at `Write` a front of the
+/// answers to what was carried out is written. After both, what the session has of a further line is forgotten, and the
+/// session can serve a new stream.
 pub fn serve_stream<R: Read, W: Write>(
     alloc: Global,
     engine: &mut Engine,
     session: usize,
-    reader: &mut R,
-    writer: &mut W,
+    source: &mut Source<R>,
+    sink: &mut Sink<W>,
 ) -> Result<(), StreamFault>
     requires { session < length engine.old.unfinished }
-    ensures served { OnOk result ((bytes : List ℕ) × Consumes (R.remaining reader.old) (R.remaining reader.new) bytes × IsAtEnd (R.remaining reader.new)
+    ensures served { OnOk result ((bytes : List ℕ) × Consumes (R.remaining source.old.inner) (R.remaining source.new.inner) bytes × IsAtEnd (R.remaining source.new.inner)
         × (text : List ℕ) × Serves engine.old session bytes text engine.new
-        × Appends (W.contents writer.old) (W.contents writer.new) text) }
-    ensures read { result ≡ Err StreamFault.Read → (bytes : List ℕ) × Consumes (R.remaining reader.old) (R.remaining reader.new) bytes
+        × Appends (W.contents sink.old.inner) (W.contents sink.new.inner) text) }
+    ensures end { OnOk result (source.new.ends ≡ raised source.old.ends) }
+    ensures read { result ≡ Err StreamFault.Read → (bytes : List ℕ) × Consumes (R.remaining source.old.inner) (R.remaining source.new.inner) bytes
         × (text : List ℕ) × BreaksOff engine.old session (bytes_of session bytes) text engine.new
-        × Appends (W.contents writer.old) (W.contents writer.new) text }
-    ensures write { result ≡ Err StreamFault.Write → (bytes : List ℕ) × Consumes (R.remaining reader.old) (R.remaining reader.new) bytes
+        × Appends (W.contents sink.old.inner) (W.contents sink.new.inner) text }
+    ensures read_cause { result ≡ Err StreamFault.Read
+        → (source.new.failures ≡ raised source.old.failures) ⊎ (source.new.reads ≡ raised_by 4294967295 source.old.reads) }
+    ensures all_read { (result ≡ Err StreamFault.Read) ⊎ (source.new.failures ≡ source.old.failures) }
+    ensures write { result ≡ Err StreamFault.Write → (bytes : List ℕ) × Consumes (R.remaining source.old.inner) (R.remaining source.new.inner) bytes
         × (ss : List Signal) × IsFront ss (bytes_of session bytes ++ end session ∷ [])
-        × (text : List ℕ) × BreaksOff engine.old session ss text engine.new }
-    ensures memory { result ≡ Err StreamFault.Memory → (engine.new ≡ engine.old) × (reader.new ≡ reader.old) × (writer.new ≡ writer.old) }
+        × (text : List ℕ) × BreaksOff engine.old session ss text engine.new
+        × AppendsFront (W.contents sink.old.inner) (W.contents sink.new.inner) text }
+    ensures write_cause { sink.new.failures ≡ failures_after_stream result sink.old.failures }
+    ensures memory { result ≡ Err StreamFault.Memory → (engine.new ≡ engine.old) × (source.new ≡ source.old) × (sink.new ≡ sink.old) }
     ensures sessions { length engine.new.unfinished ≡ length engine.old.unfinished }
 {
-    let mut out = Out::new(alloc);
-    if out.ready().is_err() {
+    let Ok(mut out) = new_out(alloc) else {
         return Err(StreamFault::Memory);
-    }
-    let served = serve(engine, session, reader, writer, &mut out);
+    };
+    let served = serve(alloc, engine, session, source, sink, &mut out);
     if let Err(fault) = served {
         engine.forget(session);
         return Err(fault);
@@ -64,98 +85,44 @@ pub fn serve_stream<R: Read, W: Write>(
 
 // Serves a session's stream to its end, or to a fault of the reader or the writer.
 fn serve<R: Read, W: Write>(
+    alloc: Global,
     engine: &mut Engine,
     session: usize,
-    reader: &mut R,
-    writer: &mut W,
+    source: &mut Source<R>,
+    sink: &mut Sink<W>,
     out: &mut Out,
 ) -> Result<(), StreamFault>
     requires session { session < length engine.old.unfinished }
     requires empty { out.old.bytes ≡ [] }
     requires ready { READY_ROOM ≤ out.old.room }
-    ensures served { OnOk result ((bytes : List ℕ) × Consumes (R.remaining reader.old) (R.remaining reader.new) bytes × IsAtEnd (R.remaining reader.new)
+    ensures served { OnOk result ((bytes : List ℕ) × Consumes (R.remaining source.old.inner) (R.remaining source.new.inner) bytes × IsAtEnd (R.remaining source.new.inner)
         × (text : List ℕ) × Serves engine.old session bytes text engine.new
-        × Appends (W.contents writer.old) (W.contents writer.new) text) }
-    ensures read { result ≡ Err StreamFault.Read → (bytes : List ℕ) × Consumes (R.remaining reader.old) (R.remaining reader.new) bytes
+        × Appends (W.contents sink.old.inner) (W.contents sink.new.inner) text) }
+    ensures end { OnOk result (source.new.ends ≡ raised source.old.ends) }
+    ensures read { result ≡ Err StreamFault.Read → (bytes : List ℕ) × Consumes (R.remaining source.old.inner) (R.remaining source.new.inner) bytes
         × (told : List (List ℕ)) × Run engine.old (bytes_of session bytes) told engine.new
-        × Appends (W.contents writer.old) (W.contents writer.new) (joined told) }
-    ensures write { result ≡ Err StreamFault.Write → (bytes : List ℕ) × Consumes (R.remaining reader.old) (R.remaining reader.new) bytes
+        × Appends (W.contents sink.old.inner) (W.contents sink.new.inner) (joined told) }
+    ensures read_cause { result ≡ Err StreamFault.Read
+        → (source.new.failures ≡ raised source.old.failures) ⊎ (source.new.reads ≡ raised_by 4294967295 source.old.reads) }
+    ensures all_read { (result ≡ Err StreamFault.Read) ⊎ (source.new.failures ≡ source.old.failures) }
+    ensures write { result ≡ Err StreamFault.Write → (bytes : List ℕ) × Consumes (R.remaining source.old.inner) (R.remaining source.new.inner) bytes
         × (ss : List Signal) × IsFront ss (bytes_of session bytes ++ end session ∷ [])
-        × (told : List (List ℕ)) × Run engine.old ss told engine.new }
+        × (told : List (List ℕ)) × Run engine.old ss told engine.new
+        × AppendsFront (W.contents sink.old.inner) (W.contents sink.new.inner) (joined told) }
+    ensures write_cause { sink.new.failures ≡ failures_after_stream result sink.old.failures }
     ensures memory { result ≡ Err StreamFault.Memory → ⊥ }
     ensures sessions { length engine.new.unfinished ≡ length engine.old.unfinished }
 {
     let mut piece = [0u8; PIECE];
     for _ in 0..u32::MAX {
-        let Ok(n) = reader.read(&mut piece) else {
+        let Ok(n) = source.read(&mut piece) else {
             return Err(StreamFault::Read);
         };
         if n == 0 {
-            serve_end(engine, session, writer, out)?;
+            serve_end(engine, session, sink, out)?;
             return Ok(());
         }
-        feed_piece(engine, session, &piece[..n], writer, out)?;
+        feed_piece(alloc, engine, session, &piece[..n], sink, out)?;
     }
     Err(StreamFault::Read)
-}
-
-// Takes the end of the stream, and writes out the answer to a line that it completes.
-fn serve_end<W: Write>(
-    engine: &mut Engine,
-    session: usize,
-    writer: &mut W,
-    out: &mut Out,
-) -> Result<(), StreamFault>
-    requires session { session < length engine.old.unfinished }
-    requires empty { out.old.bytes ≡ [] }
-    requires ready { READY_ROOM ≤ out.old.room }
-    ensures served { OnOk result ((told : List (List ℕ)) × Run engine.old (end session ∷ []) told engine.new
-        × Appends (W.contents writer.old) (W.contents writer.new) (joined told)) }
-    ensures fault { IfErr result (λ e. e ≡ StreamFault.Write) }
-    ensures unwritten { OnErr result ((told : List (List ℕ)) × Run engine.old (end session ∷ []) told engine.new) }
-    ensures sessions { length engine.new.unfinished ≡ length engine.old.unfinished }
-{
-    engine.finish(session, out).unwrap();
-    if let Err(_) = writer.write_all(out.bytes()) {
-        return Err(StreamFault::Write);
-    }
-    Ok(())
-}
-
-// Feeds a piece, and writes out the answers. Where the buffer has no room for an answer, it is written out before
-// the rest of the piece is fed.
-fn feed_piece<W: Write>(
-    engine: &mut Engine,
-    session: usize,
-    piece: &[u8],
-    writer: &mut W,
-    out: &mut Out,
-) -> Result<(), StreamFault>
-    requires session { session < length engine.old.unfinished }
-    requires empty { out.old.bytes ≡ [] }
-    requires ready { READY_ROOM ≤ out.old.room }
-    ensures fed { OnOk result ((told : List (List ℕ)) × Run engine.old (bytes_of session piece.now) told engine.new
-        × Appends (W.contents writer.old) (W.contents writer.new) (joined told)) }
-    ensures fault { IfErr result (λ e. e ≡ StreamFault.Write) }
-    ensures unwritten { OnErr result ((front : List ℕ) × IsFront front piece.now × (told : List (List ℕ)) × Run engine.old (bytes_of session front) told engine.new) }
-    ensures empty { OnOk result (out.new.bytes ≡ []) }
-    ensures ready { OnOk result (READY_ROOM ≤ out.new.room) }
-    ensures sessions { length engine.new.unfinished ≡ length engine.old.unfinished }
-{
-    let mut rest = piece;
-    while !rest.is_empty() {
-        let fed = engine.feed(session, rest, out);
-        if let Err(_) = writer.write_all(out.bytes()) {
-            return Err(StreamFault::Write);
-        }
-        out.clear();
-        match fed {
-            Ok(()) => return Ok(()),
-            Err(stop) => {
-                let (_, after) = rest.split_at(stop.taken);
-                rest = after;
-            }
-        }
-    }
-    Ok(())
 }

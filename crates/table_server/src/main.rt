@@ -9,6 +9,7 @@ mod tests;
 use program::{given_words, main_with};
 use std::io;
 use std::process::ExitCode;
+use table_engine::{Sink, Source};
 
 fn main(rt: HostRuntime) -> ExitCode {
     let mut faults = rt.stderr();
@@ -16,8 +17,8 @@ fn main(rt: HostRuntime) -> ExitCode {
         Ok(words) => main_with(
             &rt,
             &words,
-            &mut rt.reader(),
-            &mut io::writer(&rt),
+            &mut Source::new(rt.reader()),
+            &mut Sink::new(io::writer(&rt)),
             &mut faults,
         ),
         Err(fault) => fault.report(&mut faults),

@@ -1,5 +1,6 @@
 //! The program over its words, files and streams.
 ghost use Rattle.std.specs.Prelude.{◌≡◌, ◌≢◌, ◌≤◌, ◌⊎◌, Some, None, IfErr, IfOk, IsErrAnd, OnOk, List, ℕ};
+ghost use Rattle.table_engine.specs.Devices.{raised};
 ghost use Rattle.program_words.specs.Asked.{Files, run_of, texts};
 ghost use Rattle.table_schema.specs.Builtin.{builtin_schema};
 ghost use Rattle.table_server.specs.Done.{Done, ReadsAll, Serves};
@@ -13,7 +14,7 @@ use std::env::Env;
 use std::io::{ErrorKind, Read, Write};
 use std::rt::Files;
 use std::{env, fs};
-use table_engine::{Engine, serve_stream};
+use table_engine::{Engine, Sink, Source, serve_stream};
 use table_schema::{Schema, builtin};
 
 /// The words that follow the program's name.
@@ -33,12 +34,12 @@ pub fn given_words<R: Env + AllocGlobal>(rt: &R) -> Result<Vec<String>, Fault>
 pub fn main_with<R: AllocGlobal + Files, I: Read, O: Write, E: Write>(
     rt: &R,
     words: &[String],
-    input: &mut I,
-    output: &mut O,
+    input: &mut Source<I>,
+    output: &mut Sink<O>,
     faults: &mut E,
 ) -> u8
     ensures done { result ≡ 0 → (files : Files) × (run_of (texts words.now) ≡ Some files)
-        × Done files (I.remaining input.old) (I.remaining input.new) (O.contents output.old) (O.contents output.new) }
+        × Done files (I.remaining input.old.inner) (I.remaining input.new.inner) (O.contents output.old.inner) (O.contents output.new.inner) }
     ensures words { result ≡ 2 → run_of (texts words.now) ≡ None }
     ensures wrong_words { run_of (texts words.now) ≡ None → (result ≡ 2) ⊎ (result ≡ 1) }
     ensures untouched { run_of (texts words.now) ≡ None → (input.new ≡ input.old) × (output.new ≡ output.old) }
@@ -55,11 +56,11 @@ pub fn main_with<R: AllocGlobal + Files, I: Read, O: Write, E: Write>(
 fn run<R: AllocGlobal + Files, I: Read, O: Write>(
     rt: &R,
     words: &[String],
-    input: &mut I,
-    output: &mut O,
+    input: &mut Source<I>,
+    output: &mut Sink<O>,
 ) -> Result<(), Fault>
     ensures done { OnOk result ((files : Files) × (run_of (texts words.now) ≡ Some files)
-        × Done files (I.remaining input.old) (I.remaining input.new) (O.contents output.old) (O.contents output.new)) }
+        × Done files (I.remaining input.old.inner) (I.remaining input.new.inner) (O.contents output.old.inner) (O.contents output.new.inner)) }
     ensures words { IfErr result (λ fault. status_of fault ≡ 2 → run_of (texts words.now) ≡ None) }
     ensures wrong_words { run_of (texts words.now) ≡ None
         → IsErrAnd result (λ fault. (status_of fault ≡ 2) ⊎ (fault ≡ Fault.Memory)) }
@@ -72,7 +73,7 @@ fn run<R: AllocGlobal + Files, I: Read, O: Write>(
     match commands {
         None => serve(rt.alloc(), &schema, input, output),
         Some(path) => {
-            let mut file = fs::open(rt, path)?;
+            let mut file = Source::new(fs::open(rt, path)?);
             serve(rt.alloc(), &schema, &mut file, output)
         }
     }
@@ -96,11 +97,12 @@ fn schema_of<R: AllocGlobal + Files>(rt: &R, path: Option<&str>) -> Result<Schem
 fn serve<I: Read, O: Write>(
     alloc: Global,
     schema: &Schema,
-    input: &mut I,
-    output: &mut O,
+    input: &mut Source<I>,
+    output: &mut Sink<O>,
 ) -> Result<(), Fault>
-    ensures served { OnOk result ((bytes : List ℕ) × ReadsAll (I.remaining input.old) (I.remaining input.new) bytes
-        × Serves schema.now bytes (O.contents output.old) (O.contents output.new)) }
+    ensures served { OnOk result ((bytes : List ℕ) × ReadsAll (I.remaining input.old.inner) (I.remaining input.new.inner) bytes
+        × Serves schema.now bytes (O.contents output.old.inner) (O.contents output.new.inner)) }
+    ensures end { OnOk result (input.new.ends ≡ raised input.old.ends) }
     ensures fault { IfErr result (λ fault. status_of fault ≡ 1) }
 {
     let mut engine = Engine::new(alloc, schema, 1)?;

@@ -3,6 +3,7 @@ use crate::program::main_with;
 use std::io::{Read, Write};
 use std::test::Fail;
 use std::{env, fs};
+use table_engine::{Sink, Source};
 
 /// A run on one line: its words, in which `@` stands for the front of a temporary file's path, its status, its answers and
 /// a part of its fault's text, which is empty where there is none.
@@ -74,7 +75,13 @@ fn ended<I: Read, O: Write>(
     output: &mut O,
 ) -> Result<(u8, String), Fail> {
     let mut faults = Vec::new(rt.alloc());
-    let status = main_with(rt, words, input, output, &mut faults);
+    let status = main_with(
+        rt,
+        words,
+        &mut Source::new(input),
+        &mut Sink::new(output),
+        &mut faults,
+    );
     Ok((status, String::from_utf8(faults)?))
 }
 

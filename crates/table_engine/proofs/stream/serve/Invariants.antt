@@ -1,6 +1,7 @@
-use Rattle.std.proofs.Common.{◌≡◌, ◌≤◌, ℕ, [], List, length}
+use Rattle.std.proofs.Common.{◌≡◌, ◌≤◌, ◌<◌, ℕ, [], List, length}
 use Rattle.std.specs.Io.KnownBytes.{Consumes, Appends}
 use Rattle.table_reply.specs.Buffer.{joined}
+use Rattle.table_engine.specs.Devices.{raised_by}
 use Rattle.table_engine.specs.Run.{Run, bytes_of}
 use Rattle.table_engine.proofs.stream.serve.Given as goal
 
@@ -10,9 +11,14 @@ invariant-loop g l = record {
   piece : length l.piece ≡ 4096;
   empty : l.out.bytes ≡ [];
   ready : 512 ≤ l.out.room;
+  unread : l.counter ≡ 0 → l.source.reads ≡ l.fn.source.reads;
+  reads : 0 < l.counter → l.source.reads ≡ raised_by l.counter l.fn.source.reads;
+  failures : l.source.failures ≡ l.fn.source.failures;
+  ends : l.source.ends ≡ l.fn.source.ends;
+  unwritten : l.sink.failures ≡ l.fn.sink.failures;
   bytes : List ℕ;
-  consumed : Consumes (g.R.Read.remaining l.fn.reader) (g.R.Read.remaining l.reader) bytes;
+  consumed : Consumes (g.R.Read.remaining l.fn.source.inner) (g.R.Read.remaining l.source.inner) bytes;
   told : List (List ℕ);
   run : Run l.fn.engine (bytes_of l.session bytes) told l.engine;
-  written : Appends (g.W.Write.contents l.fn.writer) (g.W.Write.contents l.writer) (joined told);
+  written : Appends (g.W.Write.contents l.fn.sink.inner) (g.W.Write.contents l.sink.inner) (joined told);
 }

@@ -10,4 +10,4 @@ returns-in-Err-clause-read g c = λ e.
 pub returns-in-Err-clause-write : goal.returns-in-Err-clause-write
 returns-in-Err-clause-write g c = λ e.
     let h = c.in-Err.ensures.write e in
-    (h.0, h.1, h.2, h.3, joined h.4, record { mid = c.serve-served.new.engine; told = h.4; run = h.5; is_told = refl; forgets = c.forget.ensures })
+    (h.0, h.1, h.2, h.3, joined h.4, record { mid = c.serve-served.new.engine; told = h.4; run = h.5; is_told = refl; forgets = c.forget.ensures }, h.6)
