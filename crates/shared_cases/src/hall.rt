@@ -1,0 +1,280 @@
+//! Tables under names, and passes.
+ghost use Rattle.std.specs.Prelude.{◌≤◌, IfOk};
+
+use crate::again::answer_after;
+use crate::report::Report;
+use crate::threads::tell_threads;
+use crate::told::{tell_fault, tell_journals, tell_why};
+use crate::words::first_word;
+use command_lines::read_command;
+use schema_file::read_schema;
+use shared_tables::{GatherFault, Journals, OpenGate, Pass, Shared, gather};
+use std::alloc::{AllocError, Global};
+use std::sync::Wait;
+use std::thread::Threads;
+use table_cmd::Command;
+use table_reply::{Out, READY_ROOM};
+use table_schema::{Schema, SchemaFault, builtin};
+
+// The most passes that are gathered.
+const MAX_PASSES: usize = 16;
+
+// Tables behind locks, or what was gathered of them.
+#[derive(Drop)]
+struct Set {
+    name: Vec<u8>,
+    shared: Option<Shared<OpenGate>>,
+    journals: Option<Journals>,
+}
+
+#[derive(Drop)]
+struct Holder {
+    name: Vec<u8>,
+    pass: Pass,
+}
+
+/// Tables under names, and passes under theirs.
+#[derive(Drop)]
+pub struct Hall {
+    alloc: Global,
+    schema: Vec<u8>,
+    has_schema: bool,
+    sets: Vec<Set>,
+    holders: Vec<Holder>,
+}
+
+// The passes of these holders.
+fn passes_of(alloc: Global, holders: Vec<Holder>) -> Result<(Vec<Vec<u8>>, Vec<Pass>), AllocError> {
+    let mut names = Vec::new(alloc);
+    let mut passes = Vec::new(alloc);
+    for holder in holders {
+        let Holder { name, pass } = holder;
+        names.push(name)?;
+        passes.push(pass)?;
+    }
+    Ok((names, passes))
+}
+
+// A buffer with room for an answer.
+fn ready_out(alloc: Global) -> Result<Out, AllocError>
+    ensures { IfOk result (λ out. READY_ROOM ≤ out.room) }
+{
+    let mut out = Out::new(alloc);
+    match out.ready() {
+        Ok(()) => Ok(out),
+        Err(_) => Err(AllocError),
+    }
+}
+
+// How many sessions a digit says.
+fn sessions_of(word: &[u8]) -> u32 {
+    match word {
+        [digit @ b'1'..=b'9'] => u32::from(*digit - b'0'),
+        _ => 1,
+    }
+}
+
+impl Hall {
+    /// No tables.
+    pub fn new(alloc: Global) -> Hall {
+        Hall {
+            alloc,
+            schema: Vec::new(alloc),
+            has_schema: false,
+            sets: Vec::new(alloc),
+            holders: Vec::new(alloc),
+        }
+    }
+
+    /// Takes a line of the input.
+    pub fn take<R: Threads + Wait + Sync>(
+        &mut self,
+        rt: &R,
+        line: &[u8],
+        report: &mut Report,
+    ) -> Result<(), AllocError> {
+        if !self.has_schema {
+            return self.take_schema(line);
+        }
+        report.push(line)?;
+        report.text("\n")?;
+        self.carry_out(rt, line, report)
+    }
+
+    fn take_schema(&mut self, line: &[u8]) -> Result<(), AllocError> {
+        if line == b"---".as_slice() {
+            self.has_schema = true;
+            return Ok(());
+        }
+        self.schema.extend_from_slice(line)?;
+        self.schema.push(b'\n')?;
+        Ok(())
+    }
+
+    fn schema(&self) -> Result<Schema, SchemaFault> {
+        read_schema(self.alloc, &self.schema)
+    }
+
+    fn carry_out<R: Threads + Wait + Sync>(
+        &mut self,
+        rt: &R,
+        line: &[u8],
+        report: &mut Report,
+    ) -> Result<(), AllocError> {
+        let (verb, rest) = first_word(line);
+        let (set, rest) = first_word(rest);
+        if verb == b"open".as_slice() {
+            let schema = self.schema().map_err(|_| AllocError)?;
+            self.open(schema, set, sessions_of(rest))
+        } else if verb == b"builtin".as_slice() {
+            self.open(builtin(self.alloc)?, set, sessions_of(rest))
+        } else if verb == b"gather".as_slice() {
+            self.gather(set, rest, report)
+        } else if verb == b"again".as_slice() {
+            self.again(set, rest, report)
+        } else if verb == b"threads".as_slice() {
+            let schema = self.schema().map_err(|_| AllocError)?;
+            tell_threads(rt, self.alloc, schema, report)
+        } else {
+            self.call(rt, verb, set, rest, report)
+        }
+    }
+
+    fn open(&mut self, schema: Schema, name: &[u8], sessions: u32) -> Result<(), AllocError> {
+        let alloc = self.alloc;
+        let (shared, passes) = Shared::new(alloc, schema, sessions, OpenGate)?;
+        self.sets.push(Set {
+            name: name.to_vec(alloc)?,
+            shared: Some(shared),
+            journals: None,
+        })?;
+        for (digit, pass) in b"0123456789".iter().zip(passes) {
+            let mut name = name.to_vec(alloc)?;
+            name.push(*digit)?;
+            self.holders.push(Holder { name, pass })?;
+        }
+        Ok(())
+    }
+
+    fn set_of(&self, name: &[u8]) -> usize {
+        self.sets
+            .iter()
+            .position(|set| set.name.as_slice() == name)
+            .unwrap_or(self.sets.len())
+    }
+
+    fn holder_of(&self, name: &[u8]) -> usize {
+        self.holders
+            .iter()
+            .position(|holder| holder.name.as_slice() == name)
+            .unwrap_or(self.holders.len())
+    }
+
+    fn call(
+        &mut self,
+        rt: &impl Wait,
+        pass: &[u8],
+        set: &[u8],
+        line: &[u8],
+        report: &mut Report,
+    ) -> Result<(), AllocError> {
+        match read_command(self.alloc, line) {
+            Ok(command) => self.call_command(rt, pass, set, command, report),
+            Err(_) => report.text("  no command\n"),
+        }
+    }
+
+    fn call_command(
+        &mut self,
+        rt: &impl Wait,
+        pass: &[u8],
+        set: &[u8],
+        command: Command,
+        report: &mut Report,
+    ) -> Result<(), AllocError> {
+        let (holder, set) = (self.holder_of(pass), self.set_of(set));
+        let Some(holder) = self.holders.get_mut(holder) else {
+            return report.text("  no pass\n");
+        };
+        let Some(shared) = self.sets.get(set).and_then(|set| set.shared.as_ref()) else {
+            return report.text("  no tables\n");
+        };
+        let mut out = ready_out(self.alloc)?;
+        match shared.call(rt, &mut holder.pass, command, &mut out) {
+            Ok(()) => {
+                report.text("  ")?;
+                report.push(out.bytes())
+            }
+            Err(fault) => tell_fault(fault, report),
+        }
+    }
+
+    // Takes the passes of these names out.
+    fn take_holders(&mut self, names: &[u8]) -> Result<Vec<Holder>, AllocError> {
+        let mut taken = Vec::new(self.alloc);
+        let mut rest = names;
+        for _ in 0..MAX_PASSES {
+            let (name, after) = first_word(rest);
+            rest = after;
+            let at = self.holder_of(name);
+            if at < self.holders.len() {
+                taken.push(self.holders.remove(at))?;
+            }
+        }
+        Ok(taken)
+    }
+
+    fn gather(
+        &mut self,
+        name: &[u8],
+        holders: &[u8],
+        report: &mut Report,
+    ) -> Result<(), AllocError> {
+        let (names, passes) = passes_of(self.alloc, self.take_holders(holders)?)?;
+        let at = self.set_of(name);
+        let Some(set) = self.sets.get_mut(at) else {
+            return report.text("  no tables\n");
+        };
+        let Some(shared) = set.shared.take() else {
+            return report.text("  no tables\n");
+        };
+        match gather(self.alloc, shared, passes) {
+            Ok(journals) => {
+                tell_journals(self.alloc, &journals, report)?;
+                set.journals = Some(journals);
+                Ok(())
+            }
+            Err(fault) => self.put_back(at, names, fault, report),
+        }
+    }
+
+    fn put_back(
+        &mut self,
+        at: usize,
+        names: Vec<Vec<u8>>,
+        fault: GatherFault<OpenGate>,
+        report: &mut Report,
+    ) -> Result<(), AllocError> {
+        let GatherFault {
+            shared,
+            passes,
+            why,
+        } = fault;
+        if let Some(set) = self.sets.get_mut(at) {
+            set.shared = Some(shared);
+        }
+        for (name, pass) in names.into_iter().zip(passes) {
+            self.holders.push(Holder { name, pass })?;
+        }
+        tell_why(why, report)
+    }
+
+    fn again(&self, set: &[u8], command: &[u8], report: &mut Report) -> Result<(), AllocError> {
+        let set = self.sets.get(self.set_of(set));
+        let Some(journals) = set.and_then(|set| set.journals.as_ref()) else {
+            return report.text("  no journals\n");
+        };
+        report.text("  ")?;
+        report.push(&answer_after(self.alloc, journals, command)?)
+    }
+}
