@@ -8,11 +8,10 @@ use crate::told::{tell_fault, tell_journals, tell_why};
 use crate::words::first_word;
 use command_lines::read_command;
 use schema_file::read_schema;
-use shared_tables::{GatherFault, Journals, OpenGate, Pass, Shared, gather};
+use shared_tables::{CallFault, GatherFault, Journals, OpenGate, Pass, Shared, gather};
 use std::alloc::{AllocError, Global};
 use std::sync::Wait;
 use std::thread::Threads;
-use table_cmd::Command;
 use table_reply::{Out, READY_ROOM};
 use table_schema::{Schema, SchemaFault, builtin};
 
@@ -71,6 +70,37 @@ fn sessions_of(word: &[u8]) -> u32 {
     match word {
         [digit @ b'1'..=b'9'] => u32::from(*digit - b'0'),
         _ => 1,
+    }
+}
+
+// Calls the tables with the command of a line. (It is read last, so that nothing has to let go of it.)
+fn call_line(
+    alloc: Global,
+    rt: &impl Wait,
+    shared: &Shared<OpenGate>,
+    pass: &mut Pass,
+    line: &[u8],
+    report: &mut Report,
+) -> Result<(), AllocError> {
+    let mut out = ready_out(alloc)?;
+    let Ok(command) = read_command(alloc, line) else {
+        return report.text("  no command\n");
+    };
+    let called = shared.call(rt, pass, command, &mut out);
+    tell_call(called, &out, report)
+}
+
+fn tell_call(
+    called: Result<(), CallFault>,
+    out: &Out,
+    report: &mut Report,
+) -> Result<(), AllocError> {
+    match called {
+        Ok(()) => {
+            report.text("  ")?;
+            report.push(out.bytes())
+        }
+        Err(fault) => tell_fault(fault, report),
     }
 }
 
@@ -178,20 +208,6 @@ impl Hall {
         line: &[u8],
         report: &mut Report,
     ) -> Result<(), AllocError> {
-        match read_command(self.alloc, line) {
-            Ok(command) => self.call_command(rt, pass, set, command, report),
-            Err(_) => report.text("  no command\n"),
-        }
-    }
-
-    fn call_command(
-        &mut self,
-        rt: &impl Wait,
-        pass: &[u8],
-        set: &[u8],
-        command: Command,
-        report: &mut Report,
-    ) -> Result<(), AllocError> {
         let (holder, set) = (self.holder_of(pass), self.set_of(set));
         let Some(holder) = self.holders.get_mut(holder) else {
             return report.text("  no pass\n");
@@ -199,14 +215,7 @@ impl Hall {
         let Some(shared) = self.sets.get(set).and_then(|set| set.shared.as_ref()) else {
             return report.text("  no tables\n");
         };
-        let mut out = ready_out(self.alloc)?;
-        match shared.call(rt, &mut holder.pass, command, &mut out) {
-            Ok(()) => {
-                report.text("  ")?;
-                report.push(out.bytes())
-            }
-            Err(fault) => tell_fault(fault, report),
-        }
+        call_line(self.alloc, rt, shared, &mut holder.pass, line, report)
     }
 
     // Takes the passes of these names out.
