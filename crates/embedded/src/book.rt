@@ -5,6 +5,7 @@ ghost use Rattle.container_model.specs.State.{empty, list_at, row_of};
 ghost use Rattle.container_model.specs.Find.{counted, found, found_range, probe_side};
 ghost use Rattle.container_model.specs.Insert.{ban, insert_refusal, new_handle, with_inserted};
 ghost use Rattle.container_model.specs.Change.{erase_key_refusal, erase_refusal, erased_count, modify_refusal, replace_refusal, with_erased, with_key_erased, with_modified, with_replaced};
+ghost use Rattle.container_model.specs.Undone.{modify_or_undo_refusal};
 ghost use Rattle.linked_set.specs.Modified.{told};
 ghost use Rattle.embedded.specs.Fields.{by_field, to_field, indices};
 
@@ -100,6 +101,25 @@ impl Book {
         let mut edit = Renumber { id };
         match self.orders.modify(handle, &mut edit) {
             Ok(modified) => Ok(modified),
+            Err(refused) => Err(refused.why),
+        }
+    }
+
+    /// Gives an order the number of an edit, which then has the old one. Where another order has that number, or the handle
+    /// names no order, neither the book nor the edit is changed. O(log n).
+    pub fn try_renumber(&mut self, handle: Handle, edit: &mut Renumber) -> Result<(), Why>
+        ensures allowed { OnOk result (modify_or_undo_refusal by_field self.old handle (λ order. record order { id = edit.old.id }) ≡ None) }
+        ensures renumbered { (order : Order) → row_of self.old.entries handle ≡ Some order →
+            OnOk result (self.new ≡ with_replaced by_field self.old handle (record order { id = edit.old.id })) }
+        ensures old_number { (order : Order) → row_of self.old.entries handle ≡ Some order → OnOk result (edit.new.id ≡ order.id) }
+        ensures why { IfErr result (λ why. Some why ≡ modify_or_undo_refusal by_field self.old handle (λ order. record order { id = edit.old.id })) }
+        ensures unchanged { OnErr result (self.new ≡ self.old) }
+        ensures number_back { OnErr result (edit.new ≡ edit.old) }
+    {
+        // `writes` says that no two orders share a slot: so undoing leaves the very book that was there.
+        let _writes = self.orders.writes();
+        match self.orders.modify_or_undo(handle, edit) {
+            Ok(()) => Ok(()),
             Err(refused) => Err(refused.why),
         }
     }

@@ -9,6 +9,7 @@ mod renumber;
 use book::Book;
 use container_model::Handle;
 use order::Order;
+use renumber::Renumber;
 use std::io;
 use std::rt::Runtime;
 
@@ -34,6 +35,21 @@ fn amend_and_cancel<R: Runtime>(rt: &R, book: &mut Book, handle: Handle) -> io::
     println!(rt; "and again: {:?}", book.cancel(handle))
 }
 
+// Tries to give an order each of these numbers in turn.
+fn try_numbers<R: Runtime>(
+    rt: &R,
+    book: &mut Book,
+    handle: Handle,
+    numbers: [u64; 2],
+) -> io::Result<()> {
+    for id in numbers {
+        let mut edit = Renumber { id };
+        let answer = book.try_renumber(handle, &mut edit);
+        print::tried(rt, id, &edit, answer)?;
+    }
+    Ok(())
+}
+
 fn main(rt: HostRuntime) -> io::Result<()> {
     let mut book = Book::new(rt.alloc(), 1000)?;
     for (id, price, owner) in ORDERS {
@@ -44,6 +60,9 @@ fn main(rt: HostRuntime) -> io::Result<()> {
     println!(rt; "owner 71 has {} orders", book.count_of(71))?;
     if let Some(first) = book.first_at(250) {
         amend_and_cancel(&rt, &mut book, first)?;
+    }
+    if let Some(first) = book.first_at(250) {
+        try_numbers(&rt, &mut book, first, [4, 7])?;
     }
     for handle in book.between(300, 400).unwrap_or(Vec::new(rt.alloc())) {
         print::renumbered(&rt, 6, book.renumber(handle, 6))?;

@@ -2,6 +2,7 @@
 
 use crate::book::Book;
 use crate::order::Order;
+use crate::renumber::Renumber;
 use container_model::{Handle, Refused, Why};
 use multi_index::Modified;
 use std::io;
@@ -74,5 +75,18 @@ pub fn renumbered<R: Runtime>(
             )
         }
         Err(why) => println!(rt; "no order gets number {id}: {why:?}"),
+    }
+}
+
+/// What became of an order that was to get this number from an edit.
+pub fn tried<R: Runtime>(
+    rt: &R,
+    id: u64,
+    edit: &Renumber,
+    answer: Result<(), Why>,
+) -> io::Result<()> {
+    match answer {
+        Ok(()) => println!(rt; "order {} has number {id} now", edit.id),
+        Err(why) => println!(rt; "number {} is refused: {why:?}", edit.id),
     }
 }
