@@ -7,6 +7,7 @@
 
 mod draw;
 mod indices;
+mod last_writes;
 mod pair;
 mod plain;
 mod script;
@@ -14,6 +15,7 @@ mod tally;
 
 use draw::Draw;
 use indices::Indices;
+use last_writes::run_last_writes;
 use script::run_script;
 use std::io;
 use std::process::ExitCode;
@@ -47,6 +49,14 @@ fn run_group(rt: &HostRuntime, text: &str, seed: u64) -> io::Result<Tally> {
     Ok(tally)
 }
 
+// Runs the last writes that there are numbers for.
+fn run_last(rt: &HostRuntime, total: &mut Tally) -> io::Result<()> {
+    let mut tally = Tally::new();
+    run_last_writes(rt.alloc(), &mut tally)?;
+    total.add(&tally);
+    tally.print(rt, "last writes")
+}
+
 fn run(rt: &HostRuntime) -> io::Result<ExitCode> {
     let mut total = Tally::new();
     for (number, text) in GROUPS.iter().enumerate() {
@@ -54,6 +64,7 @@ fn run(rt: &HostRuntime) -> io::Result<ExitCode> {
         tally.print(rt, text)?;
         total.add(&tally);
     }
+    run_last(rt, &mut total)?;
     total.print(rt, "total")?;
     Ok(if total.is_clean() {
         ExitCode::SUCCESS

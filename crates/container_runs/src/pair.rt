@@ -7,6 +7,7 @@ ghost use Rattle.key_extract.specs.Keys.{key_at, parts_at, probe_fits, probe_is_
 mod answers;
 mod changes;
 mod reads;
+mod swap;
 
 use crate::indices::Indices;
 use crate::plain::PlainIndex;

@@ -77,18 +77,18 @@ fn call(
 ) -> Result<(), AllocError>
     requires { index < length pair.old.specs }
 {
-    let number = draw.below(16);
+    let number = draw.below(18);
     match number {
-        0..=9 => {
+        0..=11 => {
             let write = drawn_write(draw, number, index, pair);
             let row = draw.row()?;
             pair.write(write, &row, tally)
         }
-        10 => {
+        12 => {
             erase(draw, index, pair, tally);
             Ok(())
         }
-        11..=14 => {
+        13..=16 => {
             let probe = drawn_probe(draw, indices, index)?;
             search(draw, index, &probe, pair, tally);
             Ok(())
@@ -106,6 +106,7 @@ fn drawn_write(draw: &mut Draw, number: u32, index: usize, pair: &Pair) -> Write
         0..=3 => Write::Insert(None),
         4..=5 => Write::Insert(Some((index, drawn_place(draw, pair.len())))),
         6..=7 => Write::Replace(draw.handle(pair.handles())),
+        8..=9 => Write::ModifyOrUndo(draw.handle(pair.handles())),
         _ => Write::Modify(draw.handle(pair.handles())),
     }
 }

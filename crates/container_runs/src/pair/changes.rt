@@ -3,19 +3,20 @@ ghost use Rattle.std.specs.Prelude.{◌<◌, IfSome, length};
 
 use super::Pair;
 use super::answers::{erased, inserted, modified, replaced, without_row};
+use super::swap::Swap;
 use crate::tally::{Count, Tally};
 use container_model::{Handle, Refused, Why};
 use key_extract::{Probe, Row};
-use modify_ops::RowEdit;
 use std::alloc::AllocError;
 
 /// What is done with a row: it is put in, at its usual places or before a place of an index, or given to a record, which
-/// by `Modify` is lost to a ban.
+/// by `Modify` is lost to a ban, and by `ModifyOrUndo` keeps its old row.
 #[derive(Clone, Copy)]
 pub(crate) enum Write {
     Insert(Option<(usize, u64)>),
     Replace(Handle),
     Modify(Handle),
+    ModifyOrUndo(Handle),
 }
 
 impl Pair {
@@ -31,6 +32,7 @@ impl Pair {
             Write::Insert(at) => self.insert(at, row, copy, tally),
             Write::Replace(handle) => self.replace(handle, row, copy, tally),
             Write::Modify(handle) => self.modify(handle, row, copy, tally),
+            Write::ModifyOrUndo(handle) => self.modify_or_undo(handle, row, copy, tally),
         }
         Ok(())
     }
@@ -69,10 +71,27 @@ impl Pair {
     }
 
     fn modify(&mut self, handle: Handle, row: &Row, copy: Row, tally: &mut Tally) {
-        let answer = modified(&self.container.modify(handle, &mut RowEdit::new(copy)), row);
+        let mut edit = Swap::new(copy);
+        let answer = self.container.modify(handle, &mut edit);
+        let left = edit.is_left(answer.is_ok(), false, self.plain.get(handle), row);
+        let answer = modified(&answer, row);
         let wanted = self.plain.modify(handle, row);
         self.get(handle, tally);
-        self.compare(Count::Changed, wanted.err(), answer == Some(wanted), tally);
+        let same = left && answer == Some(wanted);
+        self.compare(Count::Changed, wanted.err(), same, tally);
+    }
+
+    // Refused like a replacement.
+    fn modify_or_undo(&mut self, handle: Handle, row: &Row, copy: Row, tally: &mut Tally) {
+        let mut edit = Swap::new(copy);
+        let answer = self.container.modify_or_undo(handle, &mut edit);
+        let old = self.plain.get(handle);
+        let left = edit.is_left(old.is_ok(), old.is_ok() && answer.is_err(), old, row);
+        let answer = without_row(&answer);
+        let wanted = self.plain.replace(handle, row);
+        self.get(handle, tally);
+        let same = left && answer == Some(wanted);
+        self.compare(Count::Changed, wanted.err(), same, tally);
     }
 
     /// Takes a record out, and compares the records after it in an index.
