@@ -2,6 +2,7 @@
 #![tactic(auto)]
 
 mod fault;
+mod opens;
 mod program;
 #[cfg(test)]
 mod tests;

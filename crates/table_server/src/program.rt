@@ -1,19 +1,18 @@
 //! The program over its words, files and streams.
-ghost use Rattle.std.specs.Prelude.{◌≡◌, ◌≢◌, ◌≤◌, ◌⊎◌, Some, None, IfErr, IfOk, IsErrAnd, OnOk, List, ℕ};
+ghost use Rattle.std.specs.Prelude.{◌≡◌, ◌≢◌, ◌≤◌, ◌⊎◌, Some, None, IfErr, IfOk, IsErrAnd, OnOk, List, ℕ, option_map};
 ghost use Rattle.table_engine.specs.Devices.{raised};
 ghost use Rattle.program_words.specs.Asked.{Files, run_of, texts};
-ghost use Rattle.table_schema.specs.Builtin.{builtin_schema};
-ghost use Rattle.table_server.specs.Done.{Done, ReadsAll, Serves};
+ghost use Rattle.table_server.specs.Done.{AreOfFile, Done, EndsInput, IsSchema, ReadsAll, Serves, ServesLines};
 ghost use Rattle.table_server.specs.Fault.{status_of};
 
 use crate::fault::Fault;
+use crate::opens::Opens;
 use program_words::{Asked, read_words};
 use schema_file::read_schema;
 use std::alloc::Global;
+use std::env;
 use std::env::Env;
 use std::io::{ErrorKind, Read, Write};
-use std::rt::Files;
-use std::{env, fs};
 use table_engine::{Engine, Sink, Source, serve_stream};
 use table_schema::{Schema, builtin};
 
@@ -31,7 +30,7 @@ pub fn given_words<R: Env + AllocGlobal>(rt: &R) -> Result<Vec<String>, Fault>
 /// Does what the words ask for, and gives the exit status: 0 done, 1 device or memory, 2 words,
 /// 3 schema. The text of a fault goes to `faults`, with a newline. Words, schema, file of lines and
 /// lines come in this order, and the first fault ends the run.
-pub fn main_with<R: AllocGlobal + Files, I: Read, O: Write, E: Write>(
+pub fn main_with<R: AllocGlobal + Opens, I: Read, O: Write, E: Write>(
     rt: &R,
     words: &[String],
     input: &mut Source<I>,
@@ -39,7 +38,8 @@ pub fn main_with<R: AllocGlobal + Files, I: Read, O: Write, E: Write>(
     faults: &mut E,
 ) -> u8
     ensures done { result ≡ 0 → (files : Files) × (run_of (texts words.now) ≡ Some files)
-        × Done files (I.remaining input.old.inner) (I.remaining input.new.inner) (O.contents output.old.inner) (O.contents output.new.inner) }
+        × Done (R.is_at rt.now) R.Opened.remaining files (I.remaining input.old.inner) (I.remaining input.new.inner) (O.contents output.old.inner) (O.contents output.new.inner) }
+    ensures end { result ≡ 0 → (files : Files) × (run_of (texts words.now) ≡ Some files) × EndsInput files.commands input.old input.new }
     ensures words { result ≡ 2 → run_of (texts words.now) ≡ None }
     ensures wrong_words { run_of (texts words.now) ≡ None → (result ≡ 2) ⊎ (result ≡ 1) }
     ensures untouched { run_of (texts words.now) ≡ None → (input.new ≡ input.old) × (output.new ≡ output.old) }
@@ -53,14 +53,15 @@ pub fn main_with<R: AllocGlobal + Files, I: Read, O: Write, E: Write>(
 }
 
 /// Does what the words ask for.
-fn run<R: AllocGlobal + Files, I: Read, O: Write>(
+fn run<R: AllocGlobal + Opens, I: Read, O: Write>(
     rt: &R,
     words: &[String],
     input: &mut Source<I>,
     output: &mut Sink<O>,
 ) -> Result<(), Fault>
     ensures done { OnOk result ((files : Files) × (run_of (texts words.now) ≡ Some files)
-        × Done files (I.remaining input.old.inner) (I.remaining input.new.inner) (O.contents output.old.inner) (O.contents output.new.inner)) }
+        × Done (R.is_at rt.now) R.Opened.remaining files (I.remaining input.old.inner) (I.remaining input.new.inner) (O.contents output.old.inner) (O.contents output.new.inner)) }
+    ensures end { OnOk result ((files : Files) × (run_of (texts words.now) ≡ Some files) × EndsInput files.commands input.old input.new) }
     ensures words { IfErr result (λ fault. status_of fault ≡ 2 → run_of (texts words.now) ≡ None) }
     ensures wrong_words { run_of (texts words.now) ≡ None
         → IsErrAnd result (λ fault. (status_of fault ≡ 2) ⊎ (fault ≡ Fault.Memory)) }
@@ -70,25 +71,51 @@ fn run<R: AllocGlobal + Files, I: Read, O: Write>(
 {
     let Asked::Run { schema, commands } = read_words(rt.alloc(), words)?;
     let schema = schema_of(rt, schema)?;
-    match commands {
-        None => serve(rt.alloc(), &schema, input, output),
-        Some(path) => {
-            let mut file = Source::new(fs::open(rt, path)?);
-            serve(rt.alloc(), &schema, &mut file, output)
-        }
-    }
+    serve_lines(rt, commands, &schema, input, output)
 }
 
 /// The schema of a file, or the built-in one.
-fn schema_of<R: AllocGlobal + Files>(rt: &R, path: Option<&str>) -> Result<Schema, Fault>
-    ensures builtin { path.entry ≡ None → IfOk result (λ schema. schema ≡ builtin_schema) }
-    ensures file { IfErr result (λ fault. (status_of fault ≡ 1) ⊎ ((status_of fault ≡ 3) × (path.entry ≢ None))) }
+fn schema_of<R: AllocGlobal + Opens>(rt: &R, path: Option<&str>) -> Result<Schema, Fault>
+    ensures schema { IfOk result (λ schema. IsSchema (R.is_at rt.now) R.Opened.remaining (option_map (λ s. s.now) path.entry) schema) }
+    ensures fault { IfErr result (λ fault. (status_of fault ≡ 1) ⊎ ((status_of fault ≡ 3) × (path.entry ≢ None))) }
 {
     match path {
         None => Ok(builtin(rt.alloc())?),
         Some(path) => {
-            let bytes = fs::read(rt, path)?;
+            let bytes = bytes_of(rt, path)?;
             Ok(read_schema(rt.alloc(), &bytes)?)
+        }
+    }
+}
+
+/// All bytes of a file.
+fn bytes_of<R: AllocGlobal + Opens>(rt: &R, path: &str) -> Result<Vec<u8>, Fault>
+    ensures read { IfOk result (λ bytes. AreOfFile (R.is_at rt.now) R.Opened.remaining path.now bytes.items) }
+    ensures fault { IfErr result (λ fault. status_of fault ≡ 1) }
+{
+    let mut file = rt.open(path)?;
+    let mut bytes = Vec::new(rt.alloc());
+    file.read_to_end(&mut bytes)?;
+    Ok(bytes)
+}
+
+/// Answers the lines of a file, or else of the input, on empty tables.
+fn serve_lines<R: AllocGlobal + Opens, I: Read, O: Write>(
+    rt: &R,
+    path: Option<&str>,
+    schema: &Schema,
+    input: &mut Source<I>,
+    output: &mut Sink<O>,
+) -> Result<(), Fault>
+    ensures served { OnOk result (ServesLines (R.is_at rt.now) R.Opened.remaining (option_map (λ s. s.now) path.entry) schema.now (I.remaining input.old.inner) (I.remaining input.new.inner) (O.contents output.old.inner) (O.contents output.new.inner)) }
+    ensures end { OnOk result (EndsInput (option_map (λ s. s.now) path.entry) input.old input.new) }
+    ensures fault { IfErr result (λ fault. status_of fault ≡ 1) }
+{
+    match path {
+        None => serve(rt.alloc(), schema, input, output),
+        Some(path) => {
+            let mut file = Source::new(rt.open(path)?);
+            serve(rt.alloc(), schema, &mut file, output)
         }
     }
 }
