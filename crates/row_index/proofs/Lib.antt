@@ -1,3 +1,4 @@
 pub mod Places
+pub mod Shifted
 pub mod Edits
 pub mod Laws

@@ -3,6 +3,7 @@ use Rattle.std.proofs.Common.{◌≡◌, ◌≢◌, ℕ, zero, suc, ◌+◌, ◌
 use Rattle.std.specs.Prelude.{insert, remove, slice_get, IsPermutation}
 use Rattle.std.specs.Option.{option_map}
 use Rattle.std.proofs.lemmas.List.{take-append-drop, drop_more, take_more, take_at, take-take, take-append-le, length-take-le, length-append, get_or_at}
+use Rattle.std.proofs.lemmas.List.Edits.{length-remove}
 use Rattle.std.proofs.lemmas.List.Sorted.{IsPermutation-insert, IsPermutation-remove, IsPermutation-trans}
 use Rattle.node_store.specs.declared.Node.{Node}
 use Rattle.node_store.specs.declared.Link.{Link}
@@ -132,6 +133,57 @@ numbered_more c d xs k n l h within is tag put =
       distinct = h.distinct;
       front = subst (AreNumbered d 0) (sym more) (numbered_push d 0 (take k xs) n (numbered_same c d 0 (take k xs) (IsSameAt-others c d n put.others (take k xs) lacks) h.front) (ap (option_map (λ (x : Link). x.tag)) put.at ∙ ap Some e));
     }
+
+-- the nodes from a later place on keep theirs
+pub numbered_behind : (c d : Column) (xs : List Node) (k end : ℕ) (n : Node) (l : Link) → IsDistinct xs → k < end → end ≤ length xs → n ≡ get_or xs k n → IsPut c d n l → AreNumbered c end (drop end xs) → AreNumbered d end (drop end xs)
+numbered_behind c d xs k end n l distinct before within is put h =
+    numbered_same c d end (drop end xs) (IsSameAt-others c d n put.others (drop end xs) (lacks_behind xs k end n distinct before within is)) h
+  where
+    lacks_drop : (ys : List Node) (j : ℕ) (m : Node) → Lacks ys m → Lacks (drop j ys) m
+    lacks_drop ys zero m h = h
+    lacks_drop [] (suc j) m h = tt
+    lacks_drop (y ∷ ys) (suc j) m h = lacks_drop ys j m h.1
+
+    lacks_behind : (ys : List Node) (j e : ℕ) (m : Node) → IsDistinct ys → j < e → e ≤ length ys → m ≡ get_or ys j m → Lacks (drop e ys) m
+    lacks_behind ys j zero m h lt le is = absurd (omega arith)
+    lacks_behind [] j (suc e) m h lt le is = absurd (omega arith)
+    lacks_behind (y ∷ ys) zero (suc e) m h lt le is = lacks_drop ys e m (subst (Lacks ys) (sym is) h.0)
+    lacks_behind (y ∷ ys) (suc j) (suc e) m h lt le is = lacks_behind ys j e m h.1 (omega arith) (omega arith) is
+
+drop_insert : (xs : List Node) (i k : ℕ) (n : Node) → i ≤ k → i ≤ length xs → drop (suc k) (insert xs i n) ≡ drop k xs
+drop_insert xs zero k n le within = refl
+drop_insert [] (suc i) k n le within = absurd (omega arith)
+drop_insert (x ∷ xs) (suc i) zero n le within = absurd (omega arith)
+drop_insert (x ∷ xs) (suc i) (suc k) n le within = drop_insert xs i k n (omega arith) (omega arith)
+
+drop_remove : (xs : List Node) (i k : ℕ) → i ≤ k → i < length xs → drop k (remove xs i) ≡ drop (suc k) xs
+drop_remove [] i k le lt = absurd (omega arith)
+drop_remove (x ∷ xs) zero k le lt = refl
+drop_remove (x ∷ xs) (suc i) zero le lt = absurd (omega arith)
+drop_remove (x ∷ xs) (suc i) (suc k) le lt = drop_remove xs i k (omega arith) (omega arith)
+
+numbered_back : (c : Column) (p q k : ℕ) (xs : List Node) → q ≡ p + k → k ≤ length xs → AreNumbered c p xs → AreNumbered c q (drop k xs)
+numbered_back c p q zero xs e le h = let s : p ≡ q = omega arith in subst (λ z. AreNumbered c z xs) s h
+numbered_back c p q (suc k) [] e le h = tt
+numbered_back c p q (suc k) (x ∷ xs) e le h = numbered_back c (p + 1) q k xs (omega arith) (omega arith) h.1
+
+-- a move leaves what stands behind both places
+pub behind_move : (c : Column) (xs : List Node) (from to high : ℕ) (n : Node) → AreNumbered c 0 xs → from < length xs → to < length xs → from ≤ high → to ≤ high → high < length xs
+    → AreNumbered c (high + 1) (drop (high + 1) (insert (remove xs from) to n))
+behind_move c xs from to high n h inside within from_before to_before last =
+    let past : high + 1 ≡ suc high = omega arith in
+    let fits : to ≤ length (remove xs from) = omega (arith, length-remove xs from inside) in
+    let same : drop (high + 1) (insert (remove xs from) to n) ≡ drop (high + 1) xs =
+    ap (λ k. drop k (insert (remove xs from) to n)) past ∙ (drop_insert (remove xs from) to high n to_before fits ∙ (drop_remove xs from high from_before inside ∙ ap (λ k. drop k xs) (sym past))) in
+    subst (AreNumbered c (high + 1)) (sym same) (numbered_back c 0 (high + 1) (high + 1) xs (omega arith) (omega arith) h)
+
+-- both parts together
+pub numbered_joined : (c : Column) (p k : ℕ) (xs : List Node) → k ≤ length xs → AreNumbered c p (take k xs) → AreNumbered c (p + k) (drop k xs) → AreNumbered c p xs
+numbered_joined c p zero xs le front back = subst (λ q. AreNumbered c q xs) (add-zero p) back
+numbered_joined c p (suc k) [] le front back = tt
+numbered_joined c p (suc k) (x ∷ xs) le front back =
+    let e : p + suc k ≡ (p + 1) + k = omega arith in
+    (front.0, numbered_joined c (p + 1) k xs (omega arith) front.1 (subst (λ q. AreNumbered c q (drop k xs)) e back))
 
 -- ---- a node of the row
 
