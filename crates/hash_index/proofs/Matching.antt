@@ -26,9 +26,9 @@ use Rattle.seq_index.proofs.Walks.{apart_at}
 use Rattle.hash_index.specs.declared.HashIndex.{HashIndex}
 use Rattle.hash_index.specs.Chains.{untagged_link, untagged, tag_at}
 use Rattle.hash_index.specs.Spelled.{spelled, Holds}
-use Rattle.hash_index.specs.Hashed.{IsHashed, side_of, matches, others}
+use Rattle.hash_index.specs.Hashed.{IsHashed, KeepsHash, side_of, matches, others}
 use Rattle.hash_index.specs.Walks.{Leads, rest_of, Ends, HasHash}
-use Rattle.hash_index.proofs.Untagged.{tagged_node}
+use Rattle.hash_index.proofs.Untagged.{tagged_node, tag_is}
 use Rattle.hash_index.proofs.OneBucket.{follow_leads, length-follow, leads_past}
 
 -- ---- one step of a walk
@@ -228,6 +228,34 @@ module _ {R : Type 0} (s : Store R) (col : ℕ) (hash : R → ℕ) (key_hash : �
         (none_match (others except front) split.0 (All-filter _ _ front before))
         (none_match (others except back) (All-split _ (others except chain) (others except back) split.1).1 (All-filter _ _ back after))
 
+-- ---- hashes that are kept, along a walk
+
+module _ {R : Type 0} (hash : R → ℕ) (s : Store R) (col : ℕ) where
+  pub hashed_first : (l : List Node) (n : Node) (tail : List Node) → l ≡ n ∷ tail → IsHashed hash s col l → KeepsHash hash s col n
+  hashed_first l n tail e h = (subst (λ z. IsHashed hash s col z) e h).0
+
+  pub hashed_rest : (l : List Node) (n : Node) (tail : List Node) → l ≡ n ∷ tail → IsHashed hash s col l → IsHashed hash s col tail
+  hashed_rest l n tail e h = (subst (λ z. IsHashed hash s col z) e h).1
+
+  others_by : (b : Bool) (n : Node) (l : List Node) → IsHashed hash s col (cond (not b) (n ∷ l) l) → (b ≡ false → KeepsHash hash s col n) × IsHashed hash s col l
+  others_by true n l h = ((λ e. cc), h)
+  others_by false n l h = ((λ e. h.0), h.1)
+
+  pub others_first : (except : Option Node) (l : List Node) (n : Node) (tail : List Node) → l ≡ n ∷ tail → IsHashed hash s col (others except l)
+      → (option_map_or (λ m. same_node m n) except false ≡ false → KeepsHash hash s col n) × IsHashed hash s col (others except tail)
+  others_first except l n tail e h =
+      others_by (option_map_or (λ m. same_node m n) except false) n (others except tail) (subst (λ z. IsHashed hash s col (others except z)) e h)
+
+  -- the hash of a node with a key
+  hash_by : (o : Option R) (tag key_hash : ℕ) (side : R → Ordering) (agree : (a : R) → side a ≡ Equal → hash a ≡ key_hash) → is_eq (option_map_or side o Less) ≡ true → Some tag ≡ option_map hash o → tag ≡ key_hash
+  hash_by None tag key_hash side agree e t = cc
+  hash_by (Some a) tag key_hash side agree e t = let q : tag ≡ hash a = cc in q ∙ agree a (equal_by (side a) e)
+    where
+      equal_by : (o : Ordering) → is_eq o ≡ true → o ≡ Equal
+      equal_by Less e = cc
+      equal_by Equal e = refl
+      equal_by Greater e = cc
+
 -- ---- the same for an index
 
 module _ {R : Type 0} (s : Store R) (i : HashIndex) (hash : R → ℕ) (key_hash : ℕ) (side : R → Ordering) (agree : (a : R) → side a ≡ Equal → hash a ≡ key_hash) (head : Option Node) (at : HasHash (column_of s) i key_hash head) where
@@ -236,9 +264,19 @@ module _ {R : Type 0} (s : Store R) (i : HashIndex) (hash : R → ℕ) (key_hash
       ap (λ l. find (λ n. is_eq (side_of side s n)) (others except l)) at.whole
       ∙ others_found s i.col hash key_hash side agree at.front (rest_of (column_of s) i head) at.back at.before at.after except (subst (λ l. IsHashed hash s i.col (others except l)) at.whole h)
 
+  pub others_hashed : (except : Option Node) → IsHashed hash s i.col (others except (spelled (column_of s) i)) → IsHashed hash s i.col (others except (rest_of (column_of s) i head))
+  others_hashed except h =
+      let rest = rest_of (column_of s) i head in
+      let parts = others_parts s i.col hash key_hash side agree at.front rest at.back at.before at.after except in
+      let k = subst (λ z. IsHashed hash s i.col z) parts (subst (λ l. IsHashed hash s i.col (others except l)) at.whole h) in
+      (All-split _ (others except rest) (others except at.back) (All-split _ (others except at.front) (others except rest ++ others except at.back) k).1).0
+
   module _ (h : IsHashed hash s i.col (spelled (column_of s) i)) where
     hashed : IsHashed hash s i.col (at.front ++ (rest_of (column_of s) i head ++ at.back))
     hashed = subst (λ l. IsHashed hash s i.col l) at.whole h
+
+    pub rest_hashed : IsHashed hash s i.col (rest_of (column_of s) i head)
+    rest_hashed = (All-split _ (rest_of (column_of s) i head) at.back (All-split _ at.front (rest_of (column_of s) i head ++ at.back) hashed).1).0
 
     none_before : AllByRecursion (λ n. is_eq (side_of side s n) ≡ false) at.front
     none_before = front_differs s i.col hash key_hash side agree at.front (rest_of (column_of s) i head) at.back at.before at.after hashed
@@ -266,3 +304,20 @@ module _ {R : Type 0} (s : Store R) (i : HashIndex) (hash : R → ℕ) (key_hash
           ap (λ l. find p l) past.1 ∙ sym (ap (λ l. next (same_node n) l) matched_in ∙ (ap (λ l. next (same_node n) (filter p l)) k.is
               ∙ next_passed p k.before n k.after (subst IsDistinct k.is chain) (passes p (rest_of (column_of s) i head) n passed))),
         )
+
+    -- and its links have the hash of the key
+    pub match_hash : (n : Node) (link : Link) → Holds (matches (side_of side s) (spelled (column_of s) i)) n → column_of s i.col n ≡ Some link → link.tag ≡ key_hash
+    match_hash n link held is =
+        let p : Node → Bool = λ m. is_eq (side_of side s m) in
+        let k = Holds_kept p (spelled (column_of s) i) n held in
+        let kept = (All-split _ k.before (n ∷ k.after) (subst (λ l. IsHashed hash s i.col l) k.is h)).1.0 in
+        hash_by hash s i.col (record_of s n) link.tag key_hash side agree (passes p (spelled (column_of s) i) n held) (sym (tag_is (column_of s i.col) n link is) ∙ kept)
+
+    pub past_hashed : (n : Node) (link : Link) → Holds (matches (side_of side s) (spelled (column_of s) i)) n → column_of s i.col n ≡ Some link → IsHashed hash s i.col (rest_of (column_of s) i link.b)
+    past_hashed n link held is =
+        let p : Node → Bool = λ m. is_eq (side_of side s m) in
+        let passed = subst (λ l. Holds l n) matched_in held in
+        let k = Holds_kept p (rest_of (column_of s) i head) n passed in
+        let fits = rest_fits (column_of s) i head in
+        let past = walk_past (column_of s) i head k.before n k.after link at.ends k.is is (omega (arith, fits, ap length k.is, length-append k.before (n ∷ k.after))) in
+        subst (λ l. IsHashed hash s i.col l) (sym past.1) (All-split _ k.before (n ∷ k.after) (subst (λ l. IsHashed hash s i.col l) k.is rest_hashed)).1.1

@@ -9,7 +9,8 @@ ghost use Rattle.list_model.specs.Place.{count_equal, find_equal};
 ghost use Rattle.list_model.specs.Walk.{next as the_next};
 ghost use Rattle.seq_index.specs.Links.{AreNodesOf};
 ghost use Rattle.hash_index.specs.Spelled.{IsSound, spelled, col_of, index_of, Holds};
-ghost use Rattle.hash_index.specs.Hashed.{IsHashed, side_of, matches, others};
+ghost use Rattle.hash_index.specs.Hashed.{IsHashed, KeepsHash, side_of, matches, others};
+ghost use Rattle.hash_index.specs.Chains.{tag_at};
 ghost use Rattle.hash_index.specs.Walks.{rest_of, Ends, HasHash};
 ghost use Rattle.node_store.specs.Column.{Column};
 
@@ -43,12 +44,14 @@ impl HashIndex {
         requires except { AreNodesOf store.now except }
         ensures { result ≡ find_equal (side_of (λ a. E.order_of keys.now (index_of self.now) a r.now) store.now) (others except (spelled (column_of store.now) self.now)) }
     {
-        let mut at = self.head(keys.hash(self.index, r));
+        let hash = keys.hash(self.index, r);
+        let mut at = self.head(hash);
         while let Some(n) = at {
-            if self.is_other(store, keys, r, except, n) {
+            let link = store.link(n, self.col);
+            if self.is_other(store, keys, r, hash, except, n, link.tag) {
                 return Some(n);
             }
-            at = store.link(n, self.col).b;
+            at = link.b;
         }
         None
     }
@@ -66,8 +69,9 @@ impl HashIndex {
         requires hashed { IsHashed (E.hash_of keys.now (index_of self.now)) store.now (col_of self.now) (spelled (column_of store.now) self.now) }
         ensures { result ≡ slice_get (matches (side_of (λ a. E.probe_order_of keys.now (index_of self.now) a probe.now) store.now) (spelled (column_of store.now) self.now)) 0 }
     {
-        let head = self.head(keys.hash_probe(self.index, probe));
-        self.match_from(store, keys, probe, head)
+        let hash = keys.hash_probe(self.index, probe);
+        let head = self.head(hash);
+        self.match_from(store, keys, probe, hash, head)
     }
 
     /// The node after `n` among those whose records have the whole key, each of which is answered once in a walk from
@@ -86,8 +90,8 @@ impl HashIndex {
         requires held { Holds (matches (side_of (λ a. E.probe_order_of keys.now (index_of self.now) a probe.now) store.now) (spelled (column_of store.now) self.now)) n }
         ensures { result ≡ the_next (same_node n) (matches (side_of (λ a. E.probe_order_of keys.now (index_of self.now) a probe.now) store.now) (spelled (column_of store.now) self.now)) }
     {
-        let next = store.link(n, self.col).b;
-        self.match_from(store, keys, probe, next)
+        let link = store.link(n, self.col);
+        self.match_from(store, keys, probe, link.tag, link.b)
     }
 
     /// How many nodes have records with the whole key. Expected O(1 + those nodes).
@@ -98,70 +102,94 @@ impl HashIndex {
         requires hashed { IsHashed (E.hash_of keys.now (index_of self.now)) store.now (col_of self.now) (spelled (column_of store.now) self.now) }
         ensures { result ≡ count_equal (side_of (λ a. E.probe_order_of keys.now (index_of self.now) a probe.now) store.now) (spelled (column_of store.now) self.now) }
     {
+        let hash = keys.hash_probe(self.index, probe);
         let mut count = 0;
-        let mut at = self.head(keys.hash_probe(self.index, probe));
+        let mut at = self.head(hash);
         while let Some(n) = at {
-            if self.has_key(store, keys, probe, n) {
+            let link = store.link(n, self.col);
+            if self.has_key(store, keys, probe, hash, n, link.tag) {
                 count += 1;
             }
-            at = store.link(n, self.col).b;
+            at = link.b;
         }
         count
     }
 
-    // The first node whose record has the whole key, of a chain from `at` on.
+    // The first node whose record has the whole key, which has this hash, of a chain from `at` on.
     fn match_from<R, E: Extract<R>>(
         &self,
         store: &NodeStore<R>,
         keys: &E,
         probe: &E::Probe,
+        hash: u64,
         at: Option<Node>,
     ) -> Option<Node>
         requires ends { Ends (column_of store.now) self.now at }
+        requires hashed { IsHashed (E.hash_of keys.now (index_of self.now)) store.now (col_of self.now) (rest_of (column_of store.now) self.now at) }
+        requires hash { hash ≡ E.probe_hash_of keys.now (index_of self.now) probe.now }
         requires has_key { IsTrue (E.has_key keys.now (index_of self.now)) }
         requires whole { IsTrue (E.is_whole keys.now (index_of self.now) probe.now) }
         ensures { result ≡ find_equal (side_of (λ a. E.probe_order_of keys.now (index_of self.now) a probe.now) store.now) (rest_of (column_of store.now) self.now at) }
     {
         let mut at = at;
         while let Some(n) = at {
-            if self.has_key(store, keys, probe, n) {
+            let link = store.link(n, self.col);
+            if self.has_key(store, keys, probe, hash, n, link.tag) {
                 return Some(n);
             }
-            at = store.link(n, self.col).b;
+            at = link.b;
         }
         None
     }
 
-    // Whether the node is not the excepted one, and its record has the key of `r`.
+    // Whether the node is not the excepted one, and its record has the key of `r`, which has this hash. Where the tag in
+    // the node's link is another, no record is read.
     fn is_other<R, E: Extract<R>>(
         &self,
         store: &NodeStore<R>,
         keys: &E,
         r: &R,
+        hash: u64,
         except: Option<Node>,
         n: Node,
+        tag: u64,
     ) -> bool
         requires node { IsNodeOf store.now n }
+        requires tag { tag_at (column_of store.now (col_of self.now)) n ≡ Some tag }
+        requires hashed { option_map_or (λ m. same_node m n) except false ≡ false → KeepsHash (E.hash_of keys.now (index_of self.now)) store.now (col_of self.now) n }
+        requires hash { hash ≡ E.hash_of keys.now (index_of self.now) r.now }
         requires except { AreNodesOf store.now except }
         requires has_key { IsTrue (E.has_key keys.now (index_of self.now)) }
         ensures { result ≡ (not (option_map_or (λ m. same_node m n) except false) && is_eq (side_of (λ a. E.order_of keys.now (index_of self.now) a r.now) store.now n)) }
     {
+        if tag != hash {
+            return false;
+        }
         !is_excepted(store, except, n) && keys.same(self.index, store.get(n), r)
     }
 
-    // Whether the node's record has the whole key.
+    // Whether the node's record has the whole key, which has this hash. Where the tag in the node's link is another, no
+    // record is read.
     fn has_key<R, E: Extract<R>>(
         &self,
         store: &NodeStore<R>,
         keys: &E,
         probe: &E::Probe,
+        hash: u64,
         n: Node,
+        tag: u64,
     ) -> bool
         requires node { IsNodeOf store.now n }
+        requires tag { tag_at (column_of store.now (col_of self.now)) n ≡ Some tag }
+        requires hashed { KeepsHash (E.hash_of keys.now (index_of self.now)) store.now (col_of self.now) n }
+        requires hash { hash ≡ E.probe_hash_of keys.now (index_of self.now) probe.now }
         requires has_key { IsTrue (E.has_key keys.now (index_of self.now)) }
         requires whole { IsTrue (E.is_whole keys.now (index_of self.now) probe.now) }
         ensures { result ≡ is_eq (side_of (λ a. E.probe_order_of keys.now (index_of self.now) a probe.now) store.now n) }
     {
+        if tag != hash {
+            return false;
+        }
         keys.order_probe(self.index, store.get(n), probe) == Ordering::Equal
     }
 

@@ -6,34 +6,47 @@ use Rattle.hash_index.specs.Spelled.{col_of, index_of}
 use Rattle.hash_index.specs.Hashed.{side_of}
 use Rattle.hash_index.specs.Walks.{rest_of}
 use Rattle.std.specs.Prelude.{count_by}
-use Rattle.hash_index.proofs.Matching.{walk_node, walk_step, counted_in, count_hit, count_miss}
+use Rattle.hash_index.proofs.Matching.{walk_node, walk_step, counted_in, count_hit, count_miss, hashed_rest, rest_hashed}
 use Rattle.hash_index.proofs.HashIndex.count.Goals as goal
-use Rattle.hash_index.proofs.HashIndex.count.Goals.{then-has_key, else-has_key}
 
 pub has_key-requires-clause-node : goal.has_key-requires-clause-node
 has_key-requires-clause-node g c = node_of_column c.args.store.now (col_of c.args.self.now) c.in-Some.n (walk_node (column_of c.args.store.now) c.args.self.now c.loop-at.at c.in-Some.n c.loop-at.invariant.ends c.in-Some.is)
 
 pub loop-at-smaller : goal.loop-at-smaller
 loop-at-smaller g c =
-    let step = walk_step (column_of c.args.store.now) c.args.self.now c.loop-at.at c.in-Some.n c.link-at.result c.loop-at.invariant.ends c.in-Some.is c.link-at.ensures in
+    let step = walk_step (column_of c.args.store.now) c.args.self.now c.loop-at.at c.in-Some.n c.link-link.result c.loop-at.invariant.ends c.in-Some.is c.link-link.ensures in
+    omega (arith, ap length step.rest)
+
+pub loop-at-smaller-then-has_key : goal.loop-at-smaller-then-has_key
+loop-at-smaller-then-has_key g c =
+    let step = walk_step (column_of c.args.store.now) c.args.self.now c.loop-at.at c.in-Some.n c.link-link.result c.loop-at.invariant.ends c.in-Some.is c.link-link.ensures in
     omega (arith, ap length step.rest)
 
 pub loop-at-init : goal.loop-at-init
 loop-at-init g c =
     let at = c.head-at.ensures (column_of c.args.store.now) c.requires.chain in
-    let counted = counted_in c.args.store.now c.args.self.now (g.E.Extract.hash_of c.args.keys.now (index_of c.args.self.now)) c.hash_probe.result (λ a. g.E.Extract.probe_order_of c.args.keys.now (index_of c.args.self.now) a c.args.probe.now)
-    (λ a e. g.met.E.Extract.whole_hash c.args.keys.now (index_of c.args.self.now) a c.args.probe.now c.requires.has_key c.requires.whole e ∙ sym c.hash_probe.ensures) c.head-at.result at c.requires.hashed in
-    record { ends = at.ends; counted = omega (arith, counted) }
+    let counted = counted_in c.args.store.now c.args.self.now (g.E.Extract.hash_of c.args.keys.now (index_of c.args.self.now)) c.hash_probe-hash.result (λ a. g.E.Extract.probe_order_of c.args.keys.now (index_of c.args.self.now) a c.args.probe.now)
+    (λ a e. g.met.E.Extract.whole_hash c.args.keys.now (index_of c.args.self.now) a c.args.probe.now c.requires.has_key c.requires.whole e ∙ sym c.hash_probe-hash.ensures) c.head-at.result at c.requires.hashed in
+    let hashed = rest_hashed c.args.store.now c.args.self.now (g.E.Extract.hash_of c.args.keys.now (index_of c.args.self.now)) c.hash_probe-hash.result (λ a. g.E.Extract.probe_order_of c.args.keys.now (index_of c.args.self.now) a c.args.probe.now)
+    (λ a e. g.met.E.Extract.whole_hash c.args.keys.now (index_of c.args.self.now) a c.args.probe.now c.requires.has_key c.requires.whole e ∙ sym c.hash_probe-hash.ensures) c.head-at.result at c.requires.hashed in
+    record { ends = at.ends; hashed = hashed; counted = omega (arith, counted) }
 
-pub loop-at-preserved : goal.loop-at-preserved
-loop-at-preserved g c =
-    let step = walk_step (column_of c.args.store.now) c.args.self.now c.loop-at.at c.in-Some.n c.link-at.result c.loop-at.invariant.ends c.in-Some.is c.link-at.ensures in
-    let so_far = c.loop-at.invariant.counted in
+pub loop-at-preserved-then-has_key : goal.loop-at-preserved-then-has_key
+loop-at-preserved-then-has_key g c =
+    let step = walk_step (column_of c.args.store.now) c.args.self.now c.loop-at.at c.in-Some.n c.link-link.result c.loop-at.invariant.ends c.in-Some.is c.link-link.ensures in
     let rest = ap (λ l. count_by (λ n. is_eq (side_of (λ a. g.E.Extract.probe_order_of c.args.keys.now (index_of c.args.self.now) a c.args.probe.now) c.args.store.now n)) l) step.rest in
     record {
       ends = step.ends;
-      counted = elim c.if-has_key.branch [
-        | then-has_key w ↦ omega (arith, so_far, rest, w.count-is, count_hit (λ n. is_eq (side_of (λ a. g.E.Extract.probe_order_of c.args.keys.now (index_of c.args.self.now) a c.args.probe.now) c.args.store.now n)) c.in-Some.n (rest_of (column_of c.args.store.now) c.args.self.now c.link-at.result.b) (sym c.has_key.ensures ∙ w.if-has_key.true))
-        | else-has_key w ↦ omega (arith, so_far, rest, w.count-is, count_miss (λ n. is_eq (side_of (λ a. g.E.Extract.probe_order_of c.args.keys.now (index_of c.args.self.now) a c.args.probe.now) c.args.store.now n)) c.in-Some.n (rest_of (column_of c.args.store.now) c.args.self.now c.link-at.result.b) (sym c.has_key.ensures ∙ w.if-has_key.false))
-      ];
+      hashed = hashed_rest (g.E.Extract.hash_of c.args.keys.now (index_of c.args.self.now)) c.args.store.now (col_of c.args.self.now) _ c.in-Some.n _ step.rest c.loop-at.invariant.hashed;
+      counted = omega (arith, c.loop-at.invariant.counted, rest, count_hit (λ n. is_eq (side_of (λ a. g.E.Extract.probe_order_of c.args.keys.now (index_of c.args.self.now) a c.args.probe.now) c.args.store.now n)) c.in-Some.n (rest_of (column_of c.args.store.now) c.args.self.now c.link-link.result.b) (sym c.has_key.ensures ∙ c.if-has_key.true));
+    }
+
+pub loop-at-preserved : goal.loop-at-preserved
+loop-at-preserved g c =
+    let step = walk_step (column_of c.args.store.now) c.args.self.now c.loop-at.at c.in-Some.n c.link-link.result c.loop-at.invariant.ends c.in-Some.is c.link-link.ensures in
+    let rest = ap (λ l. count_by (λ n. is_eq (side_of (λ a. g.E.Extract.probe_order_of c.args.keys.now (index_of c.args.self.now) a c.args.probe.now) c.args.store.now n)) l) step.rest in
+    record {
+      ends = step.ends;
+      hashed = hashed_rest (g.E.Extract.hash_of c.args.keys.now (index_of c.args.self.now)) c.args.store.now (col_of c.args.self.now) _ c.in-Some.n _ step.rest c.loop-at.invariant.hashed;
+      counted = omega (arith, c.loop-at.invariant.counted, rest, count_miss (λ n. is_eq (side_of (λ a. g.E.Extract.probe_order_of c.args.keys.now (index_of c.args.self.now) a c.args.probe.now) c.args.store.now n)) c.in-Some.n (rest_of (column_of c.args.store.now) c.args.self.now c.link-link.result.b) (sym c.has_key.ensures ∙ c.if-has_key.false));
     }

@@ -1,14 +1,15 @@
 use Rattle.std.proofs.Common.{◌≡◌, ◌+◌, length}
 use Rattle.node_store.specs.ByNode.{column_of}
 use Rattle.list_model.specs.Place.{count_equal}
-use Rattle.hash_index.specs.Spelled.{spelled, index_of}
-use Rattle.hash_index.specs.Hashed.{side_of}
+use Rattle.hash_index.specs.Spelled.{spelled, col_of, index_of}
+use Rattle.hash_index.specs.Hashed.{IsHashed, side_of}
 use Rattle.hash_index.specs.Walks.{rest_of, Ends}
 use Rattle.hash_index.proofs.HashIndex.count.Given as goal
 
 abbrev pub invariant-loop-at : goal.invariant-loop-at
 invariant-loop-at g l = record {
   ends : Ends (column_of l.store) l.self l.at;
+  hashed : IsHashed (g.E.Extract.hash_of l.keys (index_of l.self)) l.store (col_of l.self) (rest_of (column_of l.store) l.self l.at);
   counted : l.count + count_equal (side_of (λ a. g.E.Extract.probe_order_of l.keys (index_of l.self) a l.probe) l.store) (rest_of (column_of l.store) l.self l.at)
       ≡ count_equal (side_of (λ a. g.E.Extract.probe_order_of l.keys (index_of l.self) a l.probe) l.store) (spelled (column_of l.store) l.self);
 }

@@ -6,7 +6,7 @@ use Rattle.hash_index.specs.Spelled.{col_of, index_of}
 use Rattle.hash_index.specs.Hashed.{side_of}
 use Rattle.hash_index.specs.Walks.{rest_of}
 use Rattle.std.specs.Prelude.{find}
-use Rattle.hash_index.proofs.Matching.{walk_node, walk_rest, walk_step, rest_none, find_hit, find_miss}
+use Rattle.hash_index.proofs.Matching.{walk_node, walk_rest, walk_step, rest_none, find_hit, find_miss, hashed_first, hashed_rest}
 use Rattle.hash_index.proofs.HashIndex.match_from.Goals as goal
 
 pub has_key-requires-clause-node : goal.has_key-requires-clause-node
@@ -19,14 +19,15 @@ returns-then-has_key g c =
 
 pub loop-at-smaller : goal.loop-at-smaller
 loop-at-smaller g c =
-    let step = walk_step (column_of c.args.store.now) c.args.self.now c.loop-at.at c.in-Some.n c.link-at.result c.loop-at.invariant.ends c.in-Some.is c.link-at.ensures in
+    let step = walk_step (column_of c.args.store.now) c.args.self.now c.loop-at.at c.in-Some.n c.link-link.result c.loop-at.invariant.ends c.in-Some.is c.link-link.ensures in
     omega (arith, ap length step.rest)
 
 pub loop-at-preserved : goal.loop-at-preserved
 loop-at-preserved g c =
-    let step = walk_step (column_of c.args.store.now) c.args.self.now c.loop-at.at c.in-Some.n c.link-at.result c.loop-at.invariant.ends c.in-Some.is c.link-at.ensures in
+    let step = walk_step (column_of c.args.store.now) c.args.self.now c.loop-at.at c.in-Some.n c.link-link.result c.loop-at.invariant.ends c.in-Some.is c.link-link.ensures in
     record {
       ends = step.ends;
+      hashed = hashed_rest (g.E.Extract.hash_of c.args.keys.now (index_of c.args.self.now)) c.args.store.now (col_of c.args.self.now) _ c.in-Some.n _ step.rest c.loop-at.invariant.hashed;
       same = sym (find_miss (λ n. is_eq (side_of (λ a. g.E.Extract.probe_order_of c.args.keys.now (index_of c.args.self.now) a c.args.probe.now) c.args.store.now n)) c.in-Some.n _ (sym c.has_key.ensures ∙ c.if-has_key.false)) ∙ (ap (λ l. find (λ n. is_eq (side_of (λ a. g.E.Extract.probe_order_of c.args.keys.now (index_of c.args.self.now) a c.args.probe.now) c.args.store.now n)) l) (sym step.rest) ∙ c.loop-at.invariant.same);
     }
 

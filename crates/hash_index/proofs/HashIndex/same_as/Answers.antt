@@ -6,7 +6,7 @@ use Rattle.hash_index.specs.Spelled.{col_of, index_of}
 use Rattle.hash_index.specs.Hashed.{side_of, others}
 use Rattle.hash_index.specs.Walks.{rest_of}
 use Rattle.std.specs.Prelude.{find}
-use Rattle.hash_index.proofs.Matching.{walk_node, walk_rest, walk_step, rest_none, others_in, others_hit, others_miss}
+use Rattle.hash_index.proofs.Matching.{walk_node, walk_rest, walk_step, rest_none, others_in, others_hit, others_miss, others_first, others_hashed}
 use Rattle.hash_index.proofs.HashIndex.same_as.Goals as goal
 
 pub is_other-requires-clause-node : goal.is_other-requires-clause-node
@@ -14,7 +14,7 @@ is_other-requires-clause-node g c = node_of_column c.args.store.now (col_of c.ar
 
 pub loop-at-smaller : goal.loop-at-smaller
 loop-at-smaller g c =
-    let step = walk_step (column_of c.args.store.now) c.args.self.now c.loop-at.at c.in-Some.n c.link-at.result c.loop-at.invariant.ends c.in-Some.is c.link-at.ensures in
+    let step = walk_step (column_of c.args.store.now) c.args.self.now c.loop-at.at c.in-Some.n c.link-link.result c.loop-at.invariant.ends c.in-Some.is c.link-link.ensures in
     omega (arith, ap length step.rest)
 
 pub loop-at-init : goal.loop-at-init
@@ -22,8 +22,10 @@ loop-at-init g c =
     let at = c.head-at.ensures (column_of c.args.store.now) c.requires.chain in
     record {
       ends = at.ends;
-      same = sym (others_in c.args.store.now c.args.self.now (g.E.Extract.hash_of c.args.keys.now (index_of c.args.self.now)) c.hash.result (λ a. g.E.Extract.order_of c.args.keys.now (index_of c.args.self.now) a c.args.r.now)
-          (λ a e. g.met.E.Extract.same_hash c.args.keys.now (index_of c.args.self.now) a c.args.r.now c.requires.has_key e ∙ sym c.hash.ensures) c.head-at.result at c.args.except c.requires.hashed);
+      hashed = others_hashed c.args.store.now c.args.self.now (g.E.Extract.hash_of c.args.keys.now (index_of c.args.self.now)) c.hash-hash.result (λ a. g.E.Extract.order_of c.args.keys.now (index_of c.args.self.now) a c.args.r.now)
+          (λ a e. g.met.E.Extract.same_hash c.args.keys.now (index_of c.args.self.now) a c.args.r.now c.requires.has_key e ∙ sym c.hash-hash.ensures) c.head-at.result at c.args.except c.requires.hashed;
+      same = sym (others_in c.args.store.now c.args.self.now (g.E.Extract.hash_of c.args.keys.now (index_of c.args.self.now)) c.hash-hash.result (λ a. g.E.Extract.order_of c.args.keys.now (index_of c.args.self.now) a c.args.r.now)
+          (λ a e. g.met.E.Extract.same_hash c.args.keys.now (index_of c.args.self.now) a c.args.r.now c.requires.has_key e ∙ sym c.hash-hash.ensures) c.head-at.result at c.args.except c.requires.hashed);
     }
 
 pub returns-then-is_other : goal.returns-then-is_other
@@ -34,10 +36,11 @@ returns-then-is_other g c =
 
 pub loop-at-preserved : goal.loop-at-preserved
 loop-at-preserved g c =
-    let step = walk_step (column_of c.args.store.now) c.args.self.now c.loop-at.at c.in-Some.n c.link-at.result c.loop-at.invariant.ends c.in-Some.is c.link-at.ensures in
+    let step = walk_step (column_of c.args.store.now) c.args.self.now c.loop-at.at c.in-Some.n c.link-link.result c.loop-at.invariant.ends c.in-Some.is c.link-link.ensures in
     record {
       ends = step.ends;
-      same = sym (others_miss (λ n. is_eq (side_of (λ a. g.E.Extract.order_of c.args.keys.now (index_of c.args.self.now) a c.args.r.now) c.args.store.now n)) c.args.except c.in-Some.n (rest_of (column_of c.args.store.now) c.args.self.now c.link-at.result.b) (sym c.is_other.ensures ∙ c.if-is_other.false))
+      hashed = (others_first (g.E.Extract.hash_of c.args.keys.now (index_of c.args.self.now)) c.args.store.now (col_of c.args.self.now) c.args.except _ c.in-Some.n _ step.rest c.loop-at.invariant.hashed).1;
+      same = sym (others_miss (λ n. is_eq (side_of (λ a. g.E.Extract.order_of c.args.keys.now (index_of c.args.self.now) a c.args.r.now) c.args.store.now n)) c.args.except c.in-Some.n (rest_of (column_of c.args.store.now) c.args.self.now c.link-link.result.b) (sym c.is_other.ensures ∙ c.if-is_other.false))
           ∙ (ap (λ l. find (λ n. is_eq (side_of (λ a. g.E.Extract.order_of c.args.keys.now (index_of c.args.self.now) a c.args.r.now) c.args.store.now n)) (others c.args.except l)) (sym step.rest) ∙ c.loop-at.invariant.same);
     }
 
