@@ -1,3 +1,4 @@
+pub mod Masks
 pub mod Untagged
 pub mod OneBucket
 pub mod Spelling

@@ -1,3 +1,4 @@
+pub mod Mask
 pub mod Chains
 pub mod Spelled
 pub mod Hashed

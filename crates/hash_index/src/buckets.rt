@@ -103,6 +103,6 @@ impl HashIndex {
         ensures is { result ≡ hash % vec_len self.now.buckets }
         ensures within { result < vec_len self.now.buckets }
     {
-        (hash % self.buckets.len() as u64) as usize
+        (hash & (self.buckets.len() as u64 - 1)) as usize
     }
 }

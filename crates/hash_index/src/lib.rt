@@ -11,6 +11,7 @@ ghost use Rattle.node_store.specs.Store.{IsNodeOf};
 ghost use Rattle.node_store.specs.Nodes.{Lacks};
 ghost use Rattle.node_store.specs.ByNode.{column_of, record_of, contents, same_node};
 ghost use Rattle.list_model.specs.Walk.{without};
+ghost use Rattle.hash_index.specs.Mask.{HasMask, HasMask_prop};
 
 mod buckets;
 mod chain;
@@ -24,7 +25,7 @@ use node_store::{Link, Node, NodeStore};
 use std::alloc::Global;
 
 /// Nodes in buckets by the hashes of their keys, at most one a bucket on average. The `tag` of a node's link is the
-/// hash that it was put in with.
+/// hash that it was put in with. The number of buckets is a power of two, or 0.
 #[derive(Drop)]
 pub struct HashIndex {
     alloc: Global,
@@ -33,6 +34,7 @@ pub struct HashIndex {
     buckets: Vec<Option<Node>>,
     len: usize,
     ghost col_exists: { col < 8 },
+    ghost masked: { HasMask (vec_len buckets) } by { HasMask_prop (vec_len buckets) },
 }
 
 impl HashIndex {
