@@ -6,10 +6,7 @@ import subprocess
 import sys
 import tempfile
 
-# (rt's own knowledge of a repository: which words a check of a crate takes)
-KIT = os.path.dirname(os.path.realpath(shutil.which("rt") or "/opt/rattle/bin/rt"))
-sys.path.insert(0, KIT)
-import rtlib  # noqa: E402
+from crate_builds import prove_all, rtlib
 
 FLAGS = ["--jobs", "1"]
 
@@ -22,11 +19,6 @@ def read(file):
 def write(file, text):
     with open(file, "w", encoding="utf-8") as it:
         it.write(text)
-
-
-def crates_of(top):
-    """The repository's crates by their names, lowest first."""
-    return {it.name: it for it in rtlib.crates_below(top)}
 
 
 def is_of_ci(crates):
@@ -47,9 +39,8 @@ def make_libraries(crates):
         below += [dep for dep in it.below() if dep not in below]
     if is_of_ci(below):
         return True
-    for it in below:
-        if it.build_rlib(["--jobs", str(len(os.sched_getaffinity(0)))], anew=False):
-            sys.exit(f"{it.name} is not proved, so no edit was tried")
+    if not prove_all(below):
+        sys.exit("a library is not proved, so no edit was tried")
     return False
 
 
