@@ -2,4 +2,5 @@ pub mod Texts
 pub mod Compact
 pub mod Sound
 pub mod Back
+pub mod OneLine
 pub mod Law

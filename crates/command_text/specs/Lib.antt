@@ -1,3 +1,4 @@
 pub mod Text
 pub mod Part
 pub mod Fits
+pub mod Line
