@@ -4,8 +4,6 @@
 mod command;
 mod copy;
 mod same;
-#[cfg(test)]
-mod tests;
 
 pub use command::{
     Changes, Command, Field, Fields, HandleText, Handles, Key, KeyBound, Names, Position, Value,
