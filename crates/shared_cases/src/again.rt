@@ -2,14 +2,14 @@
 
 use shared_tables::Journals;
 use std::alloc::{AllocError, Global};
-use table_engine::Engine;
+use table_engine::{Engine, Sink};
 use table_reply::Out;
 use table_schema::Schema;
 
 /// The text of the journals.
 pub fn text_of(alloc: Global, journals: &Journals) -> Result<Vec<u8>, AllocError> {
     let mut text = Vec::new(alloc);
-    match journals.write(&mut text) {
+    match journals.write(&mut Sink::new(&mut text)) {
         Ok(()) => Ok(text),
         Err(_) => Err(AllocError),
     }

@@ -1,9 +1,10 @@
 //! Writers that take only so many bytes.
 
-use shared_tables::{Journals, WriteFault};
+use shared_tables::Journals;
 use std::alloc::{AllocError, Global};
 use std::io;
 use std::io::Write;
+use table_engine::{Sink, StreamFault};
 
 // A writer that takes so many bytes, at most seven at a time, and then no more.
 #[derive(Drop)]
@@ -36,9 +37,9 @@ fn is_front(
         room,
         taken: Vec::new(alloc),
     };
-    let written = journals.write(&mut narrow);
+    let written = journals.write(&mut Sink::new(&mut narrow));
     let is_told = if room < text.len() {
-        written == Err(WriteFault::Write)
+        written == Err(StreamFault::Write)
     } else {
         written.is_ok()
     };

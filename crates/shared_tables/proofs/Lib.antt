@@ -9,3 +9,5 @@ pub mod Passes
 pub mod Tables
 pub mod Fresh
 pub mod Lines
+pub mod Shapes
+pub mod Again

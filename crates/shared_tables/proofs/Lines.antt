@@ -1,21 +1,22 @@
 -- What a writer holds after some lines of several.
 use Rattle.std.proofs.Common.{◌≡◌, ℕ, ◌+◌, ◌<◌, ◌≤◌, List, [], ◌∷◌, ◌++◌, length, map, take, drop, get_or, refl, sym, ap, subst, ◌∙◌, append_assoc, append-nil, take-append-drop}
-use Rattle.std.specs.Prelude.{OnErr, Option, Result, Ok, Err}
+use Rattle.std.specs.Prelude.{Option}
 use Rattle.std.specs.List.{flat_map}
 use Rattle.std.specs.Io.KnownBytes.{Appends}
 use Rattle.std.proofs.KnownBytes.{Appends-nil, Appends-trans}
 use Rattle.std.proofs.lemmas.Grind.{flat_map-append}
-use Rattle.std.proofs.lemmas.List.{drop_more, take_all, take_more}
-use Rattle.shared_tables.specs.Text.{AppendsFront}
+use Rattle.std.proofs.lemmas.List.{drop_more, map-append, take_all, take_more}
+use Rattle.table_engine.specs.Devices.{AppendsFront}
+use Rattle.shared_tables.specs.Journal.{EntryData}
+use Rattle.shared_tables.specs.Text.{AppendsEntries, entries_in, entry_line, journal_text}
 
 -- nothing is written yet
 pub front_nothing : (known : Option (List ℕ)) (text : List ℕ) → AppendsFront known known text
-front_nothing known text = ([], text, refl, Appends-nil known)
+front_nothing known text = ([], (text, refl), Appends-nil known)
 
--- what holds at any fault
-pub at_fault : {T E X : Type 0} (r : Result T E) → X → OnErr r X
-at_fault (Ok x) p = tt
-at_fault (Err e) p = p
+-- the first ones, one, and those after it
+split_at_one : {A : Type 0} (xs : List A) (k : ℕ) (x : A) → k < length xs → x ≡ get_or xs k x → take k xs ++ x ∷ drop (k + 1) xs ≡ xs
+split_at_one xs k x h is = ap (λ ys. take k xs ++ ys) (ap (λ y. y ∷ drop (k + 1) xs) is ∙ sym (drop_more xs k x h)) ∙ take-append-drop k xs
 
 module _ {A : Type 0} (line : A → List ℕ) where
   -- the first lines and one more
@@ -32,16 +33,16 @@ module _ {A : Type 0} (line : A → List ℕ) where
       → Appends old mid (flat_map line (take k xs)) → AppendsFront mid new (line x) → AppendsFront old new (flat_map line xs)
   lines_front old mid new xs k x h is first one =
       let done = flat_map line (take k xs) in
-      let later = flat_map line (drop (k + 1) xs) in
-      let split : take k xs ++ x ∷ drop (k + 1) xs ≡ xs =
-      ap (λ ys. take k xs ++ ys) (ap (λ y. y ∷ drop (k + 1) xs) is ∙ sym (drop_more xs k x h)) ∙ take-append-drop k xs in (
+      let later = flat_map line (drop (k + 1) xs) in (
         done ++ one.0,
-        one.1 ++ later,
-        append_assoc done one.0 (one.1 ++ later)
-            ∙ ap (λ t. done ++ t) (sym (append_assoc one.0 one.1 later) ∙ ap (λ t. t ++ later) one.2)
-            ∙ sym (flat_map-append line (take k xs) (x ∷ drop (k + 1) xs))
-            ∙ ap (flat_map line) split,
-        Appends-trans old mid new done one.0 first one.3,
+        (
+          one.1.0 ++ later,
+          append_assoc done one.0 (one.1.0 ++ later)
+              ∙ ap (λ t. done ++ t) (sym (append_assoc one.0 one.1.0 later) ∙ ap (λ t. t ++ later) one.1.1)
+              ∙ sym (flat_map-append line (take k xs) (x ∷ drop (k + 1) xs))
+              ∙ ap (flat_map line) (split_at_one xs k x h is),
+        ),
+        Appends-trans old mid new done one.0 first one.2,
       )
 
   -- all of them
@@ -52,3 +53,34 @@ module _ {A : Type 0} (line : A → List ℕ) where
 pub lines_shown : {A B : Type 0} (line : B → List ℕ) (shown : A → B) (xs : List A) → flat_map (λ x. line (shown x)) xs ≡ flat_map line (map shown xs)
 lines_shown line shown [] = refl
 lines_shown line shown (x ∷ xs) = ap (λ t. line (shown x) ++ t) (lines_shown line shown xs)
+
+-- the lines of the entries before one for which there is no room
+pub entries_before : (old mid new : Option (List ℕ)) (entries : List EntryData) (k : ℕ) (e : EntryData) → k < length entries → e ≡ get_or entries k e
+    → Appends old mid (journal_text (take k entries)) → new ≡ mid → AppendsEntries old new entries
+entries_before old mid new entries k e h is first same =
+    (take k entries, e, drop (k + 1) entries, split_at_one entries k e h is, subst (λ known. Appends old known (journal_text (take k entries))) (sym same) first)
+
+-- the same of the first journals and of one more
+module _ {A : Type 0} (shown : A → List EntryData) where
+  joined_lines : (xs : List A) → flat_map (λ x. journal_text (shown x)) xs ≡ journal_text (entries_in (map shown xs))
+  joined_lines [] = refl
+  joined_lines (x ∷ xs) = ap (λ t. journal_text (shown x) ++ t) (joined_lines xs) ∙ sym (flat_map-append entry_line (shown x) (entries_in (map shown xs)))
+
+  pub journals_before : (old mid new : Option (List ℕ)) (xs : List A) (k : ℕ) (x : A) → k < length xs → x ≡ get_or xs k x
+      → Appends old mid (flat_map (λ y. journal_text (shown y)) (take k xs)) → AppendsEntries mid new (shown x) → AppendsEntries old new (entries_in (map shown xs))
+  journals_before old mid new xs k x h is first one =
+      let rest = drop (k + 1) xs in
+      let done = entries_in (map shown (take k xs)) in
+      let later = entries_in (map shown rest) in
+      let all : entries_in (map shown (take k xs ++ x ∷ rest)) ≡ done ++ (shown x ++ later) =
+      ap entries_in (map-append shown (take k xs) (x ∷ rest)) ∙ flat_map-append (λ entries. entries) (map shown (take k xs)) (map shown (x ∷ rest)) in (
+        done ++ one.0,
+        one.1,
+        one.2 ++ later,
+        append_assoc done one.0 (one.1 ∷ one.2 ++ later)
+            ∙ ap (λ es. done ++ es) (sym (append_assoc one.0 (one.1 ∷ one.2) later) ∙ ap (λ es. es ++ later) one.3)
+            ∙ sym all
+            ∙ ap (λ ys. entries_in (map shown ys)) (split_at_one xs k x h is),
+        subst (λ t. Appends old new t) (sym (flat_map-append entry_line done one.0))
+            (Appends-trans old mid new (journal_text done) (journal_text one.0) (subst (λ t. Appends old mid t) (joined_lines (take k xs)) first) one.4),
+      )

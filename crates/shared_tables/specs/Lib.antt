@@ -7,3 +7,4 @@ pub mod Gathered
 pub mod Journals
 pub mod Holders
 pub mod Text
+pub mod Again

@@ -1,5 +1,5 @@
 -- The text of journals: the commands, each on a line.
-use Rattle.std.specs.Prelude.{◌≡◌, ℕ, List, ◌++◌, codes, Option}
+use Rattle.std.specs.Prelude.{◌≡◌, ℕ, List, ◌++◌, ◌∷◌, codes, Option}
 use Rattle.std.specs.List.{flat_map}
 use Rattle.std.specs.Io.KnownBytes.{Appends}
 use Rattle.command_text.specs.Text.{command_text}
@@ -17,6 +17,11 @@ journal_text journal = flat_map entry_line journal
 abbrev pub journals_text : List (List EntryData) → List ℕ
 journals_text journals = flat_map journal_text journals
 
--- what a writer holds, where it is known, grows by a front of the text
-abbrev pub AppendsFront : Option (List ℕ) → Option (List ℕ) → List ℕ → Type 0
-AppendsFront old new text = (front : List ℕ) × (rest : List ℕ) × (front ++ rest ≡ text) × Appends old new front
+-- all entries, table after table
+abbrev pub entries_in : List (List EntryData) → List EntryData
+entries_in journals = flat_map (λ journal. journal) journals
+
+-- what a writer holds, where it is known, grows by the whole lines of the entries before one of these
+abbrev pub AppendsEntries : Option (List ℕ) → Option (List ℕ) → List EntryData → Type 0
+AppendsEntries old new entries =
+    (before : List EntryData) × (next : EntryData) × (after : List EntryData) × (before ++ next ∷ after ≡ entries) × Appends old new (journal_text before)

@@ -24,14 +24,3 @@ pub enum GatherWhy {
     /// session here fit no table.
     Mismatch { table: usize, session: u32 },
 }
-
-/// Why journals were not written to their end.
-#[derive(Clone, Copy, Debug, PartialEq, Eq, Error)]
-pub enum WriteFault {
-    /// A write failed, or took no byte.
-    #[error("a write failed")]
-    Write,
-    /// There was no room for a line.
-    #[error("out of memory")]
-    Memory,
-}

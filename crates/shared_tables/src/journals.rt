@@ -1,14 +1,15 @@
 //! The journals of all tables.
 
-ghost use Rattle.std.specs.Prelude.{◌≡◌, OnErr, OnOk, map};
+ghost use Rattle.std.specs.Prelude.{◌≡◌, Err, OnErr, OnOk, map};
 ghost use Rattle.std.specs.Io.KnownBytes.{Appends};
-ghost use Rattle.shared_tables.specs.Text.{AppendsFront, journals_text};
+ghost use Rattle.table_engine.specs.Devices.{AppendsFront, failures_after_stream};
+ghost use Rattle.shared_tables.specs.Text.{AppendsEntries, entries_in, journals_text};
 
 use crate::entry::Entry;
-use crate::fault::WriteFault;
 use crate::write::write_journals;
 use std::io::Write;
 use std::marker::Model;
+use table_engine::{Sink, StreamFault};
 use table_reply::Out;
 use table_schema::Schema;
 
@@ -46,13 +47,17 @@ impl Journals {
     /// Writes the canonical text of each entry's command and a newline, table after table in the order of the schema, each
     /// journal in its order. Run on empty tables of the schema, these lines make the tables that the journals tell of.
     ///
-    /// Each line is written by itself, and the writer is not flushed. `Write`: a write failed or took no byte; `Memory`: there
-    /// was no room for a line. After both a front of the text is written. O(length of the text).
-    pub fn write<W: Write>(&self, writer: &mut W) -> Result<(), WriteFault>
-        ensures written { OnOk result (Appends (W.contents writer.old) (W.contents writer.new) (journals_text self.now.tables)) }
-        ensures front { OnErr result (AppendsFront (W.contents writer.old) (W.contents writer.new) (journals_text self.now.tables)) }
+    /// Each line is written by itself, and the writer is not flushed. `Write`: a write failed or took no byte, and a front of
+    /// the text is written. `Memory`: there was no room for a line, and the lines before it are written. `Read` is never
+    /// answered. O(length of the text).
+    pub fn write<W: Write>(&self, sink: &mut Sink<W>) -> Result<(), StreamFault>
+        ensures written { OnOk result (Appends (W.contents sink.old.inner) (W.contents sink.new.inner) (journals_text self.now.tables)) }
+        ensures front { OnErr result (AppendsFront (W.contents sink.old.inner) (W.contents sink.new.inner) (journals_text self.now.tables)) }
+        ensures no_read { result ≡ Err StreamFault.Read → ⊥ }
+        ensures write_cause { sink.new.failures ≡ failures_after_stream result sink.old.failures }
+        ensures memory { result ≡ Err StreamFault.Memory → AppendsEntries (W.contents sink.old.inner) (W.contents sink.new.inner) (entries_in self.now.tables) }
     {
         let mut line = Out::new(*self.tables.allocator());
-        write_journals(&self.tables, &mut line, writer)
+        write_journals(&self.tables, &mut line, sink)
     }
 }

@@ -9,6 +9,7 @@ mod fault;
 mod gathering;
 mod holder;
 mod journals;
+mod law;
 mod line;
 mod pass;
 mod same;
@@ -18,8 +19,9 @@ mod write;
 
 pub use cell::TableCell;
 pub use entry::Entry;
-pub use fault::{CallFault, GatherWhy, WriteFault};
+pub use fault::{CallFault, GatherWhy};
 pub use gathering::{GatherFault, gather};
 pub use journals::Journals;
+pub use law::journals_run_again;
 pub use pass::Pass;
 pub use shared::{Gate, OpenGate, Shared};

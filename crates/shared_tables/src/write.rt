@@ -1,38 +1,15 @@
 //! Writes journals.
 
-ghost use Rattle.std.specs.Prelude.{◌≡◌, OnErr, OnOk, IfErr, map};
+ghost use Rattle.std.specs.Prelude.{◌≡◌, Err, OnErr, OnOk, map};
 ghost use Rattle.std.specs.Io.KnownBytes.{Appends};
-ghost use Rattle.shared_tables.specs.Text.{AppendsFront, entry_line, journal_text, journals_text};
+ghost use Rattle.table_engine.specs.Devices.{AppendsFront, failures_after_stream};
+ghost use Rattle.shared_tables.specs.Text.{AppendsEntries, entries_in, entry_line, journal_text, journals_text};
 
 use crate::entry::Entry;
-use crate::fault::WriteFault;
 use command_text::write_command;
-use std::io::{ErrorKind, Write};
+use std::io::Write;
+use table_engine::{Sink, StreamFault};
 use table_reply::{Out, OutOfRoom};
-
-// Writes bytes; at a fault, a front of them. An interrupted write is made again.
-fn write_bytes<W: Write>(bytes: &[u8], writer: &mut W) -> Result<(), WriteFault>
-    ensures written { OnOk result (Appends (W.contents writer.old) (W.contents writer.new) bytes.now) }
-    ensures front { OnErr result (AppendsFront (W.contents writer.old) (W.contents writer.new) bytes.now) }
-    ensures fault { IfErr result (λ fault. fault ≡ WriteFault.Write) }
-{
-    let mut rest = bytes;
-    for _ in 0..u64::MAX {
-        if rest.is_empty() {
-            return Ok(());
-        }
-        match writer.write(rest) {
-            Ok(0) => return Err(WriteFault::Write),
-            Ok(taken) => {
-                let (_, after) = rest.split_at(taken);
-                rest = after;
-            }
-            Err(error) if error.kind() == ErrorKind::Interrupted => {}
-            Err(_) => return Err(WriteFault::Write),
-        }
-    }
-    Err(WriteFault::Write)
-}
 
 // Puts the line of an entry into the buffer, in place of what stands there.
 fn set_line(entry: &Entry, line: &mut Out) -> Result<(), OutOfRoom>
@@ -44,27 +21,43 @@ fn set_line(entry: &Entry, line: &mut Out) -> Result<(), OutOfRoom>
 }
 
 // Writes the line of an entry.
-fn write_entry<W: Write>(entry: &Entry, line: &mut Out, writer: &mut W) -> Result<(), WriteFault>
-    ensures written { OnOk result (Appends (W.contents writer.old) (W.contents writer.new) (entry_line entry.now)) }
-    ensures front { OnErr result (AppendsFront (W.contents writer.old) (W.contents writer.new) (entry_line entry.now)) }
+fn write_entry<W: Write>(
+    entry: &Entry,
+    line: &mut Out,
+    sink: &mut Sink<W>,
+) -> Result<(), StreamFault>
+    ensures written { OnOk result (Appends (W.contents sink.old.inner) (W.contents sink.new.inner) (entry_line entry.now)) }
+    ensures front { OnErr result (AppendsFront (W.contents sink.old.inner) (W.contents sink.new.inner) (entry_line entry.now)) }
+    ensures no_read { result ≡ Err StreamFault.Read → ⊥ }
+    ensures write_cause { sink.new.failures ≡ failures_after_stream result sink.old.failures }
+    ensures memory { result ≡ Err StreamFault.Memory → sink.new ≡ sink.old }
 {
     if set_line(entry, line).is_err() {
-        return Err(WriteFault::Memory);
+        return Err(StreamFault::Memory);
     }
-    write_bytes(line.bytes(), writer)
+    if sink.write_all(line.bytes()).is_err() {
+        return Err(StreamFault::Write);
+    }
+    Ok(())
 }
 
 // Writes the lines of a journal.
 fn write_journal<W: Write>(
     journal: &[Entry],
     line: &mut Out,
-    writer: &mut W,
-) -> Result<(), WriteFault>
-    ensures written { OnOk result (Appends (W.contents writer.old) (W.contents writer.new) (journal_text journal.now)) }
-    ensures front { OnErr result (AppendsFront (W.contents writer.old) (W.contents writer.new) (journal_text journal.now)) }
+    sink: &mut Sink<W>,
+) -> Result<(), StreamFault>
+    ensures written { OnOk result (Appends (W.contents sink.old.inner) (W.contents sink.new.inner) (journal_text journal.now)) }
+    ensures front { OnErr result (AppendsFront (W.contents sink.old.inner) (W.contents sink.new.inner) (journal_text journal.now)) }
+    ensures no_read { result ≡ Err StreamFault.Read → ⊥ }
+    ensures write_cause { sink.new.failures ≡ failures_after_stream result sink.old.failures }
+    ensures memory { result ≡ Err StreamFault.Memory → AppendsEntries (W.contents sink.old.inner) (W.contents sink.new.inner) journal.now }
 {
     for entry in journal {
-        write_entry(entry, line, writer)?;
+        match write_entry(entry, line, sink) {
+            Ok(()) => {}
+            Err(fault) => return Err(fault),
+        }
     }
     Ok(())
 }
@@ -73,13 +66,19 @@ fn write_journal<W: Write>(
 pub(crate) fn write_journals<W: Write>(
     journals: &[Vec<Entry>],
     line: &mut Out,
-    writer: &mut W,
-) -> Result<(), WriteFault>
-    ensures written { OnOk result (Appends (W.contents writer.old) (W.contents writer.new) (journals_text (map (λ entries. entries.items) journals.now))) }
-    ensures front { OnErr result (AppendsFront (W.contents writer.old) (W.contents writer.new) (journals_text (map (λ entries. entries.items) journals.now))) }
+    sink: &mut Sink<W>,
+) -> Result<(), StreamFault>
+    ensures written { OnOk result (Appends (W.contents sink.old.inner) (W.contents sink.new.inner) (journals_text (map (λ entries. entries.items) journals.now))) }
+    ensures front { OnErr result (AppendsFront (W.contents sink.old.inner) (W.contents sink.new.inner) (journals_text (map (λ entries. entries.items) journals.now))) }
+    ensures no_read { result ≡ Err StreamFault.Read → ⊥ }
+    ensures write_cause { sink.new.failures ≡ failures_after_stream result sink.old.failures }
+    ensures memory { result ≡ Err StreamFault.Memory → AppendsEntries (W.contents sink.old.inner) (W.contents sink.new.inner) (entries_in (map (λ entries. entries.items) journals.now)) }
 {
     for journal in journals {
-        write_journal(journal, line, writer)?;
+        match write_journal(journal, line, sink) {
+            Ok(()) => {}
+            Err(fault) => return Err(fault),
+        }
     }
     Ok(())
 }

@@ -1,18 +1,28 @@
+use Rattle.std.proofs.Common.{ap, ◌∙◌}
 use Rattle.shared_tables.specs.Text.{entry_line}
-use Rattle.shared_tables.proofs.Lines.{at_fault, lines_front, lines_more}
+use Rattle.shared_tables.proofs.Lines.{entries_before, lines_front, lines_more}
 use Rattle.shared_tables.proofs.write.write_journal.Goals as goal
 
-pub returns-in_err-write_entry-clause-front : goal.returns-in_err-write_entry-clause-front
-returns-in_err-write_entry-clause-front g c =
+pub returns-in-Err-clause-front : goal.returns-in-Err-clause-front
+returns-in-Err-clause-front g c =
     let contents = g.W.Write.contents in
-    at_fault c.from_residual.result
-    (lines_front entry_line (contents c.args.writer.now) (contents c.loop-entry.writer) (contents c.write_entry.new.writer)
+    lines_front entry_line (contents c.args.sink.now.inner) (contents c.loop-entry.sink.inner) (contents c.write_entry.new.sink.inner)
     c.args.journal.now c.loop-entry.entry-index c.entry-item.result c.loop-entry-test.true c.entry-item.is
-    c.loop-entry.invariant c.in_err-write_entry.ensures.front)
+    c.loop-entry.invariant.written c.in-Err.ensures.front
+
+pub returns-in-Err-clause-memory : goal.returns-in-Err-clause-memory
+returns-in-Err-clause-memory g c = λ e.
+    let contents = g.W.Write.contents in
+    entries_before (contents c.args.sink.now.inner) (contents c.loop-entry.sink.inner) (contents c.write_entry.new.sink.inner)
+    c.args.journal.now c.loop-entry.entry-index c.entry-item.result c.loop-entry-test.true c.entry-item.is
+    c.loop-entry.invariant.written (ap (λ s. contents s.inner) (c.in-Err.ensures.memory e))
 
 pub loop-entry-preserved : goal.loop-entry-preserved
 loop-entry-preserved g c =
     let contents = g.W.Write.contents in
-    lines_more entry_line (contents c.args.writer.now) (contents c.loop-entry.writer) (contents c.write_entry.new.writer)
-    c.args.journal.now c.loop-entry.entry-index c.entry-item.result c.loop-entry-test.true c.entry-item.is
-    c.loop-entry.invariant c.in_ok-write_entry.ensures.written
+    record {
+      written = lines_more entry_line (contents c.args.sink.now.inner) (contents c.loop-entry.sink.inner) (contents c.write_entry.new.sink.inner)
+          c.args.journal.now c.loop-entry.entry-index c.entry-item.result c.loop-entry-test.true c.entry-item.is
+          c.loop-entry.invariant.written c.in-Ok.ensures.written;
+      failures = c.in-Ok.ensures.write_cause ∙ c.loop-entry.invariant.failures;
+    }
