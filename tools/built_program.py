@@ -1,13 +1,13 @@
-"""Where the built program lies."""
+"""Where the built programs lie."""
 import os
 import sys
 
 TOP = os.path.join(os.path.dirname(os.path.abspath(__file__)), "..")
-PROGRAM = f"{TOP}/crates/table_server/out/table_server"
 
 
-def built_program():
+def built_program(name="table_server"):
     """The path of the program that `tools/prove`, `rt run` or `rt ci` left; where there is none, ends the tool with a sentence."""
-    if not os.path.isfile(PROGRAM):
-        sys.exit("there is no built program: `tools/prove` proves it and makes it, and so does `rt ci`")
-    return PROGRAM
+    path = f"{TOP}/crates/{name}/out/{name}"
+    if not os.path.isfile(path):
+        sys.exit(f"there is no built program: `tools/prove {name}` proves it and makes it, and so does `rt ci`")
+    return path
