@@ -229,6 +229,8 @@ def sweep(program, judged, on):
         refused, wrong = refused + was_refused, wrong + (why is not None)
         if why and wrong <= 5:
             print(f"{' '.join(program.words)}: allocation {at} {'and all later ones ' * on}refused: {why}")
+    words = " ".join(map(os.path.basename, program.words)) or "no words"
+    print(f"{words}: {refused} allocations refused{', each with all later ones' * on}", flush=True)
     return refused, wrong
 
 
