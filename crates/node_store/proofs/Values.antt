@@ -41,4 +41,6 @@ module _ {M : Type 1} {𝓤 : Ura M} {𝓛 : Logic 𝓤} {K : Type 0} {Γ : List
   mark_had t E vs k = pure_l t ((Mark E).own_val (tt, tt) vs) (λ s. k (s.1.0 ∙ ap (λ (ws : List Val). vstruct (of_list (ws ++ [])) ∷ []) s.1.1.0.1.0))
 
   pub mark_made : K → (E : Bx) → Step K 𝓛 (‵ ((Mark E).own_val (tt, tt) (empty_val ∷ [])) ∷ Γ) G Γ G
-  mark_made t E = pure_i t ((Mark E).own_val (tt, tt) (empty_val ∷ [])) (λ vss. (tt, ((λ uss. (tt, tt)), tt))) ((vstruct vnil ∷ [], tt), (refl, ((tt, (refl, tt)), tt)))
+  mark_made t E =
+      let field : List Val = vstruct vnil ∷ [] in
+      pure_i t ((Mark E).own_val (tt, tt) (empty_val ∷ [])) (λ x. search) ((field, tt), search)
