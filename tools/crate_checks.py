@@ -101,7 +101,7 @@ class Copy:
     """A copy of one crate, checked over what the check of the crate as it is kept."""
 
     def __init__(self, crate, folder, is_of_ci):
-        self.name, self.crate, self.folder = crate.name, crate, folder
+        self.name, self.crate, self.folder, self.is_of_ci = crate.name, crate, folder, is_of_ci
         self.seconds, self.checks = 0.0, 0
         self.kept = f"{folder}/kept"
         os.makedirs(f"{folder}/crate")
@@ -121,23 +121,18 @@ class Copy:
             shutil.rmtree(to, ignore_errors=True)
             shutil.copytree(was, to)
 
-    def check_as_it_is(self):
-        """Checks the crate itself, and keeps the work for the checks of its edits."""
-        return self.run(["--incremental", self.kept])
-
-    def check(self, texts, only=()):
-        """Checks the crate with these texts in place of its own: the named functions alone, or all."""
-        work = f"{self.folder}/work"
-        self.link(self.kept, work)
-        flags = [word for it in only for word in ("--only", it)]
+    def check(self, texts, flags=()):
+        """Checks the crate with these texts in place of its own, and keeps the work for the next check."""
         for file, text in texts.items():
             write(f"{self.folder}/crate/{file}", text)
-        # Past a callee that is refused, its caller is judged by the callee's contract.
-        said = self.run(["--incremental", work, *flags, *(["--allow-holes"] if only else [])])
+        said = self.run(["--incremental", self.kept, *flags])
         for file in texts:
             shutil.copyfile(f"{self.crate.folder}/{file}", f"{self.folder}/crate/{file}")
-        shutil.rmtree(work)
         return said
+
+    def check_some(self, texts, only):
+        """Checks the named functions alone. (Past a callee that is refused, its caller is judged by the callee's contract.)"""
+        return self.check(texts, [*(word for it in only for word in ("--only", it)), "--allow-holes"])
 
     def run(self, flags):
         words = ["nice", rtlib.RATTLE, "check", *self.crate.words(FLAGS, keeps=False), *flags]
