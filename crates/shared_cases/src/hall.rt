@@ -1,18 +1,17 @@
 //! Tables under names, and passes.
-ghost use Rattle.std.specs.Prelude.{◌≤◌, IfOk};
 
-use crate::again::answer_after;
+use crate::again::{answer_after, text_of};
+use crate::narrow::takes_fronts;
 use crate::report::Report;
+use crate::sending::{Holder, call_line, in_four, step_lines};
 use crate::threads::tell_threads;
-use crate::told::{tell_fault, tell_journals, tell_why};
+use crate::told::{tell_journals, tell_whether, tell_why};
 use crate::words::first_word;
-use command_lines::read_command;
 use schema_file::read_schema;
-use shared_tables::{CallFault, GatherFault, Journals, OpenGate, Pass, Shared, gather};
+use shared_tables::{GatherFault, Journals, OpenGate, Pass, Shared, gather};
 use std::alloc::{AllocError, Global};
 use std::sync::Wait;
 use std::thread::Threads;
-use table_reply::{Out, READY_ROOM};
 use table_schema::{Schema, SchemaFault, builtin};
 
 // The most passes that are gathered.
@@ -24,12 +23,6 @@ struct Set {
     name: Vec<u8>,
     shared: Option<Shared<OpenGate>>,
     journals: Option<Journals>,
-}
-
-#[derive(Drop)]
-struct Holder {
-    name: Vec<u8>,
-    pass: Pass,
 }
 
 /// Tables under names, and passes under theirs.
@@ -47,22 +40,11 @@ fn passes_of(alloc: Global, holders: Vec<Holder>) -> Result<(Vec<Vec<u8>>, Vec<P
     let mut names = Vec::new(alloc);
     let mut passes = Vec::new(alloc);
     for holder in holders {
-        let Holder { name, pass } = holder;
+        let Holder { name, pass, .. } = holder;
         names.push(name)?;
         passes.push(pass)?;
     }
     Ok((names, passes))
-}
-
-// A buffer with room for an answer.
-fn ready_out(alloc: Global) -> Result<Out, AllocError>
-    ensures { IfOk result (λ out. READY_ROOM ≤ out.room) }
-{
-    let mut out = Out::new(alloc);
-    match out.ready() {
-        Ok(()) => Ok(out),
-        Err(_) => Err(AllocError),
-    }
 }
 
 // How many sessions a digit says.
@@ -70,37 +52,6 @@ fn sessions_of(word: &[u8]) -> u32 {
     match word {
         [digit @ b'1'..=b'9'] => u32::from(*digit - b'0'),
         _ => 1,
-    }
-}
-
-// Calls the tables with the command of a line. (It is read last, so that nothing has to let go of it.)
-fn call_line(
-    alloc: Global,
-    rt: &impl Wait,
-    shared: &Shared<OpenGate>,
-    pass: &mut Pass,
-    line: &[u8],
-    report: &mut Report,
-) -> Result<(), AllocError> {
-    let mut out = ready_out(alloc)?;
-    let Ok(command) = read_command(alloc, line) else {
-        return report.text("  no command\n");
-    };
-    let called = shared.call(rt, pass, command, &mut out);
-    tell_call(called, &out, report)
-}
-
-fn tell_call(
-    called: Result<(), CallFault>,
-    out: &Out,
-    report: &mut Report,
-) -> Result<(), AllocError> {
-    match called {
-        Ok(()) => {
-            report.text("  ")?;
-            report.push(out.bytes())
-        }
-        Err(fault) => tell_fault(fault, report),
     }
 }
 
@@ -126,9 +77,13 @@ impl Hall {
         if !self.has_schema {
             return self.take_schema(line);
         }
+        let (verb, rest) = first_word(line);
+        if verb == b"later".as_slice() {
+            return self.keep_line(rest, report);
+        }
         report.push(line)?;
         report.text("\n")?;
-        self.carry_out(rt, line, report)
+        self.carry_out(rt, verb, rest, report)
     }
 
     fn take_schema(&mut self, line: &[u8]) -> Result<(), AllocError> {
@@ -148,10 +103,10 @@ impl Hall {
     fn carry_out<R: Threads + Wait + Sync>(
         &mut self,
         rt: &R,
-        line: &[u8],
+        verb: &[u8],
+        rest: &[u8],
         report: &mut Report,
     ) -> Result<(), AllocError> {
-        let (verb, rest) = first_word(line);
         let (set, rest) = first_word(rest);
         if verb == b"open".as_slice() {
             let schema = self.schema().map_err(|_| AllocError)?;
@@ -162,6 +117,12 @@ impl Hall {
             self.gather(set, rest, report)
         } else if verb == b"again".as_slice() {
             self.again(set, rest, report)
+        } else if verb == b"narrow".as_slice() {
+            self.narrow(set, report)
+        } else if verb == b"join".as_slice() {
+            self.join(rt, set, rest, report)
+        } else if verb == b"alone".as_slice() {
+            self.alone(set, report)
         } else if verb == b"threads".as_slice() {
             let schema = self.schema().map_err(|_| AllocError)?;
             tell_threads(rt, self.alloc, schema, report)
@@ -181,7 +142,7 @@ impl Hall {
         for (digit, pass) in b"0123456789".iter().zip(passes) {
             let mut name = name.to_vec(alloc)?;
             name.push(*digit)?;
-            self.holders.push(Holder { name, pass })?;
+            self.holders.push(Holder::new(alloc, name, pass))?;
         }
         Ok(())
     }
@@ -216,6 +177,47 @@ impl Hall {
             return report.text("  no tables\n");
         };
         call_line(self.alloc, rt, shared, &mut holder.pass, line, report)
+    }
+
+    fn keep_line(&mut self, words: &[u8], report: &mut Report) -> Result<(), AllocError> {
+        let (pass, line) = first_word(words);
+        let holder = self.holder_of(pass);
+        let Some(holder) = self.holders.get_mut(holder) else {
+            return report.text("  no pass\n");
+        };
+        holder.kept.push(line.to_vec(self.alloc)?)?;
+        Ok(())
+    }
+
+    // Lets four threads send what was kept for the passes of these names.
+    fn join<R: Threads + Wait + Sync>(
+        &mut self,
+        rt: &R,
+        set: &[u8],
+        holders: &[u8],
+        report: &mut Report,
+    ) -> Result<(), AllocError> {
+        let holders = self.take_holders(holders)?;
+        let Some(shared) = self
+            .sets
+            .get(self.set_of(set))
+            .and_then(|set| set.shared.as_ref())
+        else {
+            return report.text("  no tables\n");
+        };
+        for sent in in_four(rt, self.alloc, shared, holders)? {
+            report.push(sent.told.bytes())?;
+            self.holders.push(sent.holder)?;
+        }
+        Ok(())
+    }
+
+    fn alone(&self, pass: &[u8], report: &mut Report) -> Result<(), AllocError> {
+        let schema = self.schema().map_err(|_| AllocError)?;
+        let Some(holder) = self.holders.get(self.holder_of(pass)) else {
+            return report.text("  no pass\n");
+        };
+        step_lines(self.alloc, &schema, &holder.kept, report)
     }
 
     // Takes the passes of these names out.
@@ -273,9 +275,19 @@ impl Hall {
             set.shared = Some(shared);
         }
         for (name, pass) in names.into_iter().zip(passes) {
-            self.holders.push(Holder { name, pass })?;
+            self.holders.push(Holder::new(self.alloc, name, pass))?;
         }
         tell_why(why, report)
+    }
+
+    fn narrow(&self, set: &[u8], report: &mut Report) -> Result<(), AllocError> {
+        let set = self.sets.get(self.set_of(set));
+        let Some(journals) = set.and_then(|set| set.journals.as_ref()) else {
+            return report.text("  no journals\n");
+        };
+        let text = text_of(self.alloc, journals)?;
+        let fronts = takes_fronts(self.alloc, journals, &text)?;
+        tell_whether("  narrow writers take fronts: ", fronts, report)
     }
 
     fn again(&self, set: &[u8], command: &[u8], report: &mut Report) -> Result<(), AllocError> {

@@ -21,6 +21,11 @@ impl Report {
         &self.bytes
     }
 
+    /// Leaves no bytes.
+    pub fn clear(&mut self) {
+        self.bytes.clear();
+    }
+
     /// Adds bytes.
     pub fn push(&mut self, bytes: &[u8]) -> Result<(), AllocError> {
         self.bytes.extend_from_slice(bytes)

@@ -1,11 +1,20 @@
 //! What is told of calls and of journals.
 
 use crate::again::{answers_again, answers_of, text_of};
-use crate::narrow::takes_fronts;
 use crate::report::Report;
+use command_lines::CommandFault;
 use shared_tables::{CallFault, Entry, GatherWhy, Journals};
 use std::alloc::{AllocError, Global};
 use table_schema::TableSpec;
+
+/// Adds the answer to a line that is no command.
+pub fn tell_unread(fault: CommandFault, report: &mut Report) -> Result<(), AllocError> {
+    report.text(match fault {
+        CommandFault::Json => "  {\"err\":\"json\"}\n",
+        CommandFault::Command => "  {\"err\":\"command\"}\n",
+        CommandFault::Memory => "  {\"err\":\"memory\"}\n",
+    })
+}
 
 /// Adds why a call was refused.
 pub fn tell_fault(fault: CallFault, report: &mut Report) -> Result<(), AllocError> {
@@ -58,13 +67,13 @@ fn tell_journal(
     Ok(())
 }
 
-fn tell_whether(what: &str, holds: bool, report: &mut Report) -> Result<(), AllocError> {
+/// Adds whether something holds.
+pub fn tell_whether(what: &str, holds: bool, report: &mut Report) -> Result<(), AllocError> {
     report.text(what)?;
     report.text(if holds { "yes\n" } else { "no\n" })
 }
 
-/// Adds the entries of the journals and their text, whether its lines are answered by empty tables as they were, and whether
-/// writers that are too narrow for it take fronts of it.
+/// Adds the entries of the journals and their text, and whether its lines are answered by empty tables as they were.
 pub fn tell_journals(
     alloc: Global,
     journals: &Journals,
@@ -73,10 +82,7 @@ pub fn tell_journals(
     for (table, journal) in journals.schema().tables().iter().zip(journals.tables()) {
         tell_journal(table, journal, report)?;
     }
-    let text = text_of(alloc, journals)?;
-    report.push(&text)?;
+    report.push(&text_of(alloc, journals)?)?;
     let same = answers_again(alloc, journals)? == answers_of(alloc, journals)?;
-    tell_whether("  answered again the same: ", same, report)?;
-    let fronts = takes_fronts(alloc, journals, &text)?;
-    tell_whether("  narrow writers take fronts: ", fronts, report)
+    tell_whether("  answered again the same: ", same, report)
 }
