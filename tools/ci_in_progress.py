@@ -32,6 +32,10 @@ class CiInProgress:
         proved = {*re.findall(r"(?m)^rt: (\S+) proved$", self.lines())}
         return all(it.name in proved for it in [crate, *crate.below()])
 
+    def functions(self, crate):
+        """The names of the crate's functions, each of which it has proved."""
+        return re.findall(rf"(?m)^fn ({crate.name}::\S+): proved", self.lines())
+
     def lanes(self, most):
         """How many checks may run beside it: while it runs, half of the cores, where the memory is there."""
         if not self.is_running():

@@ -39,6 +39,8 @@ pub fn is_small(a: u64) -> bool
 }
 """
 
+FUNCTIONS = ["planted::sum", "planted::twice", "planted::greater", "planted::is_small"]
+
 # An edit's name, what it changes to what, and the verdict with which it has to end, and how its reason begins.
 PLANTS = [
     ("a_sum_is_one_more", "u64::from(a) + u64::from(b)", "1 + u64::from(a) + u64::from(b)", "refused", "planted::sum: "),
