@@ -1,16 +1,14 @@
 //! Look-ups by a key.
 ghost use Rattle.std.specs.Prelude.{◌≡◌, IfSome, IsTrue, None};
-ghost use Rattle.std.specs.declared.cmp.Ordering.{Ordering};
 ghost use Rattle.std.specs.declared.cmp.Ordering.TheVariants.{Equal};
-ghost use Rattle.list_model.specs.Order.{IsInOrder};
 ghost use Rattle.hash_index.specs.Hashed.{IsHashed};
 ghost use Rattle.hash_index.specs.Spelled as hash;
-ghost use Rattle.ord_tree.specs.Spelled as ord;
+ghost use Rattle.ord_tree.specs.Stored as trees;
 ghost use Rattle.container_model.specs.State.{has_key_kind, is_ranked_kind, is_sorted_kind};
 ghost use Rattle.list_model.specs.Place.{below, not_above, count_equal, find_equal, lower as the_lower, upper as the_upper, find_rank as the_rank};
 ghost use Rattle.node_store.specs.ByNode.{column_of, record_of};
 ghost use Rattle.any_index.specs.Side.{AreNodesOf, equal_but};
-ghost use Rattle.any_index.specs.Side.{side_of, order_at};
+ghost use Rattle.any_index.specs.Side.{side_of};
 ghost use Rattle.any_index.specs.Spelled.{IsSound, Holds, list_of, kind_of, index_of, by_number};
 ghost use Rattle.any_index.specs.Earliest.{earlier as the_earlier};
 ghost use Rattle.any_index.specs.Keyed.{HasItsKey, Accepts, IsKeyed, IsKeyedExcept, HasOneOfEachKey};
@@ -228,11 +226,9 @@ fn run_length<R, E: Extract<R>>(
     keys: &E,
     probe: &E::Probe,
 ) -> u64
-    requires sound { ord.IsSound (column_of store.now) tree.now }
-    requires key { IsTrue (E.has_key keys.now (ord.index_of tree.now)) }
-    requires fits { IsTrue (E.does_fit keys.now (ord.index_of tree.now) probe.now) }
-    requires order { IsInOrder (order_at (record_of store.now) (E.order_of keys.now (ord.index_of tree.now))) (ord.spelled (column_of store.now) tree.now) }
-    ensures { result ≡ count_equal (side_of (record_of store.now) (λ a. E.probe_order_of keys.now (ord.index_of tree.now) a probe.now)) (ord.spelled (column_of store.now) tree.now) }
+    requires { trees.CanSearch E.Extract tree.now store.now keys.now probe.now }
+    ensures { result ≡ count_equal (trees.side_in E.Extract tree.now store.now keys.now probe.now)
+        (trees.nodes_of tree.now store.now) }
 {
     let end = tree.upper(store, keys, probe);
     let mut at = tree.lower(store, keys, probe);

@@ -1,9 +1,7 @@
 //! A thousand ids: each place and its node are found by few links, also once every second id has gone.
-ghost use Rattle.std.specs.Prelude.{◌≡◌, ◌+◌, ◌<◌, ◌≤◌, IsTrue, IfSome};
-ghost use Rattle.list_model.specs.Order.{IsInOrder};
-ghost use Rattle.node_store.specs.ByNode.{column_of, record_of};
-ghost use Rattle.ord_tree.specs.Side.{order_at};
-ghost use Rattle.rank_tree.specs.Spelled.{IsSound, spelled, index_of};
+ghost use Rattle.std.specs.Prelude.{◌≡◌, ◌+◌, ◌<◌, ◌≤◌, IfSome};
+ghost use Rattle.rank_tree.specs.Spelled.{index_of};
+ghost use Rattle.rank_tree.specs.Stored.{IsTreeOf, IsOrdered};
 
 use crate::rows::{keys, row};
 use key_extract::{Extract, Row};
@@ -19,13 +17,10 @@ fn insert_new<R: Drop, E: Extract<R>>(
     keys: &E,
     value: R,
 ) -> Option<()>
-    requires key { IsTrue (E.has_key keys.now (index_of tree.old)) }
-    requires sound { IsSound (column_of store.old) tree.old }
-    requires order { IsInOrder (order_at (record_of store.old) (E.order_of keys.now (index_of tree.old))) (spelled (column_of store.old) tree.old) }
+    requires ordered { IsOrdered E.Extract tree.old store.old keys.now }
     requires count { store.old.added < 1000 }
     ensures index { index_of tree.new ≡ index_of tree.old }
-    ensures sound { IsSound (column_of store.new) tree.new }
-    ensures order { IsInOrder (order_at (record_of store.new) (E.order_of keys.now (index_of tree.new))) (spelled (column_of store.new) tree.new) }
+    ensures ordered { IsOrdered E.Extract tree.new store.new keys.now }
     ensures count { store.new.added ≤ store.old.added + 1 }
 {
     let Ok(()) = tree.reserve_one(store) else {
@@ -45,13 +40,10 @@ pub(crate) fn fill<R: Drop, E: Extract<R>>(
     keys: &E,
     mut values: Vec<R>,
 ) -> Option<()>
-    requires key { IsTrue (E.has_key keys.now (index_of tree.old)) }
-    requires sound { IsSound (column_of store.old) tree.old }
-    requires order { IsInOrder (order_at (record_of store.old) (E.order_of keys.now (index_of tree.old))) (spelled (column_of store.old) tree.old) }
+    requires ordered { IsOrdered E.Extract tree.old store.old keys.now }
     requires count { store.old.added ≡ 0 }
     ensures index { index_of tree.new ≡ index_of tree.old }
-    ensures sound { IsSound (column_of store.new) tree.new }
-    ensures order { IsInOrder (order_at (record_of store.new) (E.order_of keys.now (index_of tree.new))) (spelled (column_of store.new) tree.new) }
+    ensures ordered { IsOrdered E.Extract tree.new store.new keys.now }
 {
     for _ in 0..1000u64 {
         let Some(value) = values.pop() else {
@@ -66,8 +58,8 @@ pub(crate) fn fill<R: Drop, E: Extract<R>>(
 
 // Takes the node after each of so many places out, as long as there is one.
 fn thin<R>(store: &mut NodeStore<R>, tree: &mut RankTree, places: u64)
-    requires sound { IsSound (column_of store.old) tree.old }
-    ensures sound { IsSound (column_of store.new) tree.new }
+    requires sound { IsTreeOf tree.old store.old }
+    ensures sound { IsTreeOf tree.new store.new }
 {
     for place in 0..places {
         let Some(n) = tree.nth(store, place + 1) else {
@@ -79,7 +71,7 @@ fn thin<R>(store: &mut NodeStore<R>, tree: &mut RankTree, places: u64)
 
 /// The node at a place, and how many links lead to it, where as many are said to lead back from it.
 pub(crate) fn links_to<R>(store: &NodeStore<R>, tree: &RankTree, place: u64) -> Option<(Node, u64)>
-    requires { IsSound (column_of store.now) tree.now }
+    requires { IsTreeOf tree.now store.now }
 {
     let (found, down) = tree.nth_counted(store, place);
     let Some(n) = found else {
@@ -94,7 +86,7 @@ pub(crate) fn links_to<R>(store: &NodeStore<R>, tree: &RankTree, place: u64) -> 
 
 /// The most links that lead to one of so many places, where to the root alone leads none.
 pub(crate) fn most_followed<R>(store: &NodeStore<R>, tree: &RankTree, places: u64) -> Option<u64>
-    requires { IsSound (column_of store.now) tree.now }
+    requires { IsTreeOf tree.now store.now }
 {
     let mut most = 0;
     let mut roots = 0u64;
@@ -112,7 +104,7 @@ pub(crate) fn most_followed<R>(store: &NodeStore<R>, tree: &RankTree, places: u6
 
 // Whether each of so many places has its node: the one at place p was put in as the (143 p % 1000)th, with steps of 7.
 fn is_in_steps<R>(store: &NodeStore<R>, tree: &RankTree, places: u64, step: u64) -> bool
-    requires { IsSound (column_of store.now) tree.now }
+    requires { IsTreeOf tree.now store.now }
 {
     for place in 0..places {
         let expected = place.wrapping_mul(step).wrapping_mul(143) % 1000;
@@ -129,7 +121,7 @@ fn is_in_steps<R>(store: &NodeStore<R>, tree: &RankTree, places: u64, step: u64)
 // A tree of so many ids, the multiples of the step but for thousands.
 fn filled(alloc: Global, ids: u16, step: u16) -> Option<(NodeStore<Row>, RankTree)>
     requires few { ids ≤ 1000 }
-    ensures sound { IfSome result (λ made. IsSound (column_of made.0) made.1) }
+    ensures sound { IfSome result (λ made. IsTreeOf made.1 made.0) }
 {
     let Ok(keys) = keys(alloc) else {
         return None;
@@ -172,7 +164,7 @@ fn most_among(alloc: Global) -> Option<(u64, u64)> {
 // Whether each place of a tree of nine full levels, and its node, takes as many links as the node has above it, and the
 // place after the last one step beyond the last node.
 fn counts_each_link<R>(store: &NodeStore<R>, tree: &RankTree) -> Option<bool>
-    requires sound { IsSound (column_of store.now) tree.now }
+    requires sound { IsTreeOf tree.now store.now }
 {
     for place in 0..511u64 {
         let Some((_, links)) = links_to(store, tree, place) else {

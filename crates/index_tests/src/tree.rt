@@ -1,10 +1,11 @@
 //! A thousand ids put in from one end, from both or in the middle, and the comparisons that find each.
-ghost use Rattle.std.specs.Prelude.{◌≡◌, ◌+◌, ◌<◌, ◌≤◌, IsTrue};
+ghost use Rattle.std.specs.Prelude.{◌≡◌, ◌+◌, ◌<◌, ◌≤◌};
 ghost use Rattle.std.specs.Ordering.{nat_cmp};
 ghost use Rattle.node_store.specs.ByNode.{column_of, record_of};
 ghost use Rattle.list_model.specs.Order.{IsInOrder};
 ghost use Rattle.ord_tree.specs.Side.{order_at};
 ghost use Rattle.ord_tree.specs.Spelled.{IsSound, spelled, index_of};
+ghost use Rattle.ord_tree.specs.Stored.{IsOrdered};
 
 use crate::numbers::{End, Numbers, a_thousand};
 use crate::rows::{keys, probe, row};
@@ -21,13 +22,10 @@ fn insert_new<R: Drop, E: Extract<R>>(
     keys: &E,
     value: R,
 ) -> Option<()>
-    requires key { IsTrue (E.has_key keys.now (index_of tree.old)) }
-    requires sound { IsSound (column_of store.old) tree.old }
-    requires order { IsInOrder (order_at (record_of store.old) (E.order_of keys.now (index_of tree.old))) (spelled (column_of store.old) tree.old) }
+    requires ordered { IsOrdered E.Extract tree.old store.old keys.now }
     requires count { store.old.added < 1000 }
     ensures index { index_of tree.new ≡ index_of tree.old }
-    ensures sound { IsSound (column_of store.new) tree.new }
-    ensures order { IsInOrder (order_at (record_of store.new) (E.order_of keys.now (index_of tree.new))) (spelled (column_of store.new) tree.new) }
+    ensures ordered { IsOrdered E.Extract tree.new store.new keys.now }
     ensures count { store.new.added ≤ store.old.added + 1 }
 {
     let Ok(()) = tree.reserve_one(store) else {
@@ -47,13 +45,10 @@ pub(crate) fn fill<R: Drop, E: Extract<R>>(
     keys: &E,
     mut values: Vec<R>,
 ) -> Option<()>
-    requires key { IsTrue (E.has_key keys.now (index_of tree.old)) }
-    requires sound { IsSound (column_of store.old) tree.old }
-    requires order { IsInOrder (order_at (record_of store.old) (E.order_of keys.now (index_of tree.old))) (spelled (column_of store.old) tree.old) }
+    requires ordered { IsOrdered E.Extract tree.old store.old keys.now }
     requires count { store.old.added ≡ 0 }
     ensures index { index_of tree.new ≡ index_of tree.old }
-    ensures sound { IsSound (column_of store.new) tree.new }
-    ensures order { IsInOrder (order_at (record_of store.new) (E.order_of keys.now (index_of tree.new))) (spelled (column_of store.new) tree.new) }
+    ensures ordered { IsOrdered E.Extract tree.new store.new keys.now }
 {
     for _ in 0..1000u64 {
         let Some(value) = values.pop() else {
@@ -73,9 +68,7 @@ fn most_compared<R, E: Extract<R>>(
     keys: &E,
     probes: &[E::Probe],
 ) -> Option<u64>
-    requires key { IsTrue (E.has_key keys.now (index_of tree.now)) }
-    requires sound { IsSound (column_of store.now) tree.now }
-    requires order { IsInOrder (order_at (record_of store.now) (E.order_of keys.now (index_of tree.now))) (spelled (column_of store.now) tree.now) }
+    requires { IsOrdered E.Extract tree.now store.now keys.now }
 {
     let mut most = 0;
     for probe in probes {
@@ -129,7 +122,8 @@ fn most_counted(
     count: u64,
 ) -> Option<u64>
     requires sound { IsSound (column_of store.now) tree.now }
-    requires order { IsInOrder (order_at (record_of store.now) nat_cmp) (spelled (column_of store.now) tree.now) }
+    requires order { IsInOrder (order_at (record_of store.now) nat_cmp)
+        (spelled (column_of store.now) tree.now) }
     requires count { count ≤ 1000 }
 {
     let mut most = 0u64;

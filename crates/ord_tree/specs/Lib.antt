@@ -8,4 +8,5 @@ pub mod Side
 pub mod Mirror
 pub mod Seek
 pub mod Same
+pub mod Stored
 pub mod Laws

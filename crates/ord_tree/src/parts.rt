@@ -8,7 +8,8 @@ use crate::tree::OrdTree;
 use node_store::{Node, NodeStore};
 
 impl<T: Tally> OrdTree<T> {
-    ghost use Rattle.ord_tree.specs.Spelled.{IsSound, tree_of, col_of, index_of};
+    ghost use Rattle.ord_tree.specs.Stored.{IsTreeOf};
+    ghost use Rattle.ord_tree.specs.Spelled.{tree_of, col_of, index_of};
 
     /// The column of links that the tree goes through. O(1).
     pub fn col(&self) -> usize
@@ -27,7 +28,7 @@ impl<T: Tally> OrdTree<T> {
 
     /// The root of the tree, or `None` where it has no nodes. O(1).
     pub fn root<R>(&self, store: &NodeStore<R>) -> Option<Node>
-        requires { IsSound (column_of store.now) self.now }
+        requires { IsTreeOf self.now store.now }
         ensures { result ≡ root (tree_of (column_of store.now) self.now) }
     {
         self.root

@@ -16,7 +16,8 @@ use node_store::{Link, Node, NodeStore};
 pub(crate) fn first_below<T: Tally, R>(store: &NodeStore<R>, col: usize, n: Node) -> Node
     requires col { col < 8 }
     requires below { HasTree T.of (column_of store.now col) (Some n) }
-    ensures first { (t : Tree) → IsAt T.of (column_of store.now col) (Some n) t → first_or (nodes t) None ≡ Some result }
+    ensures first { (t : Tree) → IsAt T.of (column_of store.now col) (Some n) t →
+        first_or (nodes t) None ≡ Some result }
     ensures leftmost { left_of (column_of store.now col) result ≡ None }
 {
     let mut first = n;
@@ -41,9 +42,10 @@ pub(crate) fn splice<T: Tally, R>(
 ) -> Option<Node>
     requires col { col < 8 }
     requires whole { HasWhole T.of (column_of store.old col) tree_root n }
-    requires one_child { (left_of (column_of store.old col) n ≡ None) ⊎ (right_of (column_of store.old col) n ≡ None) }
-    ensures tree { (t : Tree) → Whole T.of (column_of store.old col) n t → tree_root ≡ root t
-        → Without T.of (column_of store.old col) (column_of store.new col) n t result }
+    requires one_child { (left_of (column_of store.old col) n ≡ None) ⊎
+        (right_of (column_of store.old col) n ≡ None) }
+    ensures tree { (t : Tree) → Whole T.of (column_of store.old col) n t → tree_root ≡ root t →
+        Without T.of (column_of store.old col) (column_of store.new col) n t result }
     ensures nodes { KeepsNodes (column_of store.old col) (column_of store.new col) }
     ensures others { KeepsOthers (column_of store.old) (column_of store.new) col }
     ensures contents { contents store.new ≡ contents store.old }
@@ -63,8 +65,9 @@ pub(crate) fn replace<T: Tally, R>(
     requires col { col < 8 }
     requires node { IsNode (column_of store.old col) new }
     requires room { HasRoomFor T.of (column_of store.old col) old new }
-    ensures tree { (t : Tree) → Whole T.of (column_of store.old col) old t → Lacks (nodes t) new → tree_root ≡ root t
-        → Substitutes T.of (column_of store.old col) (column_of store.new col) old new t result }
+    ensures tree { (t : Tree) → Whole T.of (column_of store.old col) old t → Lacks (nodes t) new →
+        tree_root ≡ root t → Substitutes T.of (column_of store.old col)
+        (column_of store.new col) old new t result }
     ensures nodes { KeepsNodes (column_of store.old col) (column_of store.new col) }
     ensures others { KeepsOthers (column_of store.old) (column_of store.new) col }
     ensures contents { contents store.new ≡ contents store.old }
@@ -83,8 +86,8 @@ pub(crate) fn take_out<T: Tally, R>(
 ) -> Option<Node>
     requires col { col < 8 }
     requires whole { HasWhole T.of (column_of store.old col) tree_root n }
-    ensures tree { (t : Tree) → Whole T.of (column_of store.old col) n t → tree_root ≡ root t
-        → Without T.of (column_of store.old col) (column_of store.new col) n t result }
+    ensures tree { (t : Tree) → Whole T.of (column_of store.old col) n t → tree_root ≡ root t →
+        Without T.of (column_of store.old col) (column_of store.new col) n t result }
     ensures nodes { KeepsNodes (column_of store.old col) (column_of store.new col) }
     ensures others { KeepsOthers (column_of store.old) (column_of store.new) col }
     ensures contents { contents store.new ≡ contents store.old }
@@ -115,7 +118,8 @@ pub(crate) fn next_above<T: Tally, R>(
     requires col { col < 8 }
     requires climbs { HasClimb T.of (column_of store.now col) below at }
     requires below { IsNode (column_of store.now col) below }
-    ensures { (path : Path) (t : Tree) → Climbs T.of (column_of store.now col) below at path t → result ≡ first_or (after path) None }
+    ensures { (path : Path) (t : Tree) → Climbs T.of (column_of store.now col) below at path t →
+        result ≡ first_or (after path) None }
 {
     while let Some(n) = at {
         let Link { a: left, up, .. } = store.link(n, col);

@@ -1,13 +1,11 @@
 //! Whether another record has a record's key.
 ghost use Rattle.ord_tree.specs.Tree.{Tree, nodes, IsAt};
-ghost use Rattle.std.specs.Prelude.{◌≡◌, ◌≢◌, Option, Some, None, IsTrue};
-ghost use Rattle.list_model.specs.Order.{IsInOrder};
+ghost use Rattle.std.specs.Prelude.{◌≡◌, ◌≢◌, Option, Some, None};
 ghost use Rattle.node_store.specs.Nodes.{last_or};
 ghost use Rattle.node_store.specs.Store.{IsNodeOf};
-ghost use Rattle.node_store.specs.ByNode.{column_of, record_of};
+ghost use Rattle.node_store.specs.ByNode.{column_of};
 ghost use Rattle.ord_tree.specs.Removal.{HasTree};
-ghost use Rattle.ord_tree.specs.Side.{side_of, order_at};
-ghost use Rattle.ord_tree.specs.Same.{AreNodesOf, equal_but, without_excepted};
+ghost use Rattle.ord_tree.specs.Same.{AreNodesOf, equal_but};
 
 use crate::tally::Tally;
 use crate::tree::OrdTree;
@@ -16,7 +14,8 @@ use key_extract::Extract;
 use node_store::{Node, NodeStore};
 
 impl<T: Tally> OrdTree<T> {
-    ghost use Rattle.ord_tree.specs.Spelled.{IsSound, spelled, col_of, index_of};
+    ghost use Rattle.ord_tree.specs.Stored.{nodes_of, record_side_in, IsOrderedBut};
+    ghost use Rattle.ord_tree.specs.Spelled.{col_of};
 
     /// The first node other than the excepted one whose record has the row's key.
     ///
@@ -28,11 +27,11 @@ impl<T: Tally> OrdTree<T> {
         row: &R,
         except: Option<Node>,
     ) -> Option<Node>
-        requires tree { IsSound (column_of store.now) self.now }
-        requires key { IsTrue (E.has_key keys.now (index_of self.now)) }
         requires except { AreNodesOf store.now except }
-        requires order { IsInOrder (order_at (record_of store.now) (E.order_of keys.now (index_of self.now))) (without_excepted except (spelled (column_of store.now) self.now)) }
-        ensures { result ≡ equal_but except (side_of (record_of store.now) (λ a. E.order_of keys.now (index_of self.now) a row.now)) (spelled (column_of store.now) self.now) }
+        requires others { IsOrderedBut E.Extract except self.now store.now keys.now }
+        ensures { result ≡ equal_but except
+            (record_side_in E.Extract self.now store.now keys.now row.now)
+            (nodes_of self.now store.now) }
     {
         let mut found = None;
         let mut at = self.root;
@@ -68,7 +67,9 @@ impl<T: Tally> OrdTree<T> {
         requires left { HasTree T.of (column_of store.now (col_of self.now)) left }
         requires except { AreNodesOf store.now except }
         ensures itself { except ≢ Some n → result ≡ Some n }
-        ensures excepted { except ≡ Some n → (t : Tree) → IsAt T.of (column_of store.now (col_of self.now)) left t → result ≡ last_or (nodes t) None }
+        ensures excepted { except ≡ Some n → (t : Tree) →
+            IsAt T.of (column_of store.now (col_of self.now)) left t →
+            result ≡ last_or (nodes t) None }
         ensures node { AreNodesOf store.now result }
     {
         if store.is_node(except, n) {

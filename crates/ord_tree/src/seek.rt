@@ -1,9 +1,6 @@
 //! Look-ups by a key.
-ghost use Rattle.std.specs.Prelude.{◌≡◌, ℕ, ◌*◌, ◌^◌, ◌<◌, ◌≤◌, IsTrue, length, find};
-ghost use Rattle.list_model.specs.Order.{IsInOrder};
+ghost use Rattle.std.specs.Prelude.{◌≡◌, ◌<◌, find};
 ghost use Rattle.list_model.specs.Place.{lower as the_lower, upper as the_upper, find_equal};
-ghost use Rattle.node_store.specs.ByNode.{column_of, record_of};
-ghost use Rattle.ord_tree.specs.Side.{side_of, order_at};
 ghost use Rattle.ord_tree.specs.Seek.{is_sought, comes_before};
 
 use crate::tally::Tally;
@@ -47,7 +44,7 @@ impl Sought {
 }
 
 impl<T: Tally> OrdTree<T> {
-    ghost use Rattle.ord_tree.specs.Spelled.{IsSound, spelled, index_of};
+    ghost use Rattle.ord_tree.specs.Stored.{AreFew, nodes_of, side_in, CanSearch};
 
     /// The first node that has the key. O(log n).
     pub fn find<R, E: Extract<R>>(
@@ -56,11 +53,9 @@ impl<T: Tally> OrdTree<T> {
         keys: &E,
         probe: &E::Probe,
     ) -> Option<Node>
-        requires tree { IsSound (column_of store.now) self.now }
-        requires key { IsTrue (E.has_key keys.now (index_of self.now)) }
-        requires fits { IsTrue (E.does_fit keys.now (index_of self.now) probe.now) }
-        requires order { IsInOrder (order_at (record_of store.now) (E.order_of keys.now (index_of self.now))) (spelled (column_of store.now) self.now) }
-        ensures { result ≡ find_equal (side_of (record_of store.now) (λ a. E.probe_order_of keys.now (index_of self.now) a probe.now)) (spelled (column_of store.now) self.now) }
+        requires { CanSearch E.Extract self.now store.now keys.now probe.now }
+        ensures { result ≡ find_equal (side_in E.Extract self.now store.now keys.now probe.now)
+            (nodes_of self.now store.now) }
     {
         self.find_counted(store, keys, probe).0
     }
@@ -72,12 +67,11 @@ impl<T: Tally> OrdTree<T> {
         keys: &E,
         probe: &E::Probe,
     ) -> (Option<Node>, u64)
-        requires tree { IsSound (column_of store.now) self.now }
-        requires key { IsTrue (E.has_key keys.now (index_of self.now)) }
-        requires fits { IsTrue (E.does_fit keys.now (index_of self.now) probe.now) }
-        requires order { IsInOrder (order_at (record_of store.now) (E.order_of keys.now (index_of self.now))) (spelled (column_of store.now) self.now) }
-        ensures node { result.0 ≡ find_equal (side_of (record_of store.now) (λ a. E.probe_order_of keys.now (index_of self.now) a probe.now)) (spelled (column_of store.now) self.now) }
-        ensures few { (k : ℕ) → length (spelled (column_of store.now) self.now) < 2 ^ k → result.1 ≤ 2 * k }
+        requires { CanSearch E.Extract self.now store.now keys.now probe.now }
+        ensures node { result.0 ≡ find_equal
+            (side_in E.Extract self.now store.now keys.now probe.now)
+            (nodes_of self.now store.now) }
+        ensures few { AreFew result.1 (nodes_of self.now store.now) }
     {
         self.descend(store, keys, probe, Sought::Same)
     }
@@ -89,11 +83,9 @@ impl<T: Tally> OrdTree<T> {
         keys: &E,
         probe: &E::Probe,
     ) -> Option<Node>
-        requires tree { IsSound (column_of store.now) self.now }
-        requires key { IsTrue (E.has_key keys.now (index_of self.now)) }
-        requires fits { IsTrue (E.does_fit keys.now (index_of self.now) probe.now) }
-        requires order { IsInOrder (order_at (record_of store.now) (E.order_of keys.now (index_of self.now))) (spelled (column_of store.now) self.now) }
-        ensures { result ≡ the_lower (side_of (record_of store.now) (λ a. E.probe_order_of keys.now (index_of self.now) a probe.now)) (spelled (column_of store.now) self.now) }
+        requires { CanSearch E.Extract self.now store.now keys.now probe.now }
+        ensures { result ≡ the_lower (side_in E.Extract self.now store.now keys.now probe.now)
+            (nodes_of self.now store.now) }
     {
         self.lower_counted(store, keys, probe).0
     }
@@ -105,12 +97,11 @@ impl<T: Tally> OrdTree<T> {
         keys: &E,
         probe: &E::Probe,
     ) -> (Option<Node>, u64)
-        requires tree { IsSound (column_of store.now) self.now }
-        requires key { IsTrue (E.has_key keys.now (index_of self.now)) }
-        requires fits { IsTrue (E.does_fit keys.now (index_of self.now) probe.now) }
-        requires order { IsInOrder (order_at (record_of store.now) (E.order_of keys.now (index_of self.now))) (spelled (column_of store.now) self.now) }
-        ensures node { result.0 ≡ the_lower (side_of (record_of store.now) (λ a. E.probe_order_of keys.now (index_of self.now) a probe.now)) (spelled (column_of store.now) self.now) }
-        ensures few { (k : ℕ) → length (spelled (column_of store.now) self.now) < 2 ^ k → result.1 ≤ 2 * k }
+        requires { CanSearch E.Extract self.now store.now keys.now probe.now }
+        ensures node { result.0 ≡ the_lower
+            (side_in E.Extract self.now store.now keys.now probe.now)
+            (nodes_of self.now store.now) }
+        ensures few { AreFew result.1 (nodes_of self.now store.now) }
     {
         self.descend(store, keys, probe, Sought::NotBefore)
     }
@@ -122,11 +113,9 @@ impl<T: Tally> OrdTree<T> {
         keys: &E,
         probe: &E::Probe,
     ) -> Option<Node>
-        requires tree { IsSound (column_of store.now) self.now }
-        requires key { IsTrue (E.has_key keys.now (index_of self.now)) }
-        requires fits { IsTrue (E.does_fit keys.now (index_of self.now) probe.now) }
-        requires order { IsInOrder (order_at (record_of store.now) (E.order_of keys.now (index_of self.now))) (spelled (column_of store.now) self.now) }
-        ensures { result ≡ the_upper (side_of (record_of store.now) (λ a. E.probe_order_of keys.now (index_of self.now) a probe.now)) (spelled (column_of store.now) self.now) }
+        requires { CanSearch E.Extract self.now store.now keys.now probe.now }
+        ensures { result ≡ the_upper (side_in E.Extract self.now store.now keys.now probe.now)
+            (nodes_of self.now store.now) }
     {
         self.upper_counted(store, keys, probe).0
     }
@@ -138,12 +127,11 @@ impl<T: Tally> OrdTree<T> {
         keys: &E,
         probe: &E::Probe,
     ) -> (Option<Node>, u64)
-        requires tree { IsSound (column_of store.now) self.now }
-        requires key { IsTrue (E.has_key keys.now (index_of self.now)) }
-        requires fits { IsTrue (E.does_fit keys.now (index_of self.now) probe.now) }
-        requires order { IsInOrder (order_at (record_of store.now) (E.order_of keys.now (index_of self.now))) (spelled (column_of store.now) self.now) }
-        ensures node { result.0 ≡ the_upper (side_of (record_of store.now) (λ a. E.probe_order_of keys.now (index_of self.now) a probe.now)) (spelled (column_of store.now) self.now) }
-        ensures few { (k : ℕ) → length (spelled (column_of store.now) self.now) < 2 ^ k → result.1 ≤ 2 * k }
+        requires { CanSearch E.Extract self.now store.now keys.now probe.now }
+        ensures node { result.0 ≡ the_upper
+            (side_in E.Extract self.now store.now keys.now probe.now)
+            (nodes_of self.now store.now) }
+        ensures few { AreFew result.1 (nodes_of self.now store.now) }
     {
         self.descend(store, keys, probe, Sought::After)
     }
@@ -156,12 +144,11 @@ impl<T: Tally> OrdTree<T> {
         probe: &E::Probe,
         sought: Sought,
     ) -> (Option<Node>, u64)
-        requires tree { IsSound (column_of store.now) self.now }
-        requires key { IsTrue (E.has_key keys.now (index_of self.now)) }
-        requires fits { IsTrue (E.does_fit keys.now (index_of self.now) probe.now) }
-        requires order { IsInOrder (order_at (record_of store.now) (E.order_of keys.now (index_of self.now))) (spelled (column_of store.now) self.now) }
-        ensures node { result.0 ≡ find (λ n. is_sought sought (side_of (record_of store.now) (λ a. E.probe_order_of keys.now (index_of self.now) a probe.now) n)) (spelled (column_of store.now) self.now) }
-        ensures few { (k : ℕ) → length (spelled (column_of store.now) self.now) < 2 ^ k → result.1 ≤ 2 * k }
+        requires { CanSearch E.Extract self.now store.now keys.now probe.now }
+        ensures node { result.0 ≡ find (λ n. is_sought sought
+            (side_in E.Extract self.now store.now keys.now probe.now n))
+            (nodes_of self.now store.now) }
+        ensures few { AreFew result.1 (nodes_of self.now store.now) }
     {
         let mut found = None;
         let mut at = self.root;

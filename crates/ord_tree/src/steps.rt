@@ -1,7 +1,7 @@
 //! The steps of a change of a tree.
-ghost use Rattle.std.specs.Prelude.{◌≡◌, ℕ, ◌+◌, ◌<◌, ◌≤◌, Option, Some, None, IsTrue, ◌↔◌};
+ghost use Rattle.std.specs.Prelude.{◌≡◌, ◌+◌, ◌<◌, Option, Some, None, IsTrue, ◌↔◌};
 ghost use Rattle.node_store.specs.Column.{IsNode};
-ghost use Rattle.ord_tree.specs.Tree.{Tree, Fork, root, nodes, stored_height, stored_tag, AreNodes, Hangs};
+ghost use Rattle.ord_tree.specs.Tree.{Tree, Fork, root, nodes, stored_height, stored_tag, AreNodes};
 ghost use Rattle.ord_tree.specs.Path.{Path, plug, IsLike, Replaced, ReplacedAt, Rises, Grafted, GraftedSide, Turned};
 ghost use Rattle.ord_tree.specs.Steps.{CanHang, KeepsOthers, KeepsNodes, SetsUp, Joins, Sides, Becomes, rotated_right, rotated_left, rebalanced};
 ghost use Rattle.node_store.specs.ByNode.{column_of, contents};
@@ -92,8 +92,9 @@ fn rotate_right<T: Tally, R>(
     requires col { col < 8 }
     requires node { IsNode (column_of store.old col) n }
     requires sides { Sides T.of (column_of store.old col) (Some left) n right }
-    ensures tree { (s : Sides T.of (column_of store.old col) (Some left) n right)
-        → Becomes T.of (column_of store.old col) (column_of store.new col) (nodes (Fork s.l n s.r)) (rotated_right s.l n s.r) result }
+    ensures tree { (s : Sides T.of (column_of store.old col) (Some left) n right) →
+        Becomes T.of (column_of store.old col) (column_of store.new col) (nodes (Fork s.l n s.r))
+        (rotated_right s.l n s.r) result }
     ensures nodes { KeepsNodes (column_of store.old col) (column_of store.new col) }
     ensures others { KeepsOthers (column_of store.old) (column_of store.new) col }
     ensures contents { contents store.new ≡ contents store.old }
@@ -131,8 +132,9 @@ fn rotate_left<T: Tally, R>(
     requires col { col < 8 }
     requires node { IsNode (column_of store.old col) n }
     requires sides { Sides T.of (column_of store.old col) left n (Some right) }
-    ensures tree { (s : Sides T.of (column_of store.old col) left n (Some right))
-        → Becomes T.of (column_of store.old col) (column_of store.new col) (nodes (Fork s.l n s.r)) (rotated_left s.l n s.r) result }
+    ensures tree { (s : Sides T.of (column_of store.old col) left n (Some right)) →
+        Becomes T.of (column_of store.old col) (column_of store.new col) (nodes (Fork s.l n s.r))
+        (rotated_left s.l n s.r) result }
     ensures nodes { KeepsNodes (column_of store.old col) (column_of store.new col) }
     ensures others { KeepsOthers (column_of store.old) (column_of store.new) col }
     ensures contents { contents store.new ≡ contents store.old }
@@ -170,8 +172,9 @@ fn balance<T: Tally, R>(
     requires col { col < 8 }
     requires node { IsNode (column_of store.old col) n }
     requires sides { Sides T.of (column_of store.old col) left n right }
-    ensures tree { (s : Sides T.of (column_of store.old col) left n right)
-        → Becomes T.of (column_of store.old col) (column_of store.new col) (nodes (Fork s.l n s.r)) (rebalanced s.l n s.r) result }
+    ensures tree { (s : Sides T.of (column_of store.old col) left n right) →
+        Becomes T.of (column_of store.old col) (column_of store.new col) (nodes (Fork s.l n s.r))
+        (rebalanced s.l n s.r) result }
     ensures nodes { KeepsNodes (column_of store.old col) (column_of store.new col) }
     ensures others { KeepsOthers (column_of store.old) (column_of store.new) col }
     ensures contents { contents store.new ≡ contents store.old }
@@ -218,8 +221,10 @@ pub(crate) fn rise<T: Tally, R>(
     requires col { col < 8 }
     requires replaced { Replaced T.of (column_of store.old col) old link new }
     requires old { IsNode (column_of store.old col) old }
-    ensures tree { (path : Path) (was now : Tree) → ReplacedAt T.of (column_of store.old col) old link new path was now
-        → tree_root ≡ root (plug path was) → Rises T.of (column_of store.old col) (column_of store.new col) path now result }
+    ensures tree { (path : Path) (was now : Tree) →
+        ReplacedAt T.of (column_of store.old col) old link new path was now →
+        tree_root ≡ root (plug path was) →
+        Rises T.of (column_of store.old col) (column_of store.new col) path now result }
     ensures nodes { KeepsNodes (column_of store.old col) (column_of store.new col) }
     ensures others { KeepsOthers (column_of store.old) (column_of store.new) col }
     ensures contents { contents store.new ≡ contents store.old }
@@ -255,8 +260,10 @@ pub(crate) fn graft<T: Tally, R>(
 ) -> Option<Node>
     requires col { col < 8 }
     requires grafted { GraftedSide T.of (column_of store.old col) at on_right new }
-    ensures tree { (path : Path) (was now : Tree) → Grafted T.of (column_of store.old col) at new path was now → Turned path on_right
-        → tree_root ≡ root (plug path was) → Rises T.of (column_of store.old col) (column_of store.new col) path now result }
+    ensures tree { (path : Path) (was now : Tree) →
+        Grafted T.of (column_of store.old col) at new path was now → Turned path on_right →
+        tree_root ≡ root (plug path was) →
+        Rises T.of (column_of store.old col) (column_of store.new col) path now result }
     ensures nodes { KeepsNodes (column_of store.old col) (column_of store.new col) }
     ensures others { KeepsOthers (column_of store.old) (column_of store.new) col }
     ensures contents { contents store.new ≡ contents store.old }

@@ -1,13 +1,11 @@
 //! An ordered index, and its changes.
-ghost use Rattle.std.specs.Prelude.{◌≡◌, ℕ, ◌<◌, List, Some, [], OnOk, OnErr, IsTrue};
+ghost use Rattle.std.specs.Prelude.{◌≡◌, ℕ, ◌<◌, List, Some, [], OnOk, OnErr};
 ghost use Rattle.node_store.specs.Store.{IsNodeOf, no_link};
 ghost use Rattle.node_store.specs.Column.{Column};
 ghost use Rattle.node_store.specs.Nodes.{Lacks};
 ghost use Rattle.node_store.specs.declared.Node.{Node};
-ghost use Rattle.node_store.specs.ByNode.{column_of, record_of, contents, same_node};
-ghost use Rattle.list_model.specs.Order.{IsInOrder};
+ghost use Rattle.node_store.specs.ByNode.{column_of, same_node};
 ghost use Rattle.list_model.specs.Walk.{without, placed};
-ghost use Rattle.ord_tree.specs.Side.{order_at};
 ghost use Rattle.std.specs.Ordering.{is_le};
 
 use crate::removal::take_out;
@@ -30,8 +28,9 @@ pub struct OrdTree<T: Tally> {
 }
 
 impl<T: Tally> OrdTree<T> {
+    ghost use Rattle.ord_tree.specs.Stored.{HasNode, BecomesTree, nodes_of, order_in, IsOrdered};
     ghost use Rattle.ord_tree.specs.Path.{Place};
-    ghost use Rattle.ord_tree.specs.Spelled.{Spells, IsSound, Holds, KeepsOthers, spelled, tree_of, col_of, index_of, HasRoom};
+    ghost use Rattle.ord_tree.specs.Spelled.{Spells, spelled, tree_of, col_of, index_of, HasRoom};
 
     /// A tree of no nodes in column `col`, ordered by the keys of index number `index`. O(1).
     pub fn new(col: usize, index: usize) -> OrdTree<T>
@@ -52,7 +51,8 @@ impl<T: Tally> OrdTree<T> {
     /// Makes room for one more node. A tree takes no memory for it: only one of 2^64 - 1 nodes has no room. O(1).
     pub fn reserve_one<R>(&mut self, store: &NodeStore<R>) -> Result<(), AllocError>
         ensures same { self.new ≡ self.old }
-        ensures list { (cs : ℕ → Column) (xs : List Node) → Spells cs self.old xs → Spells cs self.new xs }
+        ensures list { (cs : ℕ → Column) (xs : List Node) → Spells cs self.old xs →
+            Spells cs self.new xs }
         ensures spelled { (cs : ℕ → Column) → spelled cs self.new ≡ spelled cs self.old }
         ensures col { col_of self.new ≡ col_of self.old }
         ensures index { index_of self.new ≡ index_of self.old }
@@ -68,18 +68,13 @@ impl<T: Tally> OrdTree<T> {
     /// Puts `n` after all whose key is at most its own. O(log n), comparisons included.
     #[tactic(auto, using(node_store::proofs::ByNode::node_in_column))]
     pub fn link<R, E: Extract<R>>(&mut self, store: &mut NodeStore<R>, keys: &E, n: Node)
-        requires tree { IsSound (column_of store.old) self.old }
+        requires ordered { IsOrdered E.Extract self.old store.old keys.now }
         requires node { IsNodeOf store.old n }
-        requires new { Lacks (spelled (column_of store.old) self.old) n }
-        requires key { IsTrue (E.has_key keys.now (index_of self.old)) }
-        requires order { IsInOrder (order_at (record_of store.old) (E.order_of keys.now (index_of self.old))) (spelled (column_of store.old) self.old) }
+        requires new { Lacks (nodes_of self.old store.old) n }
         requires room { HasRoom self.old }
-        ensures list { Spells (column_of store.new) self.new
-            (placed (λ m. order_at (record_of store.old) (E.order_of keys.now (index_of self.old)) m n) n (spelled (column_of store.old) self.old)) }
-        ensures col { col_of self.new ≡ col_of self.old }
-        ensures index { index_of self.new ≡ index_of self.old }
-        ensures others { KeepsOthers (column_of store.old) (column_of store.new) (col_of self.old) }
-        ensures contents { contents store.new ≡ contents store.old }
+        ensures { BecomesTree self.old self.new store.old store.new
+            (placed (λ m. order_in E.Extract self.old store.old keys.now m n) n
+            (nodes_of self.old store.old)) }
     {
         let (parent, on_right) = self.place_of(store, keys, n);
         join::<T, R>(store, self.col, None, n, None);
@@ -89,15 +84,11 @@ impl<T: Tally> OrdTree<T> {
 
     /// Takes `n` out, and empties its links. It reads no record, so the node's may have changed. O(log n).
     pub fn unlink<R>(&mut self, store: &mut NodeStore<R>, n: Node)
-        requires tree { IsSound (column_of store.old) self.old }
-        requires held { Holds (spelled (column_of store.old) self.old) n }
-        ensures list { Spells (column_of store.new) self.new (without (same_node n) (spelled (column_of store.old) self.old)) }
+        requires { HasNode self.old store.old n }
+        ensures tree { BecomesTree self.old self.new store.old store.new
+            (without (same_node n) (nodes_of self.old store.old)) }
         ensures emptied { column_of store.new (col_of self.old) n ≡ Some no_link }
         ensures room { HasRoom self.new }
-        ensures col { col_of self.new ≡ col_of self.old }
-        ensures index { index_of self.new ≡ index_of self.old }
-        ensures others { KeepsOthers (column_of store.old) (column_of store.new) (col_of self.old) }
-        ensures contents { contents store.new ≡ contents store.old }
     {
         self.root = take_out::<T, R>(store, self.col, self.root, n);
         self.len -= 1;
@@ -111,11 +102,9 @@ impl<T: Tally> OrdTree<T> {
         keys: &E,
         n: Node,
     ) -> (Option<Node>, bool)
-        requires tree { IsSound (column_of store.now) self.now }
+        requires ordered { IsOrdered E.Extract self.now store.now keys.now }
         requires node { IsNodeOf store.now n }
-        requires key { IsTrue (E.has_key keys.now (index_of self.now)) }
-        requires order { IsInOrder (order_at (record_of store.now) (E.order_of keys.now (index_of self.now))) (spelled (column_of store.now) self.now) }
-        ensures { Place (λ m. is_le (order_at (record_of store.now) (E.order_of keys.now (index_of self.now)) m n))
+        ensures { Place (λ m. is_le (order_in E.Extract self.now store.now keys.now m n))
             (tree_of (column_of store.now) self.now) result.0 result.1 }
     {
         let own = store.get(n);

@@ -15,12 +15,12 @@ use crate::tree::OrdTree;
 use node_store::{Link, Node, NodeStore};
 
 impl<T: Tally> OrdTree<T> {
-    ghost use Rattle.ord_tree.specs.Spelled.{IsSound, Holds, spelled};
+    ghost use Rattle.ord_tree.specs.Stored.{IsTreeOf, HasNode, nodes_of};
 
     /// The first node. O(log n).
     pub fn first<R>(&self, store: &NodeStore<R>) -> Option<Node>
-        requires { IsSound (column_of store.now) self.now }
-        ensures { result ≡ slice_get (spelled (column_of store.now) self.now) 0 }
+        requires { IsTreeOf self.now store.now }
+        ensures { result ≡ slice_get (nodes_of self.now store.now) 0 }
     {
         match self.root {
             None => None,
@@ -30,17 +30,16 @@ impl<T: Tally> OrdTree<T> {
 
     /// The last node. O(log n).
     pub fn last<R>(&self, store: &NodeStore<R>) -> Option<Node>
-        requires { IsSound (column_of store.now) self.now }
-        ensures { result ≡ the_last (spelled (column_of store.now) self.now) }
+        requires { IsTreeOf self.now store.now }
+        ensures { result ≡ the_last (nodes_of self.now store.now) }
     {
         last_of::<T, R>(store, self.col, self.root)
     }
 
     /// The node after `n`, or `None` at the end. O(log n), and O(1) on average over a whole walk.
     pub fn next<R>(&self, store: &NodeStore<R>, n: Node) -> Option<Node>
-        requires tree { IsSound (column_of store.now) self.now }
-        requires held { Holds (spelled (column_of store.now) self.now) n }
-        ensures { result ≡ the_next (same_node n) (spelled (column_of store.now) self.now) }
+        requires { HasNode self.now store.now n }
+        ensures { result ≡ the_next (same_node n) (nodes_of self.now store.now) }
     {
         let link = store.link(n, self.col);
         if let Some(right) = link.b {
@@ -51,9 +50,8 @@ impl<T: Tally> OrdTree<T> {
 
     /// The node before `n`, or `None` at the front. O(log n), and O(1) on average over a whole walk.
     pub fn prev<R>(&self, store: &NodeStore<R>, n: Node) -> Option<Node>
-        requires tree { IsSound (column_of store.now) self.now }
-        requires held { Holds (spelled (column_of store.now) self.now) n }
-        ensures { result ≡ the_prev (same_node n) (spelled (column_of store.now) self.now) }
+        requires { HasNode self.now store.now n }
+        ensures { result ≡ the_prev (same_node n) (nodes_of self.now store.now) }
     {
         let link = store.link(n, self.col);
         if let Some(left) = link.a {
@@ -67,7 +65,8 @@ impl<T: Tally> OrdTree<T> {
 fn last_below<T: Tally, R>(store: &NodeStore<R>, col: usize, n: Node) -> Node
     requires col { col < 8 }
     requires below { HasTree (flipped_tally T.of) (flipped (column_of store.now col)) (Some n) }
-    ensures first { (t : Tree) → IsAt (flipped_tally T.of) (flipped (column_of store.now col)) (Some n) t → first_or (nodes t) None ≡ Some result }
+    ensures first { (t : Tree) → IsAt (flipped_tally T.of) (flipped (column_of store.now col))
+        (Some n) t → first_or (nodes t) None ≡ Some result }
     ensures node { IsNode (column_of store.now col) result }
 {
     let mut last = n;
@@ -85,7 +84,8 @@ pub(crate) fn last_of<T: Tally, R>(
 ) -> Option<Node>
     requires col { col < 8 }
     requires below { HasTree T.of (column_of store.now col) child }
-    ensures last { (t : Tree) → IsAt T.of (column_of store.now col) child t → result ≡ last_or (nodes t) None }
+    ensures last { (t : Tree) → IsAt T.of (column_of store.now col) child t →
+        result ≡ last_or (nodes t) None }
     ensures node { AreNodes (column_of store.now col) result }
 {
     match child {
@@ -104,7 +104,9 @@ fn prev_above<T: Tally, R>(
     requires col { col < 8 }
     requires climbs { HasClimb (flipped_tally T.of) (flipped (column_of store.now col)) below at }
     requires below { IsNode (column_of store.now col) below }
-    ensures { (path : Path) (t : Tree) → Climbs (flipped_tally T.of) (flipped (column_of store.now col)) below at path t → result ≡ first_or (after path) None }
+    ensures { (path : Path) (t : Tree) →
+        Climbs (flipped_tally T.of) (flipped (column_of store.now col)) below at path t →
+        result ≡ first_or (after path) None }
 {
     while let Some(n) = at {
         let Link { b: right, up, .. } = store.link(n, col);

@@ -1,3 +1,4 @@
 pub mod Subtrees
 pub mod Sides
 pub mod Spelled
+pub mod Stored

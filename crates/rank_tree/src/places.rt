@@ -1,5 +1,5 @@
 //! The node at a place, and the place of a node.
-ghost use Rattle.std.specs.Prelude.{◌≡◌, ℕ, ◌*◌, ◌^◌, ◌<◌, ◌≤◌, length, slice_get};
+ghost use Rattle.std.specs.Prelude.{◌≡◌, ℕ, ◌*◌, ◌^◌, ◌<◌, length, slice_get};
 ghost use Rattle.list_model.specs.Walk.{place_of};
 ghost use Rattle.node_store.specs.ByNode.{column_of, same_node};
 ghost use Rattle.ord_tree.specs.Tree.{AreNodes, height, stored_tag};
@@ -21,23 +21,25 @@ pub(crate) fn size_of<R>(store: &NodeStore<R>, col: usize, child: Option<Node>) 
 }
 
 impl RankTree {
-    ghost use Rattle.rank_tree.specs.Spelled.{IsSound, Holds, spelled, tree_of};
+    ghost use Rattle.rank_tree.specs.Spelled.{tree_of};
+    ghost use Rattle.rank_tree.specs.Stored.{IsTreeOf, HasNode, AreFew, nodes_of};
 
     /// How many nodes the longest way from the root down has. Where there are fewer than 2^k nodes they are at most 2·k, and
     /// fewer than 2·k links lead from each node up to the root. O(1).
     pub fn height<R>(&self, store: &NodeStore<R>) -> u8
-        requires { IsSound (column_of store.now) self.now }
+        requires { IsTreeOf self.now store.now }
         ensures exact { result ≡ height (tree_of (column_of store.now) self.now) }
-        ensures low { (k : ℕ) → length (spelled (column_of store.now) self.now) < 2 ^ k → result ≤ 2 * k }
-        ensures near { (k : ℕ) → length (spelled (column_of store.now) self.now) < 2 ^ k → AllDepthsBelow (2 * k) (tree_of (column_of store.now) self.now) }
+        ensures low { AreFew result (nodes_of self.now store.now) }
+        ensures near { (k : ℕ) → length (nodes_of self.now store.now) < 2 ^ k →
+            AllDepthsBelow (2 * k) (tree_of (column_of store.now) self.now) }
     {
         self.tree.height(store)
     }
 
     /// The node at a place, counted from 0, or `None` past the end. O(log n).
     pub fn nth<R>(&self, store: &NodeStore<R>, place: u64) -> Option<Node>
-        requires { IsSound (column_of store.now) self.now }
-        ensures { result ≡ slice_get (spelled (column_of store.now) self.now) place }
+        requires { IsTreeOf self.now store.now }
+        ensures { result ≡ slice_get (nodes_of self.now store.now) place }
     {
         self.nth_counted(store, place).0
     }
@@ -45,9 +47,9 @@ impl RankTree {
     /// The same, and how many links were followed, one step beyond the last node included where there is no such
     /// place: at most twice the binary digits of n.
     pub fn nth_counted<R>(&self, store: &NodeStore<R>, place: u64) -> (Option<Node>, u64)
-        requires { IsSound (column_of store.now) self.now }
-        ensures node { result.0 ≡ slice_get (spelled (column_of store.now) self.now) place }
-        ensures few { (k : ℕ) → length (spelled (column_of store.now) self.now) < 2 ^ k → result.1 ≤ 2 * k }
+        requires { IsTreeOf self.now store.now }
+        ensures node { result.0 ≡ slice_get (nodes_of self.now store.now) place }
+        ensures few { AreFew result.1 (nodes_of self.now store.now) }
     {
         let col = self.tree.col();
         let mut at = self.tree.root(store);
@@ -76,19 +78,17 @@ impl RankTree {
 
     /// The place of `n`, counted from 0. It reads no record, so the tree need not be in order. O(log n).
     pub fn rank<R>(&self, store: &NodeStore<R>, n: Node) -> u64
-        requires tree { IsSound (column_of store.now) self.now }
-        requires held { Holds (spelled (column_of store.now) self.now) n }
-        ensures { result ≡ place_of (same_node n) (spelled (column_of store.now) self.now) }
+        requires { HasNode self.now store.now n }
+        ensures { result ≡ place_of (same_node n) (nodes_of self.now store.now) }
     {
         self.rank_counted(store, n).0
     }
 
     /// The same, and how many links were followed: at most twice the binary digits of n.
     pub fn rank_counted<R>(&self, store: &NodeStore<R>, n: Node) -> (u64, u64)
-        requires tree { IsSound (column_of store.now) self.now }
-        requires held { Holds (spelled (column_of store.now) self.now) n }
-        ensures rank { result.0 ≡ place_of (same_node n) (spelled (column_of store.now) self.now) }
-        ensures few { (k : ℕ) → length (spelled (column_of store.now) self.now) < 2 ^ k → result.1 ≤ 2 * k }
+        requires { HasNode self.now store.now n }
+        ensures rank { result.0 ≡ place_of (same_node n) (nodes_of self.now store.now) }
+        ensures few { AreFew result.1 (nodes_of self.now store.now) }
     {
         let col = self.tree.col();
         let Link { a: left, up, .. } = store.link(n, col);

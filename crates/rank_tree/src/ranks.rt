@@ -1,11 +1,8 @@
 //! Places by a key.
-ghost use Rattle.std.specs.Prelude.{◌≡◌, IsTrue, count_by};
+ghost use Rattle.std.specs.Prelude.{◌≡◌, count_by};
 ghost use Rattle.std.specs.List.{list_any};
 ghost use Rattle.std.specs.Ordering.{is_eq};
-ghost use Rattle.list_model.specs.Order.{IsInOrder};
 ghost use Rattle.list_model.specs.Place.{below, not_above, find_rank as the_rank};
-ghost use Rattle.node_store.specs.ByNode.{column_of, record_of};
-ghost use Rattle.ord_tree.specs.Side.{side_of, order_at};
 ghost use Rattle.rank_tree.specs.Sides.{comes_first};
 
 use crate::places::size_of;
@@ -26,7 +23,7 @@ fn is_first(after_equals: bool, order: Ordering) -> bool
 }
 
 impl RankTree {
-    ghost use Rattle.rank_tree.specs.Spelled.{IsSound, spelled, index_of};
+    ghost use Rattle.rank_tree.specs.Stored.{side_in, CanSearch, nodes_of};
 
     /// The rank of the first node that has the key, or the length. O(log n), comparisons included.
     pub fn find_rank<R, E: Extract<R>>(
@@ -35,11 +32,9 @@ impl RankTree {
         keys: &E,
         probe: &E::Probe,
     ) -> u64
-        requires tree { IsSound (column_of store.now) self.now }
-        requires key { IsTrue (E.has_key keys.now (index_of self.now)) }
-        requires fits { IsTrue (E.does_fit keys.now (index_of self.now) probe.now) }
-        requires order { IsInOrder (order_at (record_of store.now) (E.order_of keys.now (index_of self.now))) (spelled (column_of store.now) self.now) }
-        ensures { result ≡ the_rank (side_of (record_of store.now) (λ a. E.probe_order_of keys.now (index_of self.now) a probe.now)) (spelled (column_of store.now) self.now) }
+        requires { CanSearch E.Extract self.now store.now keys.now probe.now }
+        ensures { result ≡ the_rank (side_in E.Extract self.now store.now keys.now probe.now)
+            (nodes_of self.now store.now) }
     {
         let (rank, met) = self.descend(store, keys, probe, false);
         if met {
@@ -56,11 +51,9 @@ impl RankTree {
         keys: &E,
         probe: &E::Probe,
     ) -> u64
-        requires tree { IsSound (column_of store.now) self.now }
-        requires key { IsTrue (E.has_key keys.now (index_of self.now)) }
-        requires fits { IsTrue (E.does_fit keys.now (index_of self.now) probe.now) }
-        requires order { IsInOrder (order_at (record_of store.now) (E.order_of keys.now (index_of self.now))) (spelled (column_of store.now) self.now) }
-        ensures { result ≡ below (side_of (record_of store.now) (λ a. E.probe_order_of keys.now (index_of self.now) a probe.now)) (spelled (column_of store.now) self.now) }
+        requires { CanSearch E.Extract self.now store.now keys.now probe.now }
+        ensures { result ≡ below (side_in E.Extract self.now store.now keys.now probe.now)
+            (nodes_of self.now store.now) }
     {
         self.descend(store, keys, probe, false).0
     }
@@ -72,11 +65,9 @@ impl RankTree {
         keys: &E,
         probe: &E::Probe,
     ) -> u64
-        requires tree { IsSound (column_of store.now) self.now }
-        requires key { IsTrue (E.has_key keys.now (index_of self.now)) }
-        requires fits { IsTrue (E.does_fit keys.now (index_of self.now) probe.now) }
-        requires order { IsInOrder (order_at (record_of store.now) (E.order_of keys.now (index_of self.now))) (spelled (column_of store.now) self.now) }
-        ensures { result ≡ not_above (side_of (record_of store.now) (λ a. E.probe_order_of keys.now (index_of self.now) a probe.now)) (spelled (column_of store.now) self.now) }
+        requires { CanSearch E.Extract self.now store.now keys.now probe.now }
+        ensures { result ≡ not_above (side_in E.Extract self.now store.now keys.now probe.now)
+            (nodes_of self.now store.now) }
     {
         self.descend(store, keys, probe, true).0
     }
@@ -89,14 +80,14 @@ impl RankTree {
         probe: &E::Probe,
         after_equals: bool,
     ) -> (u64, bool)
-        requires tree { IsSound (column_of store.now) self.now }
-        requires key { IsTrue (E.has_key keys.now (index_of self.now)) }
-        requires fits { IsTrue (E.does_fit keys.now (index_of self.now) probe.now) }
-        requires order { IsInOrder (order_at (record_of store.now) (E.order_of keys.now (index_of self.now))) (spelled (column_of store.now) self.now) }
-        ensures rank { let side = side_of (record_of store.now) (λ a. E.probe_order_of keys.now (index_of self.now) a probe.now) in
-            result.0 ≡ count_by (λ n. comes_first after_equals (side n)) (spelled (column_of store.now) self.now) }
-        ensures met { let side = side_of (record_of store.now) (λ a. E.probe_order_of keys.now (index_of self.now) a probe.now) in
-            result.1 ≡ list_any (λ n. is_eq (side n)) (spelled (column_of store.now) self.now) }
+        requires { CanSearch E.Extract self.now store.now keys.now probe.now }
+        ensures rank { result.0 ≡ count_by
+            (λ n. comes_first after_equals
+            (side_in E.Extract self.now store.now keys.now probe.now n))
+            (nodes_of self.now store.now) }
+        ensures met { result.1 ≡ list_any
+            (λ n. is_eq (side_in E.Extract self.now store.now keys.now probe.now n))
+            (nodes_of self.now store.now) }
     {
         let col = self.tree.col();
         let index = self.tree.index();

@@ -1,13 +1,11 @@
 //! A ranked index and its changes: those of its tree.
-ghost use Rattle.std.specs.Prelude.{◌≡◌, ℕ, ◌<◌, List, Some, [], OnOk, OnErr, IsTrue};
+ghost use Rattle.std.specs.Prelude.{◌≡◌, ℕ, ◌<◌, List, Some, [], OnOk, OnErr};
 ghost use Rattle.node_store.specs.Store.{IsNodeOf, no_link};
 ghost use Rattle.node_store.specs.Column.{Column};
 ghost use Rattle.node_store.specs.Nodes.{Lacks};
 ghost use Rattle.node_store.specs.declared.Node.{Node};
-ghost use Rattle.node_store.specs.ByNode.{column_of, record_of, contents, same_node};
-ghost use Rattle.list_model.specs.Order.{IsInOrder};
+ghost use Rattle.node_store.specs.ByNode.{column_of, same_node};
 ghost use Rattle.list_model.specs.Walk.{without, placed, settled};
-ghost use Rattle.ord_tree.specs.Side.{order_at};
 
 use crate::sizes::Sizes;
 use key_extract::Extract;
@@ -23,7 +21,8 @@ pub struct RankTree {
 }
 
 impl RankTree {
-    ghost use Rattle.rank_tree.specs.Spelled.{Spells, IsSound, Holds, KeepsOthers, HasRoom, spelled, col_of, index_of};
+    ghost use Rattle.rank_tree.specs.Stored.{HasNode, BecomesTree, order_in, IsOrdered, IsOrderedBut, nodes_of};
+    ghost use Rattle.rank_tree.specs.Spelled.{Spells, HasRoom, spelled, col_of, index_of};
 
     /// A tree of no nodes in column `col`, ordered by the keys of index number `index`. O(1).
     pub fn new(col: usize, index: usize) -> RankTree
@@ -40,7 +39,8 @@ impl RankTree {
     /// Makes room for one more node. A tree takes no memory for it: only one of 2^64 - 1 nodes has no room. O(1).
     pub fn reserve_one<R>(&mut self, store: &NodeStore<R>) -> Result<(), AllocError>
         ensures same { self.new ≡ self.old }
-        ensures list { (cs : ℕ → Column) (xs : List Node) → Spells cs self.old xs → Spells cs self.new xs }
+        ensures list { (cs : ℕ → Column) (xs : List Node) → Spells cs self.old xs →
+            Spells cs self.new xs }
         ensures spelled { (cs : ℕ → Column) → spelled cs self.new ≡ spelled cs self.old }
         ensures col { col_of self.new ≡ col_of self.old }
         ensures index { index_of self.new ≡ index_of self.old }
@@ -52,33 +52,24 @@ impl RankTree {
 
     /// Puts `n` after all whose key is at most its own. O(log n), comparisons included.
     pub fn link<R, E: Extract<R>>(&mut self, store: &mut NodeStore<R>, keys: &E, n: Node)
-        requires tree { IsSound (column_of store.old) self.old }
+        requires ordered { IsOrdered E.Extract self.old store.old keys.now }
         requires node { IsNodeOf store.old n }
-        requires new { Lacks (spelled (column_of store.old) self.old) n }
-        requires key { IsTrue (E.has_key keys.now (index_of self.old)) }
-        requires order { IsInOrder (order_at (record_of store.old) (E.order_of keys.now (index_of self.old))) (spelled (column_of store.old) self.old) }
+        requires new { Lacks (nodes_of self.old store.old) n }
         requires room { HasRoom self.old }
-        ensures list { Spells (column_of store.new) self.new
-            (placed (λ m. order_at (record_of store.old) (E.order_of keys.now (index_of self.old)) m n) n (spelled (column_of store.old) self.old)) }
-        ensures col { col_of self.new ≡ col_of self.old }
-        ensures index { index_of self.new ≡ index_of self.old }
-        ensures others { KeepsOthers (column_of store.old) (column_of store.new) (col_of self.old) }
-        ensures contents { contents store.new ≡ contents store.old }
+        ensures { BecomesTree self.old self.new store.old store.new
+            (placed (λ m. order_in E.Extract self.old store.old keys.now m n) n
+            (nodes_of self.old store.old)) }
     {
         self.tree.link(store, keys, n);
     }
 
     /// Takes `n` out, and empties its links. It reads no record, so the node's may have changed. O(log n).
     pub fn unlink<R>(&mut self, store: &mut NodeStore<R>, n: Node)
-        requires tree { IsSound (column_of store.old) self.old }
-        requires held { Holds (spelled (column_of store.old) self.old) n }
-        ensures list { Spells (column_of store.new) self.new (without (same_node n) (spelled (column_of store.old) self.old)) }
+        requires { HasNode self.old store.old n }
+        ensures tree { BecomesTree self.old self.new store.old store.new
+            (without (same_node n) (nodes_of self.old store.old)) }
         ensures emptied { column_of store.new (col_of self.old) n ≡ Some no_link }
         ensures room { HasRoom self.new }
-        ensures col { col_of self.new ≡ col_of self.old }
-        ensures index { index_of self.new ≡ index_of self.old }
-        ensures others { KeepsOthers (column_of store.old) (column_of store.new) (col_of self.old) }
-        ensures contents { contents store.new ≡ contents store.old }
     {
         self.tree.unlink(store, n);
     }
@@ -86,16 +77,11 @@ impl RankTree {
     /// Puts `n` in order, whose record may have changed: it stays where it fits between its two neighbours, and goes
     /// after all whose key is at most its own otherwise. The others are in order. O(log n), comparisons included.
     pub fn settle<R, E: Extract<R>>(&mut self, store: &mut NodeStore<R>, keys: &E, n: Node)
-        requires tree { IsSound (column_of store.old) self.old }
-        requires held { Holds (spelled (column_of store.old) self.old) n }
-        requires key { IsTrue (E.has_key keys.now (index_of self.old)) }
-        requires order { IsInOrder (order_at (record_of store.old) (E.order_of keys.now (index_of self.old))) (without (same_node n) (spelled (column_of store.old) self.old)) }
-        ensures list { Spells (column_of store.new) self.new
-            (settled (same_node n) (λ m. order_at (record_of store.old) (E.order_of keys.now (index_of self.old)) m n) n (spelled (column_of store.old) self.old)) }
-        ensures col { col_of self.new ≡ col_of self.old }
-        ensures index { index_of self.new ≡ index_of self.old }
-        ensures others { KeepsOthers (column_of store.old) (column_of store.new) (col_of self.old) }
-        ensures contents { contents store.new ≡ contents store.old }
+        requires node { HasNode self.old store.old n }
+        requires others { IsOrderedBut E.Extract (Some n) self.old store.old keys.now }
+        ensures { BecomesTree self.old self.new store.old store.new
+            (settled (same_node n) (λ m. order_in E.Extract self.old store.old keys.now m n) n
+            (nodes_of self.old store.old)) }
     {
         self.tree.settle(store, keys, n);
     }

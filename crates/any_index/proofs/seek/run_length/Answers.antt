@@ -10,36 +10,39 @@ use Rattle.any_index.proofs.seek.run_length.Goals as goal
 pub is_node-requires-clause-other : goal.is_node-requires-clause-other
 is_node-requires-clause-other g c = λ m e.
     let xs = spelled (column_of c.args.store.now) c.args.tree.now in
-    node_held c.args.store.now c.args.tree.now m c.requires.sound (Holds_at xs _ m (sym c.upper-end.ensures ∙ e))
+    node_held c.args.store.now c.args.tree.now m c.requires.tree (Holds_at xs _ m (sym c.upper-end.ensures ∙ e))
 
 pub is_node-requires-clause-node : goal.is_node-requires-clause-node
 is_node-requires-clause-node g c =
     let xs = spelled (column_of c.args.store.now) c.args.tree.now in
-    node_held c.args.store.now c.args.tree.now c.in-Some.n c.requires.sound (Holds_at xs _ c.in-Some.n (sym c.loop-at.invariant.place ∙ c.in-Some.is))
+    node_held c.args.store.now c.args.tree.now c.in-Some.n c.requires.tree (Holds_at xs _ c.in-Some.n (sym c.loop-at.invariant.place ∙ c.in-Some.is))
 
 pub returns-then-is_node : goal.returns-then-is_node
 returns-then-is_node g c =
     let side = side_of (record_of c.args.store.now) (λ a. g.E.Extract.probe_order_of c.args.keys.now (index_of c.args.tree.now) a c.args.probe.now) in
     let xs = spelled (column_of c.args.store.now) c.args.tree.now in
-    run_ends side xs (Spells_distinct _ _ _ c.requires.sound) c.loop-at.count c.in-Some.n (sym c.loop-at.invariant.place ∙ c.in-Some.is) (sym c.upper-end.ensures ∙ c.is_node.ensures.0 c.if-is_node.true)
+    run_ends side xs (Spells_distinct _ _ _ c.requires.tree) c.loop-at.count c.in-Some.n (sym c.loop-at.invariant.place ∙ c.in-Some.is) (sym c.upper-end.ensures ∙ c.is_node.ensures.0 c.if-is_node.true)
 
 pub overflow_add-count : goal.overflow_add-count
 overflow_add-count g c =
     let side = side_of (record_of c.args.store.now) (λ a. g.E.Extract.probe_order_of c.args.keys.now (index_of c.args.tree.now) a c.args.probe.now) in
     let xs = spelled (column_of c.args.store.now) c.args.tree.now in
     let other : slice_get xs (not_above side xs) ≢ Some c.in-Some.n = λ e. let t = c.is_node.ensures.1 (c.upper-end.ensures ∙ e) in let bad = sym t ∙ c.if-is_node.false in cc in
-    let more = run_on side xs (Spells_distinct _ _ _ c.requires.sound) c.loop-at.count c.in-Some.n (sym c.loop-at.invariant.place ∙ c.in-Some.is) other c.loop-at.invariant.few in
-    omega (arith, more, count_few side xs, few_nodes (column_of c.args.store.now) c.args.tree.now c.requires.sound)
+    let more = run_on side xs (Spells_distinct _ _ _ c.requires.tree) c.loop-at.count c.in-Some.n (sym c.loop-at.invariant.place ∙ c.in-Some.is) other c.loop-at.invariant.few in
+    omega (arith, more, count_few side xs, few_nodes (column_of c.args.store.now) c.args.tree.now c.requires.tree)
 
-pub next-at-requires-clause-held : goal.next-at-requires-clause-held
-next-at-requires-clause-held g c = Holds_at (spelled (column_of c.args.store.now) c.args.tree.now) _ c.in-Some.n (sym c.loop-at.invariant.place ∙ c.in-Some.is)
+pub next-at-requires : goal.next-at-requires
+next-at-requires g c = record {
+  tree = c.requires.tree;
+  held = Holds_at (spelled (column_of c.args.store.now) c.args.tree.now) _ c.in-Some.n (sym c.loop-at.invariant.place ∙ c.in-Some.is);
+}
 
 pub loop-at-smaller : goal.loop-at-smaller
 loop-at-smaller g c =
     let side = side_of (record_of c.args.store.now) (λ a. g.E.Extract.probe_order_of c.args.keys.now (index_of c.args.tree.now) a c.args.probe.now) in
     let xs = spelled (column_of c.args.store.now) c.args.tree.now in
     let other : slice_get xs (not_above side xs) ≢ Some c.in-Some.n = λ e. let t = c.is_node.ensures.1 (c.upper-end.ensures ∙ e) in let bad = sym t ∙ c.if-is_node.false in cc in
-    let more = run_on side xs (Spells_distinct _ _ _ c.requires.sound) c.loop-at.count c.in-Some.n (sym c.loop-at.invariant.place ∙ c.in-Some.is) other c.loop-at.invariant.few in
+    let more = run_on side xs (Spells_distinct _ _ _ c.requires.tree) c.loop-at.count c.in-Some.n (sym c.loop-at.invariant.place ∙ c.in-Some.is) other c.loop-at.invariant.few in
     omega (arith, more)
 
 pub loop-at-init : goal.loop-at-init
@@ -53,7 +56,7 @@ pub loop-at-preserved : goal.loop-at-preserved
 loop-at-preserved g c =
     let side = side_of (record_of c.args.store.now) (λ a. g.E.Extract.probe_order_of c.args.keys.now (index_of c.args.tree.now) a c.args.probe.now) in
     let xs = spelled (column_of c.args.store.now) c.args.tree.now in
-    let distinct = Spells_distinct _ _ _ c.requires.sound in
+    let distinct = Spells_distinct _ _ _ c.requires.tree in
     let here = sym c.loop-at.invariant.place ∙ c.in-Some.is in
     let other : slice_get xs (not_above side xs) ≢ Some c.in-Some.n = λ e. let t = c.is_node.ensures.1 (c.upper-end.ensures ∙ e) in let bad = sym t ∙ c.if-is_node.false in cc in
     let e : (below side xs + c.loop-at.count) + 1 ≡ below side xs + (c.loop-at.count + 1) = omega arith in
@@ -66,4 +69,4 @@ pub returns : goal.returns
 returns g c =
     let side = side_of (record_of c.args.store.now) (λ a. g.E.Extract.probe_order_of c.args.keys.now (index_of c.args.tree.now) a c.args.probe.now) in
     let xs = spelled (column_of c.args.store.now) c.args.tree.now in
-    run_out side xs (Spells_distinct _ _ _ c.requires.sound) c.loop-at.count (sym c.loop-at.invariant.place ∙ c.in_default.is) c.loop-at.invariant.few
+    run_out side xs (Spells_distinct _ _ _ c.requires.tree) c.loop-at.count (sym c.loop-at.invariant.place ∙ c.in_default.is) c.loop-at.invariant.few

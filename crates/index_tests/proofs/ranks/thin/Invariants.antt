@@ -1,6 +1,5 @@
-use Rattle.node_store.specs.ByNode.{column_of}
-use Rattle.rank_tree.specs.Spelled.{IsSound}
+use Rattle.rank_tree.specs.Stored.{IsTreeOf}
 use Rattle.index_tests.proofs.ranks.thin.Given as goal
 
 abbrev pub invariant-loop-place : goal.invariant-loop-place
-invariant-loop-place g l = IsSound (column_of l.store) l.tree
+invariant-loop-place g l = IsTreeOf l.tree l.store

@@ -3,8 +3,7 @@ use Rattle.ord_tree.proofs.Laws.{IsSound_from, spelled_is}
 use Rattle.ord_tree.proofs.Ordered.{IsInOrder_empty}
 use Rattle.index_tests.proofs.tree.most_of.Goals as goal
 
-pub fill-requires-clause-sound : goal.fill-requires-clause-sound
-fill-requires-clause-sound c = IsSound_from _ _ _ (c.new-tree.ensures.empty (column_of c.new-store.result))
-
-pub fill-requires-clause-order : goal.fill-requires-clause-order
-fill-requires-clause-order c = IsInOrder_empty _ _ (spelled_is _ _ _ (c.new-tree.ensures.empty (column_of c.new-store.result)))
+pub fill-requires-clause-ordered : goal.fill-requires-clause-ordered
+fill-requires-clause-ordered c =
+    let empty = c.new-tree.ensures.empty (column_of c.new-store.result) in
+    record { tree = IsSound_from _ _ _ empty; key = tt; order = IsInOrder_empty _ _ (spelled_is _ _ _ empty) }

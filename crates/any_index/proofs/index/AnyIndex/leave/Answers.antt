@@ -29,26 +29,26 @@ pub returns-in-Random-clause-list : goal.returns-in-Random-clause-list
 returns-in-Random-clause-list g c = rw c.in-Random.is (row.spelled_is _ _ _ c.unlink-in-Random.ensures.list)
 
 pub returns-in-Ordered-clause-sound : goal.returns-in-Ordered-clause-sound
-returns-in-Ordered-clause-sound g c = ord.IsSound_from _ _ _ c.unlink-in-Ordered.ensures.list
+returns-in-Ordered-clause-sound g c = ord.IsSound_from _ _ _ c.unlink-in-Ordered.ensures.tree.list
 
 pub returns-in-Ordered-clause-list : goal.returns-in-Ordered-clause-list
-returns-in-Ordered-clause-list g c = rw c.in-Ordered.is (ord.spelled_is _ _ _ c.unlink-in-Ordered.ensures.list)
+returns-in-Ordered-clause-list g c = rw c.in-Ordered.is (ord.spelled_is _ _ _ c.unlink-in-Ordered.ensures.tree.list)
 
 pub returns-in-Ordered-clause-keyed : goal.returns-in-Ordered-clause-keyed
 returns-in-Ordered-clause-keyed g c = λ order hash_of h.
     let keyed = rw c.in-Ordered.is at h in
-    IsInOrder_same _ _ order _ _ _ _ (records_kept c.args.store.now _ c.unlink-in-Ordered.ensures.contents) c.unlink-in-Ordered.ensures.index (ord.spelled_is _ _ _ c.unlink-in-Ordered.ensures.list) keyed
+    IsInOrder_same _ _ order _ _ _ _ (records_kept c.args.store.now _ c.unlink-in-Ordered.ensures.tree.contents) c.unlink-in-Ordered.ensures.tree.index (ord.spelled_is _ _ _ c.unlink-in-Ordered.ensures.tree.list) keyed
 
 pub returns-in-Ranked-clause-sound : goal.returns-in-Ranked-clause-sound
-returns-in-Ranked-clause-sound g c = rank.IsSound_from _ _ _ c.unlink-in-Ranked.ensures.list
+returns-in-Ranked-clause-sound g c = rank.IsSound_from _ _ _ c.unlink-in-Ranked.ensures.tree.list
 
 pub returns-in-Ranked-clause-list : goal.returns-in-Ranked-clause-list
-returns-in-Ranked-clause-list g c = rw c.in-Ranked.is (rank.spelled_is _ _ _ c.unlink-in-Ranked.ensures.list)
+returns-in-Ranked-clause-list g c = rw c.in-Ranked.is (rank.spelled_is _ _ _ c.unlink-in-Ranked.ensures.tree.list)
 
 pub returns-in-Ranked-clause-keyed : goal.returns-in-Ranked-clause-keyed
 returns-in-Ranked-clause-keyed g c = λ order hash_of h.
     let keyed = rw c.in-Ranked.is at h in
-    IsInOrder_same _ _ order _ _ _ _ (records_kept c.args.store.now _ c.unlink-in-Ranked.ensures.contents) c.unlink-in-Ranked.ensures.index (rank.spelled_is _ _ _ c.unlink-in-Ranked.ensures.list) keyed
+    IsInOrder_same _ _ order _ _ _ _ (records_kept c.args.store.now _ c.unlink-in-Ranked.ensures.tree.contents) c.unlink-in-Ranked.ensures.tree.index (rank.spelled_is _ _ _ c.unlink-in-Ranked.ensures.tree.list) keyed
 
 pub returns-in-Hashed-clause-list : goal.returns-in-Hashed-clause-list
 returns-in-Hashed-clause-list g c =

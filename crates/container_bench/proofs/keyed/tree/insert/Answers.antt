@@ -4,20 +4,16 @@ use Rattle.ord_tree.proofs.Laws.{Lacks_spelled_added}
 use Rattle.container_bench.proofs.Trees.{sorted_added, sorted_linked}
 use Rattle.container_bench.proofs.keyed.tree.insert.Goals as goal
 
-pub link-requires-clause-tree : goal.link-requires-clause-tree
-link-requires-clause-tree c =
+pub link-requires-clause-ordered : goal.link-requires-clause-ordered
+link-requires-clause-ordered c =
     let h = subst (λ z. IsSorted c.args.store.now z) (sym c.reserve_one.ensures.same) c.requires in
-    (sorted_added c.args.store.now c.add.new.self c.in-Ok.n c.args.word c.reserve_one.new.self c.in-Ok.ensures.added h).sound
+    let added = sorted_added c.args.store.now c.add.new.self c.in-Ok.n c.args.word c.reserve_one.new.self c.in-Ok.ensures.added h in
+    record { tree = added.sound; key = tt; order = added.order }
 
 pub link-requires-clause-new : goal.link-requires-clause-new
 link-requires-clause-new c =
     let h = subst (λ z. IsSorted c.args.store.now z) (sym c.reserve_one.ensures.same) c.requires in
     Lacks_spelled_added c.args.store.now c.add.new.self c.in-Ok.n c.args.word c.reserve_one.new.self c.in-Ok.ensures.added h.sound
-
-pub link-requires-clause-order : goal.link-requires-clause-order
-link-requires-clause-order c =
-    let h = subst (λ z. IsSorted c.args.store.now z) (sym c.reserve_one.ensures.same) c.requires in
-    (sorted_added c.args.store.now c.add.new.self c.in-Ok.n c.args.word c.reserve_one.new.self c.in-Ok.ensures.added h).order
 
 pub returns : goal.returns
 returns c =

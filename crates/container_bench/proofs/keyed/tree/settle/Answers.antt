@@ -5,14 +5,22 @@ use Rattle.container_bench.proofs.keyed.tree.settle.Goals as goal
 pub get_mut-requires : goal.get_mut-requires
 get_mut-requires c = node_held c.args.store.now c.args.tree.now c.in_ok-n.n c.requires.sound (c.find.ensures c.in_ok-n.n c.in_ok-n.was)
 
-pub settle-requires-clause-tree : goal.settle-requires-clause-tree
-settle-requires-clause-tree c = sound_rewritten c.args.store.now c.args.tree.now c.in_ok-n.n c.args.changed c.requires (c.find.ensures c.in_ok-n.n c.in_ok-n.was)
+pub settle-requires-clause-node : goal.settle-requires-clause-node
+settle-requires-clause-node c =
+    let held = c.find.ensures c.in_ok-n.n c.in_ok-n.was in
+    record {
+      tree = sound_rewritten c.args.store.now c.args.tree.now c.in_ok-n.n c.args.changed c.requires held;
+      held = held_rewritten c.args.store.now c.args.tree.now c.in_ok-n.n c.args.changed c.requires held;
+    }
 
-pub settle-requires-clause-held : goal.settle-requires-clause-held
-settle-requires-clause-held c = held_rewritten c.args.store.now c.args.tree.now c.in_ok-n.n c.args.changed c.requires (c.find.ensures c.in_ok-n.n c.in_ok-n.was)
-
-pub settle-requires-clause-order : goal.settle-requires-clause-order
-settle-requires-clause-order c = others_sorted c.args.store.now c.args.tree.now c.in_ok-n.n c.args.changed c.requires (c.find.ensures c.in_ok-n.n c.in_ok-n.was)
+pub settle-requires-clause-others : goal.settle-requires-clause-others
+settle-requires-clause-others c =
+    let held = c.find.ensures c.in_ok-n.n c.in_ok-n.was in
+    record {
+      tree = sound_rewritten c.args.store.now c.args.tree.now c.in_ok-n.n c.args.changed c.requires held;
+      key = tt;
+      order = others_sorted c.args.store.now c.args.tree.now c.in_ok-n.n c.args.changed c.requires held;
+    }
 
 pub returns : goal.returns
 returns c = sorted_settled c.args.store.now c.args.tree.now c.in_ok-n.n c.args.changed c.requires (c.find.ensures c.in_ok-n.n c.in_ok-n.was) c.settle.new.store c.settle.new.self c.settle.ensures.contents c.settle.ensures.list

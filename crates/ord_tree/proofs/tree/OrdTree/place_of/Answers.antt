@@ -9,7 +9,7 @@ use Rattle.ord_tree.proofs.Sides.{order_at_total, order_at_both, IsCut_at}
 use Rattle.ord_tree.proofs.tree.OrdTree.place_of.Goals as goal
 
 pub loop-at-init : goal.loop-at-init
-loop-at-init g c = let s = the_tree _ _ c.requires.tree in Seeks-start g.T.Tally.of _ _ _ _ _ s.hangs s.root_is
+loop-at-init g c = let s = the_tree _ _ c.requires.ordered.tree in Seeks-start g.T.Tally.of _ _ _ _ _ s.hangs s.root_is
 
 pub link-link-requires-clause-node : goal.link-link-requires-clause-node
 link-link-requires-clause-node g c = Seeks-node g.T.Tally.of _ _ _ _ _ _ c.loop-at.invariant c.in-Some.m c.in-Some.is
@@ -24,8 +24,8 @@ pub loop-at-preserved-then-on_right : goal.loop-at-preserved-then-on_right
 loop-at-preserved-then-on_right g c =
     let records = record_of c.args.store.now in
     let compare = g.E.Extract.order_of c.args.keys.now c.args.self.now.index in
-    let total = order_at_total records compare (g.met.E.Extract.order_total c.args.keys.now c.args.self.now.index c.requires.key) in
-    let cut = IsCut_at (order_at records compare) total c.args.n _ c.requires.order in
+    let total = order_at_total records compare (g.met.E.Extract.order_total c.args.keys.now c.args.self.now.index c.requires.ordered.key) in
+    let cut = IsCut_at (order_at records compare) total c.args.n _ c.requires.ordered.order in
     let t = Turns-from g.T.Tally.of _ _ _ _ _ _ c.in-Some.m c.link-link.result cut c.loop-at.invariant c.in-Some.is c.link-link.ensures in
     let passes : c.is_le-on_right.result ≡ true = c.if-on_right.true in
     let same = ap is_le (order_at_both records compare c.in-Some.m c.args.n c.get.result.now c.get-own.result.now c.get.ensures c.get-own.ensures ∙ sym c.order.ensures) ∙ sym c.is_le-on_right.ensures in
@@ -35,8 +35,8 @@ pub loop-at-preserved : goal.loop-at-preserved
 loop-at-preserved g c =
     let records = record_of c.args.store.now in
     let compare = g.E.Extract.order_of c.args.keys.now c.args.self.now.index in
-    let total = order_at_total records compare (g.met.E.Extract.order_total c.args.keys.now c.args.self.now.index c.requires.key) in
-    let cut = IsCut_at (order_at records compare) total c.args.n _ c.requires.order in
+    let total = order_at_total records compare (g.met.E.Extract.order_total c.args.keys.now c.args.self.now.index c.requires.ordered.key) in
+    let cut = IsCut_at (order_at records compare) total c.args.n _ c.requires.ordered.order in
     let t = Turns-from g.T.Tally.of _ _ _ _ _ _ c.in-Some.m c.link-link.result cut c.loop-at.invariant c.in-Some.is c.link-link.ensures in
     let passes : c.is_le-on_right.result ≡ false = c.if-on_right.false in
     let same = ap is_le (order_at_both records compare c.in-Some.m c.args.n c.get.result.now c.get-own.result.now c.get.ensures c.get-own.ensures ∙ sym c.order.ensures) ∙ sym c.is_le-on_right.ensures in

@@ -14,11 +14,11 @@ use Rattle.ord_tree.proofs.tree.OrdTree.same_as.Goals as goal
 
 pub loop-at-init : goal.loop-at-init
 loop-at-init g c =
-    let s = the_tree _ _ c.requires.tree in
+    let s = the_tree _ _ c.requires.others.tree in
     let index = c.args.self.now.index in
     let compare = g.E.Extract.order_of c.args.keys.now index in
-    let cuts = cuts_at (g.met.E.Extract.order_total c.args.keys.now index c.requires.key) c.args.row.now in
-    Nears-start g.T.Tally.of _ _ _ _ _ s.hangs s.root_is (each_beside (is_kept c.args.except) _ _ s.distinct (subst (EachPair (Rises (side_of (record_of c.args.store.now) (λ a. compare a c.args.row.now)))) (kept_list c.args.except _) (Rises-from (record_of c.args.store.now) compare (λ a. compare a c.args.row.now) _ cuts c.requires.order)))
+    let cuts = cuts_at (g.met.E.Extract.order_total c.args.keys.now index c.requires.others.key) c.args.row.now in
+    Nears-start g.T.Tally.of _ _ _ _ _ s.hangs s.root_is (each_beside (is_kept c.args.except) _ _ s.distinct (subst (EachPair (Rises (side_of (record_of c.args.store.now) (λ a. compare a c.args.row.now)))) (kept_list c.args.except _) (Rises-from (record_of c.args.store.now) compare (λ a. compare a c.args.row.now) _ cuts c.requires.others.order)))
 
 pub link-link-requires-clause-node : goal.link-link-requires-clause-node
 link-link-requires-clause-node g c = Nears-node g.T.Tally.of _ _ _ _ _ _ c.loop-at.invariant c.in-Some.n c.in-Some.is
