@@ -5,8 +5,7 @@ ghost use Rattle.list_model.specs.Walk.{without};
 ghost use Rattle.node_store.specs.Column.{Column};
 ghost use Rattle.node_store.specs.Nodes.{Lacks};
 ghost use Rattle.node_store.specs.Store.{IsNodeOf};
-ghost use Rattle.node_store.specs.ByNode.{column_of, record_of, contents, same_node};
-ghost use Rattle.any_index.specs.Side.{order_at};
+ghost use Rattle.node_store.specs.ByNode.{same_node};
 ghost use Rattle.any_index.specs.Lists.{entered, settled_in};
 
 use container_model::Kind;
@@ -35,8 +34,9 @@ pub enum AnyIndex {
 }
 
 impl AnyIndex {
-    ghost use Rattle.any_index.specs.Spelled.{IsSound, HasRoom, Holds, KeepsOthers, list_of, kind_of, col_of, index_of};
-    ghost use Rattle.any_index.specs.Keyed.{HasItsKey, IsKeyed, IsKeyedBut};
+    ghost use Rattle.any_index.specs.Stored.{nodes_of, IsIn, HasNode, KeepsRest, order_in, IsFiled, IsFiledBut};
+    ghost use Rattle.any_index.specs.Spelled.{IsSound, HasRoom, list_of, kind_of, col_of, index_of};
+    ghost use Rattle.any_index.specs.Keyed.{IsKeyed, IsKeyedBut};
 
     /// An index of no nodes in column `column`, by the keys of that number. It allocates nothing. O(1).
     pub fn new(alloc: Global, kind: Kind, column: usize) -> AnyIndex
@@ -59,17 +59,14 @@ impl AnyIndex {
     /// Makes room for one more node. Where memory is refused, everything is as before. O(1) on average over many
     /// insertions.
     pub fn reserve_one<R>(&mut self, store: &mut NodeStore<R>) -> Result<(), AllocError>
-        requires { IsSound (column_of store.old) self.old }
-        ensures sound { IsSound (column_of store.new) self.new }
-        ensures list { list_of (column_of store.new) self.new ≡ list_of (column_of store.old) self.old }
+        requires { IsIn self.old store.old }
+        ensures sound { IsIn self.new store.new }
+        ensures list { nodes_of self.new store.new ≡ nodes_of self.old store.old }
         ensures room { OnOk result (HasRoom self.new) }
         ensures full { OnErr result (¬ HasRoom self.old) }
-        ensures keyed { (order : ℕ → R → R → Ordering) (hash_of : ℕ → R → ℕ) → IsKeyed order hash_of store.old self.old → IsKeyed order hash_of store.new self.new }
-        ensures kind { kind_of self.new ≡ kind_of self.old }
-        ensures col { col_of self.new ≡ col_of self.old }
-        ensures index { index_of self.new ≡ index_of self.old }
-        ensures others { KeepsOthers (column_of store.old) (column_of store.new) (col_of self.old) }
-        ensures contents { contents store.new ≡ contents store.old }
+        ensures keyed { (order : ℕ → R → R → Ordering) (hash_of : ℕ → R → ℕ) →
+            IsKeyed order hash_of store.old self.old → IsKeyed order hash_of store.new self.new }
+        ensures rest { KeepsRest self.old self.new store.old store.new }
     {
         match self {
             AnyIndex::Sequenced(sequence) => sequence.reserve_one(store),
@@ -89,21 +86,16 @@ impl AnyIndex {
         n: Node,
         at: Option<u64>,
     )
-        requires sound { IsSound (column_of store.old) self.old }
+        requires filed { IsFiled E.Extract self.old store.old keys.now }
         requires node { IsNodeOf store.old n }
-        requires new { Lacks (list_of (column_of store.old) self.old) n }
+        requires new { Lacks (nodes_of self.old store.old) n }
         requires room { HasRoom self.old }
-        requires place { (p : ℕ) → at ≡ Some p → p ≤ length (list_of (column_of store.old) self.old) }
-        requires key { HasItsKey (E.has_key keys.now) self.old }
-        requires keyed { IsKeyed (E.order_of keys.now) (E.hash_of keys.now) store.old self.old }
-        ensures sound { IsSound (column_of store.new) self.new }
-        ensures list { list_of (column_of store.new) self.new ≡ entered (kind_of self.old) (order_at (record_of store.old) (E.order_of keys.now (index_of self.old))) at n (list_of (column_of store.old) self.old) }
+        requires place { (p : ℕ) → at ≡ Some p → p ≤ length (nodes_of self.old store.old) }
+        ensures sound { IsIn self.new store.new }
+        ensures list { nodes_of self.new store.new ≡ entered (kind_of self.old)
+            (order_in E.Extract self.old store.old keys.now) at n (nodes_of self.old store.old) }
         ensures keyed { IsKeyed (E.order_of keys.now) (E.hash_of keys.now) store.new self.new }
-        ensures kind { kind_of self.new ≡ kind_of self.old }
-        ensures col { col_of self.new ≡ col_of self.old }
-        ensures index { index_of self.new ≡ index_of self.old }
-        ensures others { KeepsOthers (column_of store.old) (column_of store.new) (col_of self.old) }
-        ensures contents { contents store.new ≡ contents store.old }
+        ensures rest { KeepsRest self.old self.new store.old store.new }
     {
         match self {
             AnyIndex::Sequenced(sequence) => match at {
@@ -123,17 +115,15 @@ impl AnyIndex {
     /// Takes `n` out. It reads no record, so the node's may have changed. It takes no memory, and leaves room for one
     /// node. O(log n) in a tree, O(1) in buckets and in a chain, O(the nodes behind it) in a row.
     pub fn leave<R>(&mut self, store: &mut NodeStore<R>, n: Node)
-        requires sound { IsSound (column_of store.old) self.old }
-        requires held { Holds (list_of (column_of store.old) self.old) n }
-        ensures sound { IsSound (column_of store.new) self.new }
-        ensures list { list_of (column_of store.new) self.new ≡ without (same_node n) (list_of (column_of store.old) self.old) }
+        requires { HasNode self.old store.old n }
+        ensures sound { IsIn self.new store.new }
+        ensures list { nodes_of self.new store.new ≡ without (same_node n)
+            (nodes_of self.old store.old) }
         ensures room { HasRoom self.new }
-        ensures keyed { (order : ℕ → R → R → Ordering) (hash_of : ℕ → R → ℕ) → IsKeyedBut order hash_of store.old self.old n → IsKeyed order hash_of store.new self.new }
-        ensures kind { kind_of self.new ≡ kind_of self.old }
-        ensures col { col_of self.new ≡ col_of self.old }
-        ensures index { index_of self.new ≡ index_of self.old }
-        ensures others { KeepsOthers (column_of store.old) (column_of store.new) (col_of self.old) }
-        ensures contents { contents store.new ≡ contents store.old }
+        ensures keyed { (order : ℕ → R → R → Ordering) (hash_of : ℕ → R → ℕ) →
+            IsKeyedBut order hash_of store.old self.old n →
+            IsKeyed order hash_of store.new self.new }
+        ensures rest { KeepsRest self.old self.new store.old store.new }
     {
         match self {
             AnyIndex::Sequenced(sequence) => sequence.unlink(store, n),
@@ -148,18 +138,13 @@ impl AnyIndex {
     /// neighbours, and goes after all whose key is at most its own otherwise. A sequence stays as it is. It takes no
     /// memory. O(log n) in a tree, O(1) otherwise.
     pub fn settle<R, E: Extract<R>>(&mut self, store: &mut NodeStore<R>, keys: &E, n: Node)
-        requires sound { IsSound (column_of store.old) self.old }
-        requires held { Holds (list_of (column_of store.old) self.old) n }
-        requires key { HasItsKey (E.has_key keys.now) self.old }
-        requires keyed { IsKeyedBut (E.order_of keys.now) (E.hash_of keys.now) store.old self.old n }
-        ensures sound { IsSound (column_of store.new) self.new }
-        ensures list { list_of (column_of store.new) self.new ≡ settled_in (kind_of self.old) (order_at (record_of store.old) (E.order_of keys.now (index_of self.old))) n (list_of (column_of store.old) self.old) }
+        requires node { HasNode self.old store.old n }
+        requires others { IsFiledBut E.Extract n self.old store.old keys.now }
+        ensures sound { IsIn self.new store.new }
+        ensures list { nodes_of self.new store.new ≡ settled_in (kind_of self.old)
+            (order_in E.Extract self.old store.old keys.now) n (nodes_of self.old store.old) }
         ensures keyed { IsKeyed (E.order_of keys.now) (E.hash_of keys.now) store.new self.new }
-        ensures kind { kind_of self.new ≡ kind_of self.old }
-        ensures col { col_of self.new ≡ col_of self.old }
-        ensures index { index_of self.new ≡ index_of self.old }
-        ensures others { KeepsOthers (column_of store.old) (column_of store.new) (col_of self.old) }
-        ensures contents { contents store.new ≡ contents store.old }
+        ensures rest { KeepsRest self.old self.new store.old store.new }
     {
         match self {
             AnyIndex::Sequenced(_) | AnyIndex::Random(_) => {}

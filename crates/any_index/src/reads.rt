@@ -2,18 +2,20 @@
 ghost use Rattle.std.specs.Prelude.{◌≡◌, IsTrue, not, slice_get};
 ghost use Rattle.container_model.specs.State.{has_places_kind, is_hashed_kind};
 ghost use Rattle.list_model.specs.Walk.{place_of as the_place, next as the_next, prev as the_prev, last as the_last};
-ghost use Rattle.node_store.specs.ByNode.{column_of, same_node};
-ghost use Rattle.any_index.specs.Spelled.{IsSound, Holds, list_of, kind_of};
+ghost use Rattle.node_store.specs.ByNode.{same_node};
+ghost use Rattle.any_index.specs.Spelled.{kind_of};
 
 use crate::AnyIndex;
 use node_store::{Node, NodeStore};
 
 impl AnyIndex {
+    ghost use Rattle.any_index.specs.Stored.{nodes_of, IsIn, HasNode};
+
     /// The first node. O(log n) in a tree, O(1) in a sequence. A hashed index has no such call.
     pub fn first<R>(&self, store: &NodeStore<R>) -> Option<Node>
-        requires sound { IsSound (column_of store.now) self.now }
+        requires sound { IsIn self.now store.now }
         requires kind { IsTrue (not (is_hashed_kind (kind_of self.now))) }
-        ensures { result ≡ slice_get (list_of (column_of store.now) self.now) 0 }
+        ensures { result ≡ slice_get (nodes_of self.now store.now) 0 }
     {
         match self {
             AnyIndex::Sequenced(sequence) => sequence.first(store),
@@ -26,9 +28,9 @@ impl AnyIndex {
 
     /// The last node. O(log n) in a tree, O(1) in a sequence. A hashed index has no such call.
     pub fn last<R>(&self, store: &NodeStore<R>) -> Option<Node>
-        requires sound { IsSound (column_of store.now) self.now }
+        requires sound { IsIn self.now store.now }
         requires kind { IsTrue (not (is_hashed_kind (kind_of self.now))) }
-        ensures { result ≡ the_last (list_of (column_of store.now) self.now) }
+        ensures { result ≡ the_last (nodes_of self.now store.now) }
     {
         match self {
             AnyIndex::Sequenced(sequence) => sequence.last(store),
@@ -42,10 +44,9 @@ impl AnyIndex {
     /// The node after `n`, or `None` at the end. O(log n) in a tree, and O(1) on average over a whole walk; O(1) in a
     /// sequence. A hashed index has no such call.
     pub fn next<R>(&self, store: &NodeStore<R>, n: Node) -> Option<Node>
-        requires sound { IsSound (column_of store.now) self.now }
-        requires held { Holds (list_of (column_of store.now) self.now) n }
+        requires node { HasNode self.now store.now n }
         requires kind { IsTrue (not (is_hashed_kind (kind_of self.now))) }
-        ensures { result ≡ the_next (same_node n) (list_of (column_of store.now) self.now) }
+        ensures { result ≡ the_next (same_node n) (nodes_of self.now store.now) }
     {
         match self {
             AnyIndex::Sequenced(sequence) => sequence.next(store, n),
@@ -58,10 +59,9 @@ impl AnyIndex {
 
     /// The node before `n`, or `None` at the front. The costs are those of `next`. A hashed index has no such call.
     pub fn prev<R>(&self, store: &NodeStore<R>, n: Node) -> Option<Node>
-        requires sound { IsSound (column_of store.now) self.now }
-        requires held { Holds (list_of (column_of store.now) self.now) n }
+        requires node { HasNode self.now store.now n }
         requires kind { IsTrue (not (is_hashed_kind (kind_of self.now))) }
-        ensures { result ≡ the_prev (same_node n) (list_of (column_of store.now) self.now) }
+        ensures { result ≡ the_prev (same_node n) (nodes_of self.now store.now) }
     {
         match self {
             AnyIndex::Sequenced(sequence) => sequence.prev(store, n),
@@ -74,9 +74,9 @@ impl AnyIndex {
 
     /// The node at a place, counted from 0, or `None` past the end: of a row in O(1), of a ranked tree in O(log n).
     pub fn nth<R>(&self, store: &NodeStore<R>, place: u64) -> Option<Node>
-        requires sound { IsSound (column_of store.now) self.now }
+        requires sound { IsIn self.now store.now }
         requires kind { IsTrue (has_places_kind (kind_of self.now)) }
-        ensures { result ≡ slice_get (list_of (column_of store.now) self.now) place }
+        ensures { result ≡ slice_get (nodes_of self.now store.now) place }
     {
         match self {
             AnyIndex::Random(row) => row.nth(store, place),
@@ -87,10 +87,9 @@ impl AnyIndex {
 
     /// The place of `n`, counted from 0: in a row in O(1), in a ranked tree in O(log n). It reads no record.
     pub fn place_of<R>(&self, store: &NodeStore<R>, n: Node) -> u64
-        requires sound { IsSound (column_of store.now) self.now }
-        requires held { Holds (list_of (column_of store.now) self.now) n }
+        requires node { HasNode self.now store.now n }
         requires kind { IsTrue (has_places_kind (kind_of self.now)) }
-        ensures { result ≡ the_place (same_node n) (list_of (column_of store.now) self.now) }
+        ensures { result ≡ the_place (same_node n) (nodes_of self.now store.now) }
     {
         match self {
             AnyIndex::Random(row) => row.place_of(store, n),

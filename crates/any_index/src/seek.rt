@@ -9,9 +9,8 @@ ghost use Rattle.list_model.specs.Place.{below, not_above, count_equal, find_equ
 ghost use Rattle.node_store.specs.ByNode.{column_of, record_of};
 ghost use Rattle.any_index.specs.Side.{AreNodesOf, equal_but};
 ghost use Rattle.any_index.specs.Side.{side_of};
-ghost use Rattle.any_index.specs.Spelled.{IsSound, Holds, list_of, kind_of, index_of, by_number};
+ghost use Rattle.any_index.specs.Spelled.{Holds, kind_of, by_number};
 ghost use Rattle.any_index.specs.Earliest.{earlier as the_earlier};
-ghost use Rattle.any_index.specs.Keyed.{HasItsKey, Accepts, IsKeyed, IsKeyedExcept, HasOneOfEachKey};
 
 use crate::AnyIndex;
 use hash_index::HashIndex;
@@ -20,6 +19,8 @@ use node_store::{Node, NodeStore};
 use ord_tree::{NoTally, OrdTree};
 
 impl AnyIndex {
+    ghost use Rattle.any_index.specs.Stored.{nodes_of, side_in, record_side_in, IsFiledOnce, CanFind, CanSearch};
+
     /// The first node that has the key: of a hashed index, the one that was added first. O(log n) in a tree, expected
     /// O(1 + the nodes that have the key) in buckets. A sequence has no such call.
     pub fn find<R, E: Extract<R>>(
@@ -28,11 +29,9 @@ impl AnyIndex {
         keys: &E,
         probe: &E::Probe,
     ) -> Option<Node>
-        requires sound { IsSound (column_of store.now) self.now }
-        requires key { HasItsKey (E.has_key keys.now) self.now }
-        requires fits { Accepts (λ j. E.does_fit keys.now j probe.now) (λ j. E.is_whole keys.now j probe.now) self.now }
-        requires keyed { IsKeyed (E.order_of keys.now) (E.hash_of keys.now) store.now self.now }
-        ensures { result ≡ find_equal (side_of (record_of store.now) (λ a. E.probe_order_of keys.now (index_of self.now) a probe.now)) (list_of (column_of store.now) self.now) }
+        requires { CanFind E.Extract self.now store.now keys.now probe.now }
+        ensures { result ≡ find_equal (side_in E.Extract self.now store.now keys.now probe.now)
+            (nodes_of self.now store.now) }
     {
         match self {
             AnyIndex::Ordered(tree) => tree.find(store, keys, probe),
@@ -50,12 +49,12 @@ impl AnyIndex {
         keys: &E,
         probe: &E::Probe,
     ) -> Option<Node>
-        requires sound { IsSound (column_of store.now) self.now }
-        requires key { HasItsKey (E.has_key keys.now) self.now }
-        requires fits { Accepts (λ j. E.does_fit keys.now j probe.now) (λ j. E.is_whole keys.now j probe.now) self.now }
-        requires keyed { IsKeyed (E.order_of keys.now) (E.hash_of keys.now) store.now self.now }
-        ensures found { IfSome result (λ n. Holds (list_of (column_of store.now) self.now) n × (side_of (record_of store.now) (λ a. E.probe_order_of keys.now (index_of self.now) a probe.now) n ≡ Equal)) }
-        ensures none { result ≡ None → find_equal (side_of (record_of store.now) (λ a. E.probe_order_of keys.now (index_of self.now) a probe.now)) (list_of (column_of store.now) self.now) ≡ None }
+        requires { CanFind E.Extract self.now store.now keys.now probe.now }
+        ensures found { IfSome result (λ n. Holds (nodes_of self.now store.now) n ×
+            (side_in E.Extract self.now store.now keys.now probe.now n ≡ Equal)) }
+        ensures none { result ≡ None → find_equal
+            (side_in E.Extract self.now store.now keys.now probe.now)
+            (nodes_of self.now store.now) ≡ None }
     {
         match self {
             AnyIndex::Hashed(buckets) => buckets.first_of(store, keys, probe),
@@ -66,11 +65,9 @@ impl AnyIndex {
     /// How many nodes have the key: in O(log n) comparisons and that many steps in a tree without ranks, in O(log n)
     /// in a ranked one, and in expected O(1 + those nodes) in buckets. A sequence has no such call.
     pub fn count<R, E: Extract<R>>(&self, store: &NodeStore<R>, keys: &E, probe: &E::Probe) -> u64
-        requires sound { IsSound (column_of store.now) self.now }
-        requires key { HasItsKey (E.has_key keys.now) self.now }
-        requires fits { Accepts (λ j. E.does_fit keys.now j probe.now) (λ j. E.is_whole keys.now j probe.now) self.now }
-        requires keyed { IsKeyed (E.order_of keys.now) (E.hash_of keys.now) store.now self.now }
-        ensures { result ≡ count_equal (side_of (record_of store.now) (λ a. E.probe_order_of keys.now (index_of self.now) a probe.now)) (list_of (column_of store.now) self.now) }
+        requires { CanFind E.Extract self.now store.now keys.now probe.now }
+        ensures { result ≡ count_equal (side_in E.Extract self.now store.now keys.now probe.now)
+            (nodes_of self.now store.now) }
     {
         match self {
             AnyIndex::Ordered(tree) => run_length(tree, store, keys, probe),
@@ -89,12 +86,10 @@ impl AnyIndex {
         keys: &E,
         probe: &E::Probe,
     ) -> Option<Node>
-        requires sound { IsSound (column_of store.now) self.now }
         requires kind { IsTrue (is_sorted_kind (kind_of self.now)) }
-        requires key { HasItsKey (E.has_key keys.now) self.now }
-        requires fits { IsTrue (E.does_fit keys.now (index_of self.now) probe.now) }
-        requires keyed { IsKeyed (E.order_of keys.now) (E.hash_of keys.now) store.now self.now }
-        ensures { result ≡ the_lower (side_of (record_of store.now) (λ a. E.probe_order_of keys.now (index_of self.now) a probe.now)) (list_of (column_of store.now) self.now) }
+        requires search { CanSearch E.Extract self.now store.now keys.now probe.now }
+        ensures { result ≡ the_lower (side_in E.Extract self.now store.now keys.now probe.now)
+            (nodes_of self.now store.now) }
     {
         match self {
             AnyIndex::Ordered(tree) => tree.lower(store, keys, probe),
@@ -110,12 +105,10 @@ impl AnyIndex {
         keys: &E,
         probe: &E::Probe,
     ) -> Option<Node>
-        requires sound { IsSound (column_of store.now) self.now }
         requires kind { IsTrue (is_sorted_kind (kind_of self.now)) }
-        requires key { HasItsKey (E.has_key keys.now) self.now }
-        requires fits { IsTrue (E.does_fit keys.now (index_of self.now) probe.now) }
-        requires keyed { IsKeyed (E.order_of keys.now) (E.hash_of keys.now) store.now self.now }
-        ensures { result ≡ the_upper (side_of (record_of store.now) (λ a. E.probe_order_of keys.now (index_of self.now) a probe.now)) (list_of (column_of store.now) self.now) }
+        requires search { CanSearch E.Extract self.now store.now keys.now probe.now }
+        ensures { result ≡ the_upper (side_in E.Extract self.now store.now keys.now probe.now)
+            (nodes_of self.now store.now) }
     {
         match self {
             AnyIndex::Ordered(tree) => tree.upper(store, keys, probe),
@@ -131,12 +124,10 @@ impl AnyIndex {
         keys: &E,
         probe: &E::Probe,
     ) -> u64
-        requires sound { IsSound (column_of store.now) self.now }
         requires kind { IsTrue (is_ranked_kind (kind_of self.now)) }
-        requires key { HasItsKey (E.has_key keys.now) self.now }
-        requires fits { IsTrue (E.does_fit keys.now (index_of self.now) probe.now) }
-        requires keyed { IsKeyed (E.order_of keys.now) (E.hash_of keys.now) store.now self.now }
-        ensures { result ≡ the_rank (side_of (record_of store.now) (λ a. E.probe_order_of keys.now (index_of self.now) a probe.now)) (list_of (column_of store.now) self.now) }
+        requires search { CanSearch E.Extract self.now store.now keys.now probe.now }
+        ensures { result ≡ the_rank (side_in E.Extract self.now store.now keys.now probe.now)
+            (nodes_of self.now store.now) }
     {
         match self {
             AnyIndex::Ranked(tree) => tree.find_rank(store, keys, probe),
@@ -154,12 +145,10 @@ impl AnyIndex {
         keys: &E,
         probe: &E::Probe,
     ) -> u64
-        requires sound { IsSound (column_of store.now) self.now }
         requires kind { IsTrue (is_ranked_kind (kind_of self.now)) }
-        requires key { HasItsKey (E.has_key keys.now) self.now }
-        requires fits { IsTrue (E.does_fit keys.now (index_of self.now) probe.now) }
-        requires keyed { IsKeyed (E.order_of keys.now) (E.hash_of keys.now) store.now self.now }
-        ensures { result ≡ below (side_of (record_of store.now) (λ a. E.probe_order_of keys.now (index_of self.now) a probe.now)) (list_of (column_of store.now) self.now) }
+        requires search { CanSearch E.Extract self.now store.now keys.now probe.now }
+        ensures { result ≡ below (side_in E.Extract self.now store.now keys.now probe.now)
+            (nodes_of self.now store.now) }
     {
         match self {
             AnyIndex::Ranked(tree) => tree.lower_rank(store, keys, probe),
@@ -177,12 +166,10 @@ impl AnyIndex {
         keys: &E,
         probe: &E::Probe,
     ) -> u64
-        requires sound { IsSound (column_of store.now) self.now }
         requires kind { IsTrue (is_ranked_kind (kind_of self.now)) }
-        requires key { HasItsKey (E.has_key keys.now) self.now }
-        requires fits { IsTrue (E.does_fit keys.now (index_of self.now) probe.now) }
-        requires keyed { IsKeyed (E.order_of keys.now) (E.hash_of keys.now) store.now self.now }
-        ensures { result ≡ not_above (side_of (record_of store.now) (λ a. E.probe_order_of keys.now (index_of self.now) a probe.now)) (list_of (column_of store.now) self.now) }
+        requires search { CanSearch E.Extract self.now store.now keys.now probe.now }
+        ensures { result ≡ not_above (side_in E.Extract self.now store.now keys.now probe.now)
+            (nodes_of self.now store.now) }
     {
         match self {
             AnyIndex::Ranked(tree) => tree.upper_rank(store, keys, probe),
@@ -202,13 +189,12 @@ impl AnyIndex {
         r: &R,
         except: Option<Node>,
     ) -> Option<Node>
-        requires sound { IsSound (column_of store.now) self.now }
         requires kind { IsTrue (has_key_kind (kind_of self.now)) }
-        requires key { HasItsKey (E.has_key keys.now) self.now }
         requires except { AreNodesOf store.now except }
-        requires keyed { IsKeyedExcept (E.order_of keys.now) (E.hash_of keys.now) store.now self.now except }
-        requires unique { HasOneOfEachKey (E.order_of keys.now) store.now self.now except }
-        ensures { result ≡ equal_but except (side_of (record_of store.now) (λ a. E.order_of keys.now (index_of self.now) a r.now)) (list_of (column_of store.now) self.now) }
+        requires others { IsFiledOnce E.Extract except self.now store.now keys.now }
+        ensures { result ≡ equal_but except
+            (record_side_in E.Extract self.now store.now keys.now r.now)
+            (nodes_of self.now store.now) }
     {
         match self {
             AnyIndex::Ordered(tree) => tree.same_as(store, keys, r, except),
@@ -253,8 +239,11 @@ fn first_added<R, E: Extract<R>>(
     requires sound { hash.IsSound (column_of store.now) buckets.now }
     requires key { IsTrue (E.has_key keys.now (hash.index_of buckets.now)) }
     requires whole { IsTrue (E.is_whole keys.now (hash.index_of buckets.now) probe.now) }
-    requires hashed { IsHashed (E.hash_of keys.now (hash.index_of buckets.now)) store.now (hash.col_of buckets.now) (hash.spelled (column_of store.now) buckets.now) }
-    ensures { result ≡ find_equal (side_of (record_of store.now) (λ a. E.probe_order_of keys.now (hash.index_of buckets.now) a probe.now)) (by_number (hash.spelled (column_of store.now) buckets.now)) }
+    requires hashed { IsHashed (E.hash_of keys.now (hash.index_of buckets.now)) store.now
+        (hash.col_of buckets.now) (hash.spelled (column_of store.now) buckets.now) }
+    ensures { result ≡ find_equal (side_of (record_of store.now)
+        (λ a. E.probe_order_of keys.now (hash.index_of buckets.now) a probe.now))
+        (by_number (hash.spelled (column_of store.now) buckets.now)) }
 {
     let mut first = None;
     let mut at = buckets.first_of(store, keys, probe);

@@ -13,6 +13,8 @@ use Rattle.any_index.specs.declared.index.AnyIndex.{AnyIndex}
 use Rattle.any_index.specs.Spelled as any
 use Rattle.any_index.specs.Side.{side_of}
 use Rattle.any_index.specs.Keyed as keyed
+use Rattle.any_index.specs.Stored.{CanFind, CanSearch}
+use Rattle.key_extract.specs.declared.extract.Extract.{Ghosts}
 use Rattle.index_set.specs.declared.set.IndexSet.{IndexSet}
 use Rattle.index_set.specs.Set.{IsSound, IsKeyed, list_of, kind_at, probe_side}
 use Rattle.index_set.proofs.Each.{each_listed}
@@ -69,3 +71,21 @@ module _ {R E : Type 0} {has_key : E → ℕ → Bool} (s : IndexSet R E) (sound
   pub told_here : {P : Type 0} (says : (Node → Ordering) → List Node → Type 0) (order : E → ℕ → R → P → Ordering) (probe : P) →
       says (side_of (record_of s.store) (λ a. order s.keys (any.index_of i) a probe)) (any.list_of (column_of s.store) i) → says (probe_side order s k probe) (list_of s k)
   told_here says order probe h = subst (λ z. says (probe_side order s k probe) z) list_here (subst (λ z. says (side_of (record_of s.store) (λ a. order s.keys z a probe)) (any.list_of (column_of s.store) i)) number_here h)
+
+module _ {R E P : Type 0} (X : Ghosts E R P) (s : IndexSet R E) (sound : IsSound X.has_key s) (k : ℕ) (lt : k < length s.specs.items) (i : AnyIndex) (e : i ≡ get_or s.indices.items k i) where
+  -- so nodes can be looked for there by a probe of the index's key
+  pub can_find : (probe : P) → IsTrue (has_key_kind (kind_at s k)) → (IsTrue (is_sorted_kind (kind_at s k)) → IsTrue (X.does_fit s.keys k probe)) → (IsTrue (is_hashed_kind (kind_at s k)) → IsTrue (X.is_whole s.keys k probe)) → IsKeyed X.order_of X.hash_of s → CanFind X i s.store s.keys probe
+  can_find probe kind fits whole keyed = record {
+    sound = sound_here s sound k lt i e;
+    key = its_key s sound k lt i e;
+    fits = accepts_here s sound k lt i e (λ j. X.does_fit s.keys j probe) (λ j. X.is_whole s.keys j probe) kind fits whole;
+    keyed = keyed_here s sound k lt i e X.order_of X.hash_of keyed;
+  }
+
+  pub can_search : (probe : P) → IsTrue (X.does_fit s.keys k probe) → IsKeyed X.order_of X.hash_of s → CanSearch X i s.store s.keys probe
+  can_search probe fits keyed = record {
+    sound = sound_here s sound k lt i e;
+    key = its_key s sound k lt i e;
+    fits = fits_here s sound k lt i e (λ j. X.does_fit s.keys j probe) fits;
+    keyed = keyed_here s sound k lt i e X.order_of X.hash_of keyed;
+  }

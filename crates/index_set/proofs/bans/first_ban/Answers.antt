@@ -3,6 +3,7 @@ use Rattle.std.specs.Prelude.{IsTrue}
 use Rattle.node_store.specs.ByNode.{column_of, record_of}
 use Rattle.container_model.specs.State.{has_key_kind}
 use Rattle.any_index.specs.Spelled.{kind_of}
+use Rattle.any_index.specs.Stored.{IsIn}
 use Rattle.any_index.specs.Keyed.{HasItsKey, IsKeyedExcept, HasOneOfEachKey}
 use Rattle.index_set.proofs.Frame.{key_here}
 use Rattle.index_set.proofs.Reading.{some_spec}
@@ -16,20 +17,19 @@ same_as-requires-clause-kind g c =
     subst (λ z. IsTrue (has_key_kind z)) (sym (ap kind_of c.index-indices-index.is ∙ (c.requires.placed.each c.loop-index.index some_spec c.index-indices-index.result c.loop-index-test.true).kind))
     (c.requires.keys.unique c.loop-index.index some_spec c.loop-index-test.true c.if-specs-index.true)
 
-pub same_as-requires-clause-key : goal.same_as-requires-clause-key
-same_as-requires-clause-key g c =
-    subst (λ i. HasItsKey (g.E.Extract.has_key c.args.keys.now) i) (sym c.index-indices-index.is)
-    (key_here (g.E.Extract.has_key c.args.keys.now) (column_of c.args.store.now) c.args.specs.now c.args.indices.now c.loop-index.index some_spec c.index-indices-index.result c.loop-index-test.true c.requires.keys c.requires.placed)
-
-pub same_as-requires-clause-keyed : goal.same_as-requires-clause-keyed
-same_as-requires-clause-keyed g c =
-    subst (λ i. IsKeyedExcept (g.E.Extract.order_of c.args.keys.now) (g.E.Extract.hash_of c.args.keys.now) c.args.store.now i c.args.except) (sym c.index-indices-index.is)
-    (c.requires.keyed.each c.loop-index.index some_spec c.index-indices-index.result c.loop-index-test.true)
-
-pub same_as-requires-clause-unique : goal.same_as-requires-clause-unique
-same_as-requires-clause-unique g c =
-    subst (λ i. HasOneOfEachKey (g.E.Extract.order_of c.args.keys.now) c.args.store.now i c.args.except) (sym c.index-indices-index.is)
-    (unique_here (g.E.Extract.order_of c.args.keys.now) c.args.store.now c.args.specs.now c.args.indices.now c.args.except c.requires.placed c.requires.unique c.loop-index.index some_spec c.index-indices-index.result c.loop-index-test.true c.if-specs-index.true)
+pub same_as-requires-clause-others : goal.same_as-requires-clause-others
+same_as-requires-clause-others g c = record {
+  sound = subst (λ i. IsIn i c.args.store.now) (sym c.index-indices-index.is) (c.requires.placed.each c.loop-index.index some_spec c.index-indices-index.result c.loop-index-test.true).sound;
+  key =
+      subst (λ i. HasItsKey (g.E.Extract.has_key c.args.keys.now) i) (sym c.index-indices-index.is)
+      (key_here (g.E.Extract.has_key c.args.keys.now) (column_of c.args.store.now) c.args.specs.now c.args.indices.now c.loop-index.index some_spec c.index-indices-index.result c.loop-index-test.true c.requires.keys c.requires.placed);
+  keyed =
+      subst (λ i. IsKeyedExcept (g.E.Extract.order_of c.args.keys.now) (g.E.Extract.hash_of c.args.keys.now) c.args.store.now i c.args.except) (sym c.index-indices-index.is)
+      (c.requires.keyed.each c.loop-index.index some_spec c.index-indices-index.result c.loop-index-test.true);
+  unique =
+      subst (λ i. HasOneOfEachKey (g.E.Extract.order_of c.args.keys.now) c.args.store.now i c.args.except) (sym c.index-indices-index.is)
+      (unique_here (g.E.Extract.order_of c.args.keys.now) c.args.store.now c.args.specs.now c.args.indices.now c.args.except c.requires.placed c.requires.unique c.loop-index.index some_spec c.index-indices-index.result c.loop-index-test.true c.if-specs-index.true);
+}
 
 pub returns-in-Some : goal.returns-in-Some
 returns-in-Some g c =

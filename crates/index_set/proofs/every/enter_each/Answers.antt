@@ -17,8 +17,12 @@ loop-index-init g c = record {
   room = λ j d e lt _. c.requires.room.each j d e lt;
 }
 
-pub enter-requires-clause-sound : goal.enter-requires-clause-sound
-enter-requires-clause-sound g c = (c.loop-index.invariant.walk.placed.each c.loop-index.index (record { kind = Sequenced; unique = false }) _ c.loop-index-test.true).sound
+pub enter-requires-clause-filed : goal.enter-requires-clause-filed
+enter-requires-clause-filed g c = record {
+  sound = (c.loop-index.invariant.walk.placed.each c.loop-index.index (record { kind = Sequenced; unique = false }) _ c.loop-index-test.true).sound;
+  key = key_here (g.E.Extract.has_key c.args.keys.now) (column_of c.loop-index.store) c.args.specs.now c.loop-index.indices c.loop-index.index (record { kind = Sequenced; unique = false }) _ c.loop-index-test.true c.requires.keys c.loop-index.invariant.walk.placed;
+  keyed = keyed_here (g.E.Extract.order_of c.args.keys.now) (g.E.Extract.hash_of c.args.keys.now) (λ xs. xs) c.args.specs.now c.loop-index.store c.loop-index.indices c.loop-index.index _ c.loop-index-test.true c.loop-index.invariant.keyed;
+}
 
 pub enter-requires-clause-node : goal.enter-requires-clause-node
 enter-requires-clause-node g c = IsNodeOf_kept c.args.store.now c.loop-index.store c.args.n c.loop-index.invariant.walk.contents c.requires.node
@@ -36,24 +40,17 @@ enter-requires-clause-place g c p e =
     subst (λ z. p ≤ length z) (sym (walk_here _ _ _ _ _ _ _ _ c.loop-index-test.true c.loop-index.invariant.walk))
     (c.requires.place c.loop-index.index p (asked_here c.args.at c.loop-index.index p (sym c.place_in.ensures ∙ e)))
 
-pub enter-requires-clause-key : goal.enter-requires-clause-key
-enter-requires-clause-key g c =
-    key_here (g.E.Extract.has_key c.args.keys.now) (column_of c.loop-index.store) c.args.specs.now c.loop-index.indices c.loop-index.index (record { kind = Sequenced; unique = false }) _ c.loop-index-test.true c.requires.keys c.loop-index.invariant.walk.placed
-
-pub enter-requires-clause-keyed : goal.enter-requires-clause-keyed
-enter-requires-clause-keyed g c = keyed_here (g.E.Extract.order_of c.args.keys.now) (g.E.Extract.hash_of c.args.keys.now) (λ xs. xs) c.args.specs.now c.loop-index.store c.loop-index.indices c.loop-index.index _ c.loop-index-test.true c.loop-index.invariant.keyed
-
 pub loop-index-preserved : goal.loop-index-preserved
 loop-index-preserved g c =
     let new = c.enter.ensures in
-    let step = steps_of new.sound new.kind new.col new.index new.others in
+    let step = steps_of new.sound new.rest.kind new.rest.col new.rest.index new.rest.others in
     let walk = c.loop-index.invariant.walk in
     let lt = c.loop-index-test.true in
     record {
       walk =
-          walk_step _ c.args.store.now c.args.specs.now c.args.indices.now c.loop-index.index c.loop-index.store c.enter.new.store c.loop-index.indices _ c.enter.new.self lt walk step new.contents
+          walk_step _ c.args.store.now c.args.specs.now c.args.indices.now c.loop-index.index c.loop-index.store c.enter.new.store c.loop-index.indices _ c.enter.new.self lt walk step new.rest.contents
           (entered_here (g.E.Extract.order_of c.args.keys.now) c.args.store.now c.args.specs.now c.args.indices.now c.args.n c.args.at c.loop-index.index c.loop-index.store _ c.loop-index.indices _ c.enter.new.self _ lt walk c.place_in.ensures new.list);
-      keyed = keyed_step (g.E.Extract.order_of c.args.keys.now) (g.E.Extract.hash_of c.args.keys.now) (λ xs. xs) c.args.specs.now c.loop-index.index c.loop-index.store c.enter.new.store c.loop-index.indices _ c.enter.new.self lt walk.placed step new.contents new.keyed c.loop-index.invariant.keyed;
+      keyed = keyed_step (g.E.Extract.order_of c.args.keys.now) (g.E.Extract.hash_of c.args.keys.now) (λ xs. xs) c.args.specs.now c.loop-index.index c.loop-index.store c.enter.new.store c.loop-index.indices _ c.enter.new.self lt walk.placed step new.rest.contents new.keyed c.loop-index.invariant.keyed;
       room = room_from_step c.args.specs.now c.loop-index.indices c.loop-index.index c.enter.new.self walk.placed.one_each lt c.loop-index.invariant.room;
     }
 

@@ -17,26 +17,26 @@ loop-index-init g c = record {
   room = λ j d e lt below. absurd (omega (arith, below));
 }
 
-pub leave-requires-clause-sound : goal.leave-requires-clause-sound
-leave-requires-clause-sound g c = (c.loop-index.invariant.walk.placed.each c.loop-index.index (record { kind = Sequenced; unique = false }) _ c.loop-index-test.true).sound
-
-pub leave-requires-clause-held : goal.leave-requires-clause-held
-leave-requires-clause-held g c =
-    subst (λ z. Holds z c.args.n) (sym (walk_here _ _ _ _ _ _ _ _ c.loop-index-test.true c.loop-index.invariant.walk))
-    (all_listed (λ xs. Holds xs c.args.n) c.args.specs.now _ (length-map c.args.indices.now (list_of (column_of c.args.store.now)) ∙ c.requires.placed.one_each) c.requires.held c.loop-index.index c.loop-index-test.true)
+pub leave-requires : goal.leave-requires
+leave-requires g c = record {
+  sound = (c.loop-index.invariant.walk.placed.each c.loop-index.index (record { kind = Sequenced; unique = false }) _ c.loop-index-test.true).sound;
+  held =
+      subst (λ z. Holds z c.args.n) (sym (walk_here _ _ _ _ _ _ _ _ c.loop-index-test.true c.loop-index.invariant.walk))
+      (all_listed (λ xs. Holds xs c.args.n) c.args.specs.now _ (length-map c.args.indices.now (list_of (column_of c.args.store.now)) ∙ c.requires.placed.one_each) c.requires.held c.loop-index.index c.loop-index-test.true);
+}
 
 pub loop-index-preserved : goal.loop-index-preserved
 loop-index-preserved g c =
     let new = c.leave.ensures in
-    let step = steps_of new.sound new.kind new.col new.index new.others in
+    let step = steps_of new.sound new.rest.kind new.rest.col new.rest.index new.rest.others in
     let walk = c.loop-index.invariant.walk in
     let lt = c.loop-index-test.true in
     record {
-      walk = walk_step _ c.args.store.now c.args.specs.now c.args.indices.now c.loop-index.index c.loop-index.store c.leave.new.store c.loop-index.indices _ c.leave.new.self lt walk step new.contents (λ e. new.list);
+      walk = walk_step _ c.args.store.now c.args.specs.now c.args.indices.now c.loop-index.index c.loop-index.store c.leave.new.store c.loop-index.indices _ c.leave.new.self lt walk step new.rest.contents (λ e. new.list);
       keyed = λ order hash_of h.
           let far = c.loop-index.invariant.keyed order hash_of h in
           let here = new.keyed order hash_of (keyed_here order hash_of (without (same_node c.args.n)) c.args.specs.now c.loop-index.store c.loop-index.indices c.loop-index.index _ lt far) in
-          keyed_step order hash_of (without (same_node c.args.n)) c.args.specs.now c.loop-index.index c.loop-index.store c.leave.new.store c.loop-index.indices _ c.leave.new.self lt walk.placed step new.contents here far;
+          keyed_step order hash_of (without (same_node c.args.n)) c.args.specs.now c.loop-index.index c.loop-index.store c.leave.new.store c.loop-index.indices _ c.leave.new.self lt walk.placed step new.rest.contents here far;
       room = room_to_step c.args.specs.now c.loop-index.indices c.loop-index.index c.leave.new.self walk.placed.one_each lt new.room c.loop-index.invariant.room;
     }
 

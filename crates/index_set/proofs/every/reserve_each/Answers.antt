@@ -19,15 +19,15 @@ reserve_one-requires g c = (c.loop-index.invariant.walk.placed.each c.loop-index
 pub loop-index-preserved : goal.loop-index-preserved
 loop-index-preserved g c =
     let new = c.reserve_one.ensures in
-    let step = steps_of new.sound new.kind new.col new.index new.others in
+    let step = steps_of new.sound new.rest.kind new.rest.col new.rest.index new.rest.others in
     let walk = c.loop-index.invariant.walk in
     let lt = c.loop-index-test.true in
     record {
-      walk = walk_step _ c.args.store.now c.args.specs.now c.args.indices.now c.loop-index.index c.loop-index.store c.reserve_one.new.store c.loop-index.indices _ c.reserve_one.new.self lt walk step new.contents (λ e. new.list);
+      walk = walk_step _ c.args.store.now c.args.specs.now c.args.indices.now c.loop-index.index c.loop-index.store c.reserve_one.new.store c.loop-index.indices _ c.reserve_one.new.self lt walk step new.rest.contents (λ e. new.list);
       keyed = λ order hash_of h.
           let far = c.loop-index.invariant.keyed order hash_of h in
           let here = new.keyed order hash_of (keyed_here order hash_of (λ xs. xs) c.args.specs.now c.loop-index.store c.loop-index.indices c.loop-index.index _ lt far) in
-          keyed_step order hash_of (λ xs. xs) c.args.specs.now c.loop-index.index c.loop-index.store c.reserve_one.new.store c.loop-index.indices _ c.reserve_one.new.self lt walk.placed step new.contents here far;
+          keyed_step order hash_of (λ xs. xs) c.args.specs.now c.loop-index.index c.loop-index.store c.reserve_one.new.store c.loop-index.indices _ c.reserve_one.new.self lt walk.placed step new.rest.contents here far;
       room = room_to_step c.args.specs.now c.loop-index.indices c.loop-index.index c.reserve_one.new.self walk.placed.one_each lt c.in_ok-reserve_one.ensures.room c.loop-index.invariant.room;
       rest = same_from_step c.args.specs.now c.loop-index.indices c.loop-index.index c.reserve_one.new.self walk.placed.one_each lt c.args.indices.now c.loop-index.invariant.rest;
     }
@@ -45,13 +45,13 @@ returns-clause-keyed g c order hash_of h =
 pub returns-in_err-reserve_one-clause-placed : goal.returns-in_err-reserve_one-clause-placed
 returns-in_err-reserve_one-clause-placed g c =
     (walk_step _ c.args.store.now c.args.specs.now c.args.indices.now c.loop-index.index c.loop-index.store c.reserve_one.new.store c.loop-index.indices _ c.reserve_one.new.self c.loop-index-test.true c.loop-index.invariant.walk
-    (steps_of c.reserve_one.ensures.sound c.reserve_one.ensures.kind c.reserve_one.ensures.col c.reserve_one.ensures.index c.reserve_one.ensures.others) c.reserve_one.ensures.contents (λ e. c.reserve_one.ensures.list)).placed
+    (steps_of c.reserve_one.ensures.sound c.reserve_one.ensures.rest.kind c.reserve_one.ensures.rest.col c.reserve_one.ensures.rest.index c.reserve_one.ensures.rest.others) c.reserve_one.ensures.rest.contents (λ e. c.reserve_one.ensures.list)).placed
 
 pub returns-in_err-reserve_one-clause-lists : goal.returns-in_err-reserve_one-clause-lists
 returns-in_err-reserve_one-clause-lists g c =
     same_walk c.args.store.now c.reserve_one.new.store c.args.specs.now c.args.indices.now _ (c.loop-index.index + 1) c.requires.one_each
     (walk_step _ c.args.store.now c.args.specs.now c.args.indices.now c.loop-index.index c.loop-index.store c.reserve_one.new.store c.loop-index.indices _ c.reserve_one.new.self c.loop-index-test.true c.loop-index.invariant.walk
-    (steps_of c.reserve_one.ensures.sound c.reserve_one.ensures.kind c.reserve_one.ensures.col c.reserve_one.ensures.index c.reserve_one.ensures.others) c.reserve_one.ensures.contents (λ e. c.reserve_one.ensures.list))
+    (steps_of c.reserve_one.ensures.sound c.reserve_one.ensures.rest.kind c.reserve_one.ensures.rest.col c.reserve_one.ensures.rest.index c.reserve_one.ensures.rest.others) c.reserve_one.ensures.rest.contents (λ e. c.reserve_one.ensures.list))
 
 pub returns-in_err-reserve_one-clause-full : goal.returns-in_err-reserve_one-clause-full
 returns-in_err-reserve_one-clause-full g c =
@@ -65,5 +65,5 @@ returns-in_err-reserve_one-clause-keyed g c order hash_of h =
     record {
       each = all_keyed c.args.store.now c.reserve_one.new.store c.args.specs.now c.args.indices.now _ (c.loop-index.index + 1) order hash_of
           (keyed_step order hash_of (λ xs. xs) c.args.specs.now c.loop-index.index c.loop-index.store c.reserve_one.new.store c.loop-index.indices _ c.reserve_one.new.self c.loop-index-test.true c.loop-index.invariant.walk.placed
-          (steps_of new.sound new.kind new.col new.index new.others) new.contents here far);
+          (steps_of new.sound new.rest.kind new.rest.col new.rest.index new.rest.others) new.rest.contents here far);
     }

@@ -16,32 +16,32 @@ loop-index-init g c = record {
   keyed = keyed_start (g.E.Extract.order_of c.args.keys.now) (g.E.Extract.hash_of c.args.keys.now) (without (same_node c.args.n)) c.args.specs.now c.args.store.now c.args.indices.now c.requires.keyed.each;
 }
 
-pub settle-requires-clause-sound : goal.settle-requires-clause-sound
-settle-requires-clause-sound g c = (c.loop-index.invariant.walk.placed.each c.loop-index.index (record { kind = Sequenced; unique = false }) _ c.loop-index-test.true).sound
+pub settle-requires-clause-node : goal.settle-requires-clause-node
+settle-requires-clause-node g c = record {
+  sound = (c.loop-index.invariant.walk.placed.each c.loop-index.index (record { kind = Sequenced; unique = false }) _ c.loop-index-test.true).sound;
+  held =
+      subst (λ z. Holds z c.args.n) (sym (walk_here _ _ _ _ _ _ _ _ c.loop-index-test.true c.loop-index.invariant.walk))
+      (all_listed (λ xs. Holds xs c.args.n) c.args.specs.now _ (length-map c.args.indices.now (list_of (column_of c.args.store.now)) ∙ c.requires.placed.one_each) c.requires.held c.loop-index.index c.loop-index-test.true);
+}
 
-pub settle-requires-clause-held : goal.settle-requires-clause-held
-settle-requires-clause-held g c =
-    subst (λ z. Holds z c.args.n) (sym (walk_here _ _ _ _ _ _ _ _ c.loop-index-test.true c.loop-index.invariant.walk))
-    (all_listed (λ xs. Holds xs c.args.n) c.args.specs.now _ (length-map c.args.indices.now (list_of (column_of c.args.store.now)) ∙ c.requires.placed.one_each) c.requires.held c.loop-index.index c.loop-index-test.true)
-
-pub settle-requires-clause-key : goal.settle-requires-clause-key
-settle-requires-clause-key g c =
-    key_here (g.E.Extract.has_key c.args.keys.now) (column_of c.loop-index.store) c.args.specs.now c.loop-index.indices c.loop-index.index (record { kind = Sequenced; unique = false }) _ c.loop-index-test.true c.requires.keys c.loop-index.invariant.walk.placed
-
-pub settle-requires-clause-keyed : goal.settle-requires-clause-keyed
-settle-requires-clause-keyed g c = keyed_here (g.E.Extract.order_of c.args.keys.now) (g.E.Extract.hash_of c.args.keys.now) (without (same_node c.args.n)) c.args.specs.now c.loop-index.store c.loop-index.indices c.loop-index.index _ c.loop-index-test.true c.loop-index.invariant.keyed
+pub settle-requires-clause-others : goal.settle-requires-clause-others
+settle-requires-clause-others g c = record {
+  sound = (c.loop-index.invariant.walk.placed.each c.loop-index.index (record { kind = Sequenced; unique = false }) _ c.loop-index-test.true).sound;
+  key = key_here (g.E.Extract.has_key c.args.keys.now) (column_of c.loop-index.store) c.args.specs.now c.loop-index.indices c.loop-index.index (record { kind = Sequenced; unique = false }) _ c.loop-index-test.true c.requires.keys c.loop-index.invariant.walk.placed;
+  keyed = keyed_here (g.E.Extract.order_of c.args.keys.now) (g.E.Extract.hash_of c.args.keys.now) (without (same_node c.args.n)) c.args.specs.now c.loop-index.store c.loop-index.indices c.loop-index.index _ c.loop-index-test.true c.loop-index.invariant.keyed;
+}
 
 pub loop-index-preserved : goal.loop-index-preserved
 loop-index-preserved g c =
     let new = c.settle.ensures in
-    let step = steps_of new.sound new.kind new.col new.index new.others in
+    let step = steps_of new.sound new.rest.kind new.rest.col new.rest.index new.rest.others in
     let walk = c.loop-index.invariant.walk in
     let lt = c.loop-index-test.true in
     record {
       walk =
-          walk_step _ c.args.store.now c.args.specs.now c.args.indices.now c.loop-index.index c.loop-index.store c.settle.new.store c.loop-index.indices _ c.settle.new.self lt walk step new.contents
+          walk_step _ c.args.store.now c.args.specs.now c.args.indices.now c.loop-index.index c.loop-index.store c.settle.new.store c.loop-index.indices _ c.settle.new.self lt walk step new.rest.contents
           (settled_here (g.E.Extract.order_of c.args.keys.now) c.args.store.now c.args.specs.now c.args.indices.now c.args.n c.loop-index.index c.loop-index.store _ c.loop-index.indices _ c.settle.new.self lt walk new.list);
-      keyed = keyed_step (g.E.Extract.order_of c.args.keys.now) (g.E.Extract.hash_of c.args.keys.now) (without (same_node c.args.n)) c.args.specs.now c.loop-index.index c.loop-index.store c.settle.new.store c.loop-index.indices _ c.settle.new.self lt walk.placed step new.contents new.keyed c.loop-index.invariant.keyed;
+      keyed = keyed_step (g.E.Extract.order_of c.args.keys.now) (g.E.Extract.hash_of c.args.keys.now) (without (same_node c.args.n)) c.args.specs.now c.loop-index.index c.loop-index.store c.settle.new.store c.loop-index.indices _ c.settle.new.self lt walk.placed step new.rest.contents new.keyed c.loop-index.invariant.keyed;
     }
 
 pub returns-clause-lists : goal.returns-clause-lists

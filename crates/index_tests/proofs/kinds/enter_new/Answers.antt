@@ -1,31 +1,33 @@
-use Rattle.std.proofs.Common.{ap, arith}
+use Rattle.std.proofs.Common.{ap, arith, sym, ◌∙◌}
+use Rattle.container_model.specs.State.{has_key_kind}
 use Rattle.node_store.specs.Store.{Store}
 use Rattle.node_store.proofs.ByNode.{added_kept}
-use Rattle.any_index.proofs.Laws.{IsSound_added, Lacks_added, IsKeyed_added}
+use Rattle.any_index.proofs.Laws.{HasItsKey_from, IsSound_added, Lacks_added, IsKeyed_added}
 use Rattle.index_tests.proofs.kinds.enter_new.Goals as goal
 
 pub returns-in_default-clause-count : goal.returns-in_default-clause-count
-returns-in_default-clause-count g c = omega (arith, added_kept c.args.store.now c.reserve_one.new.store c.reserve_one.ensures.contents)
+returns-in_default-clause-count g c = omega (arith, added_kept c.args.store.now c.reserve_one.new.store c.reserve_one.ensures.rest.contents)
 
 pub add-requires : goal.add-requires
-add-requires g c = omega (arith, c.requires.count, added_kept c.args.store.now c.reserve_one.new.store c.reserve_one.ensures.contents)
+add-requires g c = omega (arith, c.requires.count, added_kept c.args.store.now c.reserve_one.new.store c.reserve_one.ensures.rest.contents)
 
 pub returns-in_default-add-clause-count : goal.returns-in_default-add-clause-count
 returns-in_default-add-clause-count g c =
-    omega (arith, added_kept c.args.store.now c.reserve_one.new.store c.reserve_one.ensures.contents, ap (λ (s : Store g.row.R.Denot). s.added) c.in_default-add.ensures.unchanged)
+    omega (arith, added_kept c.args.store.now c.reserve_one.new.store c.reserve_one.ensures.rest.contents, ap (λ (s : Store g.row.R.Denot). s.added) c.in_default-add.ensures.unchanged)
 
-pub enter-requires-clause-sound : goal.enter-requires-clause-sound
-enter-requires-clause-sound g c = IsSound_added c.reserve_one.new.store c.add.new.self c.in-Ok-add.n c.args.value c.reserve_one.new.self c.in-Ok-add.ensures.added c.reserve_one.ensures.sound
+pub enter-requires-clause-filed : goal.enter-requires-clause-filed
+enter-requires-clause-filed g c = record {
+  sound = IsSound_added c.reserve_one.new.store c.add.new.self c.in-Ok-add.n c.args.value c.reserve_one.new.self c.in-Ok-add.ensures.added c.reserve_one.ensures.sound;
+  key = HasItsKey_from (g.E.Extract.has_key c.args.keys.now) c.reserve_one.new.self (ap (g.E.Extract.has_key c.args.keys.now) c.reserve_one.ensures.rest.index ∙ c.requires.key ∙ sym (ap has_key_kind c.reserve_one.ensures.rest.kind));
+  keyed =
+      let order = g.E.Extract.order_of c.args.keys.now in
+      let hash = g.E.Extract.hash_of c.args.keys.now in
+      IsKeyed_added order hash c.reserve_one.new.store c.add.new.self c.in-Ok-add.n c.args.value c.reserve_one.new.self c.in-Ok-add.ensures.added c.reserve_one.ensures.sound (c.reserve_one.ensures.keyed order hash c.requires.keyed);
+}
 
 pub enter-requires-clause-new : goal.enter-requires-clause-new
 enter-requires-clause-new g c = Lacks_added c.reserve_one.new.store c.add.new.self c.in-Ok-add.n c.args.value c.reserve_one.new.self c.in-Ok-add.ensures.added c.reserve_one.ensures.sound
 
-pub enter-requires-clause-keyed : goal.enter-requires-clause-keyed
-enter-requires-clause-keyed g c =
-    let order = g.E.Extract.order_of c.args.keys.now in
-    let hash = g.E.Extract.hash_of c.args.keys.now in
-    IsKeyed_added order hash c.reserve_one.new.store c.add.new.self c.in-Ok-add.n c.args.value c.reserve_one.new.self c.in-Ok-add.ensures.added c.reserve_one.ensures.sound (c.reserve_one.ensures.keyed order hash c.requires.keyed)
-
 pub returns-clause-count : goal.returns-clause-count
 returns-clause-count g c =
-    omega (arith, c.in-Ok-add.ensures.count, added_kept c.args.store.now c.reserve_one.new.store c.reserve_one.ensures.contents, added_kept c.add.new.self c.enter.new.store c.enter.ensures.contents)
+    omega (arith, c.in-Ok-add.ensures.count, added_kept c.args.store.now c.reserve_one.new.store c.reserve_one.ensures.rest.contents, added_kept c.add.new.self c.enter.new.store c.enter.ensures.rest.contents)

@@ -53,8 +53,8 @@ returns-in-Ordered-clause-list g c = rw c.in-Ordered.is (ord.spelled_is _ _ _ c.
 
 pub returns-in-Ordered-clause-keyed : goal.returns-in-Ordered-clause-keyed
 returns-in-Ordered-clause-keyed g c =
-    let key = rw c.in-Ordered.is at c.requires.key in
-    let keyed = rw c.in-Ordered.is at c.requires.keyed in
+    let key = rw c.in-Ordered.is at c.requires.filed.key in
+    let keyed = rw c.in-Ordered.is at c.requires.filed.keyed in
     let compare = g.E.Extract.order_of c.args.keys.now in
     let index = trees.index_of c.in-Ordered.tree in
     let xs = trees.spelled (column_of c.args.store.now) c.in-Ordered.tree in
@@ -70,8 +70,8 @@ returns-in-Ranked-clause-list g c = rw c.in-Ranked.is (rank.spelled_is _ _ _ c.l
 
 pub returns-in-Ranked-clause-keyed : goal.returns-in-Ranked-clause-keyed
 returns-in-Ranked-clause-keyed g c =
-    let key = rw c.in-Ranked.is at c.requires.key in
-    let keyed = rw c.in-Ranked.is at c.requires.keyed in
+    let key = rw c.in-Ranked.is at c.requires.filed.key in
+    let keyed = rw c.in-Ranked.is at c.requires.filed.keyed in
     let compare = g.E.Extract.order_of c.args.keys.now in
     let index = ranked.index_of c.in-Ranked.tree in
     let xs = ranked.spelled (column_of c.args.store.now) c.in-Ranked.tree in
@@ -84,7 +84,7 @@ returns-in-Hashed-clause-list g c = rw c.in-Hashed.is (list_entered c.link-in-Ha
 
 pub returns-in-Hashed-clause-keyed : goal.returns-in-Hashed-clause-keyed
 returns-in-Hashed-clause-keyed g c =
-    let keyed = rw c.in-Hashed.is at c.requires.keyed in
+    let keyed = rw c.in-Hashed.is at c.requires.filed.keyed in
     let hash = g.E.Extract.hash_of c.args.keys.now in
     let index = buckets.index_of c.in-Hashed.buckets in
     let col = buckets.col_of c.in-Hashed.buckets in

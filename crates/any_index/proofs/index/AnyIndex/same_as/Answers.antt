@@ -10,7 +10,7 @@ use Rattle.any_index.proofs.index.AnyIndex.same_as.Goals as goal
 
 pub same_as-requires-in-Hashed-clause-hashed : goal.same_as-requires-in-Hashed-clause-hashed
 same_as-requires-in-Hashed-clause-hashed g c =
-    let keyed = rw c.in-Hashed.is at c.requires.keyed in
+    let keyed = rw c.in-Hashed.is at c.requires.others.keyed in
     let hash = g.E.Extract.hash_of c.args.keys.now (buckets.index_of c.in-Hashed.buckets) in
     let col = buckets.col_of c.in-Hashed.buckets in
     let xs = buckets.spelled (column_of c.args.store.now) c.in-Hashed.buckets in
@@ -25,8 +25,8 @@ returns-in-Ranked g c = rw c.in-Ranked.is c.same_as-in-Ranked.ensures
 
 pub returns-in-Hashed : goal.returns-in-Hashed
 returns-in-Hashed g c =
-    let key = rw c.in-Hashed.is at c.requires.key in
-    let unique = rw c.in-Hashed.is at c.requires.unique in
+    let key = rw c.in-Hashed.is at c.requires.others.key in
+    let unique = rw c.in-Hashed.is at c.requires.others.unique in
     let index = buckets.index_of c.in-Hashed.buckets in
     let order = g.E.Extract.order_of c.args.keys.now index in
     rw c.in-Hashed.is (c.same_as-in-Hashed.ensures ∙ same_answer (record_of c.args.store.now) order (g.met.E.Extract.order_total c.args.keys.now index key) c.args.r.now c.args.except (buckets.spelled (column_of c.args.store.now) c.in-Hashed.buckets) unique)

@@ -14,7 +14,7 @@ use Rattle.any_index.proofs.index.AnyIndex.settle.Goals as goal
 
 pub settle-requires-in-Hashed-clause-held : goal.settle-requires-in-Hashed-clause-held
 settle-requires-in-Hashed-clause-held g c =
-    let held = rw c.in-Hashed.is at c.requires.held in
+    let held = rw c.in-Hashed.is at c.requires.node.held in
     Holds_moved _ _ c.args.n (moved_back _) held
 
 pub returns-in-Ordered-clause-sound : goal.returns-in-Ordered-clause-sound
@@ -25,10 +25,10 @@ returns-in-Ordered-clause-list g c = rw c.in-Ordered.is (ord.spelled_is _ _ _ c.
 
 pub returns-in-Ordered-clause-keyed : goal.returns-in-Ordered-clause-keyed
 returns-in-Ordered-clause-keyed g c =
-    let key = rw c.in-Ordered.is at c.requires.key in
-    let keyed = rw c.in-Ordered.is at c.requires.keyed in
-    let sound = rw c.in-Ordered.is at c.requires.sound in
-    let held = rw c.in-Ordered.is at c.requires.held in
+    let key = rw c.in-Ordered.is at c.requires.others.key in
+    let keyed = rw c.in-Ordered.is at c.requires.others.keyed in
+    let sound = rw c.in-Ordered.is at c.requires.node.sound in
+    let held = rw c.in-Ordered.is at c.requires.node.held in
     let compare = g.E.Extract.order_of c.args.keys.now in
     let index = trees.index_of c.in-Ordered.tree in
     let xs = trees.spelled (column_of c.args.store.now) c.in-Ordered.tree in
@@ -44,10 +44,10 @@ returns-in-Ranked-clause-list g c = rw c.in-Ranked.is (rank.spelled_is _ _ _ c.s
 
 pub returns-in-Ranked-clause-keyed : goal.returns-in-Ranked-clause-keyed
 returns-in-Ranked-clause-keyed g c =
-    let key = rw c.in-Ranked.is at c.requires.key in
-    let keyed = rw c.in-Ranked.is at c.requires.keyed in
-    let sound = rw c.in-Ranked.is at c.requires.sound in
-    let held = rw c.in-Ranked.is at c.requires.held in
+    let key = rw c.in-Ranked.is at c.requires.others.key in
+    let keyed = rw c.in-Ranked.is at c.requires.others.keyed in
+    let sound = rw c.in-Ranked.is at c.requires.node.sound in
+    let held = rw c.in-Ranked.is at c.requires.node.held in
     let compare = g.E.Extract.order_of c.args.keys.now in
     let index = ranked.index_of c.in-Ranked.tree in
     let xs = ranked.spelled (column_of c.args.store.now) c.in-Ranked.tree in
@@ -57,12 +57,12 @@ returns-in-Ranked-clause-keyed g c =
 
 pub returns-in-Hashed-clause-list : goal.returns-in-Hashed-clause-list
 returns-in-Hashed-clause-list g c =
-    let sound = rw c.in-Hashed.is at c.requires.sound in
+    let sound = rw c.in-Hashed.is at c.requires.node.sound in
     rw c.in-Hashed.is (list_moved c.args.store.now c.in-Hashed.buckets _ sound c.settle-in-Hashed.ensures.list)
 
 pub returns-in-Hashed-clause-keyed : goal.returns-in-Hashed-clause-keyed
 returns-in-Hashed-clause-keyed g c =
-    let keyed = rw c.in-Hashed.is at c.requires.keyed in
+    let keyed = rw c.in-Hashed.is at c.requires.others.keyed in
     let hash = g.E.Extract.hash_of c.args.keys.now in
     let index = buckets.index_of c.in-Hashed.buckets in
     let col = buckets.col_of c.in-Hashed.buckets in

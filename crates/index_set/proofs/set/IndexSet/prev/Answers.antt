@@ -7,14 +7,14 @@ use Rattle.node_store.specs.ByNode.{same_node}
 use Rattle.index_set.proofs.Reading.{sound_here, is_kind, read_here, list_here}
 use Rattle.index_set.proofs.set.IndexSet.prev.Goals as goal
 
-pub prev-requires-clause-sound : goal.prev-requires-clause-sound
-prev-requires-clause-sound g c = sound_here c.args.self.now c.requires.sound c.args.index c.requires.index c.index.result.now c.index.ensures
+pub prev-requires-clause-node : goal.prev-requires-clause-node
+prev-requires-clause-node g c = record {
+  sound = sound_here c.args.self.now c.requires.sound c.args.index c.requires.index c.index.result.now c.index.ensures;
+  held = subst (λ z. Holds z c.args.n) (sym (list_here c.args.self.now c.requires.sound c.args.index c.requires.index c.index.result.now c.index.ensures)) c.requires.held;
+}
 
 pub prev-requires-clause-kind : goal.prev-requires-clause-kind
 prev-requires-clause-kind g c = is_kind c.args.self.now c.requires.sound c.args.index c.requires.index c.index.result.now c.index.ensures (λ kind. not (is_hashed_kind kind)) c.requires.kind
-
-pub prev-requires-clause-held : goal.prev-requires-clause-held
-prev-requires-clause-held g c = subst (λ z. Holds z c.args.n) (sym (list_here c.args.self.now c.requires.sound c.args.index c.requires.index c.index.result.now c.index.ensures)) c.requires.held
 
 pub returns : goal.returns
 returns g c = read_here c.args.self.now c.requires.sound c.args.index c.requires.index c.index.result.now c.index.ensures (prev (same_node c.args.n)) c.prev.result c.prev.ensures

@@ -13,21 +13,21 @@ returns-clause-sound g c =
       some = old.some;
       few = old.few;
       keys = old.keys;
-      placed = placed_moved c.args.self.now c.requires.sound c.args.index c.requires.index c.index_mut.result.now c.reverse.new.self c.index_mut.ensures.value c.reverse.new.store (steps_of c.reverse.ensures.sound c.reverse.ensures.kind c.reverse.ensures.col c.reverse.ensures.index c.reverse.ensures.others);
-      nodes = IsStore_kept c.args.self.now.store c.reverse.new.store c.reverse.ensures.contents old.nodes;
+      placed = placed_moved c.args.self.now c.requires.sound c.args.index c.requires.index c.index_mut.result.now c.reverse.new.self c.index_mut.ensures.value c.reverse.new.store (steps_of c.reverse.ensures.sound c.reverse.ensures.rest.kind c.reverse.ensures.rest.col c.reverse.ensures.rest.index c.reverse.ensures.rest.others);
+      nodes = IsStore_kept c.args.self.now.store c.reverse.new.store c.reverse.ensures.rest.contents old.nodes;
     }
 
 pub returns-clause-lists : goal.returns-clause-lists
 returns-clause-lists g c =
-    lists_moved c.args.self.now c.requires.sound c.args.index c.requires.index c.index_mut.result.now c.reverse.new.self c.index_mut.ensures.value c.reverse.new.store (steps_of c.reverse.ensures.sound c.reverse.ensures.kind c.reverse.ensures.col c.reverse.ensures.index c.reverse.ensures.others)
+    lists_moved c.args.self.now c.requires.sound c.args.index c.requires.index c.index_mut.result.now c.reverse.new.self c.index_mut.ensures.value c.reverse.new.store (steps_of c.reverse.ensures.sound c.reverse.ensures.rest.kind c.reverse.ensures.rest.col c.reverse.ensures.rest.index c.reverse.ensures.rest.others)
     _ (c.reverse.ensures.list ∙ ap (reverse) (list_here c.args.self.now c.requires.sound c.args.index c.requires.index c.index_mut.result.now c.index_mut.ensures.value))
 
 pub returns-clause-room : goal.returns-clause-room
 returns-clause-room g c =
-    room_moved c.args.self.now c.requires.sound c.args.index c.requires.index c.index_mut.result.now c.reverse.new.self c.index_mut.ensures.value c.reverse.new.store (steps_of c.reverse.ensures.sound c.reverse.ensures.kind c.reverse.ensures.col c.reverse.ensures.index c.reverse.ensures.others)
+    room_moved c.args.self.now c.requires.sound c.args.index c.requires.index c.index_mut.result.now c.reverse.new.self c.index_mut.ensures.value c.reverse.new.store (steps_of c.reverse.ensures.sound c.reverse.ensures.rest.kind c.reverse.ensures.rest.col c.reverse.ensures.rest.index c.reverse.ensures.rest.others)
     c.reverse.ensures.room
 
 pub returns-clause-keyed : goal.returns-clause-keyed
 returns-clause-keyed g c =
-    keyed_moved c.args.self.now c.requires.sound c.args.index c.requires.index c.index_mut.result.now c.reverse.new.self c.index_mut.ensures.value c.reverse.new.store (steps_of c.reverse.ensures.sound c.reverse.ensures.kind c.reverse.ensures.col c.reverse.ensures.index c.reverse.ensures.others)
-    c.requires.kind c.reverse.ensures.contents (g.E.Extract.order_of c.args.self.now.keys) (g.E.Extract.hash_of c.args.self.now.keys)
+    keyed_moved c.args.self.now c.requires.sound c.args.index c.requires.index c.index_mut.result.now c.reverse.new.self c.index_mut.ensures.value c.reverse.new.store (steps_of c.reverse.ensures.sound c.reverse.ensures.rest.kind c.reverse.ensures.rest.col c.reverse.ensures.rest.index c.reverse.ensures.rest.others)
+    c.requires.kind c.reverse.ensures.rest.contents (g.E.Extract.order_of c.args.self.now.keys) (g.E.Extract.hash_of c.args.self.now.keys)
