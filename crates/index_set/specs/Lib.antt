@@ -3,3 +3,4 @@ pub mod Indices
 pub mod Lists
 pub mod Set
 pub mod Lends
+pub mod Asked

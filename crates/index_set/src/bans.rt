@@ -23,9 +23,12 @@ pub(crate) fn first_ban<R, E: Extract<R>>(
     requires placed { ArePlaced (column_of store.now) specs.now indices.now }
     requires keys { KeysMatch (E.has_key keys.now) specs.now }
     requires except { AreNodesOf store.now except }
-    requires keyed { AreKeyedExcept (E.order_of keys.now) (E.hash_of keys.now) store.now specs.now indices.now except }
-    requires unique { AreUniqueFrom (E.order_of keys.now) (record_of store.now) except 0 specs.now (lists_in (column_of store.now) indices.now) }
-    ensures { result ≡ ban_from (E.order_of keys.now) (record_of store.now) (lists_in (column_of store.now) indices.now) except r.now 0 specs.now }
+    requires keyed { AreKeyedExcept (E.order_of keys.now)
+        (E.hash_of keys.now) store.now specs.now indices.now except }
+    requires unique { AreUniqueFrom (E.order_of keys.now) (record_of store.now) except 0 specs.now
+        (lists_in (column_of store.now) indices.now) }
+    ensures { result ≡ ban_from (E.order_of keys.now) (record_of store.now)
+        (lists_in (column_of store.now) indices.now) except r.now 0 specs.now }
 {
     for index in 0..specs.len() {
         if specs[index].unique {

@@ -21,7 +21,8 @@ use std::alloc::{AllocError, Global};
 pub(crate) fn empty_indices(alloc: Global, specs: &[Spec]) -> Result<Vec<AnyIndex>, AllocError>
     requires { length specs.now ≤ 8 }
     ensures placed { IfOk result (λ made. (cs : ℕ → Column) → ArePlaced cs specs.now made.items) }
-    ensures empty { IfOk result (λ made. (cs : ℕ → Column) → lists_in cs made.items ≡ map (λ _. []) specs.now) }
+    ensures empty { IfOk result (λ made. (cs : ℕ → Column) →
+        lists_in cs made.items ≡ map (λ _. []) specs.now) }
 {
     let mut indices = Vec::with_capacity(alloc, specs.len())?;
     for index in 0..specs.len() {
@@ -50,11 +51,13 @@ pub(crate) fn reserve_each<R>(
 ) -> Result<(), AllocError>
     requires { ArePlaced (column_of store.old) specs.now indices.old }
     ensures placed { ArePlaced (column_of store.new) specs.now indices.new }
-    ensures lists { lists_in (column_of store.new) indices.new ≡ lists_in (column_of store.old) indices.old }
+    ensures lists { lists_in (column_of store.new) indices.new ≡ lists_in
+        (column_of store.old) indices.old }
     ensures room { OnOk result (HaveRoom specs.now indices.new) }
     ensures full { OnErr result (¬ HaveRoom specs.now indices.old) }
     ensures keyed { (order : ℕ → R → R → Ordering) (hash_of : ℕ → R → ℕ) →
-        AreKeyed order hash_of store.old specs.now indices.old → AreKeyed order hash_of store.new specs.now indices.new }
+        AreKeyed order hash_of store.old specs.now indices.old →
+        AreKeyed order hash_of store.new specs.now indices.new }
     ensures contents { contents store.new ≡ contents store.old }
 {
     for index in 0..specs.len() {
@@ -87,12 +90,16 @@ pub(crate) fn enter_each<R, E: Extract<R>>(
     requires node { IsNodeOf store.old n }
     requires new { LackIt (lists_in (column_of store.old) indices.old) n }
     requires room { HaveRoom specs.now indices.old }
-    requires place { (j p : ℕ) → at ≡ Some (j, p) → p ≤ length (list_at (lists_in (column_of store.old) indices.old) j) }
-    requires keyed { AreKeyed (E.order_of keys.now) (E.hash_of keys.now) store.old specs.now indices.old }
+    requires place { (j p : ℕ) → at ≡ Some (j, p) →
+        p ≤ length (list_at (lists_in (column_of store.old) indices.old) j) }
+    requires keyed { AreKeyed (E.order_of keys.now)
+        (E.hash_of keys.now) store.old specs.now indices.old }
     ensures placed { ArePlaced (column_of store.new) specs.now indices.new }
-    ensures lists { lists_in (column_of store.new) indices.new
-        ≡ changed_from (entered_at (E.order_of keys.now) (record_of store.old) at n) 0 specs.now (lists_in (column_of store.old) indices.old) }
-    ensures keyed { AreKeyed (E.order_of keys.now) (E.hash_of keys.now) store.new specs.now indices.new }
+    ensures lists { lists_in (column_of store.new) indices.new ≡ changed_from
+        (entered_at (E.order_of keys.now) (record_of store.old) at n) 0 specs.now
+        (lists_in (column_of store.old) indices.old) }
+    ensures keyed { AreKeyed (E.order_of keys.now)
+        (E.hash_of keys.now) store.new specs.now indices.new }
     ensures contents { contents store.new ≡ contents store.old }
 {
     for index in 0..specs.len() {
@@ -110,10 +117,12 @@ pub(crate) fn leave_each<R>(
     requires placed { ArePlaced (column_of store.old) specs.now indices.old }
     requires held { HoldIt (lists_in (column_of store.old) indices.old) n }
     ensures placed { ArePlaced (column_of store.new) specs.now indices.new }
-    ensures lists { lists_in (column_of store.new) indices.new ≡ map (without (same_node n)) (lists_in (column_of store.old) indices.old) }
+    ensures lists { lists_in (column_of store.new) indices.new ≡ map (without (same_node n))
+        (lists_in (column_of store.old) indices.old) }
     ensures room { HaveRoom specs.now indices.new }
     ensures keyed { (order : ℕ → R → R → Ordering) (hash_of : ℕ → R → ℕ) →
-        AreKeyedBut order hash_of store.old specs.now indices.old n → AreKeyed order hash_of store.new specs.now indices.new }
+        AreKeyedBut order hash_of store.old specs.now indices.old n →
+        AreKeyed order hash_of store.new specs.now indices.new }
     ensures contents { contents store.new ≡ contents store.old }
 {
     for index in 0..specs.len() {
@@ -132,11 +141,14 @@ pub(crate) fn settle_each<R, E: Extract<R>>(
     requires placed { ArePlaced (column_of store.old) specs.now indices.old }
     requires keys { KeysMatch (E.has_key keys.now) specs.now }
     requires held { HoldIt (lists_in (column_of store.old) indices.old) n }
-    requires keyed { AreKeyedBut (E.order_of keys.now) (E.hash_of keys.now) store.old specs.now indices.old n }
+    requires keyed { AreKeyedBut (E.order_of keys.now)
+        (E.hash_of keys.now) store.old specs.now indices.old n }
     ensures placed { ArePlaced (column_of store.new) specs.now indices.new }
-    ensures lists { lists_in (column_of store.new) indices.new
-        ≡ changed_from (settled_at (E.order_of keys.now) (record_of store.old) n) 0 specs.now (lists_in (column_of store.old) indices.old) }
-    ensures keyed { AreKeyed (E.order_of keys.now) (E.hash_of keys.now) store.new specs.now indices.new }
+    ensures lists { lists_in (column_of store.new) indices.new ≡ changed_from
+        (settled_at (E.order_of keys.now) (record_of store.old) n) 0 specs.now
+        (lists_in (column_of store.old) indices.old) }
+    ensures keyed { AreKeyed (E.order_of keys.now)
+        (E.hash_of keys.now) store.new specs.now indices.new }
     ensures contents { contents store.new ≡ contents store.old }
 {
     for index in 0..specs.len() {

@@ -10,22 +10,24 @@ use key_extract::Extract;
 use node_store::Node;
 
 impl<R, E: Extract<R>> IndexSet<R, E> {
-    ghost use Rattle.index_set.specs.Set.{specs_of, contents, lists_of, list_of, kind_at, HasRoom, IsSound, IsKeyed, IsOfSame};
+    ghost use Rattle.index_set.specs.Asked.{HasIndex};
+    ghost use Rattle.index_set.specs.Set.{contents, lists_of, list_of, kind_at, HasRoom, IsSound, IsKeyed, IsOfSame};
 
     /// Moves `n` before the node at the place of a sequence, or last. The place counts with `n` still in. It takes no
     /// memory. O(the distance of the place from the nearer end), in one with places O(the nodes from the lower of both
     /// places on). Others have no such call.
     pub fn move_to(&mut self, index: usize, place: u64, n: Node)
-        requires sound { IsSound E.has_key self.old }
-        requires index { index < length (specs_of self.old) }
+        requires at { HasIndex E.Extract self.old index }
         requires kind { IsTrue (is_sequence_kind (kind_at self.old index)) }
         requires held { Holds (list_of self.old index) n }
         requires place { place ≤ length (list_of self.old index) }
         ensures sound { IsSound E.has_key self.new }
         ensures same { IsOfSame self.old self.new }
-        ensures lists { lists_of self.new ≡ slice_set (lists_of self.old) index (relocated (same_node n) n place (list_of self.old index)) }
+        ensures lists { lists_of self.new ≡ slice_set (lists_of self.old) index
+            (relocated (same_node n) n place (list_of self.old index)) }
         ensures room { HasRoom self.old → HasRoom self.new }
-        ensures keyed { IsKeyed E.order_of E.hash_of self.old → IsKeyed E.order_of E.hash_of self.new }
+        ensures keyed { IsKeyed E.order_of E.hash_of self.old →
+            IsKeyed E.order_of E.hash_of self.new }
         ensures contents { contents self.new ≡ contents self.old }
     {
         self.indices[index].move_to(&mut self.store, place, n);
@@ -33,15 +35,15 @@ impl<R, E: Extract<R>> IndexSet<R, E> {
 
     /// Puts the nodes of a sequence into this order. It takes no memory. O(nodes). Others have no such call.
     pub fn rearrange(&mut self, index: usize, order: &[Node])
-        requires sound { IsSound E.has_key self.old }
-        requires index { index < length (specs_of self.old) }
+        requires at { HasIndex E.Extract self.old index }
         requires kind { IsTrue (is_sequence_kind (kind_at self.old index)) }
         requires members { IsPermutation (list_of self.old index) order.now }
         ensures sound { IsSound E.has_key self.new }
         ensures same { IsOfSame self.old self.new }
         ensures lists { lists_of self.new ≡ slice_set (lists_of self.old) index order.now }
         ensures room { HasRoom self.old → HasRoom self.new }
-        ensures keyed { IsKeyed E.order_of E.hash_of self.old → IsKeyed E.order_of E.hash_of self.new }
+        ensures keyed { IsKeyed E.order_of E.hash_of self.old →
+            IsKeyed E.order_of E.hash_of self.new }
         ensures contents { contents self.new ≡ contents self.old }
     {
         self.indices[index].rearrange(&mut self.store, order);
@@ -49,14 +51,15 @@ impl<R, E: Extract<R>> IndexSet<R, E> {
 
     /// Turns the order of a sequence round. It takes no memory. O(nodes). Others have no such call.
     pub fn reverse(&mut self, index: usize)
-        requires sound { IsSound E.has_key self.old }
-        requires index { index < length (specs_of self.old) }
+        requires at { HasIndex E.Extract self.old index }
         requires kind { IsTrue (is_sequence_kind (kind_at self.old index)) }
         ensures sound { IsSound E.has_key self.new }
         ensures same { IsOfSame self.old self.new }
-        ensures lists { lists_of self.new ≡ slice_set (lists_of self.old) index (reversed (list_of self.old index)) }
+        ensures lists { lists_of self.new ≡ slice_set (lists_of self.old) index
+            (reversed (list_of self.old index)) }
         ensures room { HasRoom self.old → HasRoom self.new }
-        ensures keyed { IsKeyed E.order_of E.hash_of self.old → IsKeyed E.order_of E.hash_of self.new }
+        ensures keyed { IsKeyed E.order_of E.hash_of self.old →
+            IsKeyed E.order_of E.hash_of self.new }
         ensures contents { contents self.new ≡ contents self.old }
     {
         self.indices[index].reverse(&mut self.store);

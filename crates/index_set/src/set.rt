@@ -67,10 +67,12 @@ impl<R: Drop, E: Extract<R>> IndexSet<R, E> {
         ensures lists { lists_of self.new ≡ lists_of self.old }
         ensures number { IfOk result (λ n. number_of n ≡ (store_of self.old).added) }
         ensures count { OnOk result ((store_of self.new).added ≡ (store_of self.old).added + 1) }
-        ensures added { IfOk result (λ n. AddsNode (store_of self.old) (store_of self.new) n value) }
+        ensures added { IfOk result (λ n. AddsNode (store_of self.old)
+            (store_of self.new) n value) }
         ensures len { OnOk result (len_of (store_of self.new) ≡ len_of (store_of self.old) + 1) }
         ensures loose { IfOk result (λ n. LackIt (lists_of self.new) n) }
-        ensures keyed { IsKeyed E.order_of E.hash_of self.old → IsKeyed E.order_of E.hash_of self.new }
+        ensures keyed { IsKeyed E.order_of E.hash_of self.old →
+            IsKeyed E.order_of E.hash_of self.new }
         ensures room { HasRoom self.old → HasRoom self.new }
         ensures unchanged { OnErr result (self.new ≡ self.old) }
         ensures returned { IfErr result (λ e. e.value ≡ value) }
@@ -90,7 +92,8 @@ impl<R: Drop, E: Extract<R>> IndexSet<R, E> {
         ensures removed { RemovesNode (store_of self.old) (store_of self.new) n }
         ensures count { (store_of self.new).added ≡ (store_of self.old).added }
         ensures len { len_of (store_of self.new) + 1 ≡ len_of (store_of self.old) }
-        ensures keyed { IsKeyed E.order_of E.hash_of self.old → IsKeyed E.order_of E.hash_of self.new }
+        ensures keyed { IsKeyed E.order_of E.hash_of self.old →
+            IsKeyed E.order_of E.hash_of self.new }
         ensures room { HasRoom self.old → HasRoom self.new }
     {
         self.store.remove(n)
@@ -172,7 +175,8 @@ impl<R, E: Extract<R>> IndexSet<R, E> {
         ensures contents { contents self.new ≡ contents self.old }
         ensures room { OnOk result (HasRoom self.new) }
         ensures full { OnErr result (¬ HasRoom self.old) }
-        ensures keyed { IsKeyed E.order_of E.hash_of self.old → IsKeyed E.order_of E.hash_of self.new }
+        ensures keyed { IsKeyed E.order_of E.hash_of self.old →
+            IsKeyed E.order_of E.hash_of self.new }
     {
         reserve_each(&mut self.store, &self.specs, &mut self.indices)
     }
@@ -188,7 +192,9 @@ impl<R, E: Extract<R>> IndexSet<R, E> {
         requires keyed { IsKeyed E.order_of E.hash_of self.old }
         ensures sound { IsSound E.has_key self.new }
         ensures same { IsOfSame self.old self.new }
-        ensures lists { lists_of self.new ≡ changed_from (entered_at (E.order_of (keys_of self.old)) (record_of self.old) at n) 0 (specs_of self.old) (lists_of self.old) }
+        ensures lists { lists_of self.new ≡ changed_from
+            (entered_at (E.order_of (keys_of self.old)) (record_of self.old) at n) 0
+            (specs_of self.old) (lists_of self.old) }
         ensures keyed { IsKeyed E.order_of E.hash_of self.new }
         ensures contents { contents self.new ≡ contents self.old }
     {
@@ -211,7 +217,8 @@ impl<R, E: Extract<R>> IndexSet<R, E> {
         ensures same { IsOfSame self.old self.new }
         ensures lists { lists_of self.new ≡ map (without (same_node n)) (lists_of self.old) }
         ensures room { HasRoom self.new }
-        ensures keyed { IsKeyedBut E.order_of E.hash_of self.old n → IsKeyed E.order_of E.hash_of self.new }
+        ensures keyed { IsKeyedBut E.order_of E.hash_of self.old n →
+            IsKeyed E.order_of E.hash_of self.new }
         ensures contents { contents self.new ≡ contents self.old }
     {
         leave_each(&mut self.store, &self.specs, &mut self.indices, n);
@@ -225,7 +232,9 @@ impl<R, E: Extract<R>> IndexSet<R, E> {
         requires keyed { IsKeyedBut E.order_of E.hash_of self.old n }
         ensures sound { IsSound E.has_key self.new }
         ensures same { IsOfSame self.old self.new }
-        ensures lists { lists_of self.new ≡ changed_from (settled_at (E.order_of (keys_of self.old)) (record_of self.old) n) 0 (specs_of self.old) (lists_of self.old) }
+        ensures lists { lists_of self.new ≡ changed_from
+            (settled_at (E.order_of (keys_of self.old)) (record_of self.old) n) 0
+            (specs_of self.old) (lists_of self.old) }
         ensures keyed { IsKeyed E.order_of E.hash_of self.new }
         ensures contents { contents self.new ≡ contents self.old }
     {
@@ -247,7 +256,9 @@ impl<R, E: Extract<R>> IndexSet<R, E> {
         requires restored { IsRestored E.order_of E.hash_of self.old n }
         ensures unchanged { self.new ≡ self.old }
         ensures keyed { IsKeyed E.order_of E.hash_of self.new }
-        ensures unique { (before : R) → HasKeysOf E.order_of self.old n before → IsUniqueExcept E.order_of (with_record self.old n before) None → IsUniqueExcept E.order_of self.new None }
+        ensures unique { (before : R) → HasKeysOf E.order_of self.old n before →
+            IsUniqueExcept E.order_of (with_record self.old n before) None →
+            IsUniqueExcept E.order_of self.new None }
     {
         // Each node stands where it stood.
     }
@@ -259,7 +270,8 @@ impl<R, E: Extract<R>> IndexSet<R, E> {
         requires except { AreNodesOf (store_of self.now) except }
         requires keyed { IsKeyedExcept E.order_of E.hash_of self.now except }
         requires unique { IsUniqueExcept E.order_of self.now except }
-        ensures { result ≡ ban_from (E.order_of (keys_of self.now)) (record_of self.now) (lists_of self.now) except r.now 0 (specs_of self.now) }
+        ensures { result ≡ ban_from (E.order_of (keys_of self.now)) (record_of self.now)
+            (lists_of self.now) except r.now 0 (specs_of self.now) }
     {
         first_ban(
             &self.store,

@@ -8,29 +8,23 @@ use Rattle.linked_set.proofs.erase_key.take_key.Goals as goal
 pub loop-node-init : goal.loop-node-init
 loop-node-init g c = none_thinned (has_other_key g.E.Extract.probe_order_of c.args.set.now c.args.index c.args.probe.now) c.args.set.now c.args.slots.now.items c.requires.linked c.requires.held
 
-pub find_any-requires-clause-sound : goal.find_any-requires-clause-sound
-find_any-requires-clause-sound g c = c.loop-node.invariant.linked.sound
-
-pub find_any-requires-clause-index : goal.find_any-requires-clause-index
-find_any-requires-clause-index g c = here g.E.Extract.probe_order_of c.args.index c.args.probe.now c.args.set.now c.loop-node.set c.loop-node.slots.items c.loop-node.invariant c.requires.index
-
-pub find_any-requires-clause-kind : goal.find_any-requires-clause-kind
-find_any-requires-clause-kind g c = subst (λ kind. IsTrue (has_key_kind kind)) (sym (kind_kept c.args.set.now c.loop-node.set c.args.index c.loop-node.invariant.same)) c.requires.kind
-
-pub find_any-requires-clause-fits : goal.find_any-requires-clause-fits
-find_any-requires-clause-fits g c sorted =
-    let same = c.loop-node.invariant.same in
-    subst (λ by. IsTrue (g.E.Extract.does_fit by.keys c.args.index c.args.probe.now)) (sym same.keys)
-    (c.requires.fits (subst (λ kind. IsTrue (is_sorted_kind kind)) (kind_kept c.args.set.now c.loop-node.set c.args.index same) sorted))
-
-pub find_any-requires-clause-whole : goal.find_any-requires-clause-whole
-find_any-requires-clause-whole g c hashed =
-    let same = c.loop-node.invariant.same in
-    subst (λ by. IsTrue (g.E.Extract.is_whole by.keys c.args.index c.args.probe.now)) (sym same.keys)
-    (c.requires.whole (subst (λ kind. IsTrue (is_hashed_kind kind)) (kind_kept c.args.set.now c.loop-node.set c.args.index same) hashed))
-
-pub find_any-requires-clause-keyed : goal.find_any-requires-clause-keyed
-find_any-requires-clause-keyed g c = c.loop-node.invariant.linked.keyed
+pub find_any-requires : goal.find_any-requires
+find_any-requires g c = record {
+  sound = c.loop-node.invariant.linked.sound;
+  index = here g.E.Extract.probe_order_of c.args.index c.args.probe.now c.args.set.now c.loop-node.set c.loop-node.slots.items c.loop-node.invariant c.requires.index;
+  kind = subst (λ kind. IsTrue (has_key_kind kind)) (sym (kind_kept c.args.set.now c.loop-node.set c.args.index c.loop-node.invariant.same)) c.requires.kind;
+  fits =
+      λ sorted.
+      let same = c.loop-node.invariant.same in
+      subst (λ by. IsTrue (g.E.Extract.does_fit by.keys c.args.index c.args.probe.now)) (sym same.keys)
+      (c.requires.fits (subst (λ kind. IsTrue (is_sorted_kind kind)) (kind_kept c.args.set.now c.loop-node.set c.args.index same) sorted));
+  whole =
+      λ hashed.
+      let same = c.loop-node.invariant.same in
+      subst (λ by. IsTrue (g.E.Extract.is_whole by.keys c.args.index c.args.probe.now)) (sym same.keys)
+      (c.requires.whole (subst (λ kind. IsTrue (is_hashed_kind kind)) (kind_kept c.args.set.now c.loop-node.set c.args.index same) hashed));
+  keyed = c.loop-node.invariant.linked.keyed;
+}
 
 pub take_out-requires-clause-linked : goal.take_out-requires-clause-linked
 take_out-requires-clause-linked g c = c.loop-node.invariant.linked

@@ -4,10 +4,10 @@ use Rattle.index_set.proofs.Reading.{is_kind, sought_here, can_search}
 use Rattle.index_set.proofs.set.IndexSet.lower_rank.Goals as goal
 
 pub lower_rank-requires-clause-kind : goal.lower_rank-requires-clause-kind
-lower_rank-requires-clause-kind g c = is_kind c.args.self.now c.requires.sound c.args.index c.requires.index c.index.result.now c.index.ensures is_ranked_kind c.requires.kind
+lower_rank-requires-clause-kind g c = is_kind c.args.self.now c.requires.search.sound c.args.index c.requires.search.index c.index.result.now c.index.ensures is_ranked_kind c.requires.kind
 
 pub lower_rank-requires-clause-search : goal.lower_rank-requires-clause-search
-lower_rank-requires-clause-search g c = can_search g.E.Extract c.args.self.now c.requires.sound c.args.index c.requires.index c.index.result.now c.index.ensures c.args.probe.now c.requires.fits c.requires.keyed
+lower_rank-requires-clause-search g c = can_search g.E.Extract c.args.self.now c.requires.search.sound c.args.index c.requires.search.index c.index.result.now c.index.ensures c.args.probe.now c.requires.search.fits c.requires.search.keyed
 
 pub returns : goal.returns
-returns g c = sought_here c.args.self.now c.requires.sound c.args.index c.requires.index c.index.result.now c.index.ensures below g.E.Extract.probe_order_of c.args.probe.now c.lower_rank.result c.lower_rank.ensures
+returns g c = sought_here c.args.self.now c.requires.search.sound c.args.index c.requires.search.index c.index.result.now c.index.ensures below g.E.Extract.probe_order_of c.args.probe.now c.lower_rank.result c.lower_rank.ensures

@@ -9,12 +9,12 @@ use Rattle.index_set.proofs.set.IndexSet.next.Goals as goal
 
 pub next-requires-clause-node : goal.next-requires-clause-node
 next-requires-clause-node g c = record {
-  sound = sound_here c.args.self.now c.requires.sound c.args.index c.requires.index c.index.result.now c.index.ensures;
-  held = subst (λ z. Holds z c.args.n) (sym (list_here c.args.self.now c.requires.sound c.args.index c.requires.index c.index.result.now c.index.ensures)) c.requires.held;
+  sound = sound_here c.args.self.now c.requires.at.sound c.args.index c.requires.at.index c.index.result.now c.index.ensures;
+  held = subst (λ z. Holds z c.args.n) (sym (list_here c.args.self.now c.requires.at.sound c.args.index c.requires.at.index c.index.result.now c.index.ensures)) c.requires.held;
 }
 
 pub next-requires-clause-kind : goal.next-requires-clause-kind
-next-requires-clause-kind g c = is_kind c.args.self.now c.requires.sound c.args.index c.requires.index c.index.result.now c.index.ensures (λ kind. not (is_hashed_kind kind)) c.requires.kind
+next-requires-clause-kind g c = is_kind c.args.self.now c.requires.at.sound c.args.index c.requires.at.index c.index.result.now c.index.ensures (λ kind. not (is_hashed_kind kind)) c.requires.kind
 
 pub returns : goal.returns
-returns g c = read_here c.args.self.now c.requires.sound c.args.index c.requires.index c.index.result.now c.index.ensures (next (same_node c.args.n)) c.next.result c.next.ensures
+returns g c = read_here c.args.self.now c.requires.at.sound c.args.index c.requires.at.index c.index.result.now c.index.ensures (next (same_node c.args.n)) c.next.result c.next.ensures

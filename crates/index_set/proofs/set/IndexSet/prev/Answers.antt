@@ -9,12 +9,12 @@ use Rattle.index_set.proofs.set.IndexSet.prev.Goals as goal
 
 pub prev-requires-clause-node : goal.prev-requires-clause-node
 prev-requires-clause-node g c = record {
-  sound = sound_here c.args.self.now c.requires.sound c.args.index c.requires.index c.index.result.now c.index.ensures;
-  held = subst (λ z. Holds z c.args.n) (sym (list_here c.args.self.now c.requires.sound c.args.index c.requires.index c.index.result.now c.index.ensures)) c.requires.held;
+  sound = sound_here c.args.self.now c.requires.at.sound c.args.index c.requires.at.index c.index.result.now c.index.ensures;
+  held = subst (λ z. Holds z c.args.n) (sym (list_here c.args.self.now c.requires.at.sound c.args.index c.requires.at.index c.index.result.now c.index.ensures)) c.requires.held;
 }
 
 pub prev-requires-clause-kind : goal.prev-requires-clause-kind
-prev-requires-clause-kind g c = is_kind c.args.self.now c.requires.sound c.args.index c.requires.index c.index.result.now c.index.ensures (λ kind. not (is_hashed_kind kind)) c.requires.kind
+prev-requires-clause-kind g c = is_kind c.args.self.now c.requires.at.sound c.args.index c.requires.at.index c.index.result.now c.index.ensures (λ kind. not (is_hashed_kind kind)) c.requires.kind
 
 pub returns : goal.returns
-returns g c = read_here c.args.self.now c.requires.sound c.args.index c.requires.index c.index.result.now c.index.ensures (prev (same_node c.args.n)) c.prev.result c.prev.ensures
+returns g c = read_here c.args.self.now c.requires.at.sound c.args.index c.requires.at.index c.index.result.now c.index.ensures (prev (same_node c.args.n)) c.prev.result c.prev.ensures

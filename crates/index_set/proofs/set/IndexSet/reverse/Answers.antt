@@ -8,26 +8,26 @@ use Rattle.index_set.proofs.set.IndexSet.reverse.Goals as goal
 
 pub returns-clause-sound : goal.returns-clause-sound
 returns-clause-sound g c =
-    let old = c.requires.sound in
+    let old = c.requires.at.sound in
     record {
       some = old.some;
       few = old.few;
       keys = old.keys;
-      placed = placed_moved c.args.self.now c.requires.sound c.args.index c.requires.index c.index_mut.result.now c.reverse.new.self c.index_mut.ensures.value c.reverse.new.store (steps_of c.reverse.ensures.sound c.reverse.ensures.rest.kind c.reverse.ensures.rest.col c.reverse.ensures.rest.index c.reverse.ensures.rest.others);
+      placed = placed_moved c.args.self.now c.requires.at.sound c.args.index c.requires.at.index c.index_mut.result.now c.reverse.new.self c.index_mut.ensures.value c.reverse.new.store (steps_of c.reverse.ensures.sound c.reverse.ensures.rest.kind c.reverse.ensures.rest.col c.reverse.ensures.rest.index c.reverse.ensures.rest.others);
       nodes = IsStore_kept c.args.self.now.store c.reverse.new.store c.reverse.ensures.rest.contents old.nodes;
     }
 
 pub returns-clause-lists : goal.returns-clause-lists
 returns-clause-lists g c =
-    lists_moved c.args.self.now c.requires.sound c.args.index c.requires.index c.index_mut.result.now c.reverse.new.self c.index_mut.ensures.value c.reverse.new.store (steps_of c.reverse.ensures.sound c.reverse.ensures.rest.kind c.reverse.ensures.rest.col c.reverse.ensures.rest.index c.reverse.ensures.rest.others)
-    _ (c.reverse.ensures.list ∙ ap (reverse) (list_here c.args.self.now c.requires.sound c.args.index c.requires.index c.index_mut.result.now c.index_mut.ensures.value))
+    lists_moved c.args.self.now c.requires.at.sound c.args.index c.requires.at.index c.index_mut.result.now c.reverse.new.self c.index_mut.ensures.value c.reverse.new.store (steps_of c.reverse.ensures.sound c.reverse.ensures.rest.kind c.reverse.ensures.rest.col c.reverse.ensures.rest.index c.reverse.ensures.rest.others)
+    _ (c.reverse.ensures.list ∙ ap (reverse) (list_here c.args.self.now c.requires.at.sound c.args.index c.requires.at.index c.index_mut.result.now c.index_mut.ensures.value))
 
 pub returns-clause-room : goal.returns-clause-room
 returns-clause-room g c =
-    room_moved c.args.self.now c.requires.sound c.args.index c.requires.index c.index_mut.result.now c.reverse.new.self c.index_mut.ensures.value c.reverse.new.store (steps_of c.reverse.ensures.sound c.reverse.ensures.rest.kind c.reverse.ensures.rest.col c.reverse.ensures.rest.index c.reverse.ensures.rest.others)
+    room_moved c.args.self.now c.requires.at.sound c.args.index c.requires.at.index c.index_mut.result.now c.reverse.new.self c.index_mut.ensures.value c.reverse.new.store (steps_of c.reverse.ensures.sound c.reverse.ensures.rest.kind c.reverse.ensures.rest.col c.reverse.ensures.rest.index c.reverse.ensures.rest.others)
     c.reverse.ensures.room
 
 pub returns-clause-keyed : goal.returns-clause-keyed
 returns-clause-keyed g c =
-    keyed_moved c.args.self.now c.requires.sound c.args.index c.requires.index c.index_mut.result.now c.reverse.new.self c.index_mut.ensures.value c.reverse.new.store (steps_of c.reverse.ensures.sound c.reverse.ensures.rest.kind c.reverse.ensures.rest.col c.reverse.ensures.rest.index c.reverse.ensures.rest.others)
+    keyed_moved c.args.self.now c.requires.at.sound c.args.index c.requires.at.index c.index_mut.result.now c.reverse.new.self c.index_mut.ensures.value c.reverse.new.store (steps_of c.reverse.ensures.sound c.reverse.ensures.rest.kind c.reverse.ensures.rest.col c.reverse.ensures.rest.index c.reverse.ensures.rest.others)
     c.requires.kind c.reverse.ensures.rest.contents (g.E.Extract.order_of c.args.self.now.keys) (g.E.Extract.hash_of c.args.self.now.keys)
