@@ -1,14 +1,13 @@
 //! Changes of the record of a node.
-ghost use Rattle.std.specs.Prelude.{◌≡◌, ◌<◌, map, length, IsTrue, Some, None};
+ghost use Rattle.std.specs.Prelude.{◌≡◌, ◌<◌, map, Some, None};
 ghost use Rattle.std.specs.Option.{option_map_or};
-ghost use Rattle.std.specs.declared.cmp.Ordering.TheVariants.{Equal};
 ghost use Rattle.list_model.specs.Walk.{without};
 ghost use Rattle.node_store.specs.ByNode.{same_node};
-ghost use Rattle.container_model.specs.State.{has_key_kind};
 ghost use Rattle.index_set.specs.Each.{changed_from};
 ghost use Rattle.index_set.specs.Indices.{HoldIt};
 ghost use Rattle.index_set.specs.Lists.{ban_from, settled_at};
-ghost use Rattle.index_set.specs.Set.{keys_of, specs_of, kind_at, contents, record_of, lists_of, with_record, IsSound, IsKeyed, IsKeyedBut, IsUniqueExcept, IsOfSame};
+ghost use Rattle.index_set.specs.Asked.{IsFiled, IsFiledBut};
+ghost use Rattle.index_set.specs.Set.{keys_of, specs_of, contents, record_of, lists_of, with_record, IsSound, IsKeyed, IsUniqueExcept, IsOfSame};
 
 use crate::edit::Edit;
 use index_set::IndexSet;
@@ -22,14 +21,15 @@ pub fn settle_or_leave<R, E: Extract<R>>(
     set: &mut IndexSet<R, E>,
     node: Node,
 ) -> Option<(usize, Node)>
-    requires sound { IsSound E.has_key set.old }
+    requires filed { IsFiledBut E.Extract set.old node }
     requires held { HoldIt (lists_of set.old) node }
-    requires keyed { IsKeyedBut E.order_of E.hash_of set.old node }
-    requires unique { IsUniqueExcept E.order_of set.old (Some node) }
     ensures ban { (r : R) → record_of set.old node ≡ Some r →
-        result ≡ ban_from (E.order_of (keys_of set.old)) (record_of set.old) (lists_of set.old) (Some node) r 0 (specs_of set.old) }
-    ensures lists { lists_of set.new ≡ option_map_or (λ by. map (without (same_node node)) (lists_of set.old)) result
-        (changed_from (settled_at (E.order_of (keys_of set.old)) (record_of set.old) node) 0 (specs_of set.old) (lists_of set.old)) }
+        result ≡ ban_from (E.order_of (keys_of set.old)) (record_of set.old) (lists_of set.old)
+        (Some node) r 0 (specs_of set.old) }
+    ensures lists { lists_of set.new ≡ option_map_or
+        (λ by. map (without (same_node node)) (lists_of set.old)) result
+        (changed_from (settled_at (E.order_of (keys_of set.old)) (record_of set.old) node) 0
+        (specs_of set.old) (lists_of set.old)) }
     ensures sound { IsSound E.has_key set.new }
     ensures same { IsOfSame set.old set.new }
     ensures contents { contents set.new ≡ contents set.old }
@@ -53,16 +53,18 @@ pub fn modify_node<R, E: Extract<R>, T: Edit<R>>(
     node: Node,
     edit: &mut T,
 ) -> Option<(usize, Node)>
-    requires sound { IsSound E.has_key set.old }
+    requires filed { IsFiled E.Extract set.old }
     requires held { HoldIt (lists_of set.old) node }
-    requires keyed { IsKeyed E.order_of E.hash_of set.old }
-    requires unique { IsUniqueExcept E.order_of set.old None }
     ensures edit { (r : R) → record_of set.old node ≡ Some r → edit.new ≡ T.after_apply edit.old r }
     ensures ban { (r : R) → record_of set.old node ≡ Some r →
-        result ≡ ban_from (E.order_of (keys_of set.old)) (record_of set.old) (lists_of set.old) (Some node) (T.applied edit.old r) 0 (specs_of set.old) }
-    ensures contents { (r : R) → record_of set.old node ≡ Some r → contents set.new ≡ contents (with_record set.old node (T.applied edit.old r)) }
-    ensures lists { lists_of set.new ≡ option_map_or (λ by. map (without (same_node node)) (lists_of set.old)) result
-        (changed_from (settled_at (E.order_of (keys_of set.old)) (record_of set.new) node) 0 (specs_of set.old) (lists_of set.old)) }
+        result ≡ ban_from (E.order_of (keys_of set.old)) (record_of set.old) (lists_of set.old)
+        (Some node) (T.applied edit.old r) 0 (specs_of set.old) }
+    ensures contents { (r : R) → record_of set.old node ≡ Some r →
+        contents set.new ≡ contents (with_record set.old node (T.applied edit.old r)) }
+    ensures lists { lists_of set.new ≡ option_map_or
+        (λ by. map (without (same_node node)) (lists_of set.old)) result
+        (changed_from (settled_at (E.order_of (keys_of set.old)) (record_of set.new) node) 0
+        (specs_of set.old) (lists_of set.old)) }
     ensures sound { IsSound E.has_key set.new }
     ensures same { IsOfSame set.old set.new }
     ensures keyed { IsKeyed E.order_of E.hash_of set.new }

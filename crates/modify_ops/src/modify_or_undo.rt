@@ -6,6 +6,7 @@ ghost use Rattle.container_model.specs.State.{has_key_kind};
 ghost use Rattle.index_set.specs.Each.{changed_from};
 ghost use Rattle.index_set.specs.Indices.{HoldIt};
 ghost use Rattle.index_set.specs.Lists.{ban_from, settled_at};
+ghost use Rattle.index_set.specs.Asked.{IsFiled};
 ghost use Rattle.index_set.specs.Set.{keys_of, specs_of, kind_at, contents, record_of, lists_of, with_record, IsSound, IsKeyed, IsUniqueExcept, IsOfSame};
 
 use crate::edit::Edit;
@@ -22,20 +23,25 @@ pub fn modify_or_undo_node<R, E: Extract<R>, T: Edit<R>>(
     node: Node,
     edit: &mut T,
 ) -> Option<(usize, Node)>
-    requires sound { IsSound E.has_key set.old }
+    requires filed { IsFiled E.Extract set.old }
     requires held { HoldIt (lists_of set.old) node }
-    requires keyed { IsKeyed E.order_of E.hash_of set.old }
-    requires unique { IsUniqueExcept E.order_of set.old None }
-    requires undone { (index : ℕ) (r : R) → index < length (specs_of set.old) → IsTrue (has_key_kind (kind_at set.old index)) → record_of set.old node ≡ Some r →
-        E.order_of (keys_of set.old) index (T.undone (T.after_apply edit.old r) (T.applied edit.old r)) r ≡ Equal }
+    requires undone { (index : ℕ) (r : R) → index < length (specs_of set.old) →
+        IsTrue (has_key_kind (kind_at set.old index)) → record_of set.old node ≡ Some r →
+        E.order_of (keys_of set.old) index
+        (T.undone (T.after_apply edit.old r) (T.applied edit.old r)) r ≡ Equal }
     ensures edit { (r : R) → record_of set.old node ≡ Some r →
-        edit.new ≡ option_map_or (λ by. T.after_undo (T.after_apply edit.old r) (T.applied edit.old r)) result (T.after_apply edit.old r) }
+        edit.new ≡ option_map_or (λ by. T.after_undo (T.after_apply edit.old r)
+        (T.applied edit.old r)) result (T.after_apply edit.old r) }
     ensures ban { (r : R) → record_of set.old node ≡ Some r →
-        result ≡ ban_from (E.order_of (keys_of set.old)) (record_of set.old) (lists_of set.old) (Some node) (T.applied edit.old r) 0 (specs_of set.old) }
+        result ≡ ban_from (E.order_of (keys_of set.old)) (record_of set.old) (lists_of set.old)
+        (Some node) (T.applied edit.old r) 0 (specs_of set.old) }
     ensures contents { (r : R) → record_of set.old node ≡ Some r →
-        contents set.new ≡ contents (with_record set.old node (option_map_or (λ by. T.undone (T.after_apply edit.old r) (T.applied edit.old r)) result (T.applied edit.old r))) }
+        contents set.new ≡ contents (with_record set.old node
+        (option_map_or (λ by. T.undone (T.after_apply edit.old r) (T.applied edit.old r)) result
+        (T.applied edit.old r))) }
     ensures lists { lists_of set.new ≡ option_map_or (λ by. lists_of set.old) result
-        (changed_from (settled_at (E.order_of (keys_of set.old)) (record_of set.new) node) 0 (specs_of set.old) (lists_of set.old)) }
+        (changed_from (settled_at (E.order_of (keys_of set.old)) (record_of set.new) node) 0
+        (specs_of set.old) (lists_of set.old)) }
     ensures sound { IsSound E.has_key set.new }
     ensures same { IsOfSame set.old set.new }
     ensures keyed { IsKeyed E.order_of E.hash_of set.new }

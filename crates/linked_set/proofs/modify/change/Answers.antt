@@ -26,26 +26,23 @@ use Rattle.linked_set.proofs.modify.change.Goals as goal
 pub get_mut-requires : goal.get_mut-requires
 get_mut-requires g c = node_of_all c.args.set.now c.args.node c.requires.linked.sound c.requires.held
 
-pub settle_or_leave-requires-clause-sound : goal.settle_or_leave-requires-clause-sound
-settle_or_leave-requires-clause-sound g c =
-    sound_written c.args.set.now c.args.node (record { handle = c.get_mut.result.now.handle; row = c.apply.new.row }) (λ by. g.E.Extract.has_key by.keys) c.requires.linked.sound
+pub settle_or_leave-requires-clause-filed : goal.settle_or_leave-requires-clause-filed
+settle_or_leave-requires-clause-filed g c = record {
+  sound = sound_written c.args.set.now c.args.node (record { handle = c.get_mut.result.now.handle; row = c.apply.new.row }) (λ by. g.E.Extract.has_key by.keys) c.requires.linked.sound;
+  keyed =
+      let set = c.args.set.now in
+      let is = node_of_all set c.args.node c.requires.linked.sound c.requires.held in
+      keyed_but_written set c.args.node (record { handle = c.get_mut.result.now.handle; row = c.apply.new.row }) is (λ by index a b. g.E.Extract.order_of by.keys index a.row b.row) (λ by index a. g.E.Extract.hash_of by.keys index a.row)
+      (but_from (λ by index a b. g.E.Extract.order_of by.keys index a.row b.row) (λ by index a. g.E.Extract.hash_of by.keys index a.row) set c.args.node c.requires.linked.keyed);
+  unique =
+      let set = c.args.set.now in
+      unique_after_write (λ by index a b. g.E.Extract.order_of by.keys index a.row b.row) set c.requires.linked.sound c.args.node (record { handle = c.get_mut.result.now.handle; row = c.apply.new.row })
+      (node_of_all set c.args.node c.requires.linked.sound c.requires.held) c.requires.linked.unique;
+}
 
 pub settle_or_leave-requires-clause-held : goal.settle_or_leave-requires-clause-held
 settle_or_leave-requires-clause-held g c =
     subst (λ ls. HoldIt ls c.args.node) (sym (lists_written c.args.set.now c.args.node (record { handle = c.get_mut.result.now.handle; row = c.apply.new.row }))) c.requires.held
-
-pub settle_or_leave-requires-clause-keyed : goal.settle_or_leave-requires-clause-keyed
-settle_or_leave-requires-clause-keyed g c =
-    let set = c.args.set.now in
-    let is = node_of_all set c.args.node c.requires.linked.sound c.requires.held in
-    keyed_but_written set c.args.node (record { handle = c.get_mut.result.now.handle; row = c.apply.new.row }) is (λ by index a b. g.E.Extract.order_of by.keys index a.row b.row) (λ by index a. g.E.Extract.hash_of by.keys index a.row)
-    (but_from (λ by index a b. g.E.Extract.order_of by.keys index a.row b.row) (λ by index a. g.E.Extract.hash_of by.keys index a.row) set c.args.node c.requires.linked.keyed)
-
-pub settle_or_leave-requires-clause-unique : goal.settle_or_leave-requires-clause-unique
-settle_or_leave-requires-clause-unique g c =
-    let set = c.args.set.now in
-    unique_after_write (λ by index a b. g.E.Extract.order_of by.keys index a.row b.row) set c.requires.linked.sound c.args.node (record { handle = c.get_mut.result.now.handle; row = c.apply.new.row })
-    (node_of_all set c.args.node c.requires.linked.sound c.requires.held) c.requires.linked.unique
 
 pub returns-in_default-clause-linked : goal.returns-in_default-clause-linked
 returns-in_default-clause-linked g c =

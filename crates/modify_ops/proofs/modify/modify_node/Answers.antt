@@ -17,25 +17,23 @@ use Rattle.modify_ops.proofs.Others.{ban_written}
 use Rattle.modify_ops.proofs.modify.modify_node.Goals as goal
 
 pub get_mut-requires : goal.get_mut-requires
-get_mut-requires g c = node_of_all c.args.set.now c.args.node c.requires.sound c.requires.held
+get_mut-requires g c = node_of_all c.args.set.now c.args.node c.requires.filed.sound c.requires.held
 
-pub settle_or_leave-requires-clause-sound : goal.settle_or_leave-requires-clause-sound
-settle_or_leave-requires-clause-sound g c = sound_written c.args.set.now c.args.node c.apply.new.row g.E.Extract.has_key c.requires.sound
+pub settle_or_leave-requires-clause-filed : goal.settle_or_leave-requires-clause-filed
+settle_or_leave-requires-clause-filed g c = record {
+  sound = sound_written c.args.set.now c.args.node c.apply.new.row g.E.Extract.has_key c.requires.filed.sound;
+  keyed =
+      let set = c.args.set.now in
+      let order = g.E.Extract.order_of in
+      let hash = g.E.Extract.hash_of in
+      keyed_but_written set c.args.node c.apply.new.row (node_of_all set c.args.node c.requires.filed.sound c.requires.held) order hash (but_from order hash set c.args.node c.requires.filed.keyed);
+  unique =
+      let set = c.args.set.now in
+      unique_after_write g.E.Extract.order_of set c.requires.filed.sound c.args.node c.apply.new.row (node_of_all set c.args.node c.requires.filed.sound c.requires.held) c.requires.filed.unique;
+}
 
 pub settle_or_leave-requires-clause-held : goal.settle_or_leave-requires-clause-held
 settle_or_leave-requires-clause-held g c = subst (λ ls. HoldIt ls c.args.node) (sym (lists_written c.args.set.now c.args.node c.apply.new.row)) c.requires.held
-
-pub settle_or_leave-requires-clause-keyed : goal.settle_or_leave-requires-clause-keyed
-settle_or_leave-requires-clause-keyed g c =
-    let set = c.args.set.now in
-    let order = g.E.Extract.order_of in
-    let hash = g.E.Extract.hash_of in
-    keyed_but_written set c.args.node c.apply.new.row (node_of_all set c.args.node c.requires.sound c.requires.held) order hash (but_from order hash set c.args.node c.requires.keyed)
-
-pub settle_or_leave-requires-clause-unique : goal.settle_or_leave-requires-clause-unique
-settle_or_leave-requires-clause-unique g c =
-    let set = c.args.set.now in
-    unique_after_write g.E.Extract.order_of set c.requires.sound c.args.node c.apply.new.row (node_of_all set c.args.node c.requires.sound c.requires.held) c.requires.unique
 
 pub returns-clause-ban : goal.returns-clause-ban
 returns-clause-ban g c r has =
@@ -43,7 +41,7 @@ returns-clause-ban g c r has =
     let node = c.args.node in
     let row = c.apply.new.row in
     let order = g.E.Extract.order_of (keys_of set) in
-    let is = node_of_all set node c.requires.sound c.requires.held in
+    let is = node_of_all set node c.requires.filed.sound c.requires.held in
     let was = same_Some c.get_mut.result.now r (sym c.get_mut.ensures.value ∙ has) in
     c.settle_or_leave.ensures.ban row (record_written set.store node row is)
     ∙ (ban_written set node row is order row ∙ ap (λ value. ban_from order (record_of set) (lists_of set) (Some node) value 0 (specs_of set)) (c.apply.ensures.row ∙ ap (g.T.Edit.applied c.args.edit.now) was))

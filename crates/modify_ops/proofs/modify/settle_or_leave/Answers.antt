@@ -13,17 +13,17 @@ none_there None e = refl
 none_there (Some a) e = absurd (cc)
 
 pub get-requires : goal.get-requires
-get-requires g c = node_of_all c.args.set.now c.args.node c.requires.sound c.requires.held
+get-requires g c = node_of_all c.args.set.now c.args.node c.requires.filed.sound c.requires.held
 
 pub bans-banned-requires-clause-except : goal.bans-banned-requires-clause-except
 bans-banned-requires-clause-except g c m e =
-    subst (IsNodeOf (store_of c.args.set.now)) (same_Some c.args.node m e) (node_of_all c.args.set.now c.args.node c.requires.sound c.requires.held)
+    subst (IsNodeOf (store_of c.args.set.now)) (same_Some c.args.node m e) (node_of_all c.args.set.now c.args.node c.requires.filed.sound c.requires.held)
 
 pub returns-then-is_some-clause-unique : goal.returns-then-is_some-clause-unique
 returns-then-is_some-clause-unique g c =
-    unique_after_leave g.E.Extract.order_of c.args.set.now c.leave.new.self c.requires.sound c.leave.ensures.same c.args.node c.leave.ensures.lists c.leave.ensures.contents c.requires.unique
+    unique_after_leave g.E.Extract.order_of c.args.set.now c.leave.new.self c.requires.filed.sound c.leave.ensures.same c.args.node c.leave.ensures.lists c.leave.ensures.contents c.requires.filed.unique
 
 pub returns-else-is_some-clause-unique : goal.returns-else-is_some-clause-unique
 returns-else-is_some-clause-unique g c =
-    unique_after_settle g.E.Extract.order_of g.met.E.Extract.order_total c.args.set.now c.settle.new.self c.requires.sound c.settle.ensures.same c.args.node c.get.result.now c.get.ensures c.requires.held
-    c.settle.ensures.lists c.settle.ensures.contents (sym c.bans-banned.ensures ∙ none_there c.bans-banned.result (sym c.is_some.ensures ∙ c.if-is_some.false)) c.requires.unique
+    unique_after_settle g.E.Extract.order_of g.met.E.Extract.order_total c.args.set.now c.settle.new.self c.requires.filed.sound c.settle.ensures.same c.args.node c.get.result.now c.get.ensures c.requires.held
+    c.settle.ensures.lists c.settle.ensures.contents (sym c.bans-banned.ensures ∙ none_there c.bans-banned.result (sym c.is_some.ensures ∙ c.if-is_some.false)) c.requires.filed.unique

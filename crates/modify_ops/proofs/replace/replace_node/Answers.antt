@@ -12,10 +12,10 @@ use Rattle.modify_ops.proofs.Others.{ban_written}
 use Rattle.modify_ops.proofs.replace.replace_node.Goals as goal
 
 pub get_mut-requires : goal.get_mut-requires
-get_mut-requires g c = node_of_all c.args.set.now c.args.node c.requires.sound c.requires.held
+get_mut-requires g c = node_of_all c.args.set.now c.args.node c.requires.filed.sound c.requires.held
 
 pub settle-requires-clause-sound : goal.settle-requires-clause-sound
-settle-requires-clause-sound g c = sound_written c.args.set.now c.args.node c.replace-old.new.dest g.E.Extract.has_key c.requires.sound
+settle-requires-clause-sound g c = sound_written c.args.set.now c.args.node c.replace-old.new.dest g.E.Extract.has_key c.requires.filed.sound
 
 pub settle-requires-clause-held : goal.settle-requires-clause-held
 settle-requires-clause-held g c = subst (λ ls. HoldIt ls c.args.node) (sym (lists_written c.args.set.now c.args.node c.replace-old.new.dest)) c.requires.held
@@ -25,8 +25,8 @@ settle-requires-clause-keyed g c =
     let set = c.args.set.now in
     let order = g.E.Extract.order_of in
     let hash = g.E.Extract.hash_of in
-    let is = node_of_all set c.args.node c.requires.sound c.requires.held in
-    keyed_but_written set c.args.node c.replace-old.new.dest is order hash (but_from order hash set c.args.node c.requires.keyed)
+    let is = node_of_all set c.args.node c.requires.filed.sound c.requires.held in
+    keyed_but_written set c.args.node c.replace-old.new.dest is order hash (but_from order hash set c.args.node c.requires.filed.keyed)
 
 pub returns-clause-lists : goal.returns-clause-lists
 returns-clause-lists g c =
@@ -42,11 +42,11 @@ returns-clause-unique g c =
     let value = c.replace-old.new.dest in
     let order = g.E.Extract.order_of in
     let written = with_record set node value in
-    let is = node_of_all set node c.requires.sound c.requires.held in
+    let is = node_of_all set node c.requires.filed.sound c.requires.held in
     let allowed : ban_from (order (keys_of set)) (record_of written) (lists_of written) (Some node) value 0 (specs_of set) ≡ None =
     ban_written set node value is (order (keys_of set)) value
     ∙ (ap (λ old. ban_from (order (keys_of set)) (record_of set) (lists_of set) (Some node) old 0 (specs_of set)) c.replace-old.ensures.after ∙ c.requires.allowed) in
     unique_after_settle order g.met.E.Extract.order_total written c.settle.new.self
-    (sound_written set node value g.E.Extract.has_key c.requires.sound) c.settle.ensures.same node value (record_written set.store node value is)
+    (sound_written set node value g.E.Extract.has_key c.requires.filed.sound) c.settle.ensures.same node value (record_written set.store node value is)
     (subst (λ ls. HoldIt ls node) (sym (lists_written set node value)) c.requires.held) c.settle.ensures.lists c.settle.ensures.contents allowed
-    (unique_after_write order set c.requires.sound node value is c.requires.unique)
+    (unique_after_write order set c.requires.filed.sound node value is c.requires.filed.unique)
