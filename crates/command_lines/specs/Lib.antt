@@ -2,3 +2,4 @@ pub mod Op
 pub mod Spelling
 pub mod Parts
 pub mod Meaning
+pub mod Fits

@@ -1,8 +1,9 @@
 //! Reads a line as a command.
 
-ghost use Rattle.std.specs.Prelude.{◌≡◌, map, bytes_eq};
+ghost use Rattle.std.specs.Prelude.{◌≡◌, IfOk, map, bytes_eq};
 ghost use Rattle.std.specs.List.{list_any};
 ghost use Rattle.serde_json.specs.View.{view, members_view};
+ghost use Rattle.command_lines.specs.Fits.{CommandFits};
 ghost use Rattle.command_lines.specs.Parts.{Gives, has_only, or_fault};
 ghost use Rattle.command_lines.specs.Meaning.{insert_of, replace_of, modify_of, modify_key_of, erase_of, move_of, rearrange_of, sort_of, get_of, nth_of, place_of, range_of, on_table, table_command, on_index, index_command, on_key, key_command, on_position, position_command, shaped, command_of, meaning};
 
@@ -19,7 +20,8 @@ use table_cmd::{Command, HandleText, Key};
 
 /// Reads a line as a command. The last of repeated names counts. O(n · log n) for n bytes.
 pub fn read_command(alloc: Global, line: &[u8]) -> Result<Command, CommandFault>
-    ensures { Gives result (meaning line.now) }
+    ensures means { Gives result (meaning line.now) }
+    ensures fits { IfOk result CommandFits }
 {
     match Json::from_slice(alloc, line) {
         Ok(value) => command_of(alloc, &value),

@@ -16,13 +16,13 @@ use Rattle.table_cmd.specs.declared.command.HandleText.{HandleText}
 use Rattle.table_cmd.specs.declared.command.HandleText.TheVariants as texts
 use Rattle.table_cmd.specs.declared.command.Command.{Command}
 use Rattle.table_cmd.specs.declared.command.Command.TheVariants as commands
+use Rattle.command_lines.specs.Fits.{IntFits, ValueFits, FieldFits, HandleTextFits, EndFits, ChangesFit, BoundFits, CommandFits}
 use Rattle.command_lines.specs.Op.{op_of}
 use Rattle.command_lines.specs.Spelling.{handle_said}
 use Rattle.command_lines.specs.Parts.{int_or_other, value_of, values_of, fields_of, handle_or_end, each_read, as_handle}
 use Rattle.command_lines.specs.Meaning.{insert_of, replace_of, modify_of, modify_key_of, erase_of, move_of, rearrange_of, sort_of, get_of, nth_of, place_of, range_of, on_table, table_command, on_index, index_command, on_key, key_command, on_position, position_command, command_for, command_of}
 use Rattle.command_lines.proofs.Spelling.{spelling_parts, handle_said-spelling, handle_said-bad}
 use Rattle.command_text.specs.Text.{items_of, value_data, field_members, handle_data, end_data, command_data}
-use Rattle.command_text.specs.Fits.{IntFits, ValueFits, FieldFits, HandleTextFits, EndFits, ChangesFit, BoundFits, CommandFits}
 
 -- ---- values
 

@@ -20,6 +20,7 @@ use Rattle.serde_json.specs.Read.{number_of, of_json, of_items, of_members, max_
 use Rattle.serde_json.specs.Written.{number_text, outline, items_outline, members_outline, comma_if, compact_text, items_text, members_text}
 use Rattle.serde_json.proofs.Numbers.{number_of-decimal, number_of-negative}
 use Rattle.serde_json.proofs.Texts.{print-outline}
+use Rattle.command_lines.proofs.Order.{AreAbove}
 
 -- ---- what is written so that it reads back
 
@@ -29,11 +30,6 @@ NumberFits (unsigned n) = n < 2 ^ 64
 NumberFits (negative (pos n)) = ⊥
 NumberFits (negative (negsuc n)) = n < 2 ^ 63
 NumberFits (float x) = ⊥
-
--- each name comes after this one
-abbrev pub AreAbove : List ℕ → Members → Type 0
-AreAbove k no_members = ⊤
-AreAbove k (member l d ms) = (slice_cmp nat_cmp k l ≡ Less) × AreAbove k ms
 
 -- no float, texts in UTF-8, and names in ascending order
 abbrev mutual

@@ -1,11 +1,11 @@
 -- What is written for a command means that command.
 use Rattle.std.proofs.Common.{◌≡◌, Ok, ap, ◌∙◌, arith}
 use Rattle.table_cmd.specs.declared.command.Command.{Command}
+use Rattle.command_lines.specs.Fits.{CommandFits}
 use Rattle.command_lines.specs.Meaning.{meaning}
 use Rattle.command_lines.specs.Parts.{or_fault}
 use Rattle.command_lines.proofs.Lines.{meaning-json}
 use Rattle.command_text.specs.Text.{command_data, command_text}
-use Rattle.command_text.specs.Fits.{CommandFits}
 use Rattle.command_text.specs.Line.{IsOneLine}
 use Rattle.command_text.proofs.Compact.{IsUtf8-compact_text, read-compact_text}
 use Rattle.command_text.proofs.OneLine.{one_line}

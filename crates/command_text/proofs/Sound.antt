@@ -22,9 +22,10 @@ use Rattle.table_cmd.specs.declared.command.HandleText.TheVariants as texts
 use Rattle.table_cmd.specs.declared.command.Command.{Command}
 use Rattle.table_cmd.specs.declared.command.Command.TheVariants as commands
 use Rattle.table_cmd.specs.Command.{table_in}
+use Rattle.command_lines.specs.Fits.{IntFits, ValueFits, FieldFits, FieldsFit, HandleTextFits, EndFits, KeyFits, BoundFits, CommandFits}
+use Rattle.command_lines.proofs.Order.{AreAbove}
 use Rattle.command_text.specs.Text.{items_of, value_data, key_data, field_members, fields_data, handle_data, end_data, count_data, included, excluded, and_member, members_of, add_of, by_of, low_included_of, low_excluded_of, handle_of, handles_of, index_of, key_of, high_included_of, high_excluded_of, nth_of, op_name, place_of, row_of, rollback_of, set_of, parts, command_data}
-use Rattle.command_text.specs.Fits.{IntFits, ValueFits, FieldFits, FieldsFit, HandleTextFits, EndFits, KeyFits, BoundFits, CommandFits}
-use Rattle.command_text.proofs.Compact.{decimal_utf8, AreAbove, IsSound, ItemsAreSound, MembersAreSound}
+use Rattle.command_text.proofs.Compact.{decimal_utf8, IsSound, ItemsAreSound, MembersAreSound}
 
 -- a value that can be read back, and how deep it nests
 abbrev IsSoundWithin : ℕ → Data → Type 0

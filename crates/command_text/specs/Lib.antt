@@ -1,4 +1,3 @@
 pub mod Text
 pub mod Part
-pub mod Fits
 pub mod Line

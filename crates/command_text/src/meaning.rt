@@ -1,8 +1,8 @@
 //! What is written for a command means it.
 
 ghost use Rattle.std.specs.Prelude.{◌≡◌, Ok};
+ghost use Rattle.command_lines.specs.Fits.{CommandFits};
 ghost use Rattle.command_lines.specs.Meaning.{meaning};
-ghost use Rattle.command_text.specs.Fits.{CommandFits};
 ghost use Rattle.command_text.specs.Text.{command_text};
 ghost use Rattle.command_text.specs.Line.{IsOneLine};
 ghost use Rattle.table_cmd.specs.declared.command.Command.{Command};

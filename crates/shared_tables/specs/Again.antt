@@ -1,7 +1,7 @@
 -- What the text of journals tells and leaves, run on empty tables.
 use Rattle.std.specs.Prelude.{◌≡◌, ◌⊎◌, ◌<◌, ◌≤◌, ℕ, List, [], ◌∷◌, ◌++◌, length, map}
 use Rattle.std.specs.List.{flat_map}
-use Rattle.command_text.specs.Fits.{CommandFits}
+use Rattle.command_lines.specs.Fits.{CommandFits}
 use Rattle.command_text.specs.Text.{command_text}
 use Rattle.table_engine.specs.Lines.{max_line, short}
 use Rattle.table_engine.specs.Run.{Machine, Run, bytes_of, end, line_of}
