@@ -20,8 +20,8 @@ module _ (i : AnyIndex) (kind : Kind) (first : index_of i ≡ 0) (same : kind_of
   accepts : (does_fit is_whole : ℕ → Bool) → IsTrue (does_fit 0) → IsTrue (is_whole 0) → Accepts does_fit is_whole i
   accepts does_fit is_whole fits whole = Accepts_from does_fit is_whole i (ap has_key_kind same ∙ has) (ap does_fit first ∙ fits) (λ _. ap is_whole first ∙ whole)
 
-pub count-requires : goal.count-requires
-count-requires g c =
+pub count-count-requires : goal.count-count-requires
+count-count-requires g c =
     let first = c.fill.ensures.index ∙ c.new-index.ensures.index in
     let same = c.fill.ensures.kind ∙ c.new-index.ensures.kind in
     let fits = g.met.E.Extract.whole_fits c.args.keys.now 0 c.args.sought.now c.requires.key c.requires.whole in

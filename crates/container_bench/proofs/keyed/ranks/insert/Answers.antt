@@ -1,4 +1,4 @@
-use Rattle.std.proofs.Common.{sym, subst}
+use Rattle.std.proofs.Common.{refl, sym, subst}
 use Rattle.container_bench.specs.Trees.{IsSorted}
 use Rattle.ord_tree.proofs.Laws.{Lacks_spelled_added}
 use Rattle.container_bench.proofs.Trees.{sorted_added, sorted_linked}
@@ -8,7 +8,7 @@ pub link-requires-clause-ordered : goal.link-requires-clause-ordered
 link-requires-clause-ordered c =
     let h = subst (λ z. IsSorted c.args.store.now z.tree) (sym c.reserve_one.ensures.same) c.requires in
     let added = sorted_added c.args.store.now c.add.new.self c.in-Ok.n c.args.word c.reserve_one.new.self.tree c.in-Ok.ensures.added h in
-    record { tree = added.sound; key = tt; order = added.order }
+    record { tree = added.sound; key = refl; order = added.order }
 
 pub link-requires-clause-new : goal.link-requires-clause-new
 link-requires-clause-new c =

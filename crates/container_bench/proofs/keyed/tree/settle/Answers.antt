@@ -1,3 +1,4 @@
+use Rattle.std.proofs.Common.{refl}
 use Rattle.ord_tree.proofs.Laws.{node_held}
 use Rattle.container_bench.proofs.Trees.{sound_rewritten, held_rewritten, others_sorted, sorted_settled}
 use Rattle.container_bench.proofs.keyed.tree.settle.Goals as goal
@@ -18,7 +19,7 @@ settle-requires-clause-others c =
     let held = c.find.ensures c.in_ok-n.n c.in_ok-n.was in
     record {
       tree = sound_rewritten c.args.store.now c.args.tree.now c.in_ok-n.n c.args.changed c.requires held;
-      key = tt;
+      key = refl;
       order = others_sorted c.args.store.now c.args.tree.now c.in_ok-n.n c.args.changed c.requires held;
     }
 
