@@ -1,5 +1,5 @@
 -- Journals, run again on empty tables.
-use Rattle.std.proofs.Common.{◌≡◌, ◌⊎◌, inl, inr, ℕ, suc, ◌+◌, ◌<◌, ◌≤◌, ◌==◌, Bool, true, false, List, [], ◌∷◌, ◌++◌, Some, length, map, get_or, slice_set, refl, sym, ap, ap₂, ◌∙◌, subst, arith, append_assoc, append-nil, length-append}
+use Rattle.std.proofs.Common.{◌≡◌, ◌⊎◌, inl, inr, ℕ, ◌<◌, ◌==◌, true, false, List, [], ◌∷◌, ◌++◌, Some, length, map, get_or, slice_set, refl, sym, ap, ap₂, ◌∙◌, subst, arith, append_assoc, length-append}
 use Rattle.std.specs.Prelude.{⊤, bytes_eq, codes}
 use Rattle.std.specs.List.{All, AllByRecursion, list_any, position_or_len}
 use Rattle.std.proofs.lemmas.Bool.{and_parts, le-leb, lt-ltb, not-true, or_parts}

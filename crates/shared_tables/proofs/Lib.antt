@@ -11,3 +11,4 @@ pub mod Fresh
 pub mod Lines
 pub mod Shapes
 pub mod Again
+pub mod Known

@@ -1,5 +1,5 @@
 -- What a command names and leaves of a table.
-use Rattle.std.proofs.Common.{◌≡◌, Bool, true, false, List, ℕ, Option, Some, None, Result, Ok, Err, refl, ap, ◌∙◌}
+use Rattle.std.proofs.Common.{◌≡◌, Bool, true, false, List, ℕ, Option, Some, None, Result, Ok, Err, refl, ap}
 use Rattle.std.specs.Prelude.{if◌then◌else◌, bytes_eq}
 use Rattle.std.specs.Option.{option_map_or}
 use Rattle.container_model.specs.Find.{counted, found, found_lower, found_range, found_rank, found_upper, lower_rank, nth, place, project_next, project_prev, rank, upper_rank}

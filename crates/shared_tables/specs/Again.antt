@@ -1,20 +1,30 @@
 -- What the text of journals tells and leaves, run on empty tables.
-use Rattle.std.specs.Prelude.{◌≡◌, ◌⊎◌, ◌<◌, ◌≤◌, ℕ, List, [], ◌∷◌, ◌++◌, length, map}
+use Rattle.std.specs.Prelude.{◌≡◌, ◌⊎◌, ◌<◌, ◌≤◌, ℕ, List, [], ◌∷◌, ◌++◌, length, map, All}
 use Rattle.std.specs.List.{flat_map}
 use Rattle.command_lines.specs.Fits.{CommandFits}
 use Rattle.command_text.specs.Text.{command_text}
+use Rattle.table_cmd.specs.declared.command.Command.{Command}
 use Rattle.table_engine.specs.Lines.{max_line, short}
 use Rattle.table_engine.specs.Run.{Machine, Run, bytes_of, end, line_of}
 use Rattle.table_reply.specs.Buffer.{joined}
 use Rattle.table_schema.specs.Shape.{TableShape}
 use Rattle.table_step.specs.Step.{TableState, memory_line, new_table}
 use Rattle.shared_tables.specs.Journal.{EntryData, replay}
+use Rattle.shared_tables.specs.Pass.{PassData}
 use Rattle.shared_tables.specs.Text.{entries_in, journals_text}
 
 -- a command that a line can say, in a line that is not too long
-pub record CanBeRead (e : EntryData) : Type 0 where
-  pub fits : CommandFits e.command
-  pub short : length (command_text e.command) ≤ max_line
+pub record CanBeSaid (command : Command) : Type 0 where
+  pub fits : CommandFits command
+  pub short : length (command_text command) ≤ max_line
+
+-- an entry whose command can be said
+abbrev pub CanBeRead : EntryData → Type 0
+CanBeRead e = CanBeSaid e.command
+
+-- a pass whose writes can be said
+abbrev pub KnowsReadable : PassData → Type 0
+KnowsReadable pass = All (λ track. All (λ write. CanBeSaid write.command) track.writes) pass.tracks
 
 -- the answers of entries, one after another
 abbrev pub answers_in : List EntryData → List ℕ
