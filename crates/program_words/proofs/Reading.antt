@@ -1,6 +1,6 @@
 -- How the matches of the words lead to what they ask for.
 use Rattle.std.proofs.Common.{refl, sym, ap, true, false, ℕ, Bool, List, [], ◌∷◌, ◌≡◌, ◌∙◌, inl, inr, length, Option, Some, None, option_map, option_and_then, codes, arith, eq-eqb, true≢false}
-use Rattle.std.specs.Prelude.{String, ◌==◌, not, if◌then◌else◌}
+use Rattle.std.specs.Prelude.{String, ◌==◌, not, if◌then◌else◌, Err}
 use Rattle.std.specs.Box.{box_value}
 use Rattle.std.specs.Str.{bytes_eq}
 use Rattle.std.proofs.lemmas.Option.{none-some, same_Some}
@@ -12,7 +12,9 @@ use Rattle.clap.specs.declared.parser.matches.ArgMatches.{ArgMatches}
 use Rattle.clap.specs.declared.parser.matches.ArgMatches.TheViews.{out-ArgMatches, out-SubCommand}
 use Rattle.clap.proofs.OnLiterals.{clap_on_literals}
 use Rattle.program_words.specs.Program.{program}
-use Rattle.program_words.specs.Asked.{Files, is_free, matched_run, run_by, run_of, texts}
+use Rattle.program_words.specs.Asked.{AnswersFor, Asking, SaysWords, asking_by, asking_of, is_free, matched, run, serve, serving_in, texts}
+use Rattle.program_words.specs.declared.asked.WordsFault.{WordsFault}
+use Rattle.program_words.specs.declared.asked.WordsFault.TheVariants.{Words, Listen, Memory}
 
 pub is_simple-program : is_simple program ≡ true
 unfolding program clap_on_literals
@@ -23,16 +25,16 @@ unfolding program clap_on_literals
 is_free-program = refl
 
 -- no words ask for a run with neither file
-pub run_of-none : {A : Type 0} (words : List (String A)) → length words ≡ 0 → run_of (texts words) ≡ Some (record { schema = None; commands = None })
-unfolding run_of
-run_of-none [] none = refl
-run_of-none (word ∷ rest) none = absurd (omega (arith, none))
+pub asking_of-none : {A : Type 0} (words : List (String A)) → length words ≡ 0 → asking_of (texts words) ≡ Some (run (record { schema = None; commands = None }))
+unfolding asking_of
+asking_of-none [] none = refl
+asking_of-none (word ∷ rest) none = absurd (omega (arith, none))
 
 -- some words ask for what their matches name
-pub run_of-some : {A : Type 0} (words : List (String A)) → (length words ≡ 0 → ⊥) → run_of (texts words) ≡ matched_run (texts words)
-unfolding run_of
-run_of-some [] some = absurd (some refl)
-run_of-some (word ∷ rest) some = refl
+pub asking_of-some : {A : Type 0} (words : List (String A)) → (length words ≡ 0 → ⊥) → asking_of (texts words) ≡ matched (texts words)
+unfolding asking_of
+asking_of-some [] some = absurd (some refl)
+asking_of-some (word ∷ rest) some = refl
 
 pub some_words : (n : ℕ) (b : Bool) → b ≡ (n == 0) → b ≡ false → n ≡ 0 → ⊥
 some_words n b tested failed none = true≢false (sym (tested ∙ eq-eqb n 0 none) ∙ failed)
@@ -42,13 +44,19 @@ among_some k [] among = absurd among
 among_some k (x ∷ xs) among = refl
 
 -- words that `clap` refuses for another cause than memory ask for nothing
-pub refused : (words : List Text) (e : Error) → HasKind (fault_of program words) e → (kind_of e ≡ OutOfMemory → ⊥) → matched_run words ≡ None
+pub refused : (words : List Text) (e : Error) → HasKind (fault_of program words) e → (kind_of e ≡ OutOfMemory → ⊥) → matched words ≡ None
 refused words e (inl memory) other = absurd (other memory)
-refused words e (inr among) other = ap (λ b. if b then option_and_then run_by (subcommand_of program words) else None) (among_some (kind_of e) (fault_of program words) among)
+refused words e (inr among) other = ap (λ b. if b then option_and_then asking_by (subcommand_of program words) else None) (among_some (kind_of e) (fault_of program words) among)
 
 -- words that it takes ask for what the subcommand names
-pub taken : (words : List Text) → fault_of program words ≡ [] → matched_run words ≡ option_and_then run_by (subcommand_of program words)
-taken words free = ap (λ (kinds : Kinds). if is_free kinds then option_and_then run_by (subcommand_of program words) else None) free
+pub taken : (words : List Text) → fault_of program words ≡ [] → matched words ≡ option_and_then asking_by (subcommand_of program words)
+taken words free = ap (λ (kinds : Kinds). if is_free kinds then option_and_then asking_by (subcommand_of program words) else None) free
+
+-- wrong words are the answer where nothing is asked for
+pub says_words : (asking : Option Asking) (P : Type 0) (fault : WordsFault) → SaysWords P fault → (P → asking ≡ None) → AnswersFor asking (Err fault)
+says_words asking P (Words text) known none = none known
+says_words asking P Listen known none = absurd known
+says_words asking P Memory known none = tt
 
 both : {X : Type 0} (f : X → Text) (g : X → List Row) (o : Option X) (name : Text) (rows : List Row) → Some name ≡ option_map f o
     → Some rows ≡ option_map (λ (p : Text × List Row). p.1) (option_map {U = Text × List Row} (λ b. (f b, g b)) o) → option_map {U = Text × List Row} (λ b. (f b, g b)) o ≡ Some (name, rows)
@@ -73,11 +81,22 @@ of_not_false true failed = refl
 of_not_false false failed = absurd (true≢false failed)
 
 -- the run of a subcommand with this name and these rows
-pub asked-run : (m : ArgMatches) (name : Text) (rows : List Row) (is_other : Bool) (schema commands : Option Text)
+pub asked-run : (m : ArgMatches) (name : Text) (rows : List Row) (is_run : Bool) (schema commands : Option Text)
     → Some name ≡ subcommand_name_of m → Some rows ≡ option_map (λ p. p.1) (subcommand_rows_of m)
-    → is_other ≡ not (bytes_eq name (codes "run")) → is_other ≡ false
+    → is_run ≡ bytes_eq name (codes "run") → is_run ≡ true
     → schema ≡ first_of (codes "schema") rows → commands ≡ first_of (codes "commands") rows
-    → ◌≡◌ {A = Option Files} (Some (record { schema = schema; commands = commands })) (option_and_then run_by (subcommand_rows_of m))
-asked-run m name rows is_other schema commands named found tested failed first second =
-    let is_run : bytes_eq name (codes "run") ≡ true = of_not_false _ (sym tested ∙ failed) in
+    → Some (run (record { schema = schema; commands = commands })) ≡ option_and_then asking_by (subcommand_rows_of m)
+asked-run m name rows is_run schema commands named found tested passed first second =
+    let is_run : bytes_eq name (codes "run") ≡ true = sym tested ∙ passed in
     rw (entered_both m name rows named found, is_run, first, second) refl
+
+-- what a subcommand with this other name and these rows serves
+pub asked-serve : (m : ArgMatches) (name : Text) (rows : List Row) (is_run is_other : Bool)
+    → Some name ≡ subcommand_name_of m → Some rows ≡ option_map (λ p. p.1) (subcommand_rows_of m)
+    → is_run ≡ bytes_eq name (codes "run") → is_run ≡ false
+    → is_other ≡ not (bytes_eq name (codes "serve")) → is_other ≡ false
+    → option_and_then asking_by (subcommand_rows_of m) ≡ option_map serve (serving_in rows)
+asked-serve m name rows is_run is_other named found tested failed other none =
+    let no_run : bytes_eq name (codes "run") ≡ false = sym tested ∙ failed in
+    let is_serve : bytes_eq name (codes "serve") ≡ true = of_not_false _ (sym other ∙ none) in
+    rw (entered_both m name rows named found, no_run, is_serve) refl

@@ -1,14 +1,15 @@
 //! The program's words as `clap` knows them.
-ghost use Rattle.std.specs.Prelude.{◌≡◌, ◌≢◌, IfOk, false};
+ghost use Rattle.std.specs.Prelude.{◌≡◌, ◌≢◌, ◌∷◌, [], IfOk, Some, codes, false};
 ghost use Rattle.clap.specs.Words.{app_of, kind_of, rule_of};
 ghost use Rattle.clap.specs.declared.builder.command.Command.TheViews.{out-Command};
 ghost use Rattle.clap.specs.declared.error.kind.ErrorKind.TheVariants.{OutOfMemory};
-ghost use Rattle.program_words.specs.Asked.{IsWords};
-ghost use Rattle.program_words.specs.Program.{option_named, program, run_words};
+ghost use Rattle.program_words.specs.Asked.{SaysWords};
+ghost use Rattle.program_words.specs.Program.{number_named, option_named, program, run_words, serve_words};
 
 use crate::WordsFault;
+use clap::builder::ValueParser;
 use clap::error::ErrorKind;
-use clap::{Arg, Command, Error};
+use clap::{Arg, Command, Error, value_parser};
 use std::alloc::{AllocError, Global};
 
 /// The program's words, which begin behind its name.
@@ -16,13 +17,15 @@ pub(crate) fn command<'a>(alloc: Global) -> Result<Command<'a>, AllocError>
     ensures { IfOk result (λ c. app_of c ≡ program) }
 {
     let run = run_command(alloc)?;
+    let serve = serve_command(alloc)?;
     Command::new(alloc, "table_server")
         .bin_name("table_server")?
         .about("serves tables of records")
         .no_binary_name(true)
         .disable_help_subcommand(true)
         .subcommand_required(true)
-        .subcommand(run)
+        .subcommand(run)?
+        .subcommand(serve)
 }
 
 /// The word `run` with its options.
@@ -32,24 +35,73 @@ fn run_command<'a>(alloc: Global) -> Result<Command<'a>, AllocError>
 {
     Command::new(alloc, "run")
         .about("answers lines until they end")
-        .arg(file_option(alloc, "schema", "the file of the schema"))?
-        .arg(file_option(alloc, "commands", "the file of the lines"))
+        .arg(option(alloc, "schema", "FILE", "the file of the schema"))?
+        .arg(option(alloc, "commands", "FILE", "the file of the lines"))
 }
 
-/// An option that names a file.
-fn file_option<'a>(alloc: Global, name: &'a str, help: &'a str) -> Arg<'a>
+/// The word `serve` with its options.
+fn serve_command<'a>(alloc: Global) -> Result<Command<'a>, AllocError>
+    ensures words { IfOk result (λ c. app_of c ≡ serve_words) }
+    ensures local { IfOk result (λ c. (out-Command c).has_globals ≡ false) }
+{
+    let schema = option(alloc, "schema", "FILE", "the file of the schema").required(true);
+    let listen = option(alloc, "listen", "ADDRESS", "unix:PATH or tcp:IP:PORT").required(true);
+    Command::new(alloc, "serve")
+        .about("answers the lines of connections")
+        .arg(schema)?
+        .arg(listen)?
+        .arg(workers(alloc))?
+        .arg(each(alloc))?
+        .arg(option(alloc, "journal", "FILE", "the file for the accepted writes"))
+}
+
+/// The option of the number of threads.
+fn workers<'a>(alloc: Global) -> Arg<'a>
+    ensures rule { rule_of result ≡ number_named (codes "workers") 16 }
+    ensures local { result.global ≡ false }
+{
+    let parser = value_parser!(u32).range(1..=16);
+    number(alloc, "workers", "how many threads serve", parser)
+}
+
+/// The option of the number of connections.
+fn each<'a>(alloc: Global) -> Arg<'a>
+    ensures rule { rule_of result ≡ number_named (codes "each") 1000000 }
+    ensures local { result.global ≡ false }
+{
+    let parser = value_parser!(u32).range(1..=1_000_000);
+    number(
+        alloc,
+        "each",
+        "how many connections each thread serves",
+        parser,
+    )
+}
+
+/// An option that is a number, and 1 where it is absent.
+fn number<'a>(alloc: Global, name: &'a str, help: &'a str, parser: ValueParser<'a>) -> Arg<'a>
+    ensures rule { rule_of result ≡ record (option_named name.entry.now) { defaults = codes "1" ∷ []; parser = Some parser.entry } }
+    ensures local { result.global ≡ false }
+{
+    option(alloc, name, "NUMBER", help)
+        .value_parser(parser)
+        .default_value("1")
+}
+
+/// An option with one value.
+fn option<'a>(alloc: Global, name: &'a str, value: &'a str, help: &'a str) -> Arg<'a>
     ensures rule { rule_of result ≡ option_named name.entry.now }
     ensures local { result.global ≡ false }
 {
     Arg::new(alloc, name)
         .long(name)
-        .value_name("FILE")
+        .value_name(value)
         .help(help)
 }
 
 /// The fault that stands for an error of `clap`.
 pub(crate) fn fault_of(alloc: Global, error: &Error) -> WordsFault
-    ensures { IsWords result → kind_of error.now ≢ OutOfMemory }
+    ensures { SaysWords (kind_of error.now ≢ OutOfMemory) result }
 {
     if error.kind() == ErrorKind::OutOfMemory {
         return WordsFault::Memory;

@@ -1,10 +1,12 @@
 //! What the words of the program ask for.
 #![tactic(auto)]
 
+mod address;
 mod asked;
 mod command;
 mod read;
 
+pub use address::Address;
 pub use asked::{Asked, WordsFault};
 pub use read::read_words;
 

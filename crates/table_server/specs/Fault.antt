@@ -9,7 +9,7 @@ use Rattle.table_schema.specs.declared.fault.SchemaFault.TheVariants as schema
 use Rattle.table_engine.specs.declared.stream.StreamFault.{StreamFault}
 use Rattle.table_engine.specs.declared.stream.StreamFault.TheVariants as stream
 use Rattle.table_server.specs.declared.fault.Fault.{Fault}
-use Rattle.table_server.specs.declared.fault.Fault.TheVariants.{Read, Write, Memory, Words, Schema}
+use Rattle.table_server.specs.declared.fault.Fault.TheVariants.{Read, Write, Memory, Words, Address, Schema}
 
 -- the exit status
 abbrev pub status_of : Fault → ℕ
@@ -17,6 +17,7 @@ status_of Read = 1
 status_of Write = 1
 status_of Memory = 1
 status_of (Words text) = 2
+status_of Address = 2
 status_of (Schema fault) = 3
 
 -- the text of a refused schema
@@ -34,11 +35,13 @@ text_of Read = codes "device: read\n"
 text_of Write = codes "device: write\n"
 text_of Memory = codes "memory\n"
 text_of (Words text) = string_bytes text
+text_of Address = codes "listen\n"
 text_of (Schema fault) = schema_text fault
 
 -- the fault of words that are not read
 abbrev pub of_words : WordsFault → Fault
 of_words (words.Words text) = Words text
+of_words words.Listen = Address
 of_words words.Memory = Memory
 
 -- the fault of a schema that is refused

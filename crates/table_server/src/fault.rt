@@ -21,6 +21,8 @@ pub enum Fault {
     Memory,
     /// The words are wrong, or ask for help; with the text for the user.
     Words(String),
+    /// The address to listen at is of neither form.
+    Address,
     /// The schema is refused.
     Schema(SchemaFault),
 }
@@ -40,7 +42,7 @@ impl Fault {
     {
         match self {
             Fault::Read | Fault::Write | Fault::Memory => 1,
-            Fault::Words(_) => 2,
+            Fault::Words(_) | Fault::Address => 2,
             Fault::Schema(_) => 3,
         }
     }
@@ -54,6 +56,7 @@ impl Fault {
             Fault::Write => "device: write\n",
             Fault::Memory => "memory\n",
             Fault::Words(text) => text.as_str(),
+            Fault::Address => "listen\n",
             Fault::Schema(fault) => match fault {
                 SchemaFault::Toml => "schema: toml\n",
                 SchemaFault::Shape => "schema: shape\n",
@@ -94,6 +97,7 @@ impl From<WordsFault> for Fault {
     fn from(fault: WordsFault) -> Fault {
         match fault {
             WordsFault::Words(text) => Fault::Words(text),
+            WordsFault::Listen => Fault::Address,
             WordsFault::Memory => Fault::Memory,
         }
     }

@@ -1,7 +1,7 @@
 //! The program over its words, files and streams.
 ghost use Rattle.std.specs.Prelude.{◌≡◌, ◌≢◌, ◌≤◌, ◌⊎◌, Some, None, IfErr, IfOk, IsErrAnd, OnOk, List, ℕ, option_map};
 ghost use Rattle.table_engine.specs.Devices.{raised};
-ghost use Rattle.program_words.specs.Asked.{Files, run_of, texts};
+ghost use Rattle.program_words.specs.Asked.{Files, files, run_of, texts};
 ghost use Rattle.table_server.specs.Done.{AreOfFile, Done, EndsInput, IsSchema, ReadsAll, Serves, ServesLines};
 ghost use Rattle.table_server.specs.Fault.{status_of};
 
@@ -52,6 +52,9 @@ pub fn main_with<R: AllocGlobal + Opens, I: Read, O: Write, E: Write>(
     }
 }
 
+/// What is said where connections are to be served.
+const NOT_SERVED: &str = "error: connections are not served yet\n";
+
 /// Does what the words ask for.
 fn run<R: AllocGlobal + Opens, I: Read, O: Write>(
     rt: &R,
@@ -69,7 +72,25 @@ fn run<R: AllocGlobal + Opens, I: Read, O: Write>(
     ensures schema { IfErr result (λ fault. status_of fault ≡ 3
         → (files : Files) × (run_of (texts words.now) ≡ Some files) × (files.schema ≢ None)) }
 {
-    let Asked::Run { schema, commands } = read_words(rt.alloc(), words)?;
+    let asked = read_words(rt.alloc(), words)?;
+    match asked {
+        Asked::Run { schema, commands } => run_lines(rt, schema, commands, input, output),
+        Asked::Serve { .. } => Err(Fault::Words(String::from_str(rt.alloc(), NOT_SERVED)?)),
+    }
+}
+
+/// Answers the lines of a file, or else of the input, by the schema of a file, or the built-in one.
+fn run_lines<R: AllocGlobal + Opens, I: Read, O: Write>(
+    rt: &R,
+    schema: Option<&str>,
+    commands: Option<&str>,
+    input: &mut Source<I>,
+    output: &mut Sink<O>,
+) -> Result<(), Fault>
+    ensures done { OnOk result (Done (R.is_at rt.now) R.Opened.remaining (files schema.entry commands.entry) (I.remaining input.old.inner) (I.remaining input.new.inner) (O.contents output.old.inner) (O.contents output.new.inner)) }
+    ensures end { OnOk result (EndsInput (files schema.entry commands.entry).commands input.old input.new) }
+    ensures fault { IfErr result (λ fault. (status_of fault ≡ 1) ⊎ ((status_of fault ≡ 3) × (schema.entry ≢ None))) }
+{
     let schema = schema_of(rt, schema)?;
     serve_lines(rt, commands, &schema, input, output)
 }

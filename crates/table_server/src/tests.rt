@@ -117,6 +117,7 @@ fn words_and_files(rt: HostRuntime) -> Result<(), Fail> {
         refused("run --commands @absent", 1, "device: read\n"),
         refused("run --schema @absent", 1, "device: read\n"),
         refused("fly", 2, "fly"),
+        refused("serve --schema @absent --listen unix:", 2, "listen\n"),
         refused("run --schema @broken", 3, "schema: toml\n"),
         refused(
             "run --schema @broken --commands @absent",

@@ -15,4 +15,5 @@ returns c =
     ∙ (ap (λ f. app_of_fields (record f { subcommand_required = true })) c.disable_help_subcommand.ensures
     ∙ (ap (λ f. app_of_fields (record f { disable_help_subcommand = true; subcommand_required = true })) c.no_binary_name.ensures
     ∙ ap (λ (a : App). record a { top = record a.top { no_binary_name = true; disable_help_subcommand = true; subcommand_required = true } }) named_is)) in
-    IfOk-weaker c.subcommand.result _ _ (λ m h. h.shape c.in_ok-run.ensures.local ∙ ap₂ with_subcommand first_is (ap (λ (a : App). a.top) c.in_ok-run.ensures.words)) c.subcommand.ensures
+    let with_run = c.in_ok-subcommand.ensures.shape c.in_ok-run.ensures.local ∙ ap₂ with_subcommand first_is (ap (λ (a : App). a.top) c.in_ok-run.ensures.words) in
+    IfOk-weaker c.subcommand-2.result _ _ (λ m h. h.shape c.in_ok-serve.ensures.local ∙ ap₂ with_subcommand with_run (ap (λ (a : App). a.top) c.in_ok-serve.ensures.words)) c.subcommand-2.ensures

@@ -1,7 +1,7 @@
 use Rattle.std.proofs.Common.{ap, ◌∙◌}
 use Rattle.std.specs.Prelude.{Some}
 use Rattle.clap.specs.Words.{Rule, rule_of}
-use Rattle.program_words.proofs.command.file_option.Goals as goal
+use Rattle.program_words.proofs.command.option.Goals as goal
 
 pub returns-clause-rule : goal.returns-clause-rule
 returns-clause-rule c =
