@@ -62,6 +62,17 @@ def is_built(crate):
     return rtlib.text_of(f"{program_of(crate)}.stamp") == crate.stamp() + rtlib.sum_of(program_of(crate))
 
 
+def is_of_ci(crates):
+    """Whether these are libraries and programs of an `rt ci` since which no source has changed. (It writes no stamps.)"""
+    for it in crates:
+        made, stamp = (it.rlib, f"{it.folder}/out/rlib/stamp") if it.makes_rlib() else (program_of(it), f"{program_of(it)}.stamp")
+        if os.path.exists(stamp) or not os.path.exists(made):
+            return False
+        if any(os.path.getmtime(file) > os.path.getmtime(made) for file in rtlib.files_of(it.folder)):
+            return False
+    return True
+
+
 def build(crate, jobs):
     """Proves a crate, and makes its library; or its program, which is run on the lines that are stored for it. Returns whether all went well."""
     os.makedirs(f"{crate.folder}/out", exist_ok=True)
@@ -158,6 +169,9 @@ class Builds:
 
 def prove_all(crates, lanes=None):
     """Proves and builds these crates and all below them, and says how far it is. Returns whether all are proved."""
+    if is_of_ci(with_below(crates)):
+        print("all are proved and built, by `rt ci`", flush=True)
+        return True
     # (its first call sets a signal's handler, which only the main thread may)
     rtlib.guarded()
     return Builds(crates, lanes).run()

@@ -6,7 +6,7 @@ import subprocess
 import sys
 import tempfile
 
-from crate_builds import prove_all, rtlib
+from crate_builds import is_of_ci, prove_all, rtlib
 
 FLAGS = ["--jobs", "1"]
 
@@ -19,17 +19,6 @@ def read(file):
 def write(file, text):
     with open(file, "w", encoding="utf-8") as it:
         it.write(text)
-
-
-def is_of_ci(crates):
-    """Whether the libraries are those of an `rt ci` since which no source has changed. (It writes no stamps.)"""
-    for it in crates:
-        if os.path.exists(f"{it.folder}/out/rlib/stamp") or not os.path.isdir(it.rlib):
-            return False
-        made = os.path.getmtime(it.rlib)
-        if any(os.path.getmtime(file) > made for file in rtlib.files_of(it.folder)):
-            return False
-    return True
 
 
 def make_libraries(crates):
