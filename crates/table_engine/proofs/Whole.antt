@@ -42,7 +42,7 @@ add_by b line (inr more) (inr longer) =
     let full : length (line ++ b ∷ []) ≡ length line + 1 = length-append line (b ∷ []) in
     rw (more.0, full, longer.0) refl
 
-add-as_line : (b : ℕ) (line : List ℕ) → add b (as_line line) ≡ as_line (line ++ b ∷ [])
+pub add-as_line : (b : ℕ) (line : List ℕ) → add b (as_line line) ≡ as_line (line ++ b ∷ [])
 add-as_line b line = add_by b line (leb_tells (length line) max_line) (leb_tells (length line + 1) max_line)
 
 -- one byte of a part, given what the bytes after it answer

@@ -12,6 +12,7 @@ mod session;
 mod sink;
 mod source;
 mod stream;
+mod waiting;
 
 pub use cutter::{Cut, LineCutter, MAX_LINE};
 pub use engine::Engine;
@@ -19,4 +20,5 @@ pub use event::{Event, Stop};
 pub use run::run_events;
 pub use sink::{Sink, Unwritten};
 pub use source::Source;
-pub use stream::{StreamFault, serve_stream};
+pub use stream::{PIECE, StreamFault, serve_stream};
+pub use waiting::{make_room, new_out, write_out};

@@ -8,15 +8,16 @@ ghost use Rattle.table_engine.specs.Run.{Run, Signal, bytes_of, end};
 ghost use Rattle.table_engine.specs.Whole.{BreaksOff, Serves};
 
 use crate::engine::Engine;
-use crate::piece::{feed_piece, new_out, serve_end};
+use crate::piece::{feed_piece, serve_end};
 use crate::sink::{Sink, Unwritten};
 use crate::source::Source;
+use crate::waiting::new_out;
 use std::alloc::Global;
 use std::io::{Read, Write};
 use table_reply::{Out, READY_ROOM};
 
 /// The most bytes that are read at a time.
-const PIECE: usize = 4096;
+pub const PIECE: usize = 4096;
 
 /// Why a stream was not served to its end.
 #[derive(Clone, Copy, Debug, PartialEq, Eq)]
