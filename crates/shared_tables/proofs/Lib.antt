@@ -12,3 +12,5 @@ pub mod Lines
 pub mod Shapes
 pub mod Again
 pub mod Known
+pub mod Splits
+pub mod Serving

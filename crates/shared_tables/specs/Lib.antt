@@ -8,3 +8,4 @@ pub mod Journals
 pub mod Holders
 pub mod Text
 pub mod Again
+pub mod Serving

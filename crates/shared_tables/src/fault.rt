@@ -1,5 +1,8 @@
 //! Why a call is refused.
 
+ghost use Rattle.std.specs.Prelude.{◌≡◌};
+
+use table_engine::Unwritten;
 use thiserror::Error;
 
 /// Why a call is refused before its command is carried out.
@@ -12,6 +15,43 @@ pub enum CallFault {
     /// else of the writes that there were, and the journal tells another.
     #[error("the pass and the journal of the table do not fit")]
     Regressed { expected: u64, found: u64 },
+}
+
+/// Why a stream was not served to its end.
+#[derive(Clone, Copy, Debug, PartialEq, Eq, Error)]
+pub enum ServeFault {
+    /// A read failed, or 4,294,967,295 reads were made.
+    #[error("a read failed")]
+    Read,
+    /// A write failed, or took no byte.
+    #[error("a write failed")]
+    Write,
+    /// Memory was refused before anything was read.
+    #[error("no memory")]
+    Memory,
+    /// The call of a command was refused.
+    #[error("{0}")]
+    Call(CallFault),
+}
+
+impl From<Unwritten> for ServeFault {
+    ghost use Rattle.shared_tables.specs.declared.fault.ServeFault.TheVariants.{Write};
+
+    ghost from_gives = { λ _ fault. fault ≡ Write };
+
+    fn from(_unwritten: Unwritten) -> ServeFault {
+        ServeFault::Write
+    }
+}
+
+impl From<CallFault> for ServeFault {
+    ghost use Rattle.shared_tables.specs.declared.fault.ServeFault.TheVariants.{Call};
+
+    ghost from_gives = { λ why fault. fault ≡ Call why };
+
+    fn from(why: CallFault) -> ServeFault {
+        ServeFault::Call(why)
+    }
 }
 
 /// Why no journals were gathered.

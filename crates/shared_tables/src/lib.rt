@@ -13,13 +13,14 @@ mod law;
 mod line;
 mod pass;
 mod same;
+mod serve;
 mod shared;
 mod tally;
 mod write;
 
 pub use cell::TableCell;
 pub use entry::Entry;
-pub use fault::{CallFault, GatherWhy};
+pub use fault::{CallFault, GatherWhy, ServeFault};
 pub use gathering::{GatherFault, gather};
 pub use journals::Journals;
 pub use law::journals_run_again;
