@@ -86,15 +86,6 @@ unfoldable pub asking_of : List (List ℕ) → Option Asking
 asking_of [] = Some (run (record { schema = None; commands = None }))
 asking_of (word ∷ rest) = matched (word ∷ rest)
 
--- the run, where that is asked for
-abbrev pub files_of : Asking → Option Files
-files_of (run files) = Some files
-files_of (serve serving) = None
-
--- the run that the words ask for
-abbrev pub run_of : List (List ℕ) → Option Files
-run_of words = option_and_then files_of (asking_of words)
-
 -- the answer is what is asked for, with the address that its text spells
 abbrev pub Gives : Option Asking → Asked → Type 0
 Gives asking (Run schema commands) = asking ≡ Some (run (files schema commands))

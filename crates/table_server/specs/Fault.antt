@@ -8,17 +8,21 @@ use Rattle.table_schema.specs.declared.fault.SchemaFault.{SchemaFault}
 use Rattle.table_schema.specs.declared.fault.SchemaFault.TheVariants as schema
 use Rattle.table_engine.specs.declared.stream.StreamFault.{StreamFault}
 use Rattle.table_engine.specs.declared.stream.StreamFault.TheVariants as stream
+use Rattle.shared_tables.specs.declared.fault.GatherWhy.{GatherWhy}
+use Rattle.shared_tables.specs.declared.fault.GatherWhy.TheVariants as gathering
 use Rattle.table_server.specs.declared.fault.Fault.{Fault}
-use Rattle.table_server.specs.declared.fault.Fault.TheVariants.{Read, Write, Memory, Words, Address, Schema}
+use Rattle.table_server.specs.declared.fault.Fault.TheVariants.{Read, Write, Listen, Memory, Words, Address, Schema, Mismatch}
 
 -- the exit status
 abbrev pub status_of : Fault → ℕ
 status_of Read = 1
 status_of Write = 1
+status_of Listen = 1
 status_of Memory = 1
 status_of (Words text) = 2
 status_of Address = 2
 status_of (Schema fault) = 3
+status_of Mismatch = 4
 
 -- the text of a refused schema
 abbrev pub schema_text : SchemaFault → List ℕ
@@ -33,10 +37,12 @@ schema_text schema.Memory = codes "memory\n"
 abbrev pub text_of : Fault → List ℕ
 text_of Read = codes "device: read\n"
 text_of Write = codes "device: write\n"
+text_of Listen = codes "device: listen\n"
 text_of Memory = codes "memory\n"
 text_of (Words text) = string_bytes text
 text_of Address = codes "listen\n"
 text_of (Schema fault) = schema_text fault
+text_of Mismatch = codes "mismatch\n"
 
 -- the fault of words that are not read
 abbrev pub of_words : WordsFault → Fault
@@ -59,3 +65,8 @@ of_stream stream.Memory = Memory
 abbrev pub of_file : ErrorKind → Fault
 of_file OutOfMemory = Memory
 of_file _ = Read
+
+-- the fault of journals that are not gathered
+abbrev pub of_gathering : GatherWhy → Fault
+of_gathering gathering.Memory = Memory
+of_gathering (gathering.Mismatch table session) = Mismatch

@@ -1,2 +1,4 @@
+pub mod Asking
 pub mod Done
 pub mod Fault
+pub mod Serving

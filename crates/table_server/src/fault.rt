@@ -1,9 +1,10 @@
 //! Why the program ends before its lines do.
 ghost use Rattle.std.specs.Prelude.{◌≡◌};
 ghost use Rattle.std.specs.IoError.{error_kind};
-ghost use Rattle.table_server.specs.Fault.{of_file, of_schema, of_stream, of_words, status_of, text_of};
+ghost use Rattle.table_server.specs.Fault.{of_file, of_gathering, of_schema, of_stream, of_words, status_of, text_of};
 
 use program_words::WordsFault;
+use shared_tables::GatherWhy;
 use std::alloc::AllocError;
 use std::io;
 use std::io::{ErrorKind, Write};
@@ -17,6 +18,8 @@ pub enum Fault {
     Read,
     /// A write failed.
     Write,
+    /// The program can't listen, or no connection could be accepted.
+    Listen,
     /// Memory was refused.
     Memory,
     /// The words are wrong, or ask for help; with the text for the user.
@@ -25,6 +28,8 @@ pub enum Fault {
     Address,
     /// The schema is refused.
     Schema(SchemaFault),
+    /// What a session was told and a journal did not fit.
+    Mismatch,
 }
 
 impl Fault {
@@ -37,13 +42,14 @@ impl Fault {
     }
 
     /// The exit status.
-    fn status(&self) -> u8
+    pub(crate) fn status(&self) -> u8
         ensures { result ≡ status_of self.now }
     {
         match self {
-            Fault::Read | Fault::Write | Fault::Memory => 1,
+            Fault::Read | Fault::Write | Fault::Listen | Fault::Memory => 1,
             Fault::Words(_) | Fault::Address => 2,
             Fault::Schema(_) => 3,
+            Fault::Mismatch => 4,
         }
     }
 
@@ -54,9 +60,11 @@ impl Fault {
         match self {
             Fault::Read => "device: read\n",
             Fault::Write => "device: write\n",
+            Fault::Listen => "device: listen\n",
             Fault::Memory => "memory\n",
             Fault::Words(text) => text.as_str(),
             Fault::Address => "listen\n",
+            Fault::Mismatch => "mismatch\n",
             Fault::Schema(fault) => match fault {
                 SchemaFault::Toml => "schema: toml\n",
                 SchemaFault::Shape => "schema: shape\n",
@@ -122,6 +130,17 @@ impl From<StreamFault> for Fault {
             StreamFault::Read => Fault::Read,
             StreamFault::Write => Fault::Write,
             StreamFault::Memory => Fault::Memory,
+        }
+    }
+}
+
+impl From<GatherWhy> for Fault {
+    ghost from_gives = { λ given fault. fault ≡ of_gathering given };
+
+    fn from(why: GatherWhy) -> Fault {
+        match why {
+            GatherWhy::Memory => Fault::Memory,
+            GatherWhy::Mismatch { .. } => Fault::Mismatch,
         }
     }
 }

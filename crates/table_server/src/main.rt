@@ -4,6 +4,7 @@
 mod fault;
 mod opens;
 mod program;
+mod serve;
 #[cfg(test)]
 mod tests;
 

@@ -1,18 +1,22 @@
 //! The program over its words, files and streams.
 ghost use Rattle.std.specs.Prelude.{◌≡◌, ◌≢◌, ◌≤◌, ◌⊎◌, Some, None, IfErr, IfOk, IsErrAnd, OnOk, List, ℕ, option_map};
 ghost use Rattle.table_engine.specs.Devices.{raised};
-ghost use Rattle.program_words.specs.Asked.{Files, files, run_of, texts};
+ghost use Rattle.program_words.specs.Asked.{asking_of, files, texts};
+ghost use Rattle.table_server.specs.Asking.{AsksNothing, AsksService, DoesAsked, LeavesInput, NamesSchema, OnlyAnnounces};
 ghost use Rattle.table_server.specs.Done.{AreOfFile, Done, EndsInput, IsSchema, ReadsAll, Serves, ServesLines};
 ghost use Rattle.table_server.specs.Fault.{status_of};
 
 use crate::fault::Fault;
-use crate::opens::Opens;
+use crate::opens::{Listens, Makes, Opens};
+use crate::serve::{Serving, serve_connections};
 use program_words::{Asked, read_words};
 use schema_file::read_schema;
 use std::alloc::Global;
 use std::env;
 use std::env::Env;
 use std::io::{ErrorKind, Read, Write};
+use std::sync::Wait;
+use std::thread::Threads;
 use table_engine::{Engine, Sink, Source, serve_stream};
 use table_schema::{Schema, builtin};
 
@@ -27,24 +31,27 @@ pub fn given_words<R: Env + AllocGlobal>(rt: &R) -> Result<Vec<String>, Fault>
     }
 }
 
-/// Does what the words ask for, and gives the exit status: 0 done, 1 device or memory, 2 words,
-/// 3 schema. The text of a fault goes to `faults`, with a newline. Words, schema, file of lines and
-/// lines come in this order, and the first fault ends the run.
-pub fn main_with<R: AllocGlobal + Opens, I: Read, O: Write, E: Write>(
-    rt: &R,
-    words: &[String],
-    input: &mut Source<I>,
-    output: &mut Sink<O>,
-    faults: &mut E,
-) -> u8
-    ensures done { result ≡ 0 → (files : Files) × (run_of (texts words.now) ≡ Some files)
-        × Done (R.is_at rt.now) R.Opened.remaining files (I.remaining input.old.inner) (I.remaining input.new.inner) (O.contents output.old.inner) (O.contents output.new.inner) }
-    ensures end { result ≡ 0 → (files : Files) × (run_of (texts words.now) ≡ Some files) × EndsInput files.commands input.old input.new }
-    ensures words { result ≡ 2 → run_of (texts words.now) ≡ None }
-    ensures wrong_words { run_of (texts words.now) ≡ None → (result ≡ 2) ⊎ (result ≡ 1) }
-    ensures untouched { run_of (texts words.now) ≡ None → (input.new ≡ input.old) × (output.new ≡ output.old) }
-    ensures schema { result ≡ 3 → (files : Files) × (run_of (texts words.now) ≡ Some files) × (files.schema ≢ None) }
-    ensures status { result ≤ 3 }
+/// Does what the words ask for, and gives the exit status: 0 done, 1 device or memory, 2 words or
+/// address, 3 schema, 4 what a session was told and a journal do not fit. The text of a fault goes to
+/// `faults`, with a newline. Words, schema, file of lines and lines come in this order, or words,
+/// address, schema and connections, and the first fault ends it; of those of connections that are
+/// served the one of the greatest status.
+pub fn main_with<
+    R: AllocGlobal + Opens + Makes + Listens + Threads + Wait + Sync,
+    I: Read,
+    O: Write,
+    E: Write,
+>(rt: &R, words: &[String], input: &mut Source<I>, output: &mut Sink<O>, faults: &mut E) -> u8
+    ensures done { result ≡ 0 → DoesAsked (R.is_at rt.now) R.Opened.remaining (R.is_made rt.now) R.Made.contents (asking_of (texts words.now))
+        (I.remaining input.old.inner) (I.remaining input.new.inner) (O.contents output.old.inner) (O.contents output.new.inner) }
+    ensures input { result ≡ 0 → LeavesInput (asking_of (texts words.now)) input.old input.new }
+    ensures words { result ≡ 2 → AsksNothing (asking_of (texts words.now)) }
+    ensures wrong_words { AsksNothing (asking_of (texts words.now)) → (result ≡ 2) ⊎ (result ≡ 1) }
+    ensures untouched { AsksNothing (asking_of (texts words.now)) → (input.new ≡ input.old) × (output.new ≡ output.old) }
+    ensures announces { OnlyAnnounces (asking_of (texts words.now)) input.old input.new (O.contents output.old.inner) (O.contents output.new.inner) }
+    ensures schema { result ≡ 3 → NamesSchema (asking_of (texts words.now)) }
+    ensures mismatch { result ≡ 4 → AsksService (asking_of (texts words.now)) }
+    ensures status { result ≤ 4 }
 {
     match run(rt, words, input, output) {
         Ok(()) => 0,
@@ -52,30 +59,44 @@ pub fn main_with<R: AllocGlobal + Opens, I: Read, O: Write, E: Write>(
     }
 }
 
-/// What is said where connections are to be served.
-const NOT_SERVED: &str = "error: connections are not served yet\n";
-
 /// Does what the words ask for.
-fn run<R: AllocGlobal + Opens, I: Read, O: Write>(
+fn run<R: AllocGlobal + Opens + Makes + Listens + Threads + Wait + Sync, I: Read, O: Write>(
     rt: &R,
     words: &[String],
     input: &mut Source<I>,
     output: &mut Sink<O>,
 ) -> Result<(), Fault>
-    ensures done { OnOk result ((files : Files) × (run_of (texts words.now) ≡ Some files)
-        × Done (R.is_at rt.now) R.Opened.remaining files (I.remaining input.old.inner) (I.remaining input.new.inner) (O.contents output.old.inner) (O.contents output.new.inner)) }
-    ensures end { OnOk result ((files : Files) × (run_of (texts words.now) ≡ Some files) × EndsInput files.commands input.old input.new) }
-    ensures words { IfErr result (λ fault. status_of fault ≡ 2 → run_of (texts words.now) ≡ None) }
-    ensures wrong_words { run_of (texts words.now) ≡ None
+    ensures done { OnOk result (DoesAsked (R.is_at rt.now) R.Opened.remaining (R.is_made rt.now) R.Made.contents (asking_of (texts words.now))
+        (I.remaining input.old.inner) (I.remaining input.new.inner) (O.contents output.old.inner) (O.contents output.new.inner)) }
+    ensures input { OnOk result (LeavesInput (asking_of (texts words.now)) input.old input.new) }
+    ensures words { IfErr result (λ fault. status_of fault ≡ 2 → AsksNothing (asking_of (texts words.now))) }
+    ensures wrong_words { AsksNothing (asking_of (texts words.now))
         → IsErrAnd result (λ fault. (status_of fault ≡ 2) ⊎ (fault ≡ Fault.Memory)) }
-    ensures untouched { run_of (texts words.now) ≡ None → (input.new ≡ input.old) × (output.new ≡ output.old) }
-    ensures schema { IfErr result (λ fault. status_of fault ≡ 3
-        → (files : Files) × (run_of (texts words.now) ≡ Some files) × (files.schema ≢ None)) }
+    ensures untouched { AsksNothing (asking_of (texts words.now)) → (input.new ≡ input.old) × (output.new ≡ output.old) }
+    ensures announces { OnlyAnnounces (asking_of (texts words.now)) input.old input.new (O.contents output.old.inner) (O.contents output.new.inner) }
+    ensures schema { IfErr result (λ fault. status_of fault ≡ 3 → NamesSchema (asking_of (texts words.now))) }
+    ensures mismatch { IfErr result (λ fault. status_of fault ≡ 4 → AsksService (asking_of (texts words.now))) }
 {
     let asked = read_words(rt.alloc(), words)?;
     match asked {
         Asked::Run { schema, commands } => run_lines(rt, schema, commands, input, output),
-        Asked::Serve { .. } => Err(Fault::Words(String::from_str(rt.alloc(), NOT_SERVED)?)),
+        Asked::Serve {
+            schema,
+            listen,
+            workers,
+            each,
+            journal,
+        } => serve_connections(
+            rt,
+            &Serving {
+                schema,
+                listen,
+                workers,
+                each,
+                journal,
+            },
+            output,
+        ),
     }
 }
 
@@ -96,7 +117,7 @@ fn run_lines<R: AllocGlobal + Opens, I: Read, O: Write>(
 }
 
 /// The schema of a file, or the built-in one.
-fn schema_of<R: AllocGlobal + Opens>(rt: &R, path: Option<&str>) -> Result<Schema, Fault>
+pub(crate) fn schema_of<R: AllocGlobal + Opens>(rt: &R, path: Option<&str>) -> Result<Schema, Fault>
     ensures schema { IfOk result (λ schema. IsSchema (R.is_at rt.now) R.Opened.remaining (option_map (λ s. s.now) path.entry) schema) }
     ensures fault { IfErr result (λ fault. (status_of fault ≡ 1) ⊎ ((status_of fault ≡ 3) × (path.entry ≢ None))) }
 {

@@ -1,0 +1,20 @@
+-- How threads end.
+use Rattle.std.specs.Prelude.{ℕ, Option, Some, None}
+use Rattle.shared_tables.specs.declared.fault.ServeFault.{ServeFault}
+use Rattle.shared_tables.specs.declared.fault.ServeFault.TheVariants as fault
+use Rattle.table_sockets.specs.declared.end.End.{End}
+use Rattle.table_sockets.specs.declared.end.End.TheVariants.{Fine, Memory, Listen, Mismatch}
+
+-- where an end stands in the list of ends
+abbrev pub rank_of : End → ℕ
+rank_of Fine = 0
+rank_of Memory = 1
+rank_of Listen = 2
+rank_of Mismatch = 3
+
+-- how a fault of a connection ends its thread, if it does
+abbrev pub ended_by : ServeFault → Option End
+ended_by fault.Read = None
+ended_by fault.Write = None
+ended_by fault.Memory = Some Memory
+ended_by (fault.Call why) = Some Mismatch
