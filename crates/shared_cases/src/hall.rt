@@ -4,6 +4,7 @@ use crate::again::{answer_after, text_of};
 use crate::narrow::takes_fronts;
 use crate::report::Report;
 use crate::sending::{Holder, call_line, in_four, step_lines};
+use crate::serving::serve_kept;
 use crate::threads::tell_threads;
 use crate::told::{tell_journals, tell_whether, tell_why};
 use crate::words::first_word;
@@ -121,6 +122,8 @@ impl Hall {
             self.narrow(set, report)
         } else if verb == b"join".as_slice() {
             self.join(rt, set, rest, report)
+        } else if verb == b"serve".as_slice() {
+            self.serve(rt, set, rest, report)
         } else if verb == b"alone".as_slice() {
             self.alone(set, report)
         } else if verb == b"threads".as_slice() {
@@ -177,6 +180,24 @@ impl Hall {
             return report.text("  no tables\n");
         };
         call_line(self.alloc, rt, shared, &mut holder.pass, line, report)
+    }
+
+    // Serves what was kept for a pass.
+    fn serve(
+        &mut self,
+        rt: &impl Wait,
+        set: &[u8],
+        pass: &[u8],
+        report: &mut Report,
+    ) -> Result<(), AllocError> {
+        let (holder, set) = (self.holder_of(pass), self.set_of(set));
+        let Some(holder) = self.holders.get_mut(holder) else {
+            return report.text("  no pass\n");
+        };
+        let Some(shared) = self.sets.get(set).and_then(|set| set.shared.as_ref()) else {
+            return report.text("  no tables\n");
+        };
+        serve_kept(self.alloc, rt, shared, holder, report)
     }
 
     fn keep_line(&mut self, words: &[u8], report: &mut Report) -> Result<(), AllocError> {

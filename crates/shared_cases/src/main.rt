@@ -7,6 +7,7 @@
 //! - `PASS SET COMMAND`: the pass calls the command on these tables;
 //! - `later PASS COMMAND`: the command is kept for the pass, and the line is not printed;
 //! - `join SET PASS ..`: four threads share the passes, and call what was kept for them on these tables;
+//! - `serve SET PASS`: what was kept for the pass is served as one stream, whose last line no newline ends;
 //! - `alone PASS`: what the first table of the schema answers, empty, without a lock or a journal, to what is kept for the pass;
 //! - `gather SET PASS ..`: the passes are gathered with the tables. Where they agree, the journals are printed and run again on
 //!   empty tables; otherwise all are put back;
@@ -20,6 +21,7 @@ mod hall;
 mod narrow;
 mod report;
 mod sending;
+mod serving;
 mod threads;
 mod told;
 mod words;
