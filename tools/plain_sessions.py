@@ -143,6 +143,21 @@ class Hall:
             it.kept = []
         return said
 
+    def on_serve(self, words, *_):
+        tables, name = words
+        if name not in self.passes:
+            return ["  no pass"]
+        if not self.is_open(tables):
+            return ["  no tables"]
+        held, said = self.passes[name], []
+        kept, held.kept = held.kept, []
+        for line in kept:
+            told = self.sets[tables].call(held, line) if line.strip(b" \t\r") else ""
+            if told and not told.startswith("{"):
+                return [*said, "  " + told]
+            said += [told] * bool(told)
+        return said
+
     def on_alone(self, words, *_):
         if words[0] not in self.passes:
             return ["  no pass"]
