@@ -154,7 +154,8 @@ class Hall:
         for line in kept:
             told = self.sets[tables].call(held, line) if line.strip(b" \t\r") else ""
             if told and not told.startswith("{"):
-                return [*said, "  " + told]
+                # (what waits for the end of the piece that was read is not written; the cases that are refused have one piece)
+                return ["  " + told]
             said += [told] * bool(told)
         return said
 
