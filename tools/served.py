@@ -1,8 +1,8 @@
 """The built server behind a socket."""
+import atexit
 import os
 import subprocess
 import sys
-import time
 
 from built_program import TOP, built_program
 from histories import Wrong
@@ -26,6 +26,7 @@ class Served:
         words = ["serve", "--schema", f"{room}/schema", "--listen", self.address, "--workers", str(workers), "--each", str(each)]
         words += ["--journal", self.journal] if journal else []
         self.process = subprocess.Popen([SERVER, *words], stdin=subprocess.DEVNULL, stdout=subprocess.PIPE, stderr=subprocess.PIPE)
+        atexit.register(self.process.kill)
         if self.process.stdout.readline() != b"listening\n":
             raise Wrong(f"the server does not listen: {self.process.stderr.read()!r}")
 
@@ -54,10 +55,3 @@ def take_port():
     with socket.socket() as taken:
         taken.bind(("127.0.0.1", 0))
         return taken.getsockname()[1]
-
-
-def seconds_of(task):
-    """How long a task takes, and what it gives."""
-    start = time.perf_counter()
-    given = task()
-    return time.perf_counter() - start, given
