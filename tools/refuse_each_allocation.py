@@ -123,13 +123,17 @@ class Program:
         self.path, self.library, self.room, self.words, self.given = path, library, room, words, given
         self.mark = f"{room}/refused"
 
-    def run(self, refuse_at, on=False):
-        """Returns the outcome, and whether that many allocations were asked for."""
+    def refusing(self, refuse_at, on):
+        """The environment of a run."""
         if os.path.exists(self.mark):
             os.remove(self.mark)
         names = {"LD_PRELOAD": self.library, "REFUSE_AT": str(refuse_at), "REFUSED_FILE": self.mark}
-        names |= {"REFUSE_ON": "1"} if on else {}
-        ran = subprocess.run([self.path, *self.words], input=self.given, capture_output=True, env=names, cwd=self.room, timeout=60)
+        return names | {"REFUSE_ON": "1"} if on else names
+
+    def run(self, refuse_at, on=False):
+        """Returns the outcome, and whether that many allocations were asked for."""
+        how = {"env": self.refusing(refuse_at, on), "cwd": self.room, "timeout": 60}
+        ran = subprocess.run([self.path, *self.words], input=self.given, capture_output=True, **how)
         return Outcome(ran.returncode, ran.stdout, ran.stderr), os.path.exists(self.mark)
 
     def outcomes(self, on=False):
