@@ -23,10 +23,10 @@ pub returns-in-Sequenced-clause-list : goal.returns-in-Sequenced-clause-list
 returns-in-Sequenced-clause-list g c = rw c.in-Sequenced.is (seq.spelled_is _ _ _ c.unlink.ensures.list)
 
 pub returns-in-Random-clause-sound : goal.returns-in-Random-clause-sound
-returns-in-Random-clause-sound g c = row.IsSound_from _ _ _ c.unlink-in-Random.ensures.list
+returns-in-Random-clause-sound g c = row.IsSound_from _ _ _ c.unlink-in-Random.ensures.row.list
 
 pub returns-in-Random-clause-list : goal.returns-in-Random-clause-list
-returns-in-Random-clause-list g c = rw c.in-Random.is (row.spelled_is _ _ _ c.unlink-in-Random.ensures.list)
+returns-in-Random-clause-list g c = rw c.in-Random.is (row.spelled_is _ _ _ c.unlink-in-Random.ensures.row.list)
 
 pub returns-in-Ordered-clause-sound : goal.returns-in-Ordered-clause-sound
 returns-in-Ordered-clause-sound g c = ord.IsSound_from _ _ _ c.unlink-in-Ordered.ensures.tree.list

@@ -9,7 +9,7 @@ pub returns-in-Sequenced-clause-list : goal.returns-in-Sequenced-clause-list
 returns-in-Sequenced-clause-list g c = seq.spelled_is _ _ _ c.rearrange.ensures.list
 
 pub returns-in-Random-clause-sound : goal.returns-in-Random-clause-sound
-returns-in-Random-clause-sound g c = row.IsSound_from _ _ _ c.rearrange-in-Random.ensures.list
+returns-in-Random-clause-sound g c = row.IsSound_from _ _ _ c.rearrange-in-Random.ensures.row.list
 
 pub returns-in-Random-clause-list : goal.returns-in-Random-clause-list
-returns-in-Random-clause-list g c = row.spelled_is _ _ _ c.rearrange-in-Random.ensures.list
+returns-in-Random-clause-list g c = row.spelled_is _ _ _ c.rearrange-in-Random.ensures.row.list

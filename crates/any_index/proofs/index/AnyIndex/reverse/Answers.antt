@@ -9,7 +9,7 @@ pub returns-in-Sequenced-clause-list : goal.returns-in-Sequenced-clause-list
 returns-in-Sequenced-clause-list g c = rw c.in-Sequenced.is (seq.spelled_is _ _ _ c.reverse.ensures.list)
 
 pub returns-in-Random-clause-sound : goal.returns-in-Random-clause-sound
-returns-in-Random-clause-sound g c = row.IsSound_from _ _ _ c.reverse-in-Random.ensures.list
+returns-in-Random-clause-sound g c = row.IsSound_from _ _ _ c.reverse-in-Random.ensures.row.list
 
 pub returns-in-Random-clause-list : goal.returns-in-Random-clause-list
-returns-in-Random-clause-list g c = rw c.in-Random.is (row.spelled_is _ _ _ c.reverse-in-Random.ensures.list)
+returns-in-Random-clause-list g c = rw c.in-Random.is (row.spelled_is _ _ _ c.reverse-in-Random.ensures.row.list)

@@ -10,7 +10,7 @@ pub returns-in-Chain-clause-sound : goal.returns-in-Chain-clause-sound
 returns-in-Chain-clause-sound g c = chains.IsSound_from _ _ _ c.unlink.ensures.list
 
 pub returns-in-Row-clause-sound : goal.returns-in-Row-clause-sound
-returns-in-Row-clause-sound g c = rows.IsSound_from _ _ _ c.unlink-in-Row.ensures.list
+returns-in-Row-clause-sound g c = rows.IsSound_from _ _ _ c.unlink-in-Row.ensures.row.list
 
 pub returns-in-Ordered-clause-sound : goal.returns-in-Ordered-clause-sound
 returns-in-Ordered-clause-sound g c =

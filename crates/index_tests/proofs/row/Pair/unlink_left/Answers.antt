@@ -2,13 +2,13 @@ use Rattle.std.proofs.Common.{sym, ◌∙◌, arith}
 use Rattle.row_index.proofs.Laws.{IsSound_from, IsSound_kept, Holds_at}
 use Rattle.index_tests.proofs.row.Pair.unlink_left.Goals as goal
 
-pub unlink-requires-clause-held : goal.unlink-requires-clause-held
-unlink-requires-clause-held c = Holds_at _ _ c.in-Some.node (sym c.in-Some.ensures)
+pub unlink-requires : goal.unlink-requires
+unlink-requires c = record { row = c.args.self.now.left_sound; held = Holds_at _ _ c.in-Some.node (sym c.in-Some.ensures) }
 
 pub invariant_of-self : goal.invariant_of-self
 invariant_of-self c = record {
-  left_col = c.unlink.ensures.col ∙ c.args.self.now.left_col;
+  left_col = c.unlink.ensures.row.col ∙ c.args.self.now.left_col;
   right_col = c.args.self.now.right_col;
-  left_sound = IsSound_from _ _ _ c.unlink.ensures.list;
-  right_sound = IsSound_kept _ _ c.args.self.now.right (c.unlink.ensures.others _ (λ e. omega (arith, e, c.args.self.now.left_col, c.args.self.now.right_col))) c.args.self.now.right_sound;
+  left_sound = IsSound_from _ _ _ c.unlink.ensures.row.list;
+  right_sound = IsSound_kept _ _ c.args.self.now.right (c.unlink.ensures.row.others _ (λ e. omega (arith, e, c.args.self.now.left_col, c.args.self.now.right_col))) c.args.self.now.right_sound;
 }
