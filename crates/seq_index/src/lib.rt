@@ -33,7 +33,8 @@ pub struct SeqIndex {
 }
 
 impl SeqIndex {
-    ghost use Rattle.seq_index.specs.Spelled.{Spells, IsSound, spelled, col_of, HasRoom, KeepsOthers, Holds};
+    ghost use Rattle.seq_index.specs.Stored.{nodes_of, IsChainOf, HasNode, BecomesChain};
+    ghost use Rattle.seq_index.specs.Spelled.{Spells, spelled, col_of, HasRoom, KeepsOthers};
 
     /// A sequence of no nodes in column `col`. O(1).
     pub fn new(col: usize) -> SeqIndex
@@ -53,7 +54,8 @@ impl SeqIndex {
     /// O(1).
     pub fn reserve_one<R>(&mut self, store: &NodeStore<R>) -> Result<(), AllocError>
         ensures same { self.new ≡ self.old }
-        ensures list { (cs : ℕ → Column) (xs : List Node) → Spells cs self.old xs → Spells cs self.new xs }
+        ensures list { (cs : ℕ → Column) (xs : List Node) → Spells cs self.old xs →
+            Spells cs self.new xs }
         ensures spelled { (cs : ℕ → Column) → spelled cs self.new ≡ spelled cs self.old }
         ensures col { col_of self.new ≡ col_of self.old }
         ensures room { OnOk result (HasRoom self.new) }
@@ -67,14 +69,12 @@ impl SeqIndex {
 
     /// Puts `n` last. O(1).
     pub fn push<R>(&mut self, store: &mut NodeStore<R>, n: Node)
-        requires chain { IsSound (column_of store.old) self.old }
+        requires chain { IsChainOf self.old store.old }
         requires node { IsNodeOf store.old n }
-        requires new { Lacks (spelled (column_of store.old) self.old) n }
+        requires new { Lacks (nodes_of self.old store.old) n }
         requires room { HasRoom self.old }
-        ensures list { Spells (column_of store.new) self.new (spelled (column_of store.old) self.old ++ n ∷ []) }
-        ensures col { col_of self.new ≡ col_of self.old }
-        ensures others { KeepsOthers (column_of store.old) (column_of store.new) (col_of self.old) }
-        ensures contents { contents store.new ≡ contents store.old }
+        ensures { BecomesChain self.old self.new store.old store.new
+            (nodes_of self.old store.old ++ n ∷ []) }
     {
         self.insert_between(store, self.last, n, None);
     }
@@ -83,15 +83,13 @@ impl SeqIndex {
     ///
     /// O(d), where d is the distance of `place` from the nearer end.
     pub fn insert_at<R>(&mut self, store: &mut NodeStore<R>, place: u64, n: Node)
-        requires chain { IsSound (column_of store.old) self.old }
+        requires chain { IsChainOf self.old store.old }
         requires node { IsNodeOf store.old n }
-        requires new { Lacks (spelled (column_of store.old) self.old) n }
-        requires place { place ≤ length (spelled (column_of store.old) self.old) }
+        requires new { Lacks (nodes_of self.old store.old) n }
+        requires place { place ≤ length (nodes_of self.old store.old) }
         requires room { HasRoom self.old }
-        ensures list { Spells (column_of store.new) self.new (insert (spelled (column_of store.old) self.old) place n) }
-        ensures col { col_of self.new ≡ col_of self.old }
-        ensures others { KeepsOthers (column_of store.old) (column_of store.new) (col_of self.old) }
-        ensures contents { contents store.new ≡ contents store.old }
+        ensures { BecomesChain self.old self.new store.old store.new
+            (insert (nodes_of self.old store.old) place n) }
     {
         let (before, after) = self.ends_at(store, place);
         self.insert_between(store, before, n, after);
@@ -99,13 +97,10 @@ impl SeqIndex {
 
     /// Takes `n` out. It reads no record, so the node's may have changed. O(1).
     pub fn unlink<R>(&mut self, store: &mut NodeStore<R>, n: Node)
-        requires chain { IsSound (column_of store.old) self.old }
-        requires held { Holds (spelled (column_of store.old) self.old) n }
-        ensures list { Spells (column_of store.new) self.new (without (same_node n) (spelled (column_of store.old) self.old)) }
+        requires { HasNode self.old store.old n }
+        ensures chain { BecomesChain self.old self.new store.old store.new
+            (without (same_node n) (nodes_of self.old store.old)) }
         ensures room { HasRoom self.new }
-        ensures col { col_of self.new ≡ col_of self.old }
-        ensures others { KeepsOthers (column_of store.old) (column_of store.new) (col_of self.old) }
-        ensures contents { contents store.new ≡ contents store.old }
     {
         let Link {
             a: before,
@@ -132,8 +127,8 @@ impl SeqIndex {
         requires before { AreNodesOf store.old before }
         requires after { AreNodesOf store.old after }
         requires room { HasRoom self.old }
-        ensures list { (xs ys : List Node) → Spells (column_of store.old) self.old (xs ++ ys) → Lacks (xs ++ ys) n
-            → before ≡ last_or xs None → after ≡ first_or ys None
+        ensures list { (xs ys : List Node) → Spells (column_of store.old) self.old (xs ++ ys)
+            → Lacks (xs ++ ys) n → before ≡ last_or xs None → after ≡ first_or ys None
             → Spells (column_of store.new) self.new (xs ++ n ∷ ys) }
         ensures len { self.new.len ≡ self.old.len + 1 }
         ensures col { col_of self.new ≡ col_of self.old }

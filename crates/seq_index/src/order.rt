@@ -1,8 +1,8 @@
 //! Changes of the order of a sequence.
 ghost use Rattle.std.specs.Prelude.{◌≡◌, ◌≤◌, length, reverse as the_reverse, IsPermutation};
-ghost use Rattle.node_store.specs.ByNode.{column_of, contents, same_node};
+ghost use Rattle.node_store.specs.ByNode.{same_node};
 ghost use Rattle.list_model.specs.Walk.{relocated};
-ghost use Rattle.seq_index.specs.Spelled.{Spells, IsSound, spelled, col_of, HasRoom, KeepsOthers, Holds};
+ghost use Rattle.seq_index.specs.Stored.{nodes_of, IsChainOf, HasNode, ReordersChain};
 
 use crate::SeqIndex;
 use crate::ends::chain_link;
@@ -15,14 +15,10 @@ impl SeqIndex {
     /// Places count with `n` still in, so its own place and the one after it leave the sequence as it is.
     /// O(d), where d is the distance of `place` from the nearer end.
     pub fn move_to<R>(&mut self, store: &mut NodeStore<R>, place: u64, n: Node)
-        requires chain { IsSound (column_of store.old) self.old }
-        requires held { Holds (spelled (column_of store.old) self.old) n }
-        requires place { place ≤ length (spelled (column_of store.old) self.old) }
-        ensures list { Spells (column_of store.new) self.new (relocated (same_node n) n place (spelled (column_of store.old) self.old)) }
-        ensures room { HasRoom self.old → HasRoom self.new }
-        ensures col { col_of self.new ≡ col_of self.old }
-        ensures others { KeepsOthers (column_of store.old) (column_of store.new) (col_of self.old) }
-        ensures contents { contents store.new ≡ contents store.old }
+        requires node { HasNode self.old store.old n }
+        requires place { place ≤ length (nodes_of self.old store.old) }
+        ensures { ReordersChain self.old self.new store.old store.new
+            (relocated (same_node n) n place (nodes_of self.old store.old)) }
     {
         let (before, after) = self.ends_at(store, place);
         if store.is_node(before, n) || store.is_node(after, n) {
@@ -34,13 +30,9 @@ impl SeqIndex {
 
     /// Puts the nodes into this order. It takes no memory. O(n).
     pub fn rearrange<R>(&mut self, store: &mut NodeStore<R>, order: &[Node])
-        requires chain { IsSound (column_of store.old) self.old }
-        requires same { IsPermutation (spelled (column_of store.old) self.old) order.now }
-        ensures list { Spells (column_of store.new) self.new order.now }
-        ensures room { HasRoom self.old → HasRoom self.new }
-        ensures col { col_of self.new ≡ col_of self.old }
-        ensures others { KeepsOthers (column_of store.old) (column_of store.new) (col_of self.old) }
-        ensures contents { contents store.new ≡ contents store.old }
+        requires chain { IsChainOf self.old store.old }
+        requires same { IsPermutation (nodes_of self.old store.old) order.now }
+        ensures { ReordersChain self.old self.new store.old store.new order.now }
     {
         *self = SeqIndex::new(self.col);
         for n in order {
@@ -50,12 +42,9 @@ impl SeqIndex {
 
     /// Turns the order round. O(n).
     pub fn reverse<R>(&mut self, store: &mut NodeStore<R>)
-        requires { IsSound (column_of store.old) self.old }
-        ensures list { Spells (column_of store.new) self.new (the_reverse (spelled (column_of store.old) self.old)) }
-        ensures room { HasRoom self.old → HasRoom self.new }
-        ensures col { col_of self.new ≡ col_of self.old }
-        ensures others { KeepsOthers (column_of store.old) (column_of store.new) (col_of self.old) }
-        ensures contents { contents store.new ≡ contents store.old }
+        requires { IsChainOf self.old store.old }
+        ensures { ReordersChain self.old self.new store.old store.new
+            (the_reverse (nodes_of self.old store.old)) }
     {
         let mut at = self.first;
         for _ in 0..self.len {

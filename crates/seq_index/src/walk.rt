@@ -1,9 +1,7 @@
 //! Walks along a chain to a place.
-ghost use Rattle.std.specs.Prelude.{◌≡◌, ◌≤◌, length, None, take, drop};
-ghost use Rattle.node_store.specs.Nodes.{first_or, last_or};
-ghost use Rattle.node_store.specs.ByNode.{column_of};
+ghost use Rattle.std.specs.Prelude.{◌≤◌, length};
 ghost use Rattle.seq_index.specs.Links.{AreNodesOf};
-ghost use Rattle.seq_index.specs.Spelled.{IsSound, spelled};
+ghost use Rattle.seq_index.specs.Stored.{nodes_of, IsChainOf, StandBeside};
 
 use crate::SeqIndex;
 use node_store::{Node, NodeStore};
@@ -15,10 +13,9 @@ impl SeqIndex {
         store: &NodeStore<R>,
         place: u64,
     ) -> (Option<Node>, Option<Node>)
-        requires chain { IsSound (column_of store.now) self.now }
-        requires place { place ≤ length (spelled (column_of store.now) self.now) }
-        ensures before { result.0 ≡ last_or (take place (spelled (column_of store.now) self.now)) None }
-        ensures after { result.1 ≡ first_or (drop place (spelled (column_of store.now) self.now)) None }
+        requires chain { IsChainOf self.now store.now }
+        requires place { place ≤ length (nodes_of self.now store.now) }
+        ensures ends { StandBeside (nodes_of self.now store.now) place result }
         ensures before_held { AreNodesOf store.now result.0 }
         ensures after_held { AreNodesOf store.now result.1 }
     {
@@ -30,10 +27,9 @@ impl SeqIndex {
     }
 
     fn ends_from_front<R>(&self, store: &NodeStore<R>, place: u64) -> (Option<Node>, Option<Node>)
-        requires chain { IsSound (column_of store.now) self.now }
-        requires place { place ≤ length (spelled (column_of store.now) self.now) }
-        ensures before { result.0 ≡ last_or (take place (spelled (column_of store.now) self.now)) None }
-        ensures after { result.1 ≡ first_or (drop place (spelled (column_of store.now) self.now)) None }
+        requires chain { IsChainOf self.now store.now }
+        requires place { place ≤ length (nodes_of self.now store.now) }
+        ensures { StandBeside (nodes_of self.now store.now) place result }
     {
         let mut before = None;
         let mut after = self.first;
@@ -48,10 +44,9 @@ impl SeqIndex {
     }
 
     fn ends_from_back<R>(&self, store: &NodeStore<R>, place: u64) -> (Option<Node>, Option<Node>)
-        requires chain { IsSound (column_of store.now) self.now }
-        requires place { place ≤ length (spelled (column_of store.now) self.now) }
-        ensures before { result.0 ≡ last_or (take place (spelled (column_of store.now) self.now)) None }
-        ensures after { result.1 ≡ first_or (drop place (spelled (column_of store.now) self.now)) None }
+        requires chain { IsChainOf self.now store.now }
+        requires place { place ≤ length (nodes_of self.now store.now) }
+        ensures { StandBeside (nodes_of self.now store.now) place result }
     {
         let mut before = self.last;
         let mut after = None;

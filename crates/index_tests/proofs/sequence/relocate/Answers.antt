@@ -8,7 +8,7 @@ pub move_to-requires-clause-place : goal.move_to-requires-clause-place
 move_to-requires-clause-place c = omega (arith, ap (λ (z : List Node). length z) c.in-Ok.ensures, c.min.ensures)
 
 pub returns-clause-sound : goal.returns-clause-sound
-returns-clause-sound c = IsSound_from _ _ _ c.move_to.ensures.list
+returns-clause-sound c = IsSound_from _ _ _ c.move_to.ensures.chain.list
 
 pub returns-clause-count : goal.returns-clause-count
-returns-clause-count c = added_kept c.args.store.now c.move_to.new.store c.move_to.ensures.contents
+returns-clause-count c = added_kept c.args.store.now c.move_to.new.store c.move_to.ensures.chain.contents

@@ -3,7 +3,7 @@ use Rattle.seq_index.proofs.Laws.{IsSound_from}
 use Rattle.index_tests.proofs.sequence.turn.Goals as goal
 
 pub returns-clause-sound : goal.returns-clause-sound
-returns-clause-sound c = IsSound_from _ _ _ c.reverse.ensures.list
+returns-clause-sound c = IsSound_from _ _ _ c.reverse.ensures.chain.list
 
 pub returns-clause-count : goal.returns-clause-count
-returns-clause-count c = added_kept c.args.store.now c.reverse.new.store c.reverse.ensures.contents
+returns-clause-count c = added_kept c.args.store.now c.reverse.new.store c.reverse.ensures.chain.contents

@@ -1,4 +1,4 @@
-use Rattle.std.proofs.Common.{List, take, drop, sym, subst}
+use Rattle.std.proofs.Common.{List, take, drop, sym, subst, rules}
 use Rattle.std.proofs.lemmas.List.{take-append-drop}
 use Rattle.node_store.specs.declared.Node.{Node}
 use Rattle.node_store.specs.Nodes.{Lacks}
@@ -6,12 +6,17 @@ use Rattle.node_store.specs.ByNode.{column_of}
 use Rattle.seq_index.specs.Spelled.{Spells, spelled}
 use Rattle.seq_index.proofs.SeqIndex.insert_at.Goals as goal
 
-pub returns-clause-list : goal.returns-clause-list
-returns-clause-list g c =
+pub returns : goal.returns
+returns g c =
     let whole = sym (take-append-drop c.args.place (spelled (column_of c.args.store.now) c.args.self.now)) in
     let chain = subst (λ (z : List Node). Spells (column_of c.args.store.now) c.args.self.now z) whole c.requires.chain in
     let lacks = subst (λ (z : List Node). Lacks z c.args.n) whole c.requires.new in
-    c.insert_between.ensures.list
-    (take c.args.place (spelled (column_of c.args.store.now) c.args.self.now))
-    (drop c.args.place (spelled (column_of c.args.store.now) c.args.self.now))
-    chain lacks c.ends_at-before.ensures.before c.ends_at-before.ensures.after
+    record {
+      list = c.insert_between.ensures.list
+          (take c.args.place (spelled (column_of c.args.store.now) c.args.self.now))
+          (drop c.args.place (spelled (column_of c.args.store.now) c.args.self.now))
+          chain lacks c.ends_at-before.ensures.ends.before c.ends_at-before.ensures.ends.after;
+      col = search rules;
+      others = search rules;
+      contents = search rules;
+    }

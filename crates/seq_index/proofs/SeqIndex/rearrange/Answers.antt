@@ -1,8 +1,11 @@
-use Rattle.std.proofs.Common.{refl, ◌∙◌, arith}
+use Rattle.std.proofs.Common.{List, refl, ◌∙◌, subst, arith, rules}
+use Rattle.std.proofs.lemmas.List.{take_all}
 use Rattle.std.proofs.lemmas.List.Sorted.{length_permutation}
+use Rattle.node_store.specs.declared.Node.{Node}
+use Rattle.node_store.specs.ByNode.{column_of}
 use Rattle.node_store.proofs.Members.{IsDistinct_moved, AllNodes_moved}
 use Rattle.node_store.proofs.ByNode.{node_of_column, IsNodeOf_kept}
-use Rattle.seq_index.specs.Spelled.{col_of}
+use Rattle.seq_index.specs.Spelled.{Spells, col_of}
 use Rattle.seq_index.proofs.Laws.{IsSound_from, Spells_nodes}
 use Rattle.seq_index.proofs.Rearranging.{all_at, coming, lacks_coming, spelled_coming, len_taken}
 use Rattle.seq_index.proofs.SeqIndex.rearrange.Goals as goal
@@ -27,11 +30,15 @@ push-requires-clause-room g c =
     let e = len_taken _ _ c.args.order.now c.loop-n.n-index (omega arith) c.loop-n.invariant.list in
     omega (arith, e)
 
-pub returns-clause-room : goal.returns-clause-room
-returns-clause-room g c = λ room.
+pub returns : goal.returns
+returns g c =
     let e = len_taken _ _ c.args.order.now c.loop-n.n-index (omega arith) c.loop-n.invariant.list in
     let same = length_permutation _ _ c.requires.same in
-    omega (arith, room, e, same, c.requires.chain.len)
+    let whole = take_all c.loop-n.n-index c.args.order.now (omega arith) in
+    record {
+      chain = record { list = subst (λ (z : List Node). Spells (column_of c.loop-n.store) c.loop-n.self z) whole c.loop-n.invariant.list; col = search rules; others = search rules; contents = search rules };
+      room = λ room. omega (arith, room, e, same, c.requires.chain.len);
+    }
 
 pub loop-n-preserved : goal.loop-n-preserved
 loop-n-preserved g c = record {

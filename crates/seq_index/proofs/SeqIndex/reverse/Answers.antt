@@ -1,4 +1,4 @@
-use Rattle.std.proofs.Common.{◌≡◌, refl, ◌∙◌, arith}
+use Rattle.std.proofs.Common.{◌≡◌, refl, ◌∙◌, arith, rules}
 use Rattle.node_store.specs.ByNode.{column_of}
 use Rattle.seq_index.specs.Spelled.{spelled}
 use Rattle.seq_index.proofs.Turns.{Turning_node, Turning_step, Turning_done}
@@ -16,7 +16,15 @@ loop-preserved g c =
       contents = c.set_link.ensures.contents ∙ c.loop.invariant.contents;
     }
 
-pub returns-clause-list : goal.returns-clause-list
-returns-clause-list g c =
+pub returns : goal.returns
+returns g c =
     let all : c.loop.counter ≡ c.args.self.now.len = omega arith in
-    Turning_done (column_of c.args.store.now) (column_of c.loop.store) c.args.self.now _ c.loop.at (spelled (column_of c.args.store.now) c.args.self.now) c.loop.counter c.requires c.loop.invariant.turning all c.swap.ensures.x_after c.swap.ensures.y_after refl
+    record {
+      chain = record {
+        list = Turning_done (column_of c.args.store.now) (column_of c.loop.store) c.args.self.now _ c.loop.at (spelled (column_of c.args.store.now) c.args.self.now) c.loop.counter c.requires c.loop.invariant.turning all c.swap.ensures.x_after c.swap.ensures.y_after refl;
+        col = search rules;
+        others = search rules;
+        contents = search rules;
+      };
+      room = search rules;
+    }

@@ -17,10 +17,10 @@ unlink-requires-in-Hashed-clause-held g c =
     Holds_moved _ _ c.args.n (moved_back _) held
 
 pub returns-in-Sequenced-clause-sound : goal.returns-in-Sequenced-clause-sound
-returns-in-Sequenced-clause-sound g c = seq.IsSound_from _ _ _ c.unlink.ensures.list
+returns-in-Sequenced-clause-sound g c = seq.IsSound_from _ _ _ c.unlink.ensures.chain.list
 
 pub returns-in-Sequenced-clause-list : goal.returns-in-Sequenced-clause-list
-returns-in-Sequenced-clause-list g c = rw c.in-Sequenced.is (seq.spelled_is _ _ _ c.unlink.ensures.list)
+returns-in-Sequenced-clause-list g c = rw c.in-Sequenced.is (seq.spelled_is _ _ _ c.unlink.ensures.chain.list)
 
 pub returns-in-Random-clause-sound : goal.returns-in-Random-clause-sound
 returns-in-Random-clause-sound g c = row.IsSound_from _ _ _ c.unlink-in-Random.ensures.row.list

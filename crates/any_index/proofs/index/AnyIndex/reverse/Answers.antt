@@ -3,10 +3,10 @@ use Rattle.row_index.proofs.Laws as row
 use Rattle.any_index.proofs.index.AnyIndex.reverse.Goals as goal
 
 pub returns-in-Sequenced-clause-sound : goal.returns-in-Sequenced-clause-sound
-returns-in-Sequenced-clause-sound g c = seq.IsSound_from _ _ _ c.reverse.ensures.list
+returns-in-Sequenced-clause-sound g c = seq.IsSound_from _ _ _ c.reverse.ensures.chain.list
 
 pub returns-in-Sequenced-clause-list : goal.returns-in-Sequenced-clause-list
-returns-in-Sequenced-clause-list g c = rw c.in-Sequenced.is (seq.spelled_is _ _ _ c.reverse.ensures.list)
+returns-in-Sequenced-clause-list g c = rw c.in-Sequenced.is (seq.spelled_is _ _ _ c.reverse.ensures.chain.list)
 
 pub returns-in-Random-clause-sound : goal.returns-in-Random-clause-sound
 returns-in-Random-clause-sound g c = row.IsSound_from _ _ _ c.reverse-in-Random.ensures.row.list

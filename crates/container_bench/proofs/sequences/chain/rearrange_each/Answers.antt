@@ -10,6 +10,6 @@ rearrange-requires-clause-same c = subst (λ (z : List Node). IsPermutation z c.
 
 pub loop-preserved : goal.loop-preserved
 loop-preserved c = record {
-  sound = IsSound_from _ _ _ c.rearrange.ensures.list;
-  same = spelled_is _ _ _ c.rearrange.ensures.list ∙ c.deref.ensures.value;
+  sound = IsSound_from _ _ _ c.rearrange.ensures.chain.list;
+  same = spelled_is _ _ _ c.rearrange.ensures.chain.list ∙ c.deref.ensures.value;
 }

@@ -2,8 +2,8 @@ use Rattle.std.proofs.Common.{sym}
 use Rattle.seq_index.proofs.Laws.{IsSound_from, Holds_first}
 use Rattle.container_bench.proofs.sequences.chain.unlink_first.Goals as goal
 
-pub unlink-requires-clause-held : goal.unlink-requires-clause-held
-unlink-requires-clause-held c = Holds_first _ c.in-Some.n (sym c.in-Some.ensures)
+pub unlink-requires : goal.unlink-requires
+unlink-requires c = record { chain = c.requires; held = Holds_first _ c.in-Some.n (sym c.in-Some.ensures) }
 
 pub returns-in-Some : goal.returns-in-Some
-returns-in-Some c = IsSound_from _ _ _ c.unlink.ensures.list
+returns-in-Some c = IsSound_from _ _ _ c.unlink.ensures.chain.list

@@ -7,8 +7,8 @@ use Rattle.container_bench.proofs.sequences.chain.walk_back.Goals as goal
 pub loop-init : goal.loop-init
 loop-init c = λ n e. Holds_last (spelled (column_of c.args.store.now) c.args.index.now) n (sym c.last-at.ensures ∙ e)
 
-pub prev-at-requires-clause-held : goal.prev-at-requires-clause-held
-prev-at-requires-clause-held c = c.loop.invariant c.in-Some.n c.in-Some.is
+pub prev-at-requires : goal.prev-at-requires
+prev-at-requires c = record { chain = c.requires; held = c.loop.invariant c.in-Some.n c.in-Some.is }
 
 pub loop-preserved : goal.loop-preserved
 loop-preserved c = λ n e. Holds_prev (spelled (column_of c.args.store.now) c.args.index.now) c.in-Some.n n (sym c.prev-at.ensures ∙ e)

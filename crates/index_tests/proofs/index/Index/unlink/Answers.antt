@@ -7,7 +7,7 @@ use Rattle.index_tests.proofs.Ordered.{tree_unlinked}
 use Rattle.index_tests.proofs.index.Index.unlink.Goals as goal
 
 pub returns-in-Chain-clause-sound : goal.returns-in-Chain-clause-sound
-returns-in-Chain-clause-sound g c = chains.IsSound_from _ _ _ c.unlink.ensures.list
+returns-in-Chain-clause-sound g c = chains.IsSound_from _ _ _ c.unlink.ensures.chain.list
 
 pub returns-in-Row-clause-sound : goal.returns-in-Row-clause-sound
 returns-in-Row-clause-sound g c = rows.IsSound_from _ _ _ c.unlink-in-Row.ensures.row.list
