@@ -3,3 +3,4 @@ pub mod Chains
 pub mod Spelled
 pub mod Hashed
 pub mod Walks
+pub mod Stored

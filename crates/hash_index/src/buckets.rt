@@ -5,7 +5,8 @@ ghost use Rattle.node_store.specs.Column.{Column};
 ghost use Rattle.node_store.specs.Nodes.{first_or};
 ghost use Rattle.node_store.specs.ByNode.{column_of, same_node};
 ghost use Rattle.list_model.specs.Walk.{next as the_next};
-ghost use Rattle.hash_index.specs.Spelled.{Spells, IsSound, spelled, chains_of, buckets_of, Holds};
+ghost use Rattle.hash_index.specs.Spelled.{Spells, chains_of, buckets_of};
+ghost use Rattle.hash_index.specs.Stored.{nodes_of, AreBucketsOf, HasNode};
 ghost use Rattle.hash_index.specs.Chains.{first_head, longest};
 ghost use Rattle.hash_index.specs.Walks.{rest_of, Ends};
 
@@ -15,8 +16,8 @@ use node_store::{Link, Node, NodeStore};
 impl HashIndex {
     /// How many nodes there are. O(1).
     pub fn len<R>(&self, store: &NodeStore<R>) -> usize
-        requires { IsSound (column_of store.now) self.now }
-        ensures { result ≡ length (spelled (column_of store.now) self.now) }
+        requires { AreBucketsOf self.now store.now }
+        ensures { result ≡ length (nodes_of self.now store.now) }
     {
         self.len
     }
@@ -30,7 +31,7 @@ impl HashIndex {
 
     /// How many nodes the fullest bucket has. O(buckets + nodes).
     pub fn longest_chain<R>(&self, store: &NodeStore<R>) -> usize
-        requires { IsSound (column_of store.now) self.now }
+        requires { AreBucketsOf self.now store.now }
         ensures { result ≡ longest (chains_of (column_of store.now) self.now) }
     {
         let mut longest = 0;
@@ -42,7 +43,7 @@ impl HashIndex {
 
     // How many nodes a chain has from `at` on.
     fn chain_length<R>(&self, store: &NodeStore<R>, at: Option<Node>) -> usize
-        requires chain { IsSound (column_of store.now) self.now }
+        requires chain { AreBucketsOf self.now store.now }
         requires ends { Ends (column_of store.now) self.now at }
         ensures { result ≡ length (rest_of (column_of store.now) self.now at) }
     {
@@ -57,8 +58,8 @@ impl HashIndex {
 
     /// The first node of a walk over all, in no stated order. O(buckets before it).
     pub fn first<R>(&self, store: &NodeStore<R>) -> Option<Node>
-        requires { IsSound (column_of store.now) self.now }
-        ensures { result ≡ slice_get (spelled (column_of store.now) self.now) 0 }
+        requires { AreBucketsOf self.now store.now }
+        ensures { result ≡ slice_get (nodes_of self.now store.now) 0 }
     {
         self.first_from(0)
     }
@@ -66,9 +67,8 @@ impl HashIndex {
     /// The node after `n` in a walk over all. O(empty buckets between them), and O(nodes) for the whole walk while
     /// no node was taken out.
     pub fn next<R>(&self, store: &NodeStore<R>, n: Node) -> Option<Node>
-        requires chain { IsSound (column_of store.now) self.now }
-        requires held { Holds (spelled (column_of store.now) self.now) n }
-        ensures { result ≡ the_next (same_node n) (spelled (column_of store.now) self.now) }
+        requires { HasNode self.now store.now n }
+        ensures { result ≡ the_next (same_node n) (nodes_of self.now store.now) }
     {
         self.after(store.link(n, self.col))
     }
@@ -76,7 +76,9 @@ impl HashIndex {
     // The node after the one that has this link.
     pub(crate) fn after(&self, link: Link) -> Option<Node>
         requires { 0 < vec_len self.now.buckets }
-        ensures { (cs : ℕ → Column) (xs : List Node) (n : Node) (ys : List Node) → Spells cs self.now (xs ++ n ∷ ys) → cs self.now.col n ≡ Some link → result ≡ first_or ys None }
+        ensures { (cs : ℕ → Column) (xs : List Node) (n : Node) (ys : List Node) →
+            Spells cs self.now (xs ++ n ∷ ys) → cs self.now.col n ≡ Some link →
+            result ≡ first_or ys None }
     {
         match link.b {
             Some(n) => Some(n),

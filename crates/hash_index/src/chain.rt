@@ -16,7 +16,8 @@ pub(crate) fn set_next<R>(
 )
     requires col { col < 8 }
     requires node { AreNodes (column_of store.old col) at }
-    ensures ends { SetsNext (untagged (column_of store.old col)) (untagged (column_of store.new col)) at next }
+    ensures ends { SetsNext (untagged (column_of store.old col))
+        (untagged (column_of store.new col)) at next }
     ensures tags { KeepsTags (column_of store.old col) (column_of store.new col) }
     ensures same { KeepsOtherNodes (column_of store.old col) (column_of store.new col) at }
     ensures others { KeepsOthers (column_of store.old) (column_of store.new) col }
@@ -37,7 +38,8 @@ pub(crate) fn set_prev<R>(
 )
     requires col { col < 8 }
     requires node { AreNodes (column_of store.old col) at }
-    ensures ends { SetsPrev (untagged (column_of store.old col)) (untagged (column_of store.new col)) at prev }
+    ensures ends { SetsPrev (untagged (column_of store.old col))
+        (untagged (column_of store.new col)) at prev }
     ensures tags { KeepsTags (column_of store.old col) (column_of store.new col) }
     ensures same { KeepsOtherNodes (column_of store.old col) (column_of store.new col) at }
     ensures others { KeepsOthers (column_of store.old) (column_of store.new) col }

@@ -4,12 +4,12 @@
 //! stand in one index of each column at once.
 #![tactic(auto)]
 
-ghost use Rattle.std.specs.Prelude.{◌≡◌, ◌≢◌, ℕ, ◌+◌, ◌%◌, ◌<◌, ◌≤◌, List, [], ◌∷◌, ◌++◌, length, Option, Some, None, IsTrue, IsPermutation, vec_len};
+ghost use Rattle.std.specs.Prelude.{◌≡◌, ◌≢◌, ℕ, ◌+◌, ◌%◌, ◌<◌, ◌≤◌, List, [], ◌∷◌, ◌++◌, length, Option, Some, None, IsPermutation, vec_len};
 ghost use Rattle.node_store.specs.declared.Node.{Node};
 ghost use Rattle.node_store.specs.Column.{Column, IsNode};
 ghost use Rattle.node_store.specs.Store.{IsNodeOf};
 ghost use Rattle.node_store.specs.Nodes.{Lacks};
-ghost use Rattle.node_store.specs.ByNode.{column_of, record_of, contents, same_node};
+ghost use Rattle.node_store.specs.ByNode.{column_of, same_node};
 ghost use Rattle.list_model.specs.Walk.{without};
 ghost use Rattle.hash_index.specs.Mask.{HasMask, HasMask_prop};
 
@@ -38,8 +38,8 @@ pub struct HashIndex {
 }
 
 impl HashIndex {
-    ghost use Rattle.hash_index.specs.Spelled.{Spells, IsSound, spelled, col_of, index_of, buckets_of, HasRoom, KeepsOthers, KeepsTags, Holds};
-    ghost use Rattle.hash_index.specs.Hashed.{IsHashed, KeepsHash};
+    ghost use Rattle.hash_index.specs.Stored.{nodes_of, AreBucketsOf, HasNode, HasKey, HaveTheirHash, KeepsRest};
+    ghost use Rattle.hash_index.specs.Spelled.{Spells, col_of, index_of, buckets_of, HasRoom, KeepsTags};
     ghost use Rattle.hash_index.specs.Chains.{tag_at};
 
     /// An index of no nodes in column `col`, for the keys of the container's index `index`. It has no buckets yet,
@@ -62,20 +62,19 @@ impl HashIndex {
 
     /// Puts `n` in, by the hash of its record's key, in room that was reserved. O(1).
     pub fn link<R, E: Extract<R>>(&mut self, store: &mut NodeStore<R>, keys: &E, n: Node)
-        requires chain { IsSound (column_of store.old) self.old }
+        requires chain { AreBucketsOf self.old store.old }
         requires node { IsNodeOf store.old n }
-        requires new { Lacks (spelled (column_of store.old) self.old) n }
+        requires new { Lacks (nodes_of self.old store.old) n }
         requires room { HasRoom self.old }
-        requires has_key { IsTrue (E.has_key keys.now (index_of self.old)) }
-        ensures chain { IsSound (column_of store.new) self.new }
-        ensures list { IsPermutation (n ∷ spelled (column_of store.old) self.old) (spelled (column_of store.new) self.new) }
-        ensures hashed { IsHashed (E.hash_of keys.now (index_of self.old)) store.old (col_of self.old) (spelled (column_of store.old) self.old)
-            → IsHashed (E.hash_of keys.now (index_of self.old)) store.new (col_of self.old) (spelled (column_of store.new) self.new) }
+        requires has_key { HasKey E.Extract self.old keys.now }
+        ensures chain { AreBucketsOf self.new store.new }
+        ensures list { IsPermutation (n ∷ nodes_of self.old store.old)
+            (nodes_of self.new store.new) }
+        ensures hashed { HaveTheirHash E.Extract self.old store.old keys.now
+            (nodes_of self.old store.old) → HaveTheirHash E.Extract self.old store.new keys.now
+            (nodes_of self.new store.new) }
         ensures buckets { buckets_of self.new ≡ buckets_of self.old }
-        ensures col { col_of self.new ≡ col_of self.old }
-        ensures index { index_of self.new ≡ index_of self.old }
-        ensures others { KeepsOthers (column_of store.old) (column_of store.new) (col_of self.old) }
-        ensures contents { contents store.new ≡ contents store.old }
+        ensures rest { KeepsRest self.old self.new store.old store.new }
     {
         let hash = keys.hash(self.index, store.get(n));
         self.put(store, n, hash);
@@ -83,16 +82,14 @@ impl HashIndex {
 
     /// Takes `n` out. It reads no record, so the node's may have changed. It leaves room for one node. O(1).
     pub fn unlink<R>(&mut self, store: &mut NodeStore<R>, n: Node)
-        requires chain { IsSound (column_of store.old) self.old }
-        requires held { Holds (spelled (column_of store.old) self.old) n }
-        ensures list { Spells (column_of store.new) self.new (without (same_node n) (spelled (column_of store.old) self.old)) }
-        ensures tags { KeepsTags (column_of store.old (col_of self.old)) (column_of store.new (col_of self.old)) }
+        requires { HasNode self.old store.old n }
+        ensures list { Spells (column_of store.new) self.new
+            (without (same_node n) (nodes_of self.old store.old)) }
+        ensures tags { KeepsTags (column_of store.old (col_of self.old))
+            (column_of store.new (col_of self.old)) }
         ensures room { HasRoom self.new }
         ensures buckets { buckets_of self.new ≡ buckets_of self.old }
-        ensures col { col_of self.new ≡ col_of self.old }
-        ensures index { index_of self.new ≡ index_of self.old }
-        ensures others { KeepsOthers (column_of store.old) (column_of store.new) (col_of self.old) }
-        ensures contents { contents store.new ≡ contents store.old }
+        ensures rest { KeepsRest self.old self.new store.old store.new }
     {
         let Link {
             a: before,
@@ -109,21 +106,21 @@ impl HashIndex {
 
     // Puts `n` first into the bucket of a hash.
     pub(crate) fn put<R>(&mut self, store: &mut NodeStore<R>, n: Node, hash: u64)
-        requires chain { IsSound (column_of store.old) self.old }
+        requires chain { AreBucketsOf self.old store.old }
         requires node { IsNode (column_of store.old (col_of self.old)) n }
-        requires new { Lacks (spelled (column_of store.old) self.old) n }
+        requires new { Lacks (nodes_of self.old store.old) n }
         requires room { HasRoom self.old }
-        ensures chain { IsSound (column_of store.new) self.new }
-        ensures list { IsPermutation (n ∷ spelled (column_of store.old) self.old) (spelled (column_of store.new) self.new) }
+        ensures chain { AreBucketsOf self.new store.new }
+        ensures list { IsPermutation (n ∷ nodes_of self.old store.old)
+            (nodes_of self.new store.new) }
         ensures tag { tag_at (column_of store.new (col_of self.old)) n ≡ Some hash }
-        ensures tags { (m : Node) → m ≢ n → tag_at (column_of store.new (col_of self.old)) m ≡ tag_at (column_of store.old (col_of self.old)) m }
-        ensures same { (m : Node) → m ≢ n → Lacks (spelled (column_of store.old) self.old) m → column_of store.new (col_of self.old) m ≡ column_of store.old (col_of self.old) m }
+        ensures tags { (m : Node) → m ≢ n → tag_at (column_of store.new (col_of self.old)) m ≡
+            tag_at (column_of store.old (col_of self.old)) m }
+        ensures same { (m : Node) → m ≢ n → Lacks (nodes_of self.old store.old) m →
+            column_of store.new (col_of self.old) m ≡ column_of store.old (col_of self.old) m }
         ensures len { self.new.len ≡ self.old.len + 1 }
         ensures buckets { buckets_of self.new ≡ buckets_of self.old }
-        ensures col { col_of self.new ≡ col_of self.old }
-        ensures index { index_of self.new ≡ index_of self.old }
-        ensures others { KeepsOthers (column_of store.old) (column_of store.new) (col_of self.old) }
-        ensures contents { contents store.new ≡ contents store.old }
+        ensures rest { KeepsRest self.old self.new store.old store.new }
     {
         let bucket = self.bucket(hash);
         let head = self.buckets[bucket];

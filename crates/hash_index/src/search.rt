@@ -4,12 +4,13 @@ ghost use Rattle.std.specs.Option.{option_map_or};
 ghost use Rattle.std.specs.Ordering.{is_eq};
 ghost use Rattle.node_store.specs.declared.Node.{Node};
 ghost use Rattle.node_store.specs.Store.{IsNodeOf};
-ghost use Rattle.node_store.specs.ByNode.{column_of, record_of, same_node};
+ghost use Rattle.node_store.specs.ByNode.{column_of, same_node};
 ghost use Rattle.list_model.specs.Place.{count_equal, find_equal};
 ghost use Rattle.list_model.specs.Walk.{next as the_next};
 ghost use Rattle.seq_index.specs.Links.{AreNodesOf};
-ghost use Rattle.hash_index.specs.Spelled.{IsSound, spelled, col_of, index_of, Holds};
-ghost use Rattle.hash_index.specs.Hashed.{IsHashed, KeepsHash, side_of, matches, others};
+ghost use Rattle.hash_index.specs.Spelled.{IsSound, col_of, index_of, Holds};
+ghost use Rattle.hash_index.specs.Stored.{nodes_of, side_in, record_side_in, matches_in, HasKey, HasItsHash, HaveTheirHash, IsHashedBut, CanSearch};
+ghost use Rattle.hash_index.specs.Hashed.{others};
 ghost use Rattle.hash_index.specs.Chains.{tag_at};
 ghost use Rattle.hash_index.specs.Walks.{rest_of, Ends, HasHash};
 ghost use Rattle.node_store.specs.Column.{Column};
@@ -38,11 +39,10 @@ impl HashIndex {
         r: &R,
         except: Option<Node>,
     ) -> Option<Node>
-        requires chain { IsSound (column_of store.now) self.now }
-        requires has_key { IsTrue (E.has_key keys.now (index_of self.now)) }
-        requires hashed { IsHashed (E.hash_of keys.now (index_of self.now)) store.now (col_of self.now) (others except (spelled (column_of store.now) self.now)) }
+        requires others { IsHashedBut E.Extract except self.now store.now keys.now }
         requires except { AreNodesOf store.now except }
-        ensures { result ≡ find_equal (side_of (λ a. E.order_of keys.now (index_of self.now) a r.now) store.now) (others except (spelled (column_of store.now) self.now)) }
+        ensures { result ≡ find_equal (record_side_in E.Extract self.now store.now keys.now r.now)
+            (others except (nodes_of self.now store.now)) }
     {
         let hash = keys.hash(self.index, r);
         let mut at = self.head(hash);
@@ -63,11 +63,9 @@ impl HashIndex {
         keys: &E,
         probe: &E::Probe,
     ) -> Option<Node>
-        requires chain { IsSound (column_of store.now) self.now }
-        requires has_key { IsTrue (E.has_key keys.now (index_of self.now)) }
-        requires whole { IsTrue (E.is_whole keys.now (index_of self.now) probe.now) }
-        requires hashed { IsHashed (E.hash_of keys.now (index_of self.now)) store.now (col_of self.now) (spelled (column_of store.now) self.now) }
-        ensures { result ≡ slice_get (matches (side_of (λ a. E.probe_order_of keys.now (index_of self.now) a probe.now) store.now) (spelled (column_of store.now) self.now)) 0 }
+        requires { CanSearch E.Extract self.now store.now keys.now probe.now }
+        ensures { result ≡ slice_get
+            (matches_in E.Extract self.now store.now keys.now probe.now) 0 }
     {
         let hash = keys.hash_probe(self.index, probe);
         let head = self.head(hash);
@@ -83,12 +81,10 @@ impl HashIndex {
         probe: &E::Probe,
         n: Node,
     ) -> Option<Node>
-        requires chain { IsSound (column_of store.now) self.now }
-        requires has_key { IsTrue (E.has_key keys.now (index_of self.now)) }
-        requires whole { IsTrue (E.is_whole keys.now (index_of self.now) probe.now) }
-        requires hashed { IsHashed (E.hash_of keys.now (index_of self.now)) store.now (col_of self.now) (spelled (column_of store.now) self.now) }
-        requires held { Holds (matches (side_of (λ a. E.probe_order_of keys.now (index_of self.now) a probe.now) store.now) (spelled (column_of store.now) self.now)) n }
-        ensures { result ≡ the_next (same_node n) (matches (side_of (λ a. E.probe_order_of keys.now (index_of self.now) a probe.now) store.now) (spelled (column_of store.now) self.now)) }
+        requires search { CanSearch E.Extract self.now store.now keys.now probe.now }
+        requires held { Holds (matches_in E.Extract self.now store.now keys.now probe.now) n }
+        ensures { result ≡ the_next (same_node n)
+            (matches_in E.Extract self.now store.now keys.now probe.now) }
     {
         let link = store.link(n, self.col);
         self.match_from(store, keys, probe, link.tag, link.b)
@@ -96,11 +92,9 @@ impl HashIndex {
 
     /// How many nodes have records with the whole key. Expected O(1 + those nodes).
     pub fn count<R, E: Extract<R>>(&self, store: &NodeStore<R>, keys: &E, probe: &E::Probe) -> u64
-        requires chain { IsSound (column_of store.now) self.now }
-        requires has_key { IsTrue (E.has_key keys.now (index_of self.now)) }
-        requires whole { IsTrue (E.is_whole keys.now (index_of self.now) probe.now) }
-        requires hashed { IsHashed (E.hash_of keys.now (index_of self.now)) store.now (col_of self.now) (spelled (column_of store.now) self.now) }
-        ensures { result ≡ count_equal (side_of (λ a. E.probe_order_of keys.now (index_of self.now) a probe.now) store.now) (spelled (column_of store.now) self.now) }
+        requires { CanSearch E.Extract self.now store.now keys.now probe.now }
+        ensures { result ≡ count_equal (side_in E.Extract self.now store.now keys.now probe.now)
+            (nodes_of self.now store.now) }
     {
         let hash = keys.hash_probe(self.index, probe);
         let mut count = 0;
@@ -125,11 +119,13 @@ impl HashIndex {
         at: Option<Node>,
     ) -> Option<Node>
         requires ends { Ends (column_of store.now) self.now at }
-        requires hashed { IsHashed (E.hash_of keys.now (index_of self.now)) store.now (col_of self.now) (rest_of (column_of store.now) self.now at) }
+        requires hashed { HaveTheirHash E.Extract self.now store.now keys.now
+            (rest_of (column_of store.now) self.now at) }
         requires hash { hash ≡ E.probe_hash_of keys.now (index_of self.now) probe.now }
-        requires has_key { IsTrue (E.has_key keys.now (index_of self.now)) }
+        requires has_key { HasKey E.Extract self.now keys.now }
         requires whole { IsTrue (E.is_whole keys.now (index_of self.now) probe.now) }
-        ensures { result ≡ find_equal (side_of (λ a. E.probe_order_of keys.now (index_of self.now) a probe.now) store.now) (rest_of (column_of store.now) self.now at) }
+        ensures { result ≡ find_equal (side_in E.Extract self.now store.now keys.now probe.now)
+            (rest_of (column_of store.now) self.now at) }
     {
         let mut at = at;
         while let Some(n) = at {
@@ -156,11 +152,13 @@ impl HashIndex {
     ) -> bool
         requires node { IsNodeOf store.now n }
         requires tag { tag_at (column_of store.now (col_of self.now)) n ≡ Some tag }
-        requires hashed { option_map_or (λ m. same_node m n) except false ≡ false → KeepsHash (E.hash_of keys.now (index_of self.now)) store.now (col_of self.now) n }
+        requires hashed { option_map_or (λ m. same_node m n) except false ≡ false →
+            HasItsHash E.Extract self.now store.now keys.now n }
         requires hash { hash ≡ E.hash_of keys.now (index_of self.now) r.now }
         requires except { AreNodesOf store.now except }
-        requires has_key { IsTrue (E.has_key keys.now (index_of self.now)) }
-        ensures { result ≡ (not (option_map_or (λ m. same_node m n) except false) && is_eq (side_of (λ a. E.order_of keys.now (index_of self.now) a r.now) store.now n)) }
+        requires has_key { HasKey E.Extract self.now keys.now }
+        ensures { result ≡ (not (option_map_or (λ m. same_node m n) except false)
+            && is_eq (record_side_in E.Extract self.now store.now keys.now r.now n)) }
     {
         if tag != hash {
             return false;
@@ -181,11 +179,11 @@ impl HashIndex {
     ) -> bool
         requires node { IsNodeOf store.now n }
         requires tag { tag_at (column_of store.now (col_of self.now)) n ≡ Some tag }
-        requires hashed { KeepsHash (E.hash_of keys.now (index_of self.now)) store.now (col_of self.now) n }
+        requires hashed { HasItsHash E.Extract self.now store.now keys.now n }
         requires hash { hash ≡ E.probe_hash_of keys.now (index_of self.now) probe.now }
-        requires has_key { IsTrue (E.has_key keys.now (index_of self.now)) }
+        requires has_key { HasKey E.Extract self.now keys.now }
         requires whole { IsTrue (E.is_whole keys.now (index_of self.now) probe.now) }
-        ensures { result ≡ is_eq (side_of (λ a. E.probe_order_of keys.now (index_of self.now) a probe.now) store.now n) }
+        ensures { result ≡ is_eq (side_in E.Extract self.now store.now keys.now probe.now n) }
     {
         if tag != hash {
             return false;

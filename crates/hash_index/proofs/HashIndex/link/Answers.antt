@@ -13,4 +13,4 @@ returns-clause-hashed g c = λ h.
     let hash = g.E.Extract.hash_of c.args.keys.now (index_of c.args.self.now) in
     IsHashed_put hash c.args.store.now c.put.new.store (col_of c.args.self.now) c.args.n _ _
     (c.put.ensures.tag ∙ (ap Some c.hash-hash.ensures ∙ sym (ap (option_map hash) c.get.ensures)))
-    c.put.ensures.tags c.put.ensures.contents c.requires.new c.put.ensures.list h
+    c.put.ensures.tags c.put.ensures.rest.contents c.requires.new c.put.ensures.list h

@@ -7,44 +7,44 @@ use Rattle.hash_index.proofs.Matching.{Holds_kept, match_past, match_hash, past_
 use Rattle.hash_index.proofs.HashIndex.next_of.Goals as goal
 
 pub link-link-requires-clause-node : goal.link-link-requires-clause-node
-link-link-requires-clause-node g c = held_node _ _ _ c.args.n c.requires.chain (Holds_kept _ _ c.args.n c.requires.held)
+link-link-requires-clause-node g c = held_node _ _ _ c.args.n c.requires.search.chain (Holds_kept _ _ c.args.n c.requires.held)
 
 pub match_from-requires-clause-ends : goal.match_from-requires-clause-ends
 match_from-requires-clause-ends g c =
     let i = c.args.self.now in
     let key_hash = g.E.Extract.probe_hash_of c.args.keys.now (index_of i) c.args.probe.now in
-    let some = some_bucket _ i _ c.args.n c.requires.chain (Holds_kept _ _ c.args.n c.requires.held) in
+    let some = some_bucket _ i _ c.args.n c.requires.search.chain (Holds_kept _ _ c.args.n c.requires.held) in
     let within : g.E.Extract.probe_hash_of c.args.keys.now (index_of i) c.args.probe.now % vec_len i.buckets < vec_len i.buckets = omega (arith, some) in
-    let at = has_hash (column_of c.args.store.now) i key_hash _ within refl c.requires.chain in
+    let at = has_hash (column_of c.args.store.now) i key_hash _ within refl c.requires.search.chain in
     (match_past c.args.store.now i (g.E.Extract.hash_of c.args.keys.now (index_of c.args.self.now)) key_hash (λ a. g.E.Extract.probe_order_of c.args.keys.now (index_of c.args.self.now) a c.args.probe.now)
-    (λ a e. g.met.E.Extract.whole_hash c.args.keys.now (index_of c.args.self.now) a c.args.probe.now c.requires.has_key c.requires.whole e) _ at c.requires.hashed c.args.n c.link-link.result c.requires.chain.distinct c.requires.held c.link-link.ensures).0
+    (λ a e. g.met.E.Extract.whole_hash c.args.keys.now (index_of c.args.self.now) a c.args.probe.now c.requires.search.has_key c.requires.search.whole e) _ at c.requires.search.hashed c.args.n c.link-link.result c.requires.search.chain.distinct c.requires.held c.link-link.ensures).0
 
 pub match_from-requires-clause-hashed : goal.match_from-requires-clause-hashed
 match_from-requires-clause-hashed g c =
     let i = c.args.self.now in
     let key_hash = g.E.Extract.probe_hash_of c.args.keys.now (index_of i) c.args.probe.now in
-    let some = some_bucket _ i _ c.args.n c.requires.chain (Holds_kept _ _ c.args.n c.requires.held) in
+    let some = some_bucket _ i _ c.args.n c.requires.search.chain (Holds_kept _ _ c.args.n c.requires.held) in
     let within : g.E.Extract.probe_hash_of c.args.keys.now (index_of i) c.args.probe.now % vec_len i.buckets < vec_len i.buckets = omega (arith, some) in
-    let at = has_hash (column_of c.args.store.now) i key_hash _ within refl c.requires.chain in
+    let at = has_hash (column_of c.args.store.now) i key_hash _ within refl c.requires.search.chain in
     past_hashed c.args.store.now i (g.E.Extract.hash_of c.args.keys.now (index_of c.args.self.now)) key_hash (λ a. g.E.Extract.probe_order_of c.args.keys.now (index_of c.args.self.now) a c.args.probe.now)
-    (λ a e. g.met.E.Extract.whole_hash c.args.keys.now (index_of c.args.self.now) a c.args.probe.now c.requires.has_key c.requires.whole e) _ at c.requires.hashed c.args.n c.link-link.result c.requires.held c.link-link.ensures
+    (λ a e. g.met.E.Extract.whole_hash c.args.keys.now (index_of c.args.self.now) a c.args.probe.now c.requires.search.has_key c.requires.search.whole e) _ at c.requires.search.hashed c.args.n c.link-link.result c.requires.held c.link-link.ensures
 
 pub match_from-requires-clause-hash : goal.match_from-requires-clause-hash
 match_from-requires-clause-hash g c =
     let i = c.args.self.now in
     let key_hash = g.E.Extract.probe_hash_of c.args.keys.now (index_of i) c.args.probe.now in
-    let some = some_bucket _ i _ c.args.n c.requires.chain (Holds_kept _ _ c.args.n c.requires.held) in
+    let some = some_bucket _ i _ c.args.n c.requires.search.chain (Holds_kept _ _ c.args.n c.requires.held) in
     let within : g.E.Extract.probe_hash_of c.args.keys.now (index_of i) c.args.probe.now % vec_len i.buckets < vec_len i.buckets = omega (arith, some) in
-    let at = has_hash (column_of c.args.store.now) i key_hash _ within refl c.requires.chain in
+    let at = has_hash (column_of c.args.store.now) i key_hash _ within refl c.requires.search.chain in
     match_hash c.args.store.now i (g.E.Extract.hash_of c.args.keys.now (index_of c.args.self.now)) key_hash (λ a. g.E.Extract.probe_order_of c.args.keys.now (index_of c.args.self.now) a c.args.probe.now)
-    (λ a e. g.met.E.Extract.whole_hash c.args.keys.now (index_of c.args.self.now) a c.args.probe.now c.requires.has_key c.requires.whole e) _ at c.requires.hashed c.args.n c.link-link.result c.requires.held c.link-link.ensures
+    (λ a e. g.met.E.Extract.whole_hash c.args.keys.now (index_of c.args.self.now) a c.args.probe.now c.requires.search.has_key c.requires.search.whole e) _ at c.requires.search.hashed c.args.n c.link-link.result c.requires.held c.link-link.ensures
 
 pub returns : goal.returns
 returns g c =
     let i = c.args.self.now in
     let key_hash = g.E.Extract.probe_hash_of c.args.keys.now (index_of i) c.args.probe.now in
-    let some = some_bucket _ i _ c.args.n c.requires.chain (Holds_kept _ _ c.args.n c.requires.held) in
+    let some = some_bucket _ i _ c.args.n c.requires.search.chain (Holds_kept _ _ c.args.n c.requires.held) in
     let within : g.E.Extract.probe_hash_of c.args.keys.now (index_of i) c.args.probe.now % vec_len i.buckets < vec_len i.buckets = omega (arith, some) in
-    let at = has_hash (column_of c.args.store.now) i key_hash _ within refl c.requires.chain in
+    let at = has_hash (column_of c.args.store.now) i key_hash _ within refl c.requires.search.chain in
     c.match_from.ensures ∙ (match_past c.args.store.now i (g.E.Extract.hash_of c.args.keys.now (index_of c.args.self.now)) key_hash (λ a. g.E.Extract.probe_order_of c.args.keys.now (index_of c.args.self.now) a c.args.probe.now)
-    (λ a e. g.met.E.Extract.whole_hash c.args.keys.now (index_of c.args.self.now) a c.args.probe.now c.requires.has_key c.requires.whole e) _ at c.requires.hashed c.args.n c.link-link.result c.requires.chain.distinct c.requires.held c.link-link.ensures).1
+    (λ a e. g.met.E.Extract.whole_hash c.args.keys.now (index_of c.args.self.now) a c.args.probe.now c.requires.search.has_key c.requires.search.whole e) _ at c.requires.search.hashed c.args.n c.link-link.result c.requires.search.chain.distinct c.requires.held c.link-link.ensures).1

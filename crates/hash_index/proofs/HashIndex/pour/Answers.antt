@@ -38,14 +38,14 @@ loop-preserved g c =
     let tag = subst (λ k. tag_at (column_of c.put.new.store k) c.in-Some.n ≡ Some c.link-link.result.tag) col c.put.ensures.tag in
     let tags = subst (λ k. (m : Node) → m ≢ c.in-Some.n → tag_at (column_of c.put.new.store k) m ≡ tag_at (column_of c.loop.store k) m) col c.put.ensures.tags in
     let kept = subst (λ k. (m : Node) → m ≢ c.in-Some.n → Lacks (spelled (column_of c.loop.store) c.loop.fresh) m → column_of c.put.new.store k m ≡ column_of c.loop.store k m) col c.put.ensures.same in
-    let others = subst (λ k. KeepsOthers (column_of c.loop.store) (column_of c.put.new.store) k) col c.put.ensures.others in
+    let others = subst (λ k. KeepsOthers (column_of c.loop.store) (column_of c.put.new.store) k) col c.put.ensures.rest.others in
     record {
       pouring = pour_step _ _ _ _ _ _ _ _ _ c.in-Some.n cut c.loop.invariant.pouring c.in-Some.is c.requires.chain.distinct after c.put.ensures.list (tag ∙ sym (tag_is (column_of c.loop.store c.args.self.now.col) c.in-Some.n c.link-link.result c.link-link.ensures)) tags kept;
       sound = c.put.ensures.chain;
-      col = c.put.ensures.col ∙ c.loop.invariant.col;
-      index = c.put.ensures.index ∙ c.loop.invariant.index;
+      col = c.put.ensures.rest.col ∙ c.loop.invariant.col;
+      index = c.put.ensures.rest.index ∙ c.loop.invariant.index;
       len = c.put.ensures.len ∙ ap (λ k. k + 1) c.loop.invariant.len;
       room = omega (arith, c.loop.invariant.room, c.put.ensures.buckets);
       others = λ j ne. others j ne ∙ c.loop.invariant.others j ne;
-      contents = c.put.ensures.contents ∙ c.loop.invariant.contents;
+      contents = c.put.ensures.rest.contents ∙ c.loop.invariant.contents;
     }

@@ -19,13 +19,13 @@ loop-at-smaller g c =
 
 pub loop-at-init : goal.loop-at-init
 loop-at-init g c =
-    let at = c.head-at.ensures (column_of c.args.store.now) c.requires.chain in
+    let at = c.head-at.ensures (column_of c.args.store.now) c.requires.others.chain in
     record {
       ends = at.ends;
       hashed = others_hashed c.args.store.now c.args.self.now (g.E.Extract.hash_of c.args.keys.now (index_of c.args.self.now)) c.hash-hash.result (λ a. g.E.Extract.order_of c.args.keys.now (index_of c.args.self.now) a c.args.r.now)
-          (λ a e. g.met.E.Extract.same_hash c.args.keys.now (index_of c.args.self.now) a c.args.r.now c.requires.has_key e ∙ sym c.hash-hash.ensures) c.head-at.result at c.args.except c.requires.hashed;
+          (λ a e. g.met.E.Extract.same_hash c.args.keys.now (index_of c.args.self.now) a c.args.r.now c.requires.others.has_key e ∙ sym c.hash-hash.ensures) c.head-at.result at c.args.except c.requires.others.hashed;
       same = sym (others_in c.args.store.now c.args.self.now (g.E.Extract.hash_of c.args.keys.now (index_of c.args.self.now)) c.hash-hash.result (λ a. g.E.Extract.order_of c.args.keys.now (index_of c.args.self.now) a c.args.r.now)
-          (λ a e. g.met.E.Extract.same_hash c.args.keys.now (index_of c.args.self.now) a c.args.r.now c.requires.has_key e ∙ sym c.hash-hash.ensures) c.head-at.result at c.args.except c.requires.hashed);
+          (λ a e. g.met.E.Extract.same_hash c.args.keys.now (index_of c.args.self.now) a c.args.r.now c.requires.others.has_key e ∙ sym c.hash-hash.ensures) c.head-at.result at c.args.except c.requires.others.hashed);
     }
 
 pub returns-then-is_other : goal.returns-then-is_other

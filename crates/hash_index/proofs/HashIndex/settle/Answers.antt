@@ -13,10 +13,10 @@ use Rattle.hash_index.proofs.Laws.{node_held, spelled_is, Lacks_without, Holds_m
 use Rattle.hash_index.proofs.HashIndex.settle.Goals as goal
 
 pub get-requires : goal.get-requires
-get-requires g c = node_held c.args.store.now c.args.self.now c.args.n c.requires.chain c.requires.held
+get-requires g c = node_held c.args.store.now c.args.self.now c.args.n c.requires.node.chain c.requires.node.held
 
 pub link-requires-clause-node : goal.link-requires-clause-node
-link-requires-clause-node g c = node_in_column c.args.store.now (col_of c.args.self.now) c.args.n (node_held c.args.store.now c.args.self.now c.args.n c.requires.chain c.requires.held)
+link-requires-clause-node g c = node_in_column c.args.store.now (col_of c.args.self.now) c.args.n (node_held c.args.store.now c.args.self.now c.args.n c.requires.node.chain c.requires.node.held)
 
 pub returns-then-link-hash-clause-hashed : goal.returns-then-link-hash-clause-hashed
 returns-then-link-hash-clause-hashed g c = λ h.
@@ -26,7 +26,7 @@ returns-then-link-hash-clause-hashed g c = λ h.
 
 pub put-requires-clause-node : goal.put-requires-clause-node
 put-requires-clause-node g c =
-    node_in_column c.unlink.new.store (col_of c.unlink.new.self) c.args.n (IsNodeOf_kept c.args.store.now c.unlink.new.store c.args.n c.unlink.ensures.contents (node_held c.args.store.now c.args.self.now c.args.n c.requires.chain c.requires.held))
+    node_in_column c.unlink.new.store (col_of c.unlink.new.self) c.args.n (IsNodeOf_kept c.args.store.now c.unlink.new.store c.args.n c.unlink.ensures.rest.contents (node_held c.args.store.now c.args.self.now c.args.n c.requires.node.chain c.requires.node.held))
 
 pub put-requires-clause-new : goal.put-requires-clause-new
 put-requires-clause-new g c =
@@ -35,24 +35,24 @@ put-requires-clause-new g c =
 pub returns-clause-list : goal.returns-clause-list
 returns-clause-list g c =
     let rest = spelled_is (column_of c.unlink.new.store) c.unlink.new.self _ c.unlink.ensures.list in
-    IsPermutation-trans _ _ _ (Holds_moved _ c.args.n c.requires.chain.distinct c.requires.held) (subst (λ (z : List Node). IsPermutation (c.args.n ∷ z) (spelled (column_of c.put.new.store) c.put.new.self)) rest c.put.ensures.list)
+    IsPermutation-trans _ _ _ (Holds_moved _ c.args.n c.requires.node.chain.distinct c.requires.node.held) (subst (λ (z : List Node). IsPermutation (c.args.n ∷ z) (spelled (column_of c.put.new.store) c.put.new.self)) rest c.put.ensures.list)
 
 pub returns-clause-hashed : goal.returns-clause-hashed
 returns-clause-hashed g c = λ h.
     let hash = g.E.Extract.hash_of c.args.keys.now (index_of c.args.self.now) in
-    let col = c.unlink.ensures.col in
+    let col = c.unlink.ensures.rest.col in
     let rest = spelled_is (column_of c.unlink.new.store) c.unlink.new.self _ c.unlink.ensures.list in
-    let left = IsHashed_tags hash c.args.store.now c.unlink.new.store (col_of c.args.self.now) _ c.unlink.ensures.tags c.unlink.ensures.contents h in
+    let left = IsHashed_tags hash c.args.store.now c.unlink.new.store (col_of c.args.self.now) _ c.unlink.ensures.tags c.unlink.ensures.rest.contents h in
     let moved = subst (λ k. IsHashed hash c.unlink.new.store k (spelled (column_of c.unlink.new.store) c.unlink.new.self)) (sym col)
     (subst (λ (z : List Node). IsHashed hash c.unlink.new.store (col_of c.args.self.now) z) (sym rest) left) in
-    let record_is = ap (λ f. f c.args.n) (records_kept c.args.store.now c.unlink.new.store c.unlink.ensures.contents) ∙ c.get.ensures in
+    let record_is = ap (λ f. f c.args.n) (records_kept c.args.store.now c.unlink.new.store c.unlink.ensures.rest.contents) ∙ c.get.ensures in
     let lacks = subst (λ (z : List Node). Lacks z c.args.n) (sym rest) (Lacks_without (spelled (column_of c.args.store.now) c.args.self.now) c.args.n) in
     subst (λ k. IsHashed hash c.put.new.store k (spelled (column_of c.put.new.store) c.put.new.self)) col
     (IsHashed_put hash c.unlink.new.store c.put.new.store (col_of c.unlink.new.self) c.args.n _ _
     (c.put.ensures.tag ∙ (ap Some c.hash-hash.ensures ∙ sym (ap (option_map hash) record_is)))
-    c.put.ensures.tags c.put.ensures.contents lacks c.put.ensures.list moved)
+    c.put.ensures.tags c.put.ensures.rest.contents lacks c.put.ensures.list moved)
 
 pub returns-clause-room : goal.returns-clause-room
 returns-clause-room g c = λ room.
-    let count = length_permutation _ _ (Holds_moved _ c.args.n c.requires.chain.distinct c.requires.held) in
-    omega (arith, room, count, c.put.ensures.len, c.unlink.ensures.list.len, c.requires.chain.len, c.put.ensures.buckets, c.unlink.ensures.buckets)
+    let count = length_permutation _ _ (Holds_moved _ c.args.n c.requires.node.chain.distinct c.requires.node.held) in
+    omega (arith, room, count, c.put.ensures.len, c.unlink.ensures.list.len, c.requires.node.chain.len, c.put.ensures.buckets, c.unlink.ensures.buckets)

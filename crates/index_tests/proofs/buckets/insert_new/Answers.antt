@@ -9,18 +9,18 @@ use Rattle.hash_index.proofs.Laws.{IsSound_added, Lacks_added, Lacks_spelled_add
 use Rattle.index_tests.proofs.buckets.insert_new.Goals as goal
 
 pub add-requires : goal.add-requires
-add-requires g c = omega (arith, c.requires.count, added_kept c.args.store.now c.reserve_one.new.store c.reserve_one.ensures.contents)
+add-requires g c = omega (arith, c.requires.count, added_kept c.args.store.now c.reserve_one.new.store c.reserve_one.ensures.rest.contents)
 
 pub returns-in_default-add-clause-hashed : goal.returns-in_default-add-clause-hashed
 returns-in_default-add-clause-hashed g c =
     let hash = g.E.Extract.hash_of c.args.keys.now (index_of c.args.index.now) in
-    let held = IsHashed_tags hash c.args.store.now c.reserve_one.new.store (col_of c.args.index.now) _ c.reserve_one.ensures.tags c.reserve_one.ensures.contents c.requires.hashed in
+    let held = IsHashed_tags hash c.args.store.now c.reserve_one.new.store (col_of c.args.index.now) _ c.reserve_one.ensures.tags c.reserve_one.ensures.rest.contents c.requires.hashed in
     let moved = IsHashed_moved hash c.reserve_one.new.store (col_of c.args.index.now) _ _ c.reserve_one.ensures.list held in
     subst (λ (s : Store g.row.R.Denot). IsHashed (g.E.Extract.hash_of c.args.keys.now (index_of c.args.index.now)) s (col_of c.args.index.now) (spelled (column_of s) c.reserve_one.new.self)) (sym c.in_default-add.ensures.unchanged) moved
 
 pub returns-in_default-add-clause-count : goal.returns-in_default-add-clause-count
 returns-in_default-add-clause-count g c =
-    omega (arith, added_kept c.args.store.now c.reserve_one.new.store c.reserve_one.ensures.contents, ap (λ (s : Store g.row.R.Denot). s.added) c.in_default-add.ensures.unchanged)
+    omega (arith, added_kept c.args.store.now c.reserve_one.new.store c.reserve_one.ensures.rest.contents, ap (λ (s : Store g.row.R.Denot). s.added) c.in_default-add.ensures.unchanged)
 
 pub link-requires-clause-chain : goal.link-requires-clause-chain
 link-requires-clause-chain g c = IsSound_added c.reserve_one.new.store c.add.new.self c.in-Ok-add.n c.args.value c.reserve_one.new.self c.in-Ok-add.ensures.added c.reserve_one.ensures.chain
@@ -31,7 +31,7 @@ link-requires-clause-new g c = Lacks_spelled_added c.reserve_one.new.store c.add
 pub returns-clause-hashed : goal.returns-clause-hashed
 returns-clause-hashed g c =
     let hash = g.E.Extract.hash_of c.args.keys.now (index_of c.args.index.now) in
-    let held = IsHashed_tags hash c.args.store.now c.reserve_one.new.store (col_of c.args.index.now) _ c.reserve_one.ensures.tags c.reserve_one.ensures.contents c.requires.hashed in
+    let held = IsHashed_tags hash c.args.store.now c.reserve_one.new.store (col_of c.args.index.now) _ c.reserve_one.ensures.tags c.reserve_one.ensures.rest.contents c.requires.hashed in
     let moved = IsHashed_moved hash c.reserve_one.new.store (col_of c.args.index.now) _ _ c.reserve_one.ensures.list held in
     let r = c.reserve_one.new.self in
     let a = c.in-Ok-add.ensures.added in
@@ -40,12 +40,12 @@ returns-clause-hashed g c =
     let added = IsHashed_added hash c.reserve_one.new.store c.add.new.self (col_of c.args.index.now) c.in-Ok-add.n c.args.value xs a lacks moved in
     let same = spelled_added c.reserve_one.new.store c.add.new.self c.in-Ok-add.n c.args.value r a c.reserve_one.ensures.chain in
     let put = subst (λ (z : List Node). IsHashed hash c.add.new.self (col_of c.args.index.now) z) (sym same) added in
-    let by_col = subst (λ k. IsHashed hash c.add.new.self k (spelled (column_of c.add.new.self) c.reserve_one.new.self)) (sym c.reserve_one.ensures.col) put in
-    let by_index = subst (λ k. IsHashed (g.E.Extract.hash_of c.args.keys.now k) c.add.new.self (col_of c.reserve_one.new.self) (spelled (column_of c.add.new.self) c.reserve_one.new.self)) (sym c.reserve_one.ensures.index) by_col in
-    subst (λ k. IsHashed (g.E.Extract.hash_of c.args.keys.now k) c.link.new.store (col_of c.args.index.now) (spelled (column_of c.link.new.store) c.link.new.self)) c.reserve_one.ensures.index
-    (subst (λ k. IsHashed (g.E.Extract.hash_of c.args.keys.now (index_of c.reserve_one.new.self)) c.link.new.store k (spelled (column_of c.link.new.store) c.link.new.self)) c.reserve_one.ensures.col
+    let by_col = subst (λ k. IsHashed hash c.add.new.self k (spelled (column_of c.add.new.self) c.reserve_one.new.self)) (sym c.reserve_one.ensures.rest.col) put in
+    let by_index = subst (λ k. IsHashed (g.E.Extract.hash_of c.args.keys.now k) c.add.new.self (col_of c.reserve_one.new.self) (spelled (column_of c.add.new.self) c.reserve_one.new.self)) (sym c.reserve_one.ensures.rest.index) by_col in
+    subst (λ k. IsHashed (g.E.Extract.hash_of c.args.keys.now k) c.link.new.store (col_of c.args.index.now) (spelled (column_of c.link.new.store) c.link.new.self)) c.reserve_one.ensures.rest.index
+    (subst (λ k. IsHashed (g.E.Extract.hash_of c.args.keys.now (index_of c.reserve_one.new.self)) c.link.new.store k (spelled (column_of c.link.new.store) c.link.new.self)) c.reserve_one.ensures.rest.col
     (c.link.ensures.hashed by_index))
 
 pub returns-clause-count : goal.returns-clause-count
 returns-clause-count g c =
-    omega (arith, added_kept c.args.store.now c.reserve_one.new.store c.reserve_one.ensures.contents, added_kept c.add.new.self c.link.new.store c.link.ensures.contents, c.in-Ok-add.ensures.count)
+    omega (arith, added_kept c.args.store.now c.reserve_one.new.store c.reserve_one.ensures.rest.contents, added_kept c.add.new.self c.link.new.store c.link.ensures.rest.contents, c.in-Ok-add.ensures.count)

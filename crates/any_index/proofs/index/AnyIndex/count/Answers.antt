@@ -20,10 +20,18 @@ returns-in-Ranked g c =
     let side = side_of (record_of c.args.store.now) (λ a. g.E.Extract.probe_order_of c.args.keys.now (ranked.index_of c.in-Ranked.tree) a c.args.probe.now) in
     rw c.in-Ranked.is (omega (arith, c.upper_rank.ensures, c.lower_rank.ensures, below-plus-count_equal side (ranked.spelled (column_of c.args.store.now) c.in-Ranked.tree)))
 
-pub count-requires-clause-hashed : goal.count-requires-clause-hashed
-count-requires-clause-hashed g c =
+pub count-requires : goal.count-requires
+count-requires g c =
+    let sound = rw c.in-Hashed.is at c.requires.sound in
+    let key = rw c.in-Hashed.is at c.requires.key in
+    let fits = rw c.in-Hashed.is at c.requires.fits in
     let keyed = rw c.in-Hashed.is at c.requires.keyed in
-    IsHashed_moved (g.E.Extract.hash_of c.args.keys.now (buckets.index_of c.in-Hashed.buckets)) c.args.store.now (buckets.col_of c.in-Hashed.buckets) _ _ (moved_back _) keyed
+    record {
+      chain = sound;
+      has_key = key;
+      whole = fits;
+      hashed = IsHashed_moved (g.E.Extract.hash_of c.args.keys.now (buckets.index_of c.in-Hashed.buckets)) c.args.store.now (buckets.col_of c.in-Hashed.buckets) _ _ (moved_back _) keyed;
+    }
 
 pub returns-in-Hashed : goal.returns-in-Hashed
 returns-in-Hashed g c =

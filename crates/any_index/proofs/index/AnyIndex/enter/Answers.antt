@@ -88,5 +88,5 @@ returns-in-Hashed-clause-keyed g c =
     let hash = g.E.Extract.hash_of c.args.keys.now in
     let index = buckets.index_of c.in-Hashed.buckets in
     let col = buckets.col_of c.in-Hashed.buckets in
-    hashed_at hash c.link-in-Hashed.new.store _ index _ col _ _ c.link-in-Hashed.ensures.index c.link-in-Hashed.ensures.col (moved_by_number _)
+    hashed_at hash c.link-in-Hashed.new.store _ index _ col _ _ c.link-in-Hashed.ensures.rest.index c.link-in-Hashed.ensures.rest.col (moved_by_number _)
     (c.link-in-Hashed.ensures.hashed (IsHashed_moved (hash index) c.args.store.now col _ _ (moved_back _) keyed))

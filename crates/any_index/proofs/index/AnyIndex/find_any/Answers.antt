@@ -8,10 +8,18 @@ use Rattle.any_index.proofs.ByNumber.{moved_by_number, moved_back}
 use Rattle.any_index.proofs.SomeNode.{first_has, first_match_has, none_matches}
 use Rattle.any_index.proofs.index.AnyIndex.find_any.Goals as goal
 
-pub first_of-requires-clause-hashed : goal.first_of-requires-clause-hashed
-first_of-requires-clause-hashed g c =
+pub first_of-requires : goal.first_of-requires
+first_of-requires g c =
+    let sound = rw c.in-Hashed.is at c.requires.sound in
+    let key = rw c.in-Hashed.is at c.requires.key in
+    let fits = rw c.in-Hashed.is at c.requires.fits in
     let keyed = rw c.in-Hashed.is at c.requires.keyed in
-    IsHashed_moved (g.E.Extract.hash_of c.args.keys.now (buckets.index_of c.in-Hashed.buckets)) c.args.store.now (buckets.col_of c.in-Hashed.buckets) _ _ (moved_back _) keyed
+    record {
+      chain = sound;
+      has_key = key;
+      whole = fits;
+      hashed = IsHashed_moved (g.E.Extract.hash_of c.args.keys.now (buckets.index_of c.in-Hashed.buckets)) c.args.store.now (buckets.col_of c.in-Hashed.buckets) _ _ (moved_back _) keyed;
+    }
 
 pub returns-in-Hashed-clause-found : goal.returns-in-Hashed-clause-found
 returns-in-Hashed-clause-found g c =

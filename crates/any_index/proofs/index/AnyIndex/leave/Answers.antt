@@ -11,10 +11,10 @@ use Rattle.any_index.proofs.ByNumber.{Holds_moved, moved_back}
 use Rattle.any_index.proofs.Hashed.{list_left, keeps_hashed_list}
 use Rattle.any_index.proofs.index.AnyIndex.leave.Goals as goal
 
-pub unlink-requires-in-Hashed-clause-held : goal.unlink-requires-in-Hashed-clause-held
-unlink-requires-in-Hashed-clause-held g c =
-    let held = rw c.in-Hashed.is at c.requires.held in
-    Holds_moved _ _ c.args.n (moved_back _) held
+pub unlink-requires-in-Hashed : goal.unlink-requires-in-Hashed
+unlink-requires-in-Hashed g c =
+    let node = rw c.in-Hashed.is at c.requires in
+    record { chain = node.sound; held = Holds_moved _ _ c.args.n (moved_back _) node.held }
 
 pub returns-in-Sequenced-clause-sound : goal.returns-in-Sequenced-clause-sound
 returns-in-Sequenced-clause-sound g c = seq.IsSound_from _ _ _ c.unlink.ensures.chain.list
@@ -59,5 +59,5 @@ pub returns-in-Hashed-clause-keyed : goal.returns-in-Hashed-clause-keyed
 returns-in-Hashed-clause-keyed g c = λ order hash_of h.
     let sound = rw c.in-Hashed.is at c.requires.sound in
     let keyed = rw c.in-Hashed.is at h in
-    keeps_hashed_list hash_of c.args.store.now c.unlink-in-Hashed.new.store c.in-Hashed.buckets c.unlink-in-Hashed.new.self _ _ c.unlink-in-Hashed.ensures.index c.unlink-in-Hashed.ensures.col c.unlink-in-Hashed.ensures.tags c.unlink-in-Hashed.ensures.contents
+    keeps_hashed_list hash_of c.args.store.now c.unlink-in-Hashed.new.store c.in-Hashed.buckets c.unlink-in-Hashed.new.self _ _ c.unlink-in-Hashed.ensures.rest.index c.unlink-in-Hashed.ensures.rest.col c.unlink-in-Hashed.ensures.tags c.unlink-in-Hashed.ensures.rest.contents
     (ap by_number (hash.spelled_is _ _ _ c.unlink-in-Hashed.ensures.list) ∙ list_left c.args.store.now c.in-Hashed.buckets c.args.n sound) keyed

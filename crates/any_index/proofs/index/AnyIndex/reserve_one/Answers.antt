@@ -9,4 +9,4 @@ returns-in-Hashed-clause-list g c =
 pub returns-in-Hashed-clause-keyed : goal.returns-in-Hashed-clause-keyed
 returns-in-Hashed-clause-keyed g c = λ order hash_of h.
     let keyed = rw c.in-Hashed.is at h in
-    keeps_hashed hash_of c.args.store.now c.reserve_one-in-Hashed.new.store c.in-Hashed.buckets c.reserve_one-in-Hashed.new.self c.reserve_one-in-Hashed.ensures.index c.reserve_one-in-Hashed.ensures.col c.reserve_one-in-Hashed.ensures.tags c.reserve_one-in-Hashed.ensures.contents c.reserve_one-in-Hashed.ensures.list keyed
+    keeps_hashed hash_of c.args.store.now c.reserve_one-in-Hashed.new.store c.in-Hashed.buckets c.reserve_one-in-Hashed.new.self c.reserve_one-in-Hashed.ensures.rest.index c.reserve_one-in-Hashed.ensures.rest.col c.reserve_one-in-Hashed.ensures.tags c.reserve_one-in-Hashed.ensures.rest.contents c.reserve_one-in-Hashed.ensures.list keyed

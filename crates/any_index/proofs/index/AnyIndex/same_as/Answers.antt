@@ -8,14 +8,20 @@ use Rattle.any_index.proofs.ByNumber.{moved_back}
 use Rattle.any_index.proofs.Same.{others_is, same_answer, excepted_moved}
 use Rattle.any_index.proofs.index.AnyIndex.same_as.Goals as goal
 
-pub same_as-requires-in-Hashed-clause-hashed : goal.same_as-requires-in-Hashed-clause-hashed
-same_as-requires-in-Hashed-clause-hashed g c =
+pub same_as-requires-in-Hashed-clause-others : goal.same_as-requires-in-Hashed-clause-others
+same_as-requires-in-Hashed-clause-others g c =
+    let sound = rw c.in-Hashed.is at c.requires.others.sound in
+    let key = rw c.in-Hashed.is at c.requires.others.key in
     let keyed = rw c.in-Hashed.is at c.requires.others.keyed in
     let hash = g.E.Extract.hash_of c.args.keys.now (buckets.index_of c.in-Hashed.buckets) in
     let col = buckets.col_of c.in-Hashed.buckets in
     let xs = buckets.spelled (column_of c.args.store.now) c.in-Hashed.buckets in
-    subst (λ (z : List Node). IsHashed hash c.args.store.now col z) (sym (others_is c.args.except xs))
-    (IsHashed_moved hash c.args.store.now col _ _ (excepted_moved c.args.except _ xs (moved_back xs)) keyed)
+    record {
+      chain = sound;
+      has_key = key;
+      hashed = subst (λ (z : List Node). IsHashed hash c.args.store.now col z) (sym (others_is c.args.except xs))
+          (IsHashed_moved hash c.args.store.now col _ _ (excepted_moved c.args.except _ xs (moved_back xs)) keyed);
+    }
 
 pub returns-in-Ordered : goal.returns-in-Ordered
 returns-in-Ordered g c = rw c.in-Ordered.is c.same_as.ensures

@@ -12,10 +12,10 @@ use Rattle.any_index.proofs.ByNumber.{Holds_moved, moved_by_number, moved_back, 
 use Rattle.any_index.proofs.Hashed.{list_moved, hashed_at}
 use Rattle.any_index.proofs.index.AnyIndex.settle.Goals as goal
 
-pub settle-requires-in-Hashed-clause-held : goal.settle-requires-in-Hashed-clause-held
-settle-requires-in-Hashed-clause-held g c =
-    let held = rw c.in-Hashed.is at c.requires.node.held in
-    Holds_moved _ _ c.args.n (moved_back _) held
+pub settle-requires-in-Hashed-clause-node : goal.settle-requires-in-Hashed-clause-node
+settle-requires-in-Hashed-clause-node g c =
+    let node = rw c.in-Hashed.is at c.requires.node in
+    record { chain = node.sound; held = Holds_moved _ _ c.args.n (moved_back _) node.held }
 
 pub returns-in-Ordered-clause-sound : goal.returns-in-Ordered-clause-sound
 returns-in-Ordered-clause-sound g c = ord.IsSound_from _ _ _ c.settle.ensures.list
@@ -66,5 +66,5 @@ returns-in-Hashed-clause-keyed g c =
     let hash = g.E.Extract.hash_of c.args.keys.now in
     let index = buckets.index_of c.in-Hashed.buckets in
     let col = buckets.col_of c.in-Hashed.buckets in
-    hashed_at hash c.settle-in-Hashed.new.store _ index _ col _ _ c.settle-in-Hashed.ensures.index c.settle-in-Hashed.ensures.col (moved_by_number _)
+    hashed_at hash c.settle-in-Hashed.new.store _ index _ col _ _ c.settle-in-Hashed.ensures.rest.index c.settle-in-Hashed.ensures.rest.col (moved_by_number _)
     (c.settle-in-Hashed.ensures.hashed (IsHashed_moved (hash index) c.args.store.now col _ _ (without_moved _ _ c.args.n (moved_back _)) keyed))
