@@ -4,6 +4,8 @@
 mod end;
 mod listening;
 mod serving;
+#[cfg(test)]
+mod tests;
 
 pub use end::{Done, End};
 pub use listening::Listening;
