@@ -1,7 +1,11 @@
 //! Exit statuses and texts.
+use crate::opens::{Listens, Makes, Opens};
 use crate::program::main_with;
+use std::env::Env;
 use std::io::{Read, Write};
+use std::sync::Wait;
 use std::test::Fail;
+use std::thread::Threads;
 use std::{env, fs};
 use table_engine::{Sink, Source};
 
@@ -48,7 +52,7 @@ fn refused(words: &'static str, status: u8, fault: &'static str) -> Run {
 }
 
 /// A temporary file's path.
-fn path_of(rt: &HostRuntime, name: &str) -> Result<String, Fail> {
+fn path_of<R: AllocGlobal + Env>(rt: &R, name: &str) -> Result<String, Fail> {
     let mut path = String::from_str(rt.alloc(), env::temp_dir(rt)?.as_str())?;
     path.push_str("/table_server_test_")?;
     path.push_str(name)?;
@@ -56,7 +60,7 @@ fn path_of(rt: &HostRuntime, name: &str) -> Result<String, Fail> {
 }
 
 /// The words of a text.
-fn words_of(rt: &HostRuntime, text: &str) -> Result<Vec<String>, Fail> {
+fn words_of<R: AllocGlobal + Env>(rt: &R, text: &str) -> Result<Vec<String>, Fail> {
     let mut words = Vec::new(rt.alloc());
     for word in text.split_whitespace() {
         words.push(match word.strip_prefix('@') {
@@ -68,8 +72,8 @@ fn words_of(rt: &HostRuntime, text: &str) -> Result<Vec<String>, Fail> {
 }
 
 /// The status of a run, and its fault's text.
-fn ended<I: Read, O: Write>(
-    rt: &HostRuntime,
+fn ended<R: AllocGlobal + Opens + Makes + Listens + Threads + Wait + Sync, I: Read, O: Write>(
+    rt: &R,
     words: &[String],
     input: &mut I,
     output: &mut O,
@@ -86,7 +90,10 @@ fn ended<I: Read, O: Write>(
 }
 
 /// Whether a run ends as it is to.
-fn is_right(rt: &HostRuntime, run: &Run) -> Result<bool, Fail> {
+fn is_right<R: AllocGlobal + Env + Opens + Makes + Listens + Threads + Wait + Sync>(
+    rt: &R,
+    run: &Run,
+) -> Result<bool, Fail> {
     let words = words_of(rt, run.words)?;
     let mut output = Vec::new(rt.alloc());
     let (status, said) = ended(rt, &words, &mut LIST.as_bytes(), &mut output)?;
