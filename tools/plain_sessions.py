@@ -1,7 +1,7 @@
 """Tables behind locks in plain Python, with passes and journals: what `shared_cases` has to print for the lines of its input."""
 import dataclasses
 
-from plain_machine import BUILT_IN, Fault, Machine, read
+from plain_machine import BUILT_IN, MAX_LINE, Fault, Machine, read
 
 THREADS = """\
   table 0: 100 and 100 in order
@@ -143,6 +143,12 @@ class Hall:
             it.kept = []
         return said
 
+    def served(self, tables, held, line):
+        """What a line of a stream is told: nothing where it is blank."""
+        if len(line) > MAX_LINE:
+            return '{"err":"line"}'
+        return self.sets[tables].call(held, line) if line.strip(b" \t\r") else ""
+
     def on_serve(self, words, *_):
         tables, name = words
         if name not in self.passes:
@@ -152,7 +158,7 @@ class Hall:
         held, said = self.passes[name], []
         kept, held.kept = held.kept, []
         for line in kept:
-            told = self.sets[tables].call(held, line) if line.strip(b" \t\r") else ""
+            told = self.served(tables, held, line)
             if told and not told.startswith("{"):
                 # (what waits for the end of the piece that was read is not written; the cases that are refused have one piece)
                 return ["  " + told]
