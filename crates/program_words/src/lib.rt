@@ -9,6 +9,3 @@ mod read;
 pub use address::Address;
 pub use asked::{Asked, WordsFault};
 pub use read::read_words;
-
-#[cfg(test)]
-mod tests;

@@ -4,8 +4,6 @@
 mod end;
 mod listening;
 mod serving;
-#[cfg(test)]
-mod tests;
 
 pub use end::{Done, End};
 pub use listening::Listening;

@@ -1,15 +1,7 @@
 //! Words and what they ask for.
-use crate::{Address, Asked, WordsFault, read_words};
+use super::runs::words_of;
+use program_words::{Address, Asked, WordsFault, read_words};
 use std::test::Fail;
-
-/// The words of a text.
-fn words_of(rt: &HostRuntime, text: &str) -> Result<Vec<String>, Fail> {
-    let mut words = Vec::new(rt.alloc());
-    for word in text.split_whitespace() {
-        words.push(String::from_str(rt.alloc(), word)?)?;
-    }
-    Ok(words)
-}
 
 #[test]
 fn words_that_run(rt: HostRuntime) -> Result<(), Fail> {

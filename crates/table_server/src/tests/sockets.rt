@@ -1,5 +1,4 @@
 //! Connections over both kinds of sockets, deep lines, and how threads end.
-use crate::{Done, End, Listening, serve_on};
 use schema_file::read_schema;
 use shared_tables::{OpenGate, Pass, Shared, gather};
 use std::alloc::AllocError;
@@ -9,6 +8,7 @@ use std::os::unix::net::{UnixListener, UnixStream};
 use std::test::Fail;
 use std::thread::join;
 use std::{env, fs, io, process};
+use table_sockets::{Done, End, Listening, serve_on};
 
 const SCHEMA: &str = "[[table]]
 name = \"p\"
