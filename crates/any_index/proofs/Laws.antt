@@ -1,36 +1,31 @@
 -- The laws of an index's list, for the crates above.
 use Rattle.std.proofs.Common.{◌≡◌, ◌≢◌, ℕ, suc, ◌+◌, ◌<◌, Bool, true, cond, List, [], ◌∷◌, length, Option, refl, ap, sym, ◌∙◌, subst, arith, false, Some, ◌≤◌, nat_lt}
-use Rattle.std.specs.Prelude.{IsPermutation, IsTrue, find}
+use Rattle.std.specs.Prelude.{IsTrue, find}
 use Rattle.std.specs.List.{AllByRecursion}
 use Rattle.std.specs.Option.{option_map}
 use Rattle.std.specs.Ordering.{is_le, nat_cmp}
 use Rattle.std.specs.declared.cmp.Ordering.{Ordering}
 use Rattle.std.proofs.lemmas.Bool.Decides.{nat_tests}
-use Rattle.std.proofs.lemmas.List.Sorted.{IsPermutation-refl, IsPermutation-insert}
-use Rattle.container_model.specs.declared.handle.Kind.{Kind}
 use Rattle.container_model.specs.declared.handle.Kind.TheVariants as kind
 use Rattle.container_model.specs.State.{has_key_kind, is_hashed_kind}
 use Rattle.list_model.specs.Order.{IsInOrder}
 use Rattle.list_model.specs.Place.{not_above}
-use Rattle.list_model.specs.Walk.{without, settled}
+use Rattle.list_model.specs.Walk.{without}
 use Rattle.list_model.proofs.Counts.{count_by-cons}
 use Rattle.list_model.proofs.InOrder.{All-map}
 use Rattle.list_model.proofs.Kept.{EachPair-filter}
-use Rattle.list_model.proofs.Moved.{IsPermutation-settled}
 use Rattle.node_store.specs.declared.Node.{Node}
 use Rattle.node_store.specs.declared.Link.{Link}
 use Rattle.node_store.specs.Column.{Column}
 use Rattle.node_store.specs.Nodes.{Lacks, Holds, IsDistinct}
 use Rattle.node_store.specs.Store.{Store, IsNodeOf, number_of, IsStore}
-use Rattle.node_store.specs.ByNode.{column_of, record_of, contents, same_node, AddsNode, RemovesNode}
-use Rattle.node_store.proofs.ByNode.{same_node-refl, records_kept}
+use Rattle.node_store.specs.ByNode.{column_of, record_of, same_node, AddsNode, RemovesNode}
 use Rattle.node_store.proofs.Members.{IsDistinct_moved, each_held}
 use Rattle.seq_index.proofs.Laws as seq
 use Rattle.row_index.proofs.Laws as row
 use Rattle.ord_tree.specs.Side.{order_at}
 use Rattle.ord_tree.proofs.Laws as ord
-pub use Rattle.ord_tree.proofs.Laws.{Holds_at, within_at, Holds_first, Holds_last, Holds_next, Holds_prev}
-use Rattle.ord_tree.proofs.NodeWalks.{apart_at}
+pub use Rattle.ord_tree.proofs.Laws.{Holds_at}
 use Rattle.ord_tree.proofs.Ordered.{IsInOrder_others}
 use Rattle.rank_tree.proofs.Laws as rank
 use Rattle.hash_index.specs.Chains.{tag_at}
@@ -40,7 +35,7 @@ use Rattle.hash_index.proofs.Laws as hash
 use Rattle.any_index.specs.declared.index.AnyIndex.{AnyIndex}
 use Rattle.any_index.specs.declared.index.AnyIndex.TheVariants.{Sequenced, Random, Ordered, Ranked, Hashed}
 use Rattle.any_index.specs.Keyed.{HasItsKey, Accepts, AreKeyed, IsKeyed, IsKeyedBut}
-use Rattle.any_index.specs.Lists.{entered, entry_place, settled_in}
+use Rattle.any_index.specs.Lists.{entry_place}
 use Rattle.any_index.specs.Spelled.{IsSound, list_of, kind_of, col_of, index_of, by_number, number_cmp}
 use Rattle.any_index.proofs.Alike.{HasOneKey, order_alike, hash_alike}
 use Rattle.any_index.proofs.ByNumber.{Lacks_moved, Holds_moved, moved_by_number, moved_back}
@@ -170,17 +165,6 @@ module _ {R : Type 0} (order : ℕ → R → R → Ordering) (hash_of : ℕ → 
   pub IsKeyedBut_from : (s : Store R) (i : AnyIndex) (n : Node) → IsKeyed order hash_of s i → IsKeyedBut order hash_of s i n
   IsKeyedBut_from s i n h = AreKeyed_without s i n (list_of (column_of s) i) h
 
-  -- an index whose column stays, while the contents of the store stay
-  pub IsKeyed_kept : (old new : Store R) (i : AnyIndex) → column_of new (col_of i) ≡ column_of old (col_of i) → contents new ≡ contents old → IsKeyed order hash_of old i → IsKeyed order hash_of new i
-  IsKeyed_kept old new i links same h =
-      subst (AreKeyed order hash_of new i) (sym (list_of_kept (column_of old) (column_of new) i links))
-      (AreKeyed_kept old new i (list_of (column_of old) i) links (records_kept old new same) h)
-
-  pub IsKeyedBut_kept : (old new : Store R) (i : AnyIndex) (n : Node) → column_of new (col_of i) ≡ column_of old (col_of i) → contents new ≡ contents old → IsKeyedBut order hash_of old i n → IsKeyedBut order hash_of new i n
-  IsKeyedBut_kept old new i n links same h =
-      subst (λ z. AreKeyed order hash_of new i (without (same_node n) z)) (sym (list_of_kept (column_of old) (column_of new) i links))
-      (AreKeyed_kept old new i (without (same_node n) (list_of (column_of old) i)) links (records_kept old new same) h)
-
   -- when a node comes that is in no index yet, or goes that is in none
   pub IsKeyed_added : (old new : Store R) (n : Node) (value : R) (i : AnyIndex) → AddsNode old new n value → IsSound (column_of old) i → IsKeyed order hash_of old i → IsKeyed order hash_of new i
   IsKeyed_added old new n value i a sound h =
@@ -238,25 +222,6 @@ module _ {R : Type 0} (order : ℕ → R → R → Ordering) (hash_of : ℕ → 
 
 pub Lacks_left : (xs : List Node) (n : Node) → Lacks (without (same_node n) xs) n
 Lacks_left = hash.Lacks_without
-
-pub entered_moved : (k : Kind) (compare : Node → Node → Ordering) (at : Option ℕ) (n : Node) (xs : List Node) → IsPermutation (n ∷ xs) (entered k compare at n xs)
-entered_moved k compare at n xs = IsPermutation-insert xs (entry_place k compare at n xs) n
-
-pub Holds_entered : (k : Kind) (compare : Node → Node → Ordering) (at : Option ℕ) (n : Node) (xs : List Node) → Holds (entered k compare at n xs) n
-Holds_entered k compare at n xs = Holds_moved (n ∷ xs) _ n (entered_moved k compare at n xs) (record { before = []; after = xs; is = refl })
-
-settled_moved : (compare : Node → Node → Ordering) (n : Node) (xs : List Node) → Holds xs n → IsDistinct xs → IsPermutation xs (settled (same_node n) (λ m. compare m n) n xs)
-settled_moved compare n xs h distinct =
-    let a = apart_at h.before n h.after (subst IsDistinct h.is distinct) in
-    subst (λ (z : List Node). IsPermutation z (settled (same_node n) (λ m. compare m n) n z)) (sym h.is)
-    (IsPermutation-settled (same_node n) h.before n h.after a.before (same_node-refl n) a.after (λ m. compare m n))
-
-pub settled_in_moved : (k : Kind) (compare : Node → Node → Ordering) (n : Node) (xs : List Node) → Holds xs n → IsDistinct xs → IsPermutation xs (settled_in k compare n xs)
-settled_in_moved kind.Sequenced compare n xs h distinct = IsPermutation-refl xs
-settled_in_moved kind.Random compare n xs h distinct = IsPermutation-refl xs
-settled_in_moved kind.Ordered compare n xs h distinct = settled_moved compare n xs h distinct
-settled_in_moved kind.Ranked compare n xs h distinct = settled_moved compare n xs h distinct
-settled_in_moved kind.Hashed compare n xs h distinct = IsPermutation-refl xs
 
 -- in a hashed index a node that was added after all others goes last
 pub entered_last : (compare : Node → Node → Ordering) (at : Option ℕ) (n : Node) (xs : List Node) → AllByRecursion (λ m. number_of m < number_of n) xs → entry_place kind.Hashed compare at n xs ≡ length xs

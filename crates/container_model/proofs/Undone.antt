@@ -7,7 +7,7 @@ use Rattle.std.specs.Ordering.{is_eq}
 use Rattle.std.specs.Cmp.{IsTotalOrder}
 use Rattle.std.specs.declared.cmp.Ordering.{Ordering}
 use Rattle.std.specs.declared.cmp.Ordering.TheVariants.{Equal}
-use Rattle.std.proofs.lemmas.Cmp.{alike_right, tied_itself}
+use Rattle.std.proofs.lemmas.Cmp.{alike_right}
 use Rattle.std.proofs.lemmas.List.{length-map}
 use Rattle.std.proofs.lemmas.Option.{same_Some}
 use Rattle.list_model.specs.Order.{EachPair, IsInOrder}
@@ -130,10 +130,6 @@ module _ {E R : Type 0} (has_key : E → ℕ → Bool) (order : E → ℕ → R 
   kind_of_key : (i : ℕ) → i < length s.specs → has_key s.keys i ≡ has_key_kind (kind_at s i)
   kind_of_key i lt = state.keys.keyed i some_spec lt ∙ ap has_key_kind (sym (kind_at_is s i some_spec lt))
 
-  -- where each row has its own keys
-  pub has_own_keys : (i : ℕ) → i < length s.specs → IsTrue (has_key_kind (kind_at s i)) → (row : R) → order s.keys i row row ≡ Equal
-  has_own_keys i lt key row = tied_itself (total s.keys i (subst IsTrue (sym (kind_of_key i lt)) key)) row
-
   -- a record that is there, and a row that has its keys
   pub IsState-undone : (h : Handle) (row was : R) → row_of s.entries h ≡ Some was → ((i : ℕ) → i < length s.specs → IsTrue (has_key_kind (kind_at s i)) → order s.keys i row was ≡ Equal) → IsState has_key order (with_undone s h row)
   IsState-undone h row was had equal = record {
@@ -173,9 +169,3 @@ module _ {E R : Type 0} (order : E → ℕ → R → R → Ordering) (s : State 
           option_map_or (λ row. option_map_or (λ _. with_undone s h (undo row)) (replace_refusal order s h (change row)) (with_replaced order s h (change row))) o s ≡ s
       by_row None had e = refl
       by_row (Some row) had e = by_why row had (replace_refusal order s h (change row)) e
-
-  -- one that nothing refuses is a replacement
-  pub changed-same : (row : R) → row_of s.entries h ≡ Some row → modify_or_undo_refusal order s h change ≡ None → with_modified_or_undone order s h change undo ≡ with_replaced order s h (change row)
-  changed-same row had allowed =
-      ap (λ o. option_map_or (λ row. option_map_or (λ _. with_undone s h (undo row)) (replace_refusal order s h (change row)) (with_replaced order s h (change row))) o s) had
-      ∙ ap (λ o. option_map_or (λ _. with_undone s h (undo row)) o (with_replaced order s h (change row))) (sym (ap (λ o. option_map_or (λ row. replace_refusal order s h (change row)) o (Some Stale)) had) ∙ allowed)

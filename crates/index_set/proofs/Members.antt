@@ -46,9 +46,6 @@ module _ {R E : Type 0} {has_key : E → ℕ → Bool} (s : IndexSet R E) (sound
   pub older : AllByRecursion (AllByRecursion (λ m. number_of m < (store_of s).added)) (lists_of s)
   older = each_list (AllByRecursion (λ m. number_of m < (store_of s).added)) (λ i h. all_older s.store sound.nodes i h)
 
-  pub older_at : (j : ℕ) → j < length (specs_of s) → AllByRecursion (λ m. number_of m < (store_of s).added) (list_of s j)
-  older_at = at_index (AllByRecursion (λ m. number_of m < (store_of s).added)) older
-
   -- none stands twice in a list
   pub distinct : AllByRecursion IsDistinct (lists_of s)
   distinct = each_list IsDistinct (λ i h. list_distinct (column_of s.store) i h)

@@ -70,12 +70,6 @@ module _ {R E : Type 0} {has_key : E → ℕ → Bool} (order : E → ℕ → R 
   to_lists s except sound h j lt unique = unique_at (order s.keys) (record_of s.store) except s.specs.items (lists_of s) (one_list_each s sound) h j some_spec lt unique
 
   module _ (s t : IndexSet R E) (sound : IsSound has_key s) (same : IsOfSame s t) where
-    -- a node was added that is in no index yet
-    pub unique_after_add : (n : Node) (row : R) → lists_of t ≡ lists_of s → AddsNode s.store t.store n row → LackIt (lists_of t) n → IsUniqueExcept order s None → IsUniqueExcept order t None
-    unique_after_add n row listed adds lacks h =
-        from_lists order s t (record_of t.store) (lists_of s) None same refl listed
-        (unique_loose (order s.keys) s.specs.items (lists_of s) (one_list_each s sound) (record_of s.store) (record_of t.store) n adds.records.others (subst (λ ls. LackIt ls n) listed lacks) (to_lists s None sound h))
-
     -- a node was removed that was in no index
     pub unique_after_remove : (n : Node) → lists_of t ≡ lists_of s → RemovesNode s.store t.store n → LackIt (lists_of s) n → IsUniqueExcept order s None → IsUniqueExcept order t None
     unique_after_remove n listed removes lacks h =

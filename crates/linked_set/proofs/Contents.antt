@@ -18,7 +18,7 @@ use Rattle.list_model.proofs.InOrder.{All-map}
 use Rattle.list_model.proofs.Kept.{All-split}
 use Rattle.container_model.specs.declared.handle.Entry.{Entry}
 use Rattle.container_model.specs.State.{row_of}
-use Rattle.container_model.proofs.Found.{row_of-append, row_of_members}
+use Rattle.container_model.proofs.Found.{row_of_members}
 use Rattle.linked_set.specs.Linked.{handle_of, nodes_in, entries_in, handles_in, IsKnown}
 
 -- ---- lists
@@ -101,10 +101,6 @@ module _ {R : Type 0} where
       let entries = entries_in (contents s) in
       record { entry = p.0; is = p.1; row = member (λ e. row_of entries e.handle ≡ Some e.row) s n p.0 store is p.1 (row_of_members entries slots) }
 
-  -- and is found among more entries
-  pub known_among : (records : Node → Option (Entry R)) (entries more : List (Entry R)) (n : Node) → IsKnown records entries n → IsKnown records (entries ++ more) n
-  known_among records entries more n k = record { entry = k.entry; is = k.is; row = row_of-append entries more k.entry.handle k.entry.row k.row }
-
   -- ---- the handles of the nodes
 
   -- the handle of a node is that of its record
@@ -153,11 +149,6 @@ module _ {R : Type 0} where
         ap (filter_map (record_of new)) (nodes_of-added old new n e number count adds)
         ∙ filter_map-append (record_of new) (nodes_of old) (n ∷ [])
         ∙ (λ i. filter_map_same (record_of old) (record_of new) (nodes_of old) (all_stay (nodes_of old) (recursion_from_All _ (nodes_of old) (all_nodes_of old store))) i ++ cons_option (adds.records.changed i) [])
-
-    -- and it the last node
-    pub nodes_added : number_of n ≡ old.added → new.added ≡ old.added + 1 → nodes_in (contents new) ≡ nodes_in (contents old) ++ n ∷ []
-    unfolding contents
-    nodes_added number count = nodes_of-added old new n e number count adds
 
     -- the other nodes keep their handles
     pub handle_stays : (m : Node) → IsNodeOf old m → handle_of (record_of new) m ≡ handle_of (record_of old) m

@@ -8,7 +8,7 @@ use Rattle.std.specs.declared.cmp.Ordering.{Ordering}
 use Rattle.std.specs.declared.cmp.Ordering.TheVariants.{Less}
 use Rattle.std.proofs.lemmas.List.{length-map}
 use Rattle.list_model.specs.Place.{not_above}
-use Rattle.list_model.proofs.InOrder.{All-map, All-insert}
+use Rattle.list_model.proofs.InOrder.{All-map}
 use Rattle.node_store.specs.declared.Node.{Node}
 use Rattle.node_store.specs.Store.{number_of}
 use Rattle.container_model.specs.declared.handle.Entry.{Entry}
@@ -78,11 +78,3 @@ module _ {R : Type 0} (records : Node → Option (Entry R)) (entries : List (Ent
   entered_all order at index (spec ∷ specs) (list ∷ lists) known older =
       ap (λ l. l ∷ handles_in records (changed_from (entered_at (λ i a b. order i a.row b.row) records at n) (index + 1) specs lists)) (entered_known (order index) (place_in at index) spec.kind list known.0 older.0)
       ∙ ap (λ ls. insert (map (handle_of records) list) (handles.entry_place (order index) entries (place_in at index) e.row spec.kind (map (handle_of records) list)) e.handle ∷ ls) (entered_all order at (index + 1) specs lists known.1 older.1)
-
--- what holds of the node and of all nodes of the lists holds of all nodes of the new ones
-pub All-entered : {R : Type 0} (P : Node → Type 0) (order : ℕ → R → R → Ordering) (records : Node → Option R) (at : At) (n : Node) → P n → (index : ℕ) (specs : List Spec) (lists : List (List Node)) →
-    AllByRecursion (AllByRecursion P) lists → AllByRecursion (AllByRecursion P) (changed_from (entered_at order records at n) index specs lists)
-All-entered P order records at n one index [] lists all = tt
-All-entered P order records at n one index (spec ∷ specs) [] all = tt
-All-entered P order records at n one index (spec ∷ specs) (list ∷ lists) all =
-    (All-insert P list (nodes.entry_place spec.kind (order_at records (order index)) (place_in at index) n list) n one all.0, All-entered P order records at n one (index + 1) specs lists all.1)

@@ -9,7 +9,7 @@ use Rattle.std.specs.declared.cmp.Ordering.TheVariants.{Less, Equal, Greater}
 use Rattle.std.specs.declared.ops.Bound.{Bound}
 use Rattle.std.specs.declared.ops.Bound.TheVariants.{Unbounded}
 use Rattle.list_model.specs.Order.{EachPair}
-use Rattle.list_model.specs.Place.{Edge, Inclusive, Exclusive, Open, below, not_above, is_from, is_to, range}
+use Rattle.list_model.specs.Place.{Edge, Inclusive, Exclusive, Open, is_from, is_to, range}
 use Rattle.list_model.proofs.Counts.{count_by-cons, count_by_none}
 use Rattle.list_model.proofs.InOrder.{All-map}
 use Rattle.list_model.proofs.Kept.{EachPair-map}
@@ -135,22 +135,6 @@ to_falls Open xs h = each_unit _ (λ x y e. e) xs
 -- how many members stand before the low bound
 abbrev pub before : {X : Type 0} → Edge X → List X → ℕ
 before low xs = count_by (λ x. not (is_from low x)) xs
-
-ge_is_not_lt : (o : Ordering) → not (is_ge o) ≡ is_lt o
-ge_is_not_lt Less = refl
-ge_is_not_lt Equal = refl
-ge_is_not_lt Greater = refl
-
-gt_is_not_le : (o : Ordering) → not (is_gt o) ≡ is_le o
-gt_is_not_le Less = refl
-gt_is_not_le Equal = refl
-gt_is_not_le Greater = refl
-
-pub before_inclusive : {X : Type 0} (side : X → Ordering) (xs : List X) → before (Inclusive side) xs ≡ below side xs
-before_inclusive side xs = λ i. count_by (λ x. ge_is_not_lt (side x) i) xs
-
-pub before_exclusive : {X : Type 0} (side : X → Ordering) (xs : List X) → before (Exclusive side) xs ≡ not_above side xs
-before_exclusive side xs = λ i. count_by (λ x. gt_is_not_le (side x) i) xs
 
 all_no : {X : Type 0} (xs : List X) → AllByRecursion (λ x. false ≡ false) xs
 all_no [] = tt

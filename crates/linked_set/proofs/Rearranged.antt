@@ -75,10 +75,6 @@ slots_of handles = map (λ h. h.slot) handles
 eqb_flip : (m n : ℕ) → (m == n) ≡ (n == m)
 eqb_flip m n = grind (arith, nat_tests)
 
-none_passes : {X : Type 0} (p : X → Bool) (xs : List X) → AllByRecursion (λ x. p x ≡ false) xs → list_any p xs ≡ false
-none_passes p [] none = refl
-none_passes p (x ∷ xs) none = (λ i. none.0 i || none_passes p xs none.1 i)
-
 -- a number that stands among the first and next stands twice
 later_apart : (y : ℕ) (ys : List ℕ) (i : ℕ) → i < length ys → AllByRecursion (λ z. nat_eq y z ≡ false) ys → (get_or ys i 0 == y) ≡ false
 later_apart y ys i lt all = eqb_flip (get_or ys i 0) y ∙ All-at (λ z. nat_eq y z ≡ false) ys i 0 lt all

@@ -1,7 +1,7 @@
 -- Laws of what a map by number has in the order of the numbers, and of the nodes of a store in the order of their adds.
-use Rattle.std.proofs.Common.{◌≡◌, ◌≢◌, ℕ, zero, suc, ◌+◌, ◌-◌, ◌<◌, ◌≤◌, Bool, cond, is_some, List, [], ◌∷◌, ◌++◌, length, Option, Some, None, refl, sym, ap, ◌∙◌, ⊎_elim, arith, nat_cmp}
+use Rattle.std.proofs.Common.{◌≡◌, ◌≢◌, ℕ, zero, suc, ◌+◌, ◌-◌, ◌<◌, ◌≤◌, Bool, cond, is_some, [], ◌∷◌, ◌++◌, length, Option, Some, None, refl, sym, ap, ◌∙◌, ⊎_elim, arith, nat_cmp}
 use Rattle.std.specs.Prelude.{map as each, filter, not}
-use Rattle.std.specs.List.{All, last_or}
+use Rattle.std.specs.List.{All}
 use Rattle.std.specs.Option.{option_map, option_or, option_map_or}
 use Rattle.std.specs.Cmp.{nat_cmp_total}
 use Rattle.std.specs.FinMap as map
@@ -10,12 +10,12 @@ use Rattle.std.proofs.lemmas.Option.{same_Some}
 use Rattle.std.proofs.lemmas.List.{append-nil, length-append, length-map, map-append}
 use Rattle.std.proofs.lemmas.List.Elements.{All-append, All-from_recursion, filter-append}
 use Rattle.node_store.specs.declared.Node.{Node}
-use Rattle.node_store.specs.Store.{Entry, Store, IsStore, IsNodeOf, nodes, number_of, len_of, empty_store, with_record}
-use Rattle.node_store.specs.ByNode.{contents, same_node, AddsNode, RemovesNode}
+use Rattle.node_store.specs.Store.{Entry, Store, IsStore, IsNodeOf, nodes, number_of, len_of}
+use Rattle.node_store.specs.ByNode.{same_node, AddsNode, RemovesNode}
 use Rattle.node_store.specs.Age.{last_below, all_below, nodes_of}
 use Rattle.node_store.proofs.Keyed.{same_map, remove_same, remove_other}
-use Rattle.node_store.proofs.StoreLemmas.{nodes_with_record, added_with_record, len_positive}
-use Rattle.node_store.proofs.ByNode.{same_node-refl, nodes_kept, added_kept}
+use Rattle.node_store.proofs.StoreLemmas.{len_positive}
+use Rattle.node_store.proofs.ByNode.{same_node-refl}
 use Rattle.node_store.proofs.Members.{same_node-false}
 
 module _ {A : Type 0} where
@@ -94,19 +94,6 @@ module _ {A : Type 0} where
       ∙ all_below-last f k j x (record { at = is.at; below = omega arith; last = λ i more less. is.last i more (omega arith) }))
       (cases_eq k j)
 
-  last_or-append : (xs : List A) (x : A) (o : Option A) → last_or o (xs ++ x ∷ []) ≡ Some x
-  last_or-append [] x o = refl
-  last_or-append (y ∷ xs) x o = last_or-append xs x (Some y)
-
-  -- the last below is the last of all
-  pub last_below-last : (f : ℕ → Option A) (k : ℕ) → last_below f k ≡ last_or None (all_below f k)
-  last_below-last f zero = refl
-  last_below-last f (suc k) =
-      elim (f k) as (λ o. option_or o (last_below f k) ≡ last_or None (all_below f k ++ option_map_or (λ x. x ∷ []) o [])) [
-        | None ↦ last_below-last f k ∙ ap (last_or None) (sym (append-nil (all_below f k)))
-        | Some x ↦ sym (last_or-append (all_below f k) x None)
-      ]
-
   pub all_below-empty : (f : ℕ → Option A) (k : ℕ) → last_below f k ≡ None → all_below f k ≡ []
   all_below-empty f k e = all_below-none f k (none_found f k e)
 
@@ -130,9 +117,6 @@ module _ {A : Type 0} where
       ])
 
 -- ---- the nodes of a store
-
-pub nodes_of-empty : (R : Type 0) → nodes_of {R = R} empty_store ≡ []
-nodes_of-empty R = refl
 
 module _ {R : Type 0} where
   -- the node that was added last before k
@@ -158,9 +142,6 @@ module _ {R : Type 0} where
 
   pub all_nodes_of : (s : Store R) → IsStore s → All (IsNodeOf s) (nodes_of s)
   all_nodes_of s store = all_below-each (IsNodeOf s) (nodes s) s.added (λ i n less e. ap (nodes s) (store.numbered i n e) ∙ e)
-
-  pub nodes_of-kept : (old new : Store R) → contents new ≡ contents old → nodes_of new ≡ nodes_of old
-  nodes_of-kept old new same = (λ i. all_below (nodes_kept old new same i) (added_kept old new same i))
 
   pub nodes_of-added : (old new : Store R) (n : Node) (value : R) → number_of n ≡ old.added → new.added ≡ old.added + 1 → AddsNode old new n value → nodes_of new ≡ nodes_of old ++ n ∷ []
   nodes_of-added old new n value number count adds =
@@ -190,9 +171,6 @@ module _ {R : Type 0} where
 
   pub nodes_of-removed : (old new : Store R) (n : Node) → IsStore old → IsNodeOf old n → new.added ≡ old.added → RemovesNode old new n → nodes_of new ≡ filter (λ m. not (same_node n m)) (nodes_of old)
   nodes_of-removed old new n store is count removes = ap (all_below (nodes new)) count ∙ below_removed old new n store is removes old.added
-
-  pub nodes_of-with_record : (s : Store R) (n : Node) (r : R) → nodes_of (with_record s n r) ≡ nodes_of s
-  nodes_of-with_record s n r = (λ i. all_below (nodes_with_record s n r i) (added_with_record s n r i))
 
 -- ---- how many there are
 

@@ -14,8 +14,7 @@ use Rattle.node_store.specs.Nodes.{Lacks, Holds, IsDistinct, last_or}
 use Rattle.node_store.proofs.ByNode.{same_node-refl, node_cases}
 use Rattle.node_store.proofs.Members.{same_node-false}
 use Rattle.list_model.specs.Order.{EachPair}
-use Rattle.list_model.proofs.Lists.{find_none}
-use Rattle.ord_tree.specs.Same.{is_kept, without_excepted, equal_but}
+use Rattle.ord_tree.specs.Same.{is_kept, without_excepted}
 use Rattle.ord_tree.specs.Tree.{Tree, nodes, IsAt}
 use Rattle.ord_tree.proofs.Nearing.{All-parts, All-each, EachPair-parts, Nears, Opens, go_right, go_left, take_here, take_before}
 use Rattle.ord_tree.proofs.KeySides.{Rises}
@@ -214,21 +213,6 @@ module _ (tally : ℕ → ℕ → ℕ) (c : Column) (except : Option Node) (side
 
 -- ---- what the answer says
 
--- an answer is another node of the list that has the key
-pub record IsOther (except : Option Node) (side : Node → Ordering) (xs : List Node) (m : Node) : Type 0 where
-  pub held : Holds xs m
-  pub apart : except ≢ Some m
-  pub equal : side m ≡ Equal
-
-eq_is : (o : Ordering) → is_eq o ≡ true → o ≡ Equal
-eq_is Less e = cc
-eq_is Equal e = refl
-eq_is Greater e = cc
-
-both_parts : (b c : Bool) → (b && c) ≡ true → (b ≡ true) × (c ≡ true)
-both_parts true c e = (refl, e)
-both_parts false c e = cc
-
 -- what a search finds stands in the list and passes
 pub record IsFound (p : Node → Bool) (xs : List Node) (m : Node) : Type 0 where
   pub held : Holds xs m
@@ -241,16 +225,3 @@ found_by p x xs m false e f rest = let r = rest f in record { held = record { be
 pub find_is : (p : Node → Bool) (xs : List Node) (m : Node) → find p xs ≡ Some m → IsFound p xs m
 find_is p [] m e = absurd (none-some m e)
 find_is p (x ∷ xs) m e = found_by p x xs m (p x) refl e (find_is p xs m)
-
-pub equal_but_is : (except : Option Node) (side : Node → Ordering) (xs : List Node) (m : Node) → equal_but except side xs ≡ Some m → IsOther except side xs m
-equal_but_is except side xs m e =
-    let f = find_is (λ n. is_kept except n && is_eq (side n)) xs m e in
-    let both = both_parts (is_kept except m) (is_eq (side m)) f.passes in
-    record { held = f.held; apart = λ k. false≢true (sym (not_kept m except k) ∙ both.0); equal = eq_is (side m) both.1 }
-
--- with no answer, no other node of the list has the key
-pub equal_but_none : (except : Option Node) (side : Node → Ordering) (xs : List Node) → equal_but except side xs ≡ None → (m : Node) → Holds xs m → except ≢ Some m → side m ≢ Equal
-equal_but_none except side xs e m held apart equal =
-    let all = subst (λ (z : List Node). AllByRecursion (λ n. (is_kept except n && is_eq (side n)) ≡ false) z) held.is (find_none (λ n. is_kept except n && is_eq (side n)) xs e) in
-    let here = (All-parts (λ n. (is_kept except n && is_eq (side n)) ≡ false) held.before (m ∷ held.after) all).1.0 in
-    false≢true (sym here ∙ both_pass (is_kept except m) (is_eq (side m)) (kept_if m except apart) (ap is_eq equal))

@@ -1,5 +1,5 @@
 -- The laws of what an index spells, for the crates above.
-use Rattle.std.proofs.Common.{◌≡◌, ℕ, zero, suc, ◌≤◌, List, [], ◌∷◌, ◌++◌, length, ◌<◌, ◌^◌, Option, Some, None, slice_get, ◌+◌, refl, sym, ap, ◌∙◌, subst, arith}
+use Rattle.std.proofs.Common.{◌≡◌, ℕ, zero, suc, ◌≤◌, List, [], ◌∷◌, ◌++◌, Option, Some, None, slice_get, ◌+◌, refl, sym, ap, ◌∙◌, subst, arith}
 use Rattle.node_store.specs.declared.Node.{Node}
 use Rattle.node_store.specs.Column.{Column, IsNode}
 use Rattle.node_store.specs.Nodes.{AllNodes, Lacks, IsDistinct, IsSameAt}
@@ -8,12 +8,12 @@ use Rattle.node_store.specs.ByNode.{column_of, same_node, AddsNode, RemovesNode}
 use Rattle.node_store.proofs.ByNode.{lacks_added, same_added, same_removed, node_of_column}
 use Rattle.node_store.proofs.NodeLists.{IsSameAt-kept}
 use Rattle.node_store.proofs.Members.{each_held}
-pub use Rattle.node_store.proofs.Members.{Holds_at, within_at}
+pub use Rattle.node_store.proofs.Members.{Holds_at}
 use Rattle.ord_tree.specs.declared.tree.OrdTree.{OrdTree}
 use Rattle.ord_tree.specs.declared.tally.Tally.{Ghosts}
 use Rattle.ord_tree.specs.Tree.{Tree, Leaf, Fork, nodes, root, height, tree_link, Hangs, stored_height, left_of, right_of}
-use Rattle.ord_tree.specs.Spelled.{SpellsTree, Spells, IsSound, spelled, tree_of, tree_below, col_of, HasRoom, Holds}
-use Rattle.list_model.specs.Walk.{without, next, prev, last, place_of}
+use Rattle.ord_tree.specs.Spelled.{SpellsTree, Spells, IsSound, spelled, tree_of, tree_below, col_of, Holds}
+use Rattle.list_model.specs.Walk.{without, next, prev, place_of}
 use Rattle.list_model.proofs.Neighbours.{some_prev}
 use Rattle.ord_tree.proofs.NodeWalks.{without_at, rest_lacks}
 use Rattle.ord_tree.proofs.TreeLinks.{Hangs-same, stored_height-is}
@@ -132,10 +132,6 @@ module _ {T : Type 0} {G : Ghosts T} where
   pub IsSound_removed : {R : Type 0} (old new : Store R) (n : Node) (i : OrdTree T G) → RemovesNode old new n → Lacks (spelled (column_of old) i) n → IsSound (column_of old) i → IsSound (column_of new) i
   IsSound_removed old new n i r lacks h = IsSound_from (column_of new) i (spelled (column_of old) i) (Spells_removed old new n i (spelled (column_of old) i) r lacks h)
 
-  -- a tree that one more node would not overfill has room for it
-  pub HasRoom_below : (cs : ℕ → Column) (i : OrdTree T G) (xs : List Node) → Spells cs i xs → length xs + 1 < 2 ^ 64 → HasRoom i
-  HasRoom_below cs i xs h less = let e : length (nodes h.tree) ≡ length xs = ap (λ (z : List Node). length z) h.nodes_are in omega (arith, h.is.len, e, less)
-
   -- ---- nodes that calls answer, and nodes that they take out
 
   -- the list without a node, by what stands before and after it
@@ -150,11 +146,6 @@ module _ {T : Type 0} {G : Ghosts T} where
 -- the first node stands in the list
 pub Holds_first : (xs : List Node) (n : Node) → slice_get xs 0 ≡ Some n → Holds xs n
 Holds_first xs n e = Holds_at xs 0 n e
-
--- so does the last one
-pub Holds_last : (xs : List Node) (n : Node) → last xs ≡ Some n → Holds xs n
-Holds_last [] n e = cc
-Holds_last (x ∷ xs) n e = Holds_at (x ∷ xs) (length xs) n e
 
 -- and the node after another, and the one before it
 pub Holds_next : (xs : List Node) (m n : Node) → next (same_node m) xs ≡ Some n → Holds xs n

@@ -4,7 +4,7 @@ use Rattle.std.specs.List.{AllByRecursion}
 use Rattle.std.specs.Option.{option_cmp, option_map_or}
 use Rattle.std.specs.Cmp.{IsTotalOrder}
 use Rattle.std.specs.Cmp.Lexicographic.{options_total}
-use Rattle.std.specs.Ordering.{is_lt, is_gt, is_le, ordering_index}
+use Rattle.std.specs.Ordering.{is_gt, is_le, ordering_index}
 use Rattle.std.specs.declared.cmp.Ordering.{Ordering}
 use Rattle.std.specs.declared.cmp.Ordering.TheVariants.{Less, Equal, Greater}
 use Rattle.std.proofs.lemmas.Cmp.{on_total, upto}
@@ -17,14 +17,6 @@ module _ {R : Type 0} (records : Node → Option R) where
   -- an order of records is one of nodes
   pub order_at_total : (compare : R → R → Ordering) → IsTotalOrder compare → IsTotalOrder (order_at records compare)
   order_at_total compare total = on_total records (options_total total)
-
-  -- the order of two nodes is the side of the one at the other's record
-  pub order_at_is : (compare : R → R → Ordering) (m n : Node) (b : R) → records n ≡ Some b → order_at records compare m n ≡ side_of records (λ a. compare a b) m
-  order_at_is compare m n b e = ap (λ o. option_cmp compare (records m) o) e ∙ at_some (records m)
-    where
-      at_some : (o : Option R) → option_cmp compare o (Some b) ≡ option_map_or (λ a. compare a b) o Less
-      at_some None = refl
-      at_some (Some a) = refl
 
   pub order_at_both : (compare : R → R → Ordering) (m n : Node) (a b : R) → records m ≡ Some a → records n ≡ Some b → order_at records compare m n ≡ compare a b
   order_at_both compare m n a b e f = ap (λ o. option_cmp compare o (records n)) e ∙ ap (λ o. option_cmp compare (Some a) o) f
@@ -54,31 +46,6 @@ module _ (compare : Node → Node → Ordering) (q : Node → Bool) (falls : (x 
   pub IsCut_falls : (xs : List Node) → IsInOrder compare xs → IsCut q xs
   IsCut_falls [] h = tt
   IsCut_falls (x ∷ xs) h = ((λ e. all_false x xs h.0 e), IsCut_falls xs h.1)
-
-below_le : (o p : Ordering) → ordering_index o ≤ ordering_index p → is_le p ≡ true → is_le o ≡ true
-below_le Less p h e = refl
-below_le Equal p h e = refl
-below_le Greater Less h e = absurd (omega arith)
-below_le Greater Equal h e = absurd (omega arith)
-below_le Greater Greater h e = cc
-
-below_lt : (o p : Ordering) → ordering_index o ≤ ordering_index p → is_lt p ≡ true → is_lt o ≡ true
-below_lt Less p h e = refl
-below_lt Equal Less h e = absurd (omega arith)
-below_lt Equal Equal h e = cc
-below_lt Equal Greater h e = cc
-below_lt Greater Less h e = absurd (omega arith)
-below_lt Greater Equal h e = cc
-below_lt Greater Greater h e = cc
-
-module _ (compare : Node → Node → Ordering) (side : Node → Ordering) (cuts : CutsInThreeRuns compare side) where
-  -- a list in order has first what does not come after the key
-  pub IsCut_le : (xs : List Node) → IsInOrder compare xs → IsCut (λ x. is_le (side x)) xs
-  IsCut_le xs h = IsCut_falls compare (λ x. is_le (side x)) (λ x y g e. below_le (side x) (side y) (cuts x y g) e) xs h
-
-  -- and first what comes before the key
-  pub IsCut_lt : (xs : List Node) → IsInOrder compare xs → IsCut (λ x. is_lt (side x)) xs
-  IsCut_lt xs h = IsCut_falls compare (λ x. is_lt (side x)) (λ x y g e. below_lt (side x) (side y) (cuts x y g) e) xs h
 
 le_not_gt : (o : Ordering) → is_le o ≡ true → is_gt o ≡ false
 le_not_gt Less h = refl

@@ -2,7 +2,6 @@
 use Rattle.std.specs.Prelude.{◌≡◌, ◌+◌, ℕ, zero, suc, ◌^◌, ◌<◌, List, length, Option, Some, None}
 use Rattle.node_store.specs.declared.Node.{Node}
 use Rattle.node_store.specs.Column.{Column}
-pub use Rattle.node_store.specs.Column.{KeepsOthers}
 use Rattle.node_store.specs.Nodes.{IsDistinct}
 use Rattle.ord_tree.specs.Tree.{Tree, Leaf, Fork, nodes, root, Hangs, IsBalanced, stored_height, left_of, right_of}
 pub use Rattle.node_store.specs.Nodes.{Holds}

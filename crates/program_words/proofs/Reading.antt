@@ -68,14 +68,6 @@ pub entered_both : (m : ArgMatches) (name : Text) (rows : List Row) → Some nam
     → Some rows ≡ option_map (λ p. p.1) (subcommand_rows_of m) → subcommand_rows_of m ≡ Some (name, rows)
 entered_both m = both (λ b. (out-SubCommand (box_value b)).name.now) (λ b. rows_of (found_of (out-SubCommand (box_value b)).matches)) (out-ArgMatches m).subcommand
 
-none_both : {X : Type 0} (f : X → Text) (g : X → List Row) (o : Option X) → None ≡ option_map f o → option_map {U = Text × List Row} (λ b. (f b, g b)) o ≡ None
-none_both f g None named = refl
-none_both f g (Some b) named = absurd (none-some (f b) named)
-
--- no subcommand
-pub entered_none : (m : ArgMatches) → None ≡ subcommand_name_of m → subcommand_rows_of m ≡ None
-entered_none m = none_both (λ b. (out-SubCommand (box_value b)).name.now) (λ b. rows_of (found_of (out-SubCommand (box_value b)).matches)) (out-ArgMatches m).subcommand
-
 of_not_false : (b : Bool) → not b ≡ false → b ≡ true
 of_not_false true failed = refl
 of_not_false false failed = absurd (true≢false failed)

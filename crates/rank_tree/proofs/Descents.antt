@@ -1,9 +1,9 @@
 -- The way down to the node at a place.
-use Rattle.std.proofs.Common.{◌≡◌, ℕ, zero, suc, ◌+◌, ◌-◌, ◌^◌, ◌<◌, ◌≤◌, max, List, [], ◌∷◌, ◌++◌, length, slice_get, Option, Some, None, refl, sym, ap, ◌∙◌, subst, arith}
+use Rattle.std.proofs.Common.{◌≡◌, ℕ, zero, suc, ◌+◌, ◌-◌, ◌^◌, ◌<◌, ◌≤◌, max, List, [], ◌∷◌, ◌++◌, length, slice_get, Option, Some, None, refl, ap, ◌∙◌, subst, arith}
 use Rattle.node_store.specs.declared.Node.{Node}
 use Rattle.node_store.specs.declared.Link.{Link}
 use Rattle.node_store.specs.Column.{Column}
-use Rattle.ord_tree.specs.Tree.{Tree, Leaf, Fork, nodes, root, height, Hangs, IsAt, AreNodes, stored_tag}
+use Rattle.ord_tree.specs.Tree.{Tree, nodes, root, height, Hangs, IsAt, AreNodes, stored_tag}
 use Rattle.ord_tree.proofs.Rotations.{IsAt-nodes, Opened-from}
 use Rattle.rank_tree.specs.Subtrees.{size_tally}
 use Rattle.rank_tree.proofs.Counted.{stored_size, length_fork}
@@ -81,11 +81,3 @@ near_turn c whole place at n link size rest links d e l q =
 
 pub near_node : (c : Column) (whole : Tree) (place : ℕ) (at : Option Node) (rest links : ℕ) → Nears c whole place at rest links → AreNodes c at
 near_node c whole place at rest links d = IsAt-nodes size_tally c at d.here d.is_at
-
--- the end of the way down: there is no such place
-pub near_end : (c : Column) (whole : Tree) (place : ℕ) (at : Option Node) (rest links : ℕ) → Nears c whole place at rest links → at ≡ None → slice_get (nodes whole) place ≡ None
-near_end c whole place at rest links d e = d.answer ∙ ap (λ (xs : List Node). slice_get xs rest) (empty d.here (sym d.is_at.root ∙ e))
-  where
-    empty : (t : Tree) → root t ≡ None → nodes t ≡ []
-    empty Leaf k = refl
-    empty (Fork l m r) k = cc

@@ -2,7 +2,7 @@
 use Rattle.std.specs.Prelude.{ℕ, List}
 use Rattle.node_store.specs.declared.Node.{Node}
 use Rattle.node_store.specs.Column.{Column}
-pub use Rattle.ord_tree.specs.Spelled.{Holds, KeepsOthers}
+pub use Rattle.ord_tree.specs.Spelled.{Holds}
 use Rattle.ord_tree.specs.Tree.{Tree}
 use Rattle.ord_tree.specs.Spelled as ord
 use Rattle.rank_tree.specs.declared.tree.RankTree.{RankTree}

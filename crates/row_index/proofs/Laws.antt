@@ -1,5 +1,5 @@
 -- The laws of what an index spells, for the crates above.
-use Rattle.std.proofs.Common.{◌≡◌, ℕ, ◌+◌, Bool, true, false, cond, not, List, [], ◌∷◌, ◌++◌, length, Some, refl, ap, sym, ◌∙◌, subst, slice_get}
+use Rattle.std.proofs.Common.{◌≡◌, ℕ, ◌+◌, Bool, true, false, cond, not, List, [], ◌∷◌, length, Some, refl, sym, subst, slice_get}
 use Rattle.node_store.specs.declared.Node.{Node}
 use Rattle.node_store.specs.Column.{Column}
 use Rattle.node_store.specs.Nodes.{AllNodes, Lacks, IsDistinct, IsSameAt}
@@ -13,7 +13,7 @@ use Rattle.list_model.specs.Walk.{place_of, without, next, prev, last}
 use Rattle.list_model.proofs.Neighbours.{some_prev}
 use Rattle.row_index.specs.declared.RowIndex.{RowIndex}
 use Rattle.row_index.specs.Spelled.{Spells, IsSound, spelled, col_of, Holds}
-use Rattle.row_index.proofs.Places.{numbered_nodes, numbered_same, held_node, without_at}
+use Rattle.row_index.proofs.Places.{numbered_nodes, numbered_same, held_node}
 
 -- an index spells one list
 pub spelled_is : (cs : ℕ → Column) (i : RowIndex) (xs : List Node) → Spells cs i xs → spelled cs i ≡ xs
@@ -71,10 +71,6 @@ lacks_it (x ∷ xs) n = without_by xs n x (same_node n x) refl (lacks_it xs n)
 -- the list without a node lacks it
 pub Lacks_without : (cs : ℕ → Column) (i : RowIndex) (n : Node) → IsSound cs i → Holds (spelled cs i) n → Lacks (without (same_node n) (spelled cs i)) n
 Lacks_without cs i n h k = lacks_it (spelled cs i) n
-
--- the list without a node, by what stands before and after it
-pub without_is : (cs : ℕ → Column) (i : RowIndex) (xs ys : List Node) (n : Node) → IsSound cs i → spelled cs i ≡ xs ++ n ∷ ys → without (same_node n) (spelled cs i) ≡ xs ++ ys
-without_is cs i xs ys n h e = ap (λ (z : List Node). without (same_node n) z) e ∙ without_at xs n ys (subst IsDistinct e h.distinct)
 
 -- ---- when nodes come and go in the store
 

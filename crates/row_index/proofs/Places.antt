@@ -187,11 +187,6 @@ numbered_joined c p (suc k) (x ∷ xs) le front back =
 
 -- ---- a node of the row
 
-pub without_at : (xs : List Node) (n : Node) (ys : List Node) → IsDistinct (xs ++ n ∷ ys) → without (same_node n) (xs ++ n ∷ ys) ≡ xs ++ ys
-without_at xs n ys h =
-    let parts = IsDistinct-parts xs (n ∷ ys) h in
-    without-middle (same_node n) xs n ys (others_differ n xs (AreApart-head xs ys n parts.apart)) (same_node-refl n) (others_differ n ys parts.back.0)
-
 -- what its place says
 pub record AtPlace (xs : List Node) (n : Node) (place : ℕ) : Type 0 where
   pub place_is : place ≡ place_of (same_node n) xs

@@ -1,5 +1,5 @@
 -- The laws of what an index spells, for the crates above.
-use Rattle.std.proofs.Common.{◌≡◌, ℕ, ◌+◌, ◌<◌, ◌^◌, List, [], ◌∷◌, ◌++◌, length, Some, None, ap, sym, ◌∙◌, subst, arith, slice_get}
+use Rattle.std.proofs.Common.{◌≡◌, ℕ, ◌+◌, List, [], ◌∷◌, length, Some, None, ap, sym, subst, slice_get}
 use Rattle.node_store.specs.declared.Node.{Node}
 use Rattle.node_store.specs.Column.{Column}
 use Rattle.node_store.specs.Nodes.{AllNodes, Lacks, IsDistinct, IsSameAt}
@@ -8,15 +8,13 @@ use Rattle.node_store.specs.ByNode.{same_node, column_of, AddsNode, RemovesNode}
 use Rattle.node_store.proofs.ByNode.{lacks_added, same_added, same_removed, node_of_column}
 use Rattle.node_store.proofs.NodeLists.{IsSameAt-kept}
 use Rattle.node_store.proofs.Members.{each_held}
-pub use Rattle.node_store.proofs.Members.{Holds_at, within_at}
-use Rattle.list_model.specs.Walk.{place_of, without, next, prev, last}
+use Rattle.node_store.proofs.Members.{Holds_at}
+use Rattle.list_model.specs.Walk.{place_of, next, prev, last}
 use Rattle.list_model.proofs.Neighbours.{some_prev}
 use Rattle.seq_index.specs.declared.SeqIndex.{SeqIndex}
 use Rattle.seq_index.specs.Links.{Runs}
-use Rattle.seq_index.specs.Spelled.{Spells, IsSound, HasRoom, spelled, col_of, follow, Holds}
+use Rattle.seq_index.specs.Spelled.{Spells, IsSound, spelled, col_of, follow, Holds}
 use Rattle.seq_index.proofs.Runs.{Runs-node, Runs-nodes}
-use Rattle.seq_index.proofs.Walks.{without_at}
-use Rattle.seq_index.proofs.Moves.{without_lacks}
 use Rattle.seq_index.proofs.ChainLists as chain
 
 -- an index spells one list
@@ -45,10 +43,6 @@ IsSound_from cs i xs h = subst (λ (z : List Node). Spells cs i z) (sym (spelled
 pub IsSound_kept : (cs ds : ℕ → Column) (i : SeqIndex) → ds (col_of i) ≡ cs (col_of i) → IsSound cs i → IsSound ds i
 IsSound_kept cs ds i e h = IsSound_from ds i (spelled cs i) (Spells_kept cs ds i (spelled cs i) e h)
 
--- a sequence that one more node would not overfill has room for it
-pub HasRoom_below : (cs : ℕ → Column) (i : SeqIndex) (xs : List Node) → Spells cs i xs → length xs + 1 < 2 ^ 64 → HasRoom i
-HasRoom_below cs i xs h less = omega (arith, h.len, less)
-
 -- ---- nodes that calls answer, and nodes that they take out
 
 -- the first node stands in the list
@@ -66,14 +60,6 @@ Holds_next xs m n e = Holds_at xs (place_of (same_node m) xs + 1) n e
 
 pub Holds_prev : (xs : List Node) (m n : Node) → prev (same_node m) xs ≡ Some n → Holds xs n
 Holds_prev xs m n e = some_prev (Holds xs) (same_node m) xs (each_held xs) n e
-
--- the list without a node lacks it
-pub Lacks_without : (cs : ℕ → Column) (i : SeqIndex) (n : Node) → IsSound cs i → Holds (spelled cs i) n → Lacks (without (same_node n) (spelled cs i)) n
-Lacks_without cs i n h k = without_lacks (spelled cs i) n k h.distinct
-
--- the list without a node, by what stands before and after it
-pub without_is : (cs : ℕ → Column) (i : SeqIndex) (xs ys : List Node) (n : Node) → IsSound cs i → spelled cs i ≡ xs ++ n ∷ ys → without (same_node n) (spelled cs i) ≡ xs ++ ys
-without_is cs i xs ys n h e = ap (λ (z : List Node). without (same_node n) z) e ∙ without_at xs n ys (subst IsDistinct e h.distinct)
 
 -- ---- when nodes come and go in the store
 

@@ -25,18 +25,6 @@ pub record Turning (c : Column) (at : Option Node) (xs : List Node) (steps : ℕ
   pub rest_runs : Runs c (first_or turned None) rest None
   pub distinct : IsDistinct (turned ++ rest)
 
-pub Turning_init : (cs : ℕ → Column) (i : SeqIndex) (xs : List Node) → Spells cs i xs → Turning (cs i.col) i.first xs 0
-Turning_init cs i xs h = record {
-  turned = [];
-  rest = xs;
-  whole = append-nil (reverse xs);
-  count = omega arith;
-  at_is = h.first;
-  turned_runs = tt;
-  rest_runs = h.runs;
-  distinct = h.distinct;
-}
-
 -- what a walk sees at its node
 pub record Seen (c : Column) (turned rest : List Node) (n : Node) : Type 0 where
   pub tail : List Node
@@ -53,13 +41,6 @@ pub Turning_node : (c : Column) (at : Option Node) (xs : List Node) (steps : ℕ
 Turning_node c at xs steps n t e =
     let s = seen c t.turned t.rest n (sym t.at_is ∙ e) t.rest_runs in
     record { block = chain_link (first_or t.turned None) (first_or s.tail None); is = s.here }
-
-none_left : (xs : List Node) → first_or xs None ≡ None → length xs ≡ 0
-none_left [] e = omega arith
-none_left (x ∷ xs) e = cc
-
-pub Turning_more : (c : Column) (at : Option Node) (xs : List Node) (steps : ℕ) → Turning c at xs steps → at ≡ None → length xs ≡ steps
-Turning_more c at xs steps t e = let z = none_left t.rest (sym t.at_is ∙ e) in omega (arith, t.count)
 
 turn_lists : (c d : Column) (n : Node) (turned tail : List Node) → Lacks turned n → Lacks tail n →
     IsPut c d n (chain_link (first_or tail None) (first_or turned None)) → Runs c (Some n) turned None → Runs c (Some n) tail None →

@@ -3,7 +3,7 @@ use Rattle.std.specs.Prelude.{◌≡◌, ◌≢◌, List, [], ◌∷◌, Option,
 use Rattle.node_store.specs.declared.Node.{Node}
 use Rattle.node_store.specs.declared.Link.{Link}
 use Rattle.node_store.specs.Column.{Column, IsNode}
-pub use Rattle.node_store.specs.Column.{KeepsOthers, KeepsNodes}
+pub use Rattle.node_store.specs.Column.{KeepsOthers}
 use Rattle.node_store.specs.Nodes.{IsDistinct, first_or, last_or}
 use Rattle.node_store.specs.Store.{Store, IsNodeOf}
 

@@ -5,7 +5,8 @@ use Rattle.node_store.specs.Column.{Column}
 use Rattle.node_store.specs.Nodes.{IsDistinct, first_or, last_or}
 use Rattle.seq_index.specs.declared.SeqIndex.{SeqIndex}
 pub use Rattle.node_store.specs.Nodes.{Holds}
-pub use Rattle.seq_index.specs.Links.{Runs, KeepsOthers, KeepsNodes, AreNodes}
+pub use Rattle.seq_index.specs.Links.{KeepsOthers}
+use Rattle.seq_index.specs.Links.{Runs}
 
 -- the index is the chain of these nodes
 pub record Spells (cs : ℕ → Column) (i : SeqIndex) (xs : List Node) : Type 0 where

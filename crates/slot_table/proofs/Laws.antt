@@ -1,8 +1,5 @@
 -- The least free slot, and what lies in the slots after a change.
 use Rattle.std.proofs.Common.{◌≡◌, ◌≢◌, ℕ, zero, suc, ◌+◌, ◌<◌, ◌≤◌, ◌==◌, cond, List, [], ◌∷◌, length, Option, Some, None, refl, arith}
-use Rattle.std.specs.Prelude.{count_by, min}
-use Rattle.std.specs.Option.{is_some}
-use Rattle.list_model.proofs.Counts.{count_by-cons}
 use Rattle.slot_table.specs.Slots.{item_at, first_free, with_item}
 use Rattle.slot_table.proofs.Gaps.{suc_is_not_zero, zero_is_not_suc, same_suc}
 
@@ -25,13 +22,6 @@ module _ {T : Type 0} where
   first_free-is_free (Some x ∷ items) =
       let next : 1 + first_free items ≡ suc (first_free items) = omega arith in rw next (first_free-is_free items)
 
-  -- each slot before it is taken
-  pub below-first_free : (items : List (Option T)) (j : ℕ) → j < first_free items → item_at items j ≢ None
-  below-first_free [] j lt = absurd (omega arith)
-  below-first_free (None ∷ items) j lt = absurd (omega arith)
-  below-first_free (Some x ∷ items) zero lt = λ e. cc
-  below-first_free (Some x ∷ items) (suc j) lt = below-first_free items j (omega arith)
-
   -- and no other slot is such a one
   pub first_free_unique : (items : List (Option T)) (slot : ℕ) → item_at items slot ≡ None → ((j : ℕ) → j < slot → item_at items j ≢ None) → first_free items ≡ slot
   first_free_unique [] zero free below = refl
@@ -42,30 +32,7 @@ module _ {T : Type 0} where
   first_free_unique (Some x ∷ items) (suc slot) free below =
       omega (arith, first_free_unique items slot free (λ j lt. below (suc j) (omega arith)))
 
-  -- as many slots at least are taken
-  pub first_free-le-taken : (items : List (Option T)) → first_free items ≤ count_by is_some items
-  first_free-le-taken [] = omega arith
-  first_free-le-taken (None ∷ items) = omega arith
-  first_free-le-taken (Some x ∷ items) = omega (arith, count_by-cons is_some (Some x) items, first_free-le-taken items)
-
   pub first_free-le-length : (items : List (Option T)) → first_free items ≤ length items
   first_free-le-length [] = omega arith
   first_free-le-length (None ∷ items) = omega arith
   first_free-le-length (Some x ∷ items) = omega (arith, first_free-le-length items)
-
-  -- once it is taken, a later one is the least
-  pub first_free-taken : (items : List (Option T)) (item : T) → first_free items < first_free (with_item items (first_free items) (Some item))
-  first_free-taken [] item = omega arith
-  first_free-taken (None ∷ items) item = omega arith
-  first_free-taken (Some x ∷ items) item =
-      let next : 1 + first_free items ≡ suc (first_free items) = omega arith in
-      rw next (omega (arith, first_free-taken items item))
-
-  -- a slot that is freed is the least, or the one that was
-  pub first_free-released : (items : List (Option T)) (slot : ℕ) → first_free (with_item items slot None) ≡ min slot (first_free items)
-  first_free-released [] zero = refl
-  first_free-released [] (suc slot) = omega arith
-  first_free-released (None ∷ items) zero = refl
-  first_free-released (None ∷ items) (suc slot) = omega arith
-  first_free-released (Some x ∷ items) zero = omega arith
-  first_free-released (Some x ∷ items) (suc slot) = omega (arith, first_free-released items slot)
