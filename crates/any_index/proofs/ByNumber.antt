@@ -1,13 +1,14 @@
 -- Nodes by the rising number of their add.
-use Rattle.std.proofs.Common.{◌≡◌, ◌≢◌, ℕ, suc, ◌+◌, ◌<◌, ◌≤◌, Bool, true, false, cond, not, List, [], ◌∷◌, refl, ap, sym, ◌∙◌, subst, arith, nat_lt}
+use Rattle.std.proofs.Common.{◌≡◌, ◌≢◌, suc, ◌+◌, ◌<◌, ◌≤◌, Bool, true, false, cond, not, List, [], ◌∷◌, refl, ap, sym, ◌∙◌, subst, arith, nat_lt}
 use Rattle.std.specs.Prelude.{count_by, filter, IsPermutation}
 use Rattle.std.specs.List.{AllByRecursion}
 use Rattle.std.specs.Cmp.{IsTotalOrder}
-use Rattle.std.specs.Ordering.{is_gt, nat_cmp}
+use Rattle.std.specs.Ordering.{is_gt}
 use Rattle.std.proofs.lemmas.Bool.Decides.{nat_tests}
 use Rattle.std.proofs.lemmas.Cmp.{nat_cmp_total, on_total}
 use Rattle.std.proofs.lemmas.Option.{same_Some}
 use Rattle.std.proofs.lemmas.List.Sorted.{IsPermutation-sym, IsPermutation-trans, IsPermutation-insert, IsPermutation-cons}
+use Rattle.std.proofs.lemmas.Map.Keys.{le_from_not_gt}
 use Rattle.list_model.specs.Order.{EachPair, IsInOrder}
 use Rattle.list_model.specs.Walk.{without, placed}
 use Rattle.list_model.proofs.Counts.{count_by-cons, count_by_none}
@@ -30,9 +31,6 @@ Rises xs = EachPair (λ m n. number_of m < number_of n) xs
 
 pub number_total : IsTotalOrder number_cmp
 number_total = on_total number_of nat_cmp_total
-
-not_gt : (a b : ℕ) → is_gt (nat_cmp a b) ≡ false → a ≤ b
-not_gt a b h = grind (arith, nat_tests)
 
 -- ---- lists of rising numbers that count alike are one
 
@@ -113,7 +111,7 @@ module _ {R : Type 0} (s : Store R) where
   above x [] here order lacks of = tt
   above x (y ∷ ys) here order lacks of =
       let apart : number_of x ≢ number_of y = λ e. lacks.0 (same_Some x y (sym here ∙ (ap (nodes s) e ∙ of.0))) in
-      (omega (arith, not_gt (number_of x) (number_of y) order.0, apart), above x ys here order.1 lacks.1 of.1)
+      (omega (arith, le_from_not_gt (number_of x) (number_of y) order.0, apart), above x ys here order.1 lacks.1 of.1)
 
   -- distinct nodes of a store in the order of their numbers
   pub Rises_from : (xs : List Node) → IsInOrder number_cmp xs → IsDistinct xs → AllByRecursion (IsNodeOf s) xs → Rises xs

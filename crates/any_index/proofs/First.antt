@@ -1,9 +1,10 @@
 -- The node of the least number, by a walk over some nodes in any order.
-use Rattle.std.proofs.Common.{◌≡◌, ℕ, suc, ◌+◌, ◌<◌, ◌≤◌, Bool, true, false, cond, List, [], ◌∷◌, ◌++◌, drop, Option, Some, None, refl, ap, sym, ◌∙◌, subst, arith, append_assoc, slice_get}
+use Rattle.std.proofs.Common.{◌≡◌, ℕ, suc, ◌+◌, ◌<◌, Bool, true, false, cond, List, [], ◌∷◌, ◌++◌, drop, Option, Some, None, refl, ap, sym, ◌∙◌, subst, arith, append_assoc, slice_get}
 use Rattle.std.specs.Prelude.{insert}
 use Rattle.std.specs.Ordering.{is_gt, is_le, nat_cmp}
 use Rattle.std.proofs.Math.Seq.{drop-append_seam}
 use Rattle.std.proofs.lemmas.Bool.Decides.{nat_tests}
+use Rattle.std.proofs.lemmas.Map.Keys.{le_from_not_gt}
 use Rattle.list_model.specs.Order.{IsInOrder}
 use Rattle.list_model.specs.Place.{not_above, insert_sorted, sorted_onto}
 use Rattle.list_model.specs.Walk.{place_of, next}
@@ -53,9 +54,6 @@ rest_next xs n h distinct =
 first_stays : (a b : ℕ) → is_le (nat_cmp a b) ≡ false → b < a
 first_stays a b h = grind (arith, nat_tests)
 
-in_order : (a b : ℕ) → is_gt (nat_cmp a b) ≡ false → a ≤ b
-in_order a b h = grind (arith, nat_tests)
-
 later : (a b : ℕ) → b < a → is_le (nat_cmp a b) ≡ false
 later a b h = grind (arith, nat_tests)
 
@@ -69,7 +67,7 @@ put_by x y ys false e h =
     count_by_none (λ z. is_le (number_cmp z x)) (y ∷ ys) (
       e,
       All-map (λ z. is_gt (number_cmp y z) ≡ false) (λ z. is_le (number_cmp z x) ≡ false)
-          (λ z le. later (number_of z) (number_of x) (omega (arith, in_order (number_of y) (number_of z) le, first_stays (number_of y) (number_of x) e))) ys h.0,
+          (λ z le. later (number_of z) (number_of x) (omega (arith, le_from_not_gt (number_of y) (number_of z) le, first_stays (number_of y) (number_of x) e))) ys h.0,
     ) in
     ap (λ k. slice_get (insert (y ∷ ys) k x) 0) n
 

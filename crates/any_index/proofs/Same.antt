@@ -6,7 +6,7 @@ use Rattle.std.specs.Option.{option_map_or, option_cmp}
 use Rattle.std.specs.Cmp.{IsTotalOrder}
 use Rattle.std.specs.Ordering.{is_eq}
 use Rattle.std.specs.declared.cmp.Ordering.{Ordering}
-use Rattle.std.specs.declared.cmp.Ordering.TheVariants.{Less, Equal, Greater}
+use Rattle.std.specs.declared.cmp.Ordering.TheVariants.{Less, Equal}
 use Rattle.std.proofs.lemmas.Cmp.{tied_back}
 use Rattle.std.proofs.lemmas.List.Sorted.{length_permutation}
 use Rattle.list_model.specs.Order.{EachPair}
@@ -14,6 +14,7 @@ use Rattle.list_model.specs.Place.{find_equal}
 use Rattle.list_model.proofs.Kept.{EachPair-filter, All-passed}
 use Rattle.list_model.proofs.Lists.{All-moved}
 use Rattle.list_model.proofs.Permuted.{IsPermutation-filter}
+use Rattle.list_model.proofs.Orders.{eq_is_equal}
 use Rattle.node_store.specs.declared.Node.{Node}
 use Rattle.node_store.specs.ByNode.{same_node}
 use Rattle.node_store.proofs.ByNode.{same_node-refl, same_node-true}
@@ -50,11 +51,6 @@ pub find_first : (p : Node → Bool) (xs : List Node) → find p xs ≡ slice_ge
 find_first p [] = refl
 find_first p (x ∷ xs) = first_by (p x) x (find p xs) (filter p xs) (find_first p xs)
 
-pub equal_is : (o : Ordering) → is_eq o ≡ true → o ≡ Equal
-equal_is Less h = cc
-equal_is Equal h = refl
-equal_is Greater h = cc
-
 module _ {R : Type 0} (records : Node → Option R) (order : R → R → Ordering) (total : IsTotalOrder order) (r : R) where
   has_key : Node → Bool
   has_key n = is_eq (side_of records (λ a. order a r) n)
@@ -62,7 +58,7 @@ module _ {R : Type 0} (records : Node → Option R) (order : R → R → Orderin
   -- two nodes that have the key have one key
   tied : (m n : Node) → has_key m ≡ true → has_key n ≡ true → is_eq (order_at records order m n) ≡ true
   unfolding has_key
-  tied m n h k = by (records m) (records n) (equal_is (option_map_or (λ a. order a r) (records m) Less) h) (equal_is (option_map_or (λ a. order a r) (records n) Less) k)
+  tied m n h k = by (records m) (records n) (eq_is_equal (option_map_or (λ a. order a r) (records m) Less) h) (eq_is_equal (option_map_or (λ a. order a r) (records n) Less) k)
     where
       by : (a b : Option R) → option_map_or (λ a. order a r) a Less ≡ Equal → option_map_or (λ a. order a r) b Less ≡ Equal → is_eq (option_cmp order a b) ≡ true
       by None b e f = cc

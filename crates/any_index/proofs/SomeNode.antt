@@ -6,19 +6,20 @@ use Rattle.std.specs.declared.cmp.Ordering.{Ordering}
 use Rattle.std.specs.declared.cmp.Ordering.TheVariants.{Equal}
 use Rattle.list_model.specs.Place.{find_equal}
 use Rattle.list_model.proofs.Lists.{All-moved, find_none}
+use Rattle.list_model.proofs.Orders.{eq_is_equal}
 use Rattle.node_store.specs.declared.Node.{Node}
 use Rattle.node_store.specs.Nodes.{Holds}
 use Rattle.hash_index.specs.Hashed.{matches}
 use Rattle.ord_tree.proofs.Excepting.{find_is}
 use Rattle.ord_tree.proofs.Nearing.{find-none}
 use Rattle.any_index.proofs.ByNumber.{Holds_moved}
-use Rattle.any_index.proofs.Same.{find_first, equal_is}
+use Rattle.any_index.proofs.Same.{find_first}
 
 module _ (side : Node → Ordering) where
   -- the first node of a list that has the key stands in the list and has the key
   pub first_has : (xs : List Node) (o : Option Node) → o ≡ find_equal side xs → IfSome o (λ n. Holds xs n × (side n ≡ Equal))
   first_has xs None e = tt
-  first_has xs (Some n) e = let f = find_is (λ m. is_eq (side m)) xs n (sym e) in (f.held, equal_is (side n) f.passes)
+  first_has xs (Some n) e = let f = find_is (λ m. is_eq (side m)) xs n (sym e) in (f.held, eq_is_equal (side n) f.passes)
 
   -- and so does the first of those that have it, in the same list in another order
   pub first_match_has : (xs ys : List Node) → IsPermutation xs ys → (o : Option Node) → o ≡ slice_get (matches side xs) 0 → IfSome o (λ n. Holds ys n × (side n ≡ Equal))

@@ -1,7 +1,7 @@
 -- What is written for a command has no newline.
 use Rattle.std.proofs.Common.{◌≡◌, ℕ, zero, suc, ◌<◌, ◌^◌, ◌==◌, pos, negsuc, List, [], ◌∷◌, ◌++◌, Bool, true, false, not, ◌&&◌, decimal, inl, inr, refl, sym, subst, arith}
 use Rattle.std.specs.Str.Parse.{AllDigits}
-use Rattle.std.proofs.lemmas.Bool.{and_parts, cases_lt, cases_eq, ne_eqb}
+use Rattle.std.proofs.lemmas.Bool.{and_parts, cases_lt, cases_eq, ne_eqb, not-true}
 use Rattle.std.proofs.lemmas.Fmt.{decimal_is_IsNumeral}
 use Rattle.std.proofs.lemmas.List.Elements.{All-nil, All-cons, All-append}
 use Rattle.std.proofs.lemmas.Str.Parse.{digit_from_value}
@@ -32,13 +32,9 @@ abbrev are_within : List ℕ → Bool
 are_within [] = true
 are_within (b ∷ bs) = not (b == 10) && are_within bs
 
-not_true : (b : Bool) → not b ≡ true → b ≡ false
-not_true true e = cc
-not_true false e = refl
-
 within_from : (text : List ℕ) → are_within text ≡ true → IsOneLine text
 within_from [] e = none
-within_from (b ∷ bs) e = let p = and_parts (not (b == 10)) (are_within bs) e in then_text b bs (not_true _ p.0) (within_from bs p.1)
+within_from (b ∷ bs) e = let p = and_parts (not (b == 10)) (are_within bs) e in then_text b bs (not-true _ p.0) (within_from bs p.1)
 
 -- the escapes of the bytes below n
 abbrev escapes_below : ℕ → Bool

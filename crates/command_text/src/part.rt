@@ -4,12 +4,10 @@ ghost use Rattle.table_reply.specs.Buffer.{Adds};
 ghost use Rattle.serde_json.specs.Written.{compact_text};
 ghost use Rattle.command_text.specs.Part.{part_data};
 
-use crate::print::{
-    push_count, push_fields, push_handle, push_handles, push_key, push_names, push_quoted,
-};
+use crate::print::{push_count, push_fields, push_handle, push_handles, push_key, push_names};
 use key_extract::Text;
 use table_cmd::{Field, HandleText, Value};
-use table_reply::{Out, OutOfRoom};
+use table_reply::{Out, OutOfRoom, push_quoted};
 
 /// What stands under a key of a command.
 #[derive(Clone, Copy)]

@@ -1,8 +1,7 @@
 //! The texts of values.
 
-ghost use Rattle.std.specs.Prelude.{◌≡◌, ◌<◌, ◌∷◌, ◌++◌, []};
-ghost use Rattle.std.specs.Char.{digit_char};
-ghost use Rattle.json.specs.Print.{quoted, escape_byte};
+ghost use Rattle.std.specs.Prelude.{◌∷◌, ◌++◌, []};
+ghost use Rattle.json.specs.Print.{quoted};
 ghost use Rattle.serde_json.specs.Written.{compact_text, comma_if};
 ghost use Rattle.table_reply.specs.Buffer.{Adds};
 ghost use Rattle.command_text.specs.Text.{count_data, handle_data, handles_data, names_data, key_data, fields_data, value_data};
@@ -11,7 +10,7 @@ ghost use Rattle.command_text.specs.Part.{member_text};
 use itoa::Buffer;
 use key_extract::{Cell, Text};
 use table_cmd::{Field, HandleText, Value};
-use table_reply::{Out, OutOfRoom, spelling};
+use table_reply::{Out, OutOfRoom, push_quoted, spelling};
 
 pub(crate) fn push_count(out: &mut Out, number: u64) -> Result<(), OutOfRoom>
     ensures { Adds result out.old out.new (compact_text (count_data number)) }
@@ -127,43 +126,5 @@ fn push_value(out: &mut Out, value: &Value) -> Result<(), OutOfRoom>
         Value::Cell(Cell::Bool(true)) => out.try_push(b"true"),
         Value::Cell(Cell::Bool(false)) => out.try_push(b"false"),
         Value::Other => out.try_push(b"[]"),
-    }
-}
-
-pub(crate) fn push_quoted(out: &mut Out, text: &str) -> Result<(), OutOfRoom>
-    ensures { Adds result out.old out.new (quoted text.now) }
-{
-    out.try_push(b"\"")?;
-    for byte in text.as_bytes() {
-        push_escaped(out, *byte)?;
-    }
-    out.try_push(b"\"")
-}
-
-#[tactic(auto, unfolding(json::specs::Print::escape_byte))]
-fn push_escaped(out: &mut Out, byte: u8) -> Result<(), OutOfRoom>
-    ensures { Adds result out.old out.new (escape_byte byte) }
-{
-    match byte {
-        b'"' => out.try_push(b"\\\""),
-        b'\\' => out.try_push(b"\\\\"),
-        8 => out.try_push(b"\\b"),
-        12 => out.try_push(b"\\f"),
-        b'\n' => out.try_push(b"\\n"),
-        b'\r' => out.try_push(b"\\r"),
-        b'\t' => out.try_push(b"\\t"),
-        0..32 => out.try_push(&[b'\\', b'u', b'0', b'0', hex(byte / 16), hex(byte % 16)]),
-        _ => out.try_push(&[byte]),
-    }
-}
-
-fn hex(digit: u8) -> u8
-    requires { digit < 16 }
-    ensures { result ≡ digit_char digit }
-{
-    if digit < 10 {
-        b'0' + digit
-    } else {
-        b'a' + (digit - 10)
     }
 }

@@ -1,5 +1,5 @@
 -- Laws of what holds of each of several indices.
-use Rattle.std.proofs.Common.{◌≡◌, ◌≢◌, ℕ, zero, suc, ◌+◌, ◌<◌, List, [], ◌∷◌, ◌++◌, length, map, get_or, set, refl, sym, ap, ◌∙◌, subst, arith, ⊎_elim}
+use Rattle.std.proofs.Common.{◌≡◌, ◌≢◌, ℕ, suc, ◌+◌, ◌<◌, List, [], ◌∷◌, ◌++◌, length, map, get_or, set, refl, sym, ap, ◌∙◌, subst, arith, ⊎_elim}
 use Rattle.std.specs.List.{AllByRecursion}
 use Rattle.std.proofs.lemmas.List.{get_or-set_same, get_or-set_other, get_or-map, get_or_append_left, get_or_push, length_push}
 use Rattle.std.proofs.lemmas.Bool.{cases_eq, cases_lt}
@@ -20,12 +20,6 @@ module _ {X : Type 0} where
   -- where the list of each index was one of these
   pub each_listed : {N : Type 0} (listed : X → List N) (specs : List Spec) (xs : List X) → length xs ≡ length specs → EachOf (λ j d x. listed x ≡ get_or (map listed xs) j []) specs xs
   each_listed listed specs xs one j d e within = sym (get_or-map listed xs j e [] (omega arith))
-
--- at a place in the list the default does not matter
-pub get_or_same : {X : Type 0} (xs : List X) (j : ℕ) (d e : X) → j < length xs → get_or xs j d ≡ get_or xs j e
-get_or_same [] j d e lt = absurd (omega (arith, lt))
-get_or_same (x ∷ xs) zero d e lt = refl
-get_or_same (x ∷ xs) (suc j) d e lt = get_or_same xs j d e (omega (arith, lt))
 
 module _ {X : Type 0} where
   -- one index more

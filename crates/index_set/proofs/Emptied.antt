@@ -2,7 +2,7 @@
 use Rattle.std.proofs.Common.{◌≡◌, ℕ, ◌+◌, ◌<◌, ◌≤◌, List, [], length, ◌++◌, drop, take, map, get_or, set, None, refl, sym, ap, ◌∙◌, subst, arith, ⊎_elim}
 use Rattle.std.specs.declared.cmp.Ordering.{Ordering}
 use Rattle.std.proofs.lemmas.Bool.{cases_lt}
-use Rattle.std.proofs.lemmas.List.{length-map, get_or-map}
+use Rattle.std.proofs.lemmas.List.{length-map, get_or-map, get_or_default}
 use Rattle.node_store.specs.declared.Node.{Node}
 use Rattle.node_store.specs.Column.{Column}
 use Rattle.node_store.specs.Store.{Store, IsStore, nodes, len_of}
@@ -16,7 +16,7 @@ use Rattle.index_set.specs.Each.{EachOf}
 use Rattle.index_set.specs.Indices.{IsPlaced, ArePlaced, lists_in, AreKeyed}
 use Rattle.index_set.specs.Lists.{AreUniqueFrom}
 use Rattle.index_set.proofs.Coming.{keyed_empty}
-use Rattle.index_set.proofs.Each.{each_set, get_or_same, changed_each, changed_not}
+use Rattle.index_set.proofs.Each.{each_set, changed_each, changed_not}
 use Rattle.index_set.proofs.Keys.{unique_empty}
 use Rattle.index_set.proofs.Refilled.{refilled}
 use Rattle.index_set.proofs.Walk.{below_next}
@@ -33,7 +33,7 @@ BareTo k j spec i = j < k → IsBare j spec i
 module _ (specs : List Spec) (is : List AnyIndex) (k : ℕ) (one : length is ≡ length specs) where
   pub bare_step : (new : AnyIndex) (d : Spec) → k < length specs → IsBare k (get_or specs k d) new → EachOf (BareTo k) specs is → EachOf (BareTo (k + 1)) specs (set is k new)
   bare_step new d lt here h =
-      each_set (BareTo k) (BareTo (k + 1)) specs is k new one lt h (λ e _. subst (λ z. IsBare k z new) (get_or_same specs k d e lt) here) (λ j spec i apart p below. p (below_next j k below apart))
+      each_set (BareTo k) (BareTo (k + 1)) specs is k new one lt h (λ e _. subst (λ z. IsBare k z new) (get_or_default specs k d e lt) here) (λ j spec i apart p below. p (below_next j k below apart))
 
   pub all_bare : length specs ≤ k → EachOf (BareTo k) specs is → EachOf IsBare specs is
   all_bare all h j d e lt = h j d e lt (omega (arith, all, lt))

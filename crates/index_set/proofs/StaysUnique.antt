@@ -5,6 +5,7 @@ use Rattle.std.specs.Option.{option_map_or}
 use Rattle.std.specs.Cmp.{IsTotalOrder}
 use Rattle.std.specs.Ordering.{is_eq}
 use Rattle.std.specs.declared.cmp.Ordering.{Ordering}
+use Rattle.std.proofs.lemmas.List.{get_or_default}
 use Rattle.list_model.specs.Order.{EachPair}
 use Rattle.list_model.specs.Walk.{without}
 use Rattle.list_model.proofs.Lists.{slice_get_at}
@@ -23,7 +24,7 @@ use Rattle.index_set.specs.Each.{changed_from, list_at}
 use Rattle.index_set.specs.Indices.{LackIt, HoldIt}
 use Rattle.index_set.specs.Lists.{entered_at, settled_at, ban_from, AreUniqueFrom}
 use Rattle.index_set.specs.Set.{IsSound, IsUniqueExcept, IsOfSame, HasKeysOf, lists_of, kind_at, with_record}
-use Rattle.index_set.proofs.Each.{all_listed, get_or_same}
+use Rattle.index_set.proofs.Each.{all_listed}
 use Rattle.index_set.proofs.Members.{one_list_each, distinct_at}
 use Rattle.index_set.proofs.Reading.{some_spec}
 use Rattle.index_set.proofs.Uniques.{OneOfEach, unique_at, unique_from}
@@ -63,7 +64,7 @@ module _ {R E : Type 0} (order : E → ℕ → R → R → Ordering) where
       (subst (λ (f : Node → Option R). AreUniqueFrom (order s.keys) f except 0 s.specs.items (lists_of t)) (sym has)
       (subst (λ (ls : List (List Node)). AreUniqueFrom (order s.keys) records except 0 s.specs.items ls) (sym listed)
       (unique_from (order s.keys) records except s.specs.items lists
-      (λ j d lt unique. h j lt (subst (λ (z : Spec). IsTrue z.unique) (get_or_same s.specs.items j d some_spec lt) unique))))))
+      (λ j d lt unique. h j lt (subst (λ (z : Spec). IsTrue z.unique) (get_or_default s.specs.items j d some_spec lt) unique))))))
 
 module _ {R E : Type 0} {has_key : E → ℕ → Bool} (order : E → ℕ → R → R → Ordering) where
   to_lists : (s : IndexSet R E) (except : Option Node) → IsSound has_key s → IsUniqueExcept order s except → AreUnique (order s.keys) (record_of s.store) s.specs.items (lists_of s) except

@@ -6,6 +6,7 @@ use Rattle.std.specs.Cmp.{IsTotalOrder}
 use Rattle.std.specs.declared.cmp.Ordering.{Ordering}
 use Rattle.std.specs.declared.cmp.Ordering.TheVariants.{Equal}
 use Rattle.std.proofs.lemmas.Bool.{cases_eq}
+use Rattle.std.proofs.lemmas.List.{get_or_default}
 use Rattle.node_store.specs.declared.Node.{Node}
 use Rattle.node_store.specs.Column.{Column}
 use Rattle.node_store.specs.Store.{Store, IsNodeOf, nodes, records, number_of}
@@ -26,7 +27,6 @@ use Rattle.any_index.proofs.Laws.{IsKeyedBut_rewritten, IsKeyed_restored, IsKeye
 use Rattle.index_set.specs.declared.set.IndexSet.{IndexSet}
 use Rattle.index_set.specs.Indices.{ArePlaced, lists_in}
 use Rattle.index_set.specs.Set.{IsSound, IsKeyed, IsKeyedBut, HasKeysOf, IsRestored, lists_of, kind_at, with_record}
-use Rattle.index_set.proofs.Each.{get_or_same}
 use Rattle.index_set.proofs.Reading.{some_spec, kind_here, number_here}
 use Rattle.index_set.proofs.Stores.{IsStore_same}
 
@@ -148,5 +148,5 @@ module _ {R E : Type 0} {has_key : E → ℕ → Bool} (order : E → ℕ → R 
           let x = get_or s.indices.items j i in
           IsKeyed_alike (order s.keys) (hash_of s.keys) (store.with_record s.store n before) s.store n before keys.row x
           (sym (ap (λ (cs : ℕ → Column). cs (col_of x)) (columns_written s.store n before))) (record_written s.store n before is) keys.is (λ m ne. sym (others_written s.store n before is m ne))
-          (one_key_at j lt x (get_or_same s.indices.items j i x (omega (arith, lt, sound.placed.one_each)))) (h.each j d i lt);
+          (one_key_at j lt x (get_or_default s.indices.items j i x (omega (arith, lt, sound.placed.one_each)))) (h.each j d i lt);
     }

@@ -5,6 +5,7 @@ use Rattle.std.specs.Prelude.{filter, option_map}
 use Rattle.std.proofs.lemmas.List.{length-map}
 use Rattle.std.proofs.lemmas.Option.{slice_get-map}
 use Rattle.list_model.specs.Walk.{place_of, next, prev, prev_onto, last}
+use Rattle.list_model.proofs.Kept.{map_by}
 
 module _ {X Y : Type 0} (f : X → Y) where
   -- the member that stands last
@@ -27,15 +28,11 @@ module _ {X Y : Type 0} (f : X → Y) where
     pub next_mapped : (xs : List X) → AllByRecursion (λ x. p x ≡ q (f x)) xs → option_map f (next p xs) ≡ next q (map f xs)
     next_mapped xs same = sym (slice_get-map f xs (place_of p xs + 1)) ∙ ap (λ k. slice_get (map f xs) (k + 1)) (place_mapped xs same)
 
-    kept_by : (b : Bool) (x : X) (l : List X) (r : List Y) → map f l ≡ r → map f (cond b (x ∷ l) l) ≡ cond b (f x ∷ r) r
-    kept_by true x l r e = ap (λ ys. f x ∷ ys) e
-    kept_by false x l r e = e
-
     -- the members that pass
     pub filter_mapped : (xs : List X) → AllByRecursion (λ x. p x ≡ q (f x)) xs → map f (filter p xs) ≡ filter q (map f xs)
     filter_mapped [] same = refl
     filter_mapped (x ∷ xs) same =
-        kept_by (p x) x (filter p xs) (filter q (map f xs)) (filter_mapped xs same.1) ∙ ap (λ b. cond b (f x ∷ filter q (map f xs)) (filter q (map f xs))) same.0
+        map_by f (p x) x (filter p xs) (filter q (map f xs)) (filter_mapped xs same.1) ∙ ap (λ b. cond b (f x ∷ filter q (map f xs)) (filter q (map f xs))) same.0
 
     before_by : (b : Bool) (before rest : Option X) (r : Option Y) → option_map f rest ≡ r → option_map f (cond b before rest) ≡ cond b (option_map f before) r
     before_by true before rest r e = refl

@@ -2,7 +2,7 @@
 use Rattle.std.proofs.Common.{◌≡◌, ℕ, zero, suc, ◌+◌, ◌≤◌, Bool, true, false, cond, ◌&&◌, not, List, [], ◌∷◌, ◌++◌, length, map, take, drop, slice_get, Option, Some, None, refl, sym, ap, ◌∙◌, subst, arith}
 use Rattle.std.specs.Prelude.{count_by, filter, option_and_then}
 use Rattle.std.specs.List.{AllByRecursion}
-use Rattle.std.specs.Ordering.{is_lt, is_le, is_gt, is_ge, ordering_index}
+use Rattle.std.specs.Ordering.{is_gt, is_ge, ordering_index}
 use Rattle.std.specs.declared.cmp.Ordering.{Ordering}
 use Rattle.std.proofs.lemmas.List.{length-append}
 use Rattle.std.specs.declared.cmp.Ordering.TheVariants.{Less, Equal, Greater}
@@ -12,7 +12,8 @@ use Rattle.list_model.specs.Order.{EachPair}
 use Rattle.list_model.specs.Place.{Edge, Inclusive, Exclusive, Open, is_from, is_to, range}
 use Rattle.list_model.proofs.Counts.{count_by-cons, count_by_none}
 use Rattle.list_model.proofs.InOrder.{All-map}
-use Rattle.list_model.proofs.Kept.{EachPair-map}
+use Rattle.list_model.proofs.Kept.{EachPair-map, filter_none}
+use Rattle.list_model.proofs.Orders.{lt_falls, le_falls}
 use Rattle.linked_set.specs.Edges.{edge_of, Rises}
 use Rattle.linked_set.proofs.Walks.{HasMet, one_met}
 
@@ -61,10 +62,6 @@ skipped from to [] each = refl
 skipped from to (x ∷ xs) each =
     skip_by from to x xs (from x) refl each.0 (skipped from to xs each.1) ∙ ap (λ n. filter to (drop n (x ∷ xs))) (sym (count_by-cons (λ y. not (from y)) x xs))
 
-filter_none : {X : Type 0} (to : X → Bool) (xs : List X) → AllByRecursion (λ x. to x ≡ false) xs → filter to xs ≡ []
-filter_none to [] none = refl
-filter_none to (x ∷ xs) none = ap (λ b. cond b (x ∷ filter to xs) (filter to xs)) none.0 ∙ filter_none to xs none.1
-
 not_passed : {X : Type 0} (to : X → Bool) (x : X) (b : Bool) → to x ≡ b → cond b (Some x) None ≡ None → to x ≡ false
 not_passed to x false t e = t
 not_passed to x true t e = cc
@@ -95,20 +92,6 @@ gt_rises Equal p h e = cc
 gt_rises Greater Less h e = absurd (omega (arith, h))
 gt_rises Greater Equal h e = absurd (omega (arith, h))
 gt_rises Greater Greater h e = refl
-
-lt_falls : (o p : Ordering) → ordering_index o ≤ ordering_index p → is_lt o ≡ false → is_lt p ≡ false
-lt_falls Less p h e = cc
-lt_falls Equal Less h e = absurd (omega (arith, h))
-lt_falls Greater Less h e = absurd (omega (arith, h))
-lt_falls o Equal h e = refl
-lt_falls o Greater h e = refl
-
-le_falls : (o p : Ordering) → ordering_index o ≤ ordering_index p → is_le o ≡ false → is_le p ≡ false
-le_falls Less p h e = cc
-le_falls Equal p h e = cc
-le_falls Greater Less h e = absurd (omega (arith, h))
-le_falls Greater Equal h e = absurd (omega (arith, h))
-le_falls Greater Greater h e = refl
 
 all_units : {X : Type 0} (xs : List X) → AllByRecursion (λ x. Unit {0}) xs
 all_units [] = tt

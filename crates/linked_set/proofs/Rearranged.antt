@@ -1,5 +1,5 @@
 -- Handles that are each record's once, and the nodes that they name.
-use Rattle.std.proofs.Common.{◌≡◌, ℕ, zero, suc, ◌+◌, ◌<◌, ◌≤◌, ◌==◌, Bool, true, false, cond, ◌||◌, ◌&&◌, not, List, [], ◌∷◌, length, map, take, get_or, Option, Some, None, Result, Ok, Err, refl, sym, ap, ◌∙◌, subst, arith, eq-eqb, rules}
+use Rattle.std.proofs.Common.{◌≡◌, ℕ, zero, suc, ◌+◌, ◌<◌, ◌≤◌, ◌==◌, Bool, true, false, cond, ◌||◌, ◌&&◌, List, [], ◌∷◌, length, map, take, get_or, Option, Some, None, Result, Ok, Err, refl, sym, ap, ◌∙◌, subst, arith, eq-eqb, rules}
 use Rattle.std.specs.Prelude.{IsTrue, IsPermutation, unwrap_or, nat_eq, IfOk, count_by, is_some}
 use Rattle.std.specs.Option.{IsSome}
 use Rattle.std.specs.List.{AllByRecursion, IsDistinct, list_all, list_any}
@@ -18,7 +18,7 @@ use Rattle.container_model.specs.declared.handle.Handle.{Handle}
 use Rattle.container_model.specs.declared.handle.Entry.{Entry}
 use Rattle.container_model.specs.State.{row_of, is_handle}
 use Rattle.container_model.specs.Sequence.{has_each_once}
-use Rattle.container_model.proofs.Found.{is_handle_itself, is_handle_same, count_live, row_of_members}
+use Rattle.container_model.proofs.Found.{is_handle_itself, is_handle_same, count_live, row_of_members, eqb_flip}
 use Rattle.container_model.proofs.Moved.{each_once_is}
 
 -- ---- lists
@@ -37,14 +37,6 @@ take_past (x ∷ xs) (suc i) le = ap (λ l. x ∷ l) (take_past xs i (omega arit
 pub all_pass : {X : Type 0} (p : X → Bool) (xs : List X) → AllByRecursion (λ x. p x ≡ true) xs → list_all p xs ≡ true
 all_pass p [] all = refl
 all_pass p (x ∷ xs) all = (λ i. all.0 i && all_pass p xs all.1 i)
-
-both_true : (b c : Bool) → (b && c) ≡ true → (b ≡ true) × (c ≡ true)
-both_true true c h = (refl, h)
-both_true false c h = cc
-
-pub each_passes : {X : Type 0} (p : X → Bool) (xs : List X) → list_all p xs ≡ true → AllByRecursion (λ x. p x ≡ true) xs
-each_passes p [] h = tt
-each_passes p (x ∷ xs) h = let k = both_true (p x) (list_all p xs) h in (k.0, each_passes p xs k.1)
 
 pub some_by : {X : Type 0} (o : Option X) → (o ≡ None → ⊥) → IsSome o
 some_by None h = absurd (h refl)
@@ -72,9 +64,6 @@ no_handle = record { slot = 0; stamp = 0 }
 abbrev pub slots_of : List Handle → List ℕ
 slots_of handles = map (λ h. h.slot) handles
 
-eqb_flip : (m n : ℕ) → (m == n) ≡ (n == m)
-eqb_flip m n = grind (arith, nat_tests)
-
 -- a number that stands among the first and next stands twice
 later_apart : (y : ℕ) (ys : List ℕ) (i : ℕ) → i < length ys → AllByRecursion (λ z. nat_eq y z ≡ false) ys → (get_or ys i 0 == y) ≡ false
 later_apart y ys i lt all = eqb_flip (get_or ys i 0) y ∙ All-at (λ z. nat_eq y z ≡ false) ys i 0 lt all
@@ -97,14 +86,6 @@ one_more_apart ys i lt none apart = subst (IsDistinct nat_eq) (sym (take_more ys
 -- one more of the first members
 pub one_more_any : (p : ℕ → Bool) (ys : List ℕ) (i : ℕ) → i < length ys → list_any p (take (i + 1) ys) ≡ (list_any p (take i ys) || (p (get_or ys i 0) || false))
 one_more_any p ys i lt = ap (list_any p) (take_more ys i 0 lt) ∙ list_any-append p (take i ys) (get_or ys i 0 ∷ [])
-
-pub not_false : (b : Bool) → not b ≡ false → b ≡ true
-not_false true e = refl
-not_false false e = cc
-
-pub not_true : (b : Bool) → not b ≡ true → b ≡ false
-not_true true e = cc
-not_true false e = refl
 
 -- a test that another number passes too
 pub one_more : (b c : Bool) → cond b true c ≡ (c || (b || false))

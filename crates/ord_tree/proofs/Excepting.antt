@@ -5,8 +5,8 @@ use Rattle.std.specs.List.{AllByRecursion}
 use Rattle.std.specs.Ordering.{is_lt, is_eq, ordering_index}
 use Rattle.std.specs.declared.cmp.Ordering.{Ordering}
 use Rattle.std.specs.declared.cmp.Ordering.TheVariants.{Less, Equal, Greater}
-use Rattle.std.proofs.lemmas.Bool.{false≢true}
-use Rattle.std.proofs.lemmas.Option.{none-some}
+use Rattle.std.proofs.lemmas.Bool.{false≢true, and_from}
+use Rattle.std.proofs.lemmas.Option.{none-some, same_Some}
 use Rattle.node_store.specs.declared.Node.{Node}
 use Rattle.node_store.specs.declared.Link.{Link}
 use Rattle.node_store.specs.Column.{Column}
@@ -14,9 +14,12 @@ use Rattle.node_store.specs.Nodes.{Lacks, Holds, IsDistinct, last_or}
 use Rattle.node_store.proofs.ByNode.{same_node-refl, node_cases}
 use Rattle.node_store.proofs.Members.{same_node-false}
 use Rattle.list_model.specs.Order.{EachPair}
+use Rattle.list_model.proofs.Lists.{All-join}
+use Rattle.list_model.proofs.Kept.{All-split}
+use Rattle.list_model.proofs.InOrder.{All-map}
 use Rattle.ord_tree.specs.Same.{is_kept, without_excepted}
 use Rattle.ord_tree.specs.Tree.{Tree, nodes, IsAt}
-use Rattle.ord_tree.proofs.Nearing.{All-parts, All-each, EachPair-parts, Nears, Opens, go_right, go_left, take_here, take_before}
+use Rattle.ord_tree.proofs.Nearing.{EachPair-parts, Nears, Opens, go_right, go_left, take_here, take_before}
 use Rattle.ord_tree.proofs.KeySides.{Rises}
 
 -- ---- the excepted node
@@ -31,24 +34,17 @@ kept_if n (Some m) ne = ap not (same_node-false m n (λ e. ne (ap some_node e)))
 not_kept : (n : Node) (except : Option Node) → except ≡ Some n → is_kept except n ≡ false
 not_kept n except e = ap (λ (o : Option Node). is_kept o n) e ∙ ap not (same_node-refl n)
 
-same_some : {n m : Node} → Some n ≡ Some m → n ≡ m
-same_some k = cc
-
 kept_beside : (n m : Node) (except : Option Node) → except ≡ Some n → m ≢ n → is_kept except m ≡ true
-kept_beside n m except e ne = kept_if m except (λ k. ne (same_some (sym k ∙ e)))
+kept_beside n m except e ne = kept_if m except (λ k. ne (same_Some _ _ (sym k ∙ e)))
 
 excepted_or_not : (n : Node) (except : Option Node) → (except ≡ Some n) ⊎ (except ≢ Some n)
 excepted_or_not n None = inr (λ e. none-some n e)
-excepted_or_not n (Some m) = elim (node_cases m n) [ inl e ↦ inl (ap some_node e) | inr ne ↦ inr (λ e. ne (same_some e)) ]
+excepted_or_not n (Some m) = elim (node_cases m n) [ inl e ↦ inl (ap some_node e) | inr ne ↦ inr (λ e. ne (same_Some _ _ e)) ]
   where
     some_node : Node → Option Node
     some_node x = Some x
 
 -- ---- lists
-
-All-append : {X : Type 0} (P : X → Type 0) (xs ys : List X) → AllByRecursion P xs → AllByRecursion P ys → AllByRecursion P (xs ++ ys)
-All-append P [] ys h k = k
-All-append P (x ∷ xs) ys h k = (h.0, All-append P xs ys h.1 k)
 
 -- what holds of what a filter keeps
 All-kept_by : (keep : Node → Bool) (P : Node → Type 0) (x : Node) (xs : List Node) (b : Bool) → keep x ≡ b → AllByRecursion P (cond b (x ∷ filter keep xs) (filter keep xs)) → (keep x ≡ true → P x) × AllByRecursion P (filter keep xs)
@@ -83,7 +79,7 @@ All-of P f (x ∷ xs) = (f x, All-of P f xs)
 
 first_beside : (keep : Node → Bool) (side : Node → Ordering) (x : Node) (xs : List Node) (b : Bool) → keep x ≡ b → EachPair (Rises side) (cond b (x ∷ filter keep xs) (filter keep xs)) → AllByRecursion (λ y. keep x ≡ true → keep y ≡ true → Rises side x y) xs × EachPair (Rises side) (filter keep xs)
 first_beside keep side x xs true e k =
-    (All-each (λ y. keep y ≡ true → Rises side x y) (λ y. keep x ≡ true → keep y ≡ true → Rises side x y) (λ y f g. f) xs (All-kept keep (Rises side x) xs k.0), k.1)
+    (All-map (λ y. keep y ≡ true → Rises side x y) (λ y. keep x ≡ true → keep y ≡ true → Rises side x y) (λ y f g. f) xs (All-kept keep (Rises side x) xs k.0), k.1)
 first_beside keep side x xs false e k = (All-of (λ y. keep x ≡ true → keep y ≡ true → Rises side x y) (λ y f. absurd (false≢true (sym e ∙ f))) xs, k)
 
 pub each_beside : (keep : Node → Bool) (side : Node → Ordering) (xs : List Node) → IsDistinct xs → EachPair (Rises side) (filter keep xs) → EachPair (Beside keep side) xs
@@ -97,7 +93,7 @@ pub record EndsIn (xs : List Node) (m : Node) : Type 0 where
 
 ends_in : (xs : List Node) (m : Node) → last_or xs None ≡ Some m → EndsIn xs m
 ends_in [] m e = absurd (none-some m e)
-ends_in (x ∷ []) m e = record { front = []; is = ap (λ (z : Node). z ∷ []) (same_some e) }
+ends_in (x ∷ []) m e = record { front = []; is = ap (λ (z : Node). z ∷ []) (same_Some _ _ e) }
 ends_in (x ∷ y ∷ ys) m e = let r = ends_in (y ∷ ys) m e in record { front = x ∷ r.front; is = ap (λ (z : List Node). x ∷ z) r.is }
 
 last_there : (xs : List Node) (x : Node) → last_or xs (Some x) ≡ None → ⊥
@@ -126,9 +122,6 @@ pass_high true Equal Less e f h = cc
 pass_high true Equal Equal e f h = cc
 pass_high true Equal Greater e f h = let k = h refl in absurd (omega arith)
 
-both_pass : (b c : Bool) → b ≡ true → c ≡ true → (b && c) ≡ true
-both_pass b c e f = ap (λ (z : Bool). z && c) e ∙ f
-
 same_low : (a b : ℕ) → a ≡ b → a ≤ b
 same_low a b e = omega arith
 
@@ -148,42 +141,42 @@ module _ (tally : ℕ → ℕ → ℕ) (c : Column) (keep : Node → Bool) (side
   guides_itself : keep n ≡ true → Guides n
   guides_itself e = record {
     kept = e;
-    low = All-each (λ x. AllByRecursion (Beside keep side x) (n ∷ nodes o.right)) (λ x. keep x ≡ true → Rises side x n) (λ x k f. k.0.rising f e) (nodes o.left) o.pairs.across;
+    low = All-map (λ x. AllByRecursion (Beside keep side x) (n ∷ nodes o.right)) (λ x. keep x ≡ true → Rises side x n) (λ x k f. k.0.rising f e) (nodes o.left) o.pairs.across;
     here = λ f. refl;
-    high = All-each (Beside keep side n) (λ y. keep y ≡ true → Rises side n y) (λ y k f. k.rising e f) (nodes o.right) o.pairs.back.0;
+    high = All-map (Beside keep side n) (λ y. keep y ≡ true → Rises side n y) (λ y k f. k.rising e f) (nodes o.right) o.pairs.back.0;
     take = take_here tally c (Beside keep side) (passes keep side) whole n link found o;
   }
 
   guides_from_before : keep n ≡ false → ((m : Node) → m ≢ n → keep m ≡ true) → (m : Node) → EndsIn (nodes o.left) m → Guides m
   guides_from_before e others m end =
       let across = subst (λ (z : List Node). AllByRecursion (λ x. AllByRecursion (Beside keep side x) (n ∷ nodes o.right)) z) end.is o.pairs.across in
-      let at_m = (All-parts (λ x. AllByRecursion (Beside keep side x) (n ∷ nodes o.right)) end.front (m ∷ []) across).1.0 in
+      let at_m = (All-split (λ x. AllByRecursion (Beside keep side x) (n ∷ nodes o.right)) end.front (m ∷ []) across).1.0 in
       let kept = others m at_m.0.apart in
       let front = EachPair-parts (Beside keep side) end.front (m ∷ []) (subst (EachPair (Beside keep side)) end.is o.pairs.front) in
-      let low = All-append (λ x. keep x ≡ true → Rises side x m) end.front (m ∷ [])
-      (All-each (λ x. AllByRecursion (Beside keep side x) (m ∷ [])) (λ x. keep x ≡ true → Rises side x m) (λ x k f. k.0.rising f kept) end.front front.across) (λ f. same_low (ordering_index (side m)) (ordering_index (side m)) refl, tt) in
+      let low = All-join (λ x. keep x ≡ true → Rises side x m) end.front (m ∷ [])
+      (All-map (λ x. AllByRecursion (Beside keep side x) (m ∷ [])) (λ x. keep x ≡ true → Rises side x m) (λ x k f. k.0.rising f kept) end.front front.across) (λ f. same_low (ordering_index (side m)) (ordering_index (side m)) refl, tt) in
       record {
         kept = kept;
         low = subst (λ (z : List Node). AllByRecursion (λ x. keep x ≡ true → Rises side x m) z) (sym end.is) low;
         here = λ f. absurd (false≢true (sym e ∙ f));
-        high = All-each (Beside keep side m) (λ y. keep y ≡ true → Rises side m y) (λ y k f. k.rising kept f) (nodes o.right) at_m.1;
+        high = All-map (Beside keep side m) (λ y. keep y ≡ true → Rises side m y) (λ y k f. k.rising kept f) (nodes o.right) at_m.1;
         take = take_before tally c (Beside keep side) (passes keep side) whole n link found o end.front m end.is;
       }
 
   pub guide_right : (m : Node) → Guides m → is_lt (side m) ≡ true → Nears tally c (Beside keep side) (passes keep side) whole link.b found
   guide_right m g e =
       go_right tally c (Beside keep side) (passes keep side) whole n link found o
-      (All-each (λ x. keep x ≡ true → Rises side x m) (λ x. passes keep side x ≡ false) (λ x k. pass_low (keep x) (side x) (side m) e k) (nodes o.left) g.low)
+      (All-map (λ x. keep x ≡ true → Rises side x m) (λ x. passes keep side x ≡ false) (λ x k. pass_low (keep x) (side x) (side m) e k) (nodes o.left) g.low)
       (pass_low (keep n) (side n) (side m) e (λ f. same_low (ordering_index (side n)) (ordering_index (side m)) (g.here f)))
 
   pub guide_take : (m : Node) → Guides m → is_eq (side m) ≡ true → Nears tally c (Beside keep side) (passes keep side) whole link.a (Some m)
-  guide_take m g e = g.take (both_pass (keep m) (is_eq (side m)) g.kept e)
+  guide_take m g e = g.take (and_from (keep m) (is_eq (side m)) g.kept e)
 
   pub guide_left : (m : Node) → Guides m → is_lt (side m) ≡ false → is_eq (side m) ≡ false → Nears tally c (Beside keep side) (passes keep side) whole link.a found
   guide_left m g e f =
       go_left tally c (Beside keep side) (passes keep side) whole n link found o
       (pass_high (keep n) (side n) (side m) e f (λ k. same_low (ordering_index (side m)) (ordering_index (side n)) (sym (g.here k))))
-      (All-each (λ y. keep y ≡ true → Rises side m y) (λ y. passes keep side y ≡ false) (λ y k. pass_high (keep y) (side y) (side m) e f k) (nodes o.right) g.high)
+      (All-map (λ y. keep y ≡ true → Rises side m y) (λ y. passes keep side y ≡ false) (λ y k. pass_high (keep y) (side y) (side m) e f k) (nodes o.right) g.high)
 
   pub no_guide : keep n ≡ false → nodes o.left ≡ [] → Nears tally c (Beside keep side) (passes keep side) whole link.b found
   no_guide e empty =
@@ -201,7 +194,7 @@ module _ (tally : ℕ → ℕ → ℕ) (c : Column) (except : Option Node) (side
   guides m e =
       elim (excepted_or_not n except) [
         | inl same ↦ guides_from_before tally c (is_kept except) side whole n link found o (not_kept n except same) (λ x ne. kept_beside n x except same ne) m (ends_in (nodes o.left) m (sym (is.excepted same o.left o.at_left) ∙ e))
-        | inr apart ↦ subst (λ (z : Node). Guides tally c (is_kept except) side whole n link found o z) (same_some (sym (is.itself apart) ∙ e)) (guides_itself tally c (is_kept except) side whole n link found o (kept_if n except apart))
+        | inr apart ↦ subst (λ (z : Node). Guides tally c (is_kept except) side whole n link found o z) (same_Some _ _ (sym (is.itself apart) ∙ e)) (guides_itself tally c (is_kept except) side whole n link found o (kept_if n except apart))
       ]
 
   pub unguided : guide ≡ None → Nears tally c (Beside (is_kept except) side) (passes (is_kept except) side) whole link.b found
@@ -219,7 +212,7 @@ pub record IsFound (p : Node → Bool) (xs : List Node) (m : Node) : Type 0 wher
   pub passes : p m ≡ true
 
 found_by : (p : Node → Bool) (x : Node) (xs : List Node) (m : Node) (b : Bool) → p x ≡ b → cond b (Some x) (find p xs) ≡ Some m → (find p xs ≡ Some m → IsFound p xs m) → IsFound p (x ∷ xs) m
-found_by p x xs m true e f rest = let s = same_some f in record { held = record { before = []; after = xs; is = ap (λ (z : Node). z ∷ xs) s }; passes = ap p (sym s) ∙ e }
+found_by p x xs m true e f rest = let s = same_Some _ _ f in record { held = record { before = []; after = xs; is = ap (λ (z : Node). z ∷ xs) s }; passes = ap p (sym s) ∙ e }
 found_by p x xs m false e f rest = let r = rest f in record { held = record { before = x ∷ r.held.before; after = r.held.after; is = ap (λ (z : List Node). x ∷ z) r.held.is }; passes = r.passes }
 
 pub find_is : (p : Node → Bool) (xs : List Node) (m : Node) → find p xs ≡ Some m → IsFound p xs m

@@ -8,9 +8,10 @@ use Rattle.std.specs.declared.cmp.Ordering.TheVariants.{Less}
 use Rattle.node_store.specs.declared.Node.{Node}
 use Rattle.list_model.specs.Order.{EachPair, IsInOrder, CutsInThreeRuns}
 use Rattle.list_model.proofs.Counts.{count_by-cons, count_by_none}
+use Rattle.list_model.proofs.InOrder.{All-map}
 use Rattle.ord_tree.specs.Side.{side_of, order_at}
 use Rattle.ord_tree.proofs.Sides.{side_cuts}
-use Rattle.ord_tree.proofs.Nearing.{EachPair-each, All-each}
+use Rattle.ord_tree.proofs.Nearing.{EachPair-each}
 
 -- a node's side is not above that of a later one
 abbrev pub Rises : (Node → Ordering) → Node → Node → Type 0
@@ -28,7 +29,7 @@ by_first q x xs true e h rest =
     let n : count_by q (x ∷ xs) ≡ suc (count_by q xs) = count_by-cons q x xs ∙ (ap (λ (b : Bool). cond b 1 0 + count_by q xs) e ∙ omega arith) in
     ap (slice_get (x ∷ xs)) n ∙ rest ∙ sym (ap (λ (b : Bool). cond (not b) (Some x) (find (λ y. not (q y)) xs)) e)
 by_first q x xs false e h rest =
-    let n : count_by q (x ∷ xs) ≡ 0 = count_by_none q (x ∷ xs) (e, All-each (λ y. q x ≡ false → q y ≡ false) (λ y. q y ≡ false) (λ y f. f e) xs h.0) in
+    let n : count_by q (x ∷ xs) ≡ 0 = count_by_none q (x ∷ xs) (e, All-map (λ y. q x ≡ false → q y ≡ false) (λ y. q y ≡ false) (λ y f. f e) xs h.0) in
     ap (slice_get (x ∷ xs)) n ∙ sym (ap (λ (b : Bool). cond (not b) (Some x) (find (λ y. not (q y)) xs)) e)
 
 -- where what does not pass stands after what does, the first that does not pass stands at the count

@@ -4,7 +4,7 @@ use Rattle.std.specs.Prelude.{count_by, insert}
 use Rattle.node_store.specs.declared.Node.{Node}
 use Rattle.node_store.specs.Column.{Column}
 use Rattle.node_store.specs.Nodes.{Lacks, IsDistinct}
-use Rattle.node_store.proofs.NodeLists.{Lacks-front, Lacks-back, AreApart-sym, AreApart-cons, IsDistinct-parts, IsDistinct-append}
+use Rattle.node_store.proofs.NodeLists.{AreApart-sym, IsDistinct-insert}
 use Rattle.ord_tree.specs.declared.tree.OrdTree.{OrdTree}
 use Rattle.ord_tree.specs.declared.tally.Tally.{Ghosts}
 use Rattle.ord_tree.specs.Tree.{Tree, Leaf, Fork, nodes, height, Hangs, IsAt, IsBalanced}
@@ -46,11 +46,6 @@ module _ {T : Type 0} {G : Ghosts T} where
 
   pub grafted_side : (q : Node → Bool) (cs : ℕ → Column) (i : OrdTree T G) (t : Tree) (d : Column) (parent : Option Node) (on_right : Bool) (n : Node) → SpellsTree cs i t → Place q t parent on_right → Lacks (nodes t) n → Joins G.of (cs i.col) d None n None → GraftedSide G.of d parent on_right (Some n)
   grafted_side q cs i t d parent on_right n s p new j = record { path = p.path; was = Leaf; now = Fork Leaf n Leaf; is = grafted_leaf q cs i t d parent on_right n s p new j; turned = p.turned }
-
-pub IsDistinct-insert : (xs : List Node) (n : Node) (ys : List Node) → IsDistinct (xs ++ ys) → Lacks (xs ++ ys) n → IsDistinct (xs ++ n ∷ ys)
-IsDistinct-insert xs n ys dist new =
-    let parts = IsDistinct-parts xs ys dist in
-    IsDistinct-append xs (n ∷ ys) (record { front = parts.front; back = (Lacks-back xs ys n new, parts.back); apart = AreApart-cons xs ys n (Lacks-front xs ys n new) parts.apart })
 
 module _ {T : Type 0} {G : Ghosts T} where
   pub Spells-leaf : (q : Node → Bool) (cs : ℕ → Column) (i : OrdTree T G) (t : Tree) (c : Column) (ds : ℕ → Column) (j : OrdTree T G) (parent : Option Node) (on_right : Bool) (n : Node) → SpellsTree cs i t → (p : Place q t parent on_right) → Lacks (nodes t) n → j.len ≡ i.len + 1 → j.len < 2 ^ 64 → Rises G.of c (ds j.col) p.path (Fork Leaf n Leaf) j.root → Spells ds j (insert (nodes t) (count_by q (nodes t)) n)

@@ -6,8 +6,8 @@ use Rattle.std.proofs.lemmas.Option.{none-some}
 use Rattle.node_store.specs.declared.Node.{Node}
 use Rattle.node_store.specs.declared.Link.{Link}
 use Rattle.node_store.specs.Column.{Column, IsNode}
-use Rattle.node_store.specs.Nodes.{Lacks, IsDistinct, first_or, last_or}
-use Rattle.node_store.proofs.NodeLists.{Lacks-append, AreApart-nil, AreApart-cons, IsDistinct-append, first_or-append}
+use Rattle.node_store.specs.Nodes.{Lacks, IsDistinct}
+use Rattle.node_store.proofs.NodeLists.{Lacks-append, AreApart-nil, AreApart-cons, IsDistinct-append, reverse_cons}
 use Rattle.ord_tree.specs.Tree.{Tree, Leaf, Fork, nodes, root, height, tag_of, tree_link, Hangs, IsAt, IsBalanced}
 use Rattle.ord_tree.specs.Removal.{IsIn, Whole}
 use Rattle.ord_tree.specs.Mirror.{mirror, flipped, flipped_link, flipped_tally}
@@ -15,18 +15,8 @@ use Rattle.ord_tree.proofs.Removing.{IsIn-at}
 
 -- ---- lists the other way round
 
-pub reverse_cons : (x : Node) (xs : List Node) → reverse (x ∷ xs) ≡ reverse xs ++ x ∷ []
-reverse_cons x xs = reverse-append (x ∷ []) xs
-
 pub reverse_middle : (xs : List Node) (n : Node) (ys : List Node) → reverse (xs ++ n ∷ ys) ≡ reverse ys ++ n ∷ reverse xs
 reverse_middle xs n ys = reverse-append xs (n ∷ ys) ∙ ap (λ (z : List Node). z ++ reverse xs) (reverse_cons n ys) ∙ append_assoc (reverse ys) (n ∷ []) (reverse xs)
-
-first_before : (xs : List Node) (o : Option Node) → first_or (reverse xs) o ≡ last_or xs o
-first_before [] o = refl
-first_before (x ∷ xs) o = ap (λ (z : List Node). first_or z o) (reverse_cons x xs) ∙ first_or-append (reverse xs) (x ∷ []) o ∙ first_before xs (Some x)
-
-pub first_reversed : (xs : List Node) → first_or (reverse xs) None ≡ last_or xs None
-first_reversed xs = first_before xs None
 
 -- ---- trees
 

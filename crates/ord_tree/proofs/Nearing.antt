@@ -8,15 +8,13 @@ use Rattle.node_store.specs.declared.Node.{Node}
 use Rattle.node_store.specs.declared.Link.{Link}
 use Rattle.node_store.specs.Column.{Column}
 use Rattle.list_model.specs.Order.{EachPair}
+use Rattle.list_model.proofs.Kept.{All-split}
+use Rattle.list_model.proofs.InOrder.{All-map}
 use Rattle.ord_tree.specs.Tree.{Tree, Leaf, nodes, root, height, Hangs, IsAt, AreNodes, stored_height}
 use Rattle.ord_tree.proofs.Rotations.{IsAt-nodes, IsAt-height, Opened-from}
 use Rattle.ord_tree.proofs.Removing.{is_leaf}
 
 -- ---- lists
-
-pub All-parts : {X : Type 0} (P : X → Type 0) (xs ys : List X) → AllByRecursion P (xs ++ ys) → AllByRecursion P xs × AllByRecursion P ys
-All-parts P [] ys h = (tt, h)
-All-parts P (x ∷ xs) ys h = let r = All-parts P xs ys h.1 in ((h.0, r.0), r.1)
 
 -- a list of which each two members are so, cut in two
 pub record PairParts {X : Type 0} (P : X → X → Type 0) (xs ys : List X) : Type 0 where
@@ -28,16 +26,12 @@ pub EachPair-parts : {X : Type 0} (P : X → X → Type 0) (xs ys : List X) → 
 EachPair-parts P [] ys h = record { front = tt; back = h; across = tt }
 EachPair-parts P (x ∷ xs) ys h =
     let r = EachPair-parts P xs ys h.1 in
-    let s = All-parts (P x) xs ys h.0 in
+    let s = All-split (P x) xs ys h.0 in
     record { front = (s.0, r.front); back = r.back; across = (s.1, r.across) }
-
-pub All-each : {X : Type 0} (P Q : X → Type 0) → ((x : X) → P x → Q x) → (xs : List X) → AllByRecursion P xs → AllByRecursion Q xs
-All-each P Q f [] h = tt
-All-each P Q f (x ∷ xs) h = (f x h.0, All-each P Q f xs h.1)
 
 pub EachPair-each : {X : Type 0} (P Q : X → X → Type 0) → ((x y : X) → P x y → Q x y) → (xs : List X) → EachPair P xs → EachPair Q xs
 EachPair-each P Q f [] h = tt
-EachPair-each P Q f (x ∷ xs) h = (All-each (P x) (Q x) (f x) xs h.0, EachPair-each P Q f xs h.1)
+EachPair-each P Q f (x ∷ xs) h = (All-map (P x) (Q x) (f x) xs h.0, EachPair-each P Q f xs h.1)
 
 option_or-none : {X : Type 0} (o : Option X) → option_or o None ≡ o
 option_or-none None = refl

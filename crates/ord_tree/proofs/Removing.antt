@@ -1,11 +1,12 @@
 -- Laws of taking nodes out of a tree.
 use Rattle.std.proofs.Common.{◌≡◌, ℕ, ◌+◌, ◌-◌, ◌<◌, ◌≤◌, ◌^◌, ◌⊎◌, inl, inr, max, List, [], ◌∷◌, ◌++◌, length, Option, Some, None, option_and_then, refl, sym, ap, ◌∙◌, subst, arith, append_assoc, length-append}
 use Rattle.std.proofs.lemmas.List.{append-nil}
+use Rattle.std.proofs.lemmas.Option.{same_Some}
 use Rattle.node_store.specs.declared.Node.{Node}
 use Rattle.node_store.specs.declared.Link.{Link}
 use Rattle.node_store.specs.Column.{Column, IsNode, IsPut}
 use Rattle.node_store.specs.Nodes.{Lacks, IsDistinct, first_or}
-use Rattle.node_store.proofs.NodeLists.{Lacks-front, Lacks-back, Lacks-append, AreApart-head, AreApart-tail, AreApart-append, AreApart-sym, IsDistinct-parts, IsDistinct-append, first_or-append}
+use Rattle.node_store.proofs.NodeLists.{Lacks-front, Lacks-back, Lacks-append, AreApart-head, AreApart-tail, AreApart-append, AreApart-sym, IsDistinct-parts, IsDistinct-append, first_or-append, IsDistinct-insert}
 use Rattle.ord_tree.specs.Tree.{Tree, Leaf, Fork, nodes, root, height, tree_link, Hangs, IsAt, IsBalanced, stored_height, left_of, right_of}
 use Rattle.ord_tree.specs.Steps.{ChangesAt, Joins, CanHang}
 use Rattle.ord_tree.specs.Path.{Path, Top, LeftOf, RightOf, plug, bottom, outside, before, after, rebuilt, Leads, ReplacedAt, Replaced, Rises}
@@ -17,7 +18,6 @@ use Rattle.ord_tree.proofs.Rotations.{Joined-from, Opened-from, IsAt-height, can
 use Rattle.ord_tree.proofs.Rising.{Inner, Inner-plug, Leads-same}
 use Rattle.ord_tree.proofs.TreeLinks.{IsSameAt-changes, IsSameAt-put, Hangs-same}
 use Rattle.ord_tree.proofs.Descent.{low}
-use Rattle.ord_tree.proofs.Linking.{IsDistinct-insert}
 use Rattle.ord_tree.proofs.Seeking.{Unplugged-from, nodes-plug_parts, outside-distinct, outside-lacks}
 
 -- the first node on the way down so far
@@ -168,7 +168,7 @@ pub spliced : (tally : ℕ → ℕ → ℕ) (c : Column) (n : Node) (link : Link
 spliced tally c n link t w e one =
     let at = locate t n w.has in
     let u = Unplugged-from tally c at.path (Fork at.l n at.r) (subst (λ (z : Tree). Hangs tally c None z) (sym at.is) w.hangs) in
-    let is : link ≡ tree_link tally (bottom at.path) at.l at.r = same_link (sym e ∙ u.hangs.0) in
+    let is : link ≡ tree_link tally (bottom at.path) at.l at.r = same_Some _ _ (sym e ∙ u.hangs.0) in
     let a : link.a ≡ root at.l = ap (λ (z : Link). z.a) is in
     let b : link.b ≡ root at.r = ap (λ (z : Link). z.b) is in
     let small : root at.l ≡ None ⊎ root at.r ≡ None = elim one [ inl k ↦ inl (sym a ∙ k) | inr k ↦ inr (sym b ∙ k) ] in
@@ -202,9 +202,6 @@ spliced tally c n link t w e one =
         };
       };
     }
-  where
-    same_link : {x y : Link} → Some x ≡ Some y → x ≡ y
-    same_link k = cc
 
 pub spliced_replaced : (tally : ℕ → ℕ → ℕ) (c : Column) (n : Node) (link : Link) (t : Tree) → Spliced tally c n link t → Replaced tally c n link (or_node link.a link.b)
 spliced_replaced tally c n link t s = record { path = s.path; was = Fork s.l n s.r; now = only s.l s.r; is = s.replaced }
@@ -267,7 +264,7 @@ pub whole_sides : (tally : ℕ → ℕ → ℕ) (c : Column) (n : Node) (link : 
 whole_sides tally c n link t w e =
     let at = locate t n w.has in
     let u = Unplugged-from tally c at.path (Fork at.l n at.r) (subst (λ (z : Tree). Hangs tally c None z) (sym at.is) w.hangs) in
-    let is : link ≡ tree_link tally (bottom at.path) at.l at.r = same_link (sym e ∙ u.hangs.0) in
+    let is : link ≡ tree_link tally (bottom at.path) at.l at.r = same_Some _ _ (sym e ∙ u.hangs.0) in
     let bal = subst IsBalanced (sym at.is) w.balanced in
     record {
       path = at.path;
@@ -285,9 +282,6 @@ whole_sides tally c n link t w e =
       distinct = outside-distinct at.path (Fork at.l n at.r) (subst (λ (z : Tree). IsDistinct (nodes z)) (sym at.is) w.distinct);
       list = sym (ap nodes at.is) ∙ nodes-plug_parts at.path (Fork at.l n at.r) ∙ simp append_assoc;
     }
-  where
-    same_link : {x y : Link} → Some x ≡ Some y → x ≡ y
-    same_link k = cc
 
 IsDistinct-relabel : (xs : List Node) (o w : Node) (ys out : List Node) → IsDistinct ((xs ++ o ∷ ys) ++ out) → Lacks ((xs ++ o ∷ ys) ++ out) w → IsDistinct ((xs ++ w ∷ ys) ++ out)
 IsDistinct-relabel xs o w ys out h lacks =

@@ -1,5 +1,6 @@
 -- A way up that ends below the root, since nothing above changes.
 use Rattle.std.proofs.Common.{◌≡◌, ℕ, ◌+◌, ◌≤◌, max, Option, Some, None, refl, sym, ap, ◌∙◌, subst, arith}
+use Rattle.std.proofs.lemmas.Option.{same_Some}
 use Rattle.node_store.specs.declared.Node.{Node}
 use Rattle.node_store.specs.declared.Link.{Link}
 use Rattle.node_store.specs.Column.{Column}
@@ -91,7 +92,7 @@ rest tally c0 c d from start whole old own new top k like up e =
     let is : plug k.path k.now ≡ rebuilt from start = sym rests_now.same ∙ k.same in
     let dist = (IsDistinct-parts (nodes k.now) (outside k.path) g.distinct).front in
     let hangs_now = up.tree k.now g.new_is.parent g.new_is.hangs g.new_is.root dist in
-    let lacks_root = λ (m : Node) (f : new ≡ Some m). subst (λ (x : Node). Lacks (outside k.path) x) (same_some old m (sym like.root_is ∙ f)) k.is.old_gone in
+    let lacks_root = λ (m : Node) (f : new ≡ Some m). subst (λ (x : Node). Lacks (outside k.path) x) (same_Some old m (sym like.root_is ∙ f)) k.is.old_gone in
     let leads = Leads-same tally c d k.path k.was (IsSameAt-root c d new up.others (outside k.path) lacks_root) g.leads in
     let leads_now = Leads-alike tally d k.path k.was k.now (flipped alike) leads in
     let whole_now = plugged tally d k.path k.now leads_now (subst (λ (x : Option Node). Hangs tally d x k.now) g.at_is hangs_now) in
@@ -103,8 +104,5 @@ rest tally c0 c d from start whole old own new top k like up e =
       changes = λ m lacks. up.others m (λ f. absent k.now m (Lacks-front (nodes k.now) (outside k.path) m (k.within m lacks)) (sym g.new_is.root ∙ f)) ∙ k.changes m lacks;
     }
   where
-    same_some : (n m : Node) → Some n ≡ Some m → n ≡ m
-    same_some n m k = cc
-
     flipped : {t u : Tree} → Alike tally t u → Alike tally u t
     flipped a = record { root_is = sym a.root_is; height_is = sym a.height_is; tag_is = sym a.tag_is }

@@ -6,10 +6,11 @@ use Rattle.std.specs.Cmp.{IsTotalOrder}
 use Rattle.std.specs.Cmp.Lexicographic.{options_total}
 use Rattle.std.specs.Ordering.{is_gt, is_le, ordering_index}
 use Rattle.std.specs.declared.cmp.Ordering.{Ordering}
-use Rattle.std.specs.declared.cmp.Ordering.TheVariants.{Less, Equal, Greater}
+use Rattle.std.specs.declared.cmp.Ordering.TheVariants.{Less}
 use Rattle.std.proofs.lemmas.Cmp.{on_total, upto}
 use Rattle.node_store.specs.declared.Node.{Node}
 use Rattle.list_model.specs.Order.{IsInOrder, CutsInThreeRuns}
+use Rattle.list_model.proofs.Orders.{le_not_gt, not_gt_le}
 use Rattle.ord_tree.specs.Side.{side_of, order_at}
 use Rattle.ord_tree.specs.Cut.{AllAre, IsCut}
 
@@ -46,16 +47,6 @@ module _ (compare : Node → Node → Ordering) (q : Node → Bool) (falls : (x 
   pub IsCut_falls : (xs : List Node) → IsInOrder compare xs → IsCut q xs
   IsCut_falls [] h = tt
   IsCut_falls (x ∷ xs) h = ((λ e. all_false x xs h.0 e), IsCut_falls xs h.1)
-
-le_not_gt : (o : Ordering) → is_le o ≡ true → is_gt o ≡ false
-le_not_gt Less h = refl
-le_not_gt Equal h = refl
-le_not_gt Greater h = cc
-
-not_gt_le : (o : Ordering) → is_gt o ≡ false → is_le o ≡ true
-not_gt_le Less h = refl
-not_gt_le Equal h = refl
-not_gt_le Greater h = cc
 
 -- a member cuts a list in order
 pub IsCut_at : (compare : Node → Node → Ordering) → IsTotalOrder compare → (n : Node) (xs : List Node) → IsInOrder compare xs → IsCut (λ x. is_le (compare x n)) xs

@@ -10,11 +10,13 @@ use Rattle.node_store.specs.declared.Link.{Link}
 use Rattle.node_store.specs.Column.{Column}
 use Rattle.list_model.specs.Order.{EachPair}
 use Rattle.list_model.specs.Place.{lower, upper}
+use Rattle.list_model.proofs.InOrder.{All-map}
+use Rattle.list_model.proofs.Orders.{lt_falls, le_falls}
 use Rattle.ord_tree.specs.declared.seek.Sought.{Sought}
 use Rattle.ord_tree.specs.declared.seek.Sought.TheVariants.{NotBefore, Same, After}
 use Rattle.ord_tree.specs.Seek.{is_sought, comes_before}
 use Rattle.ord_tree.specs.Tree.{Tree, nodes}
-use Rattle.ord_tree.proofs.Nearing.{EachPair-each, All-each, Nears, Opens, go_right, go_left, take_here}
+use Rattle.ord_tree.proofs.Nearing.{EachPair-each, Nears, Opens, go_right, go_left, take_here}
 use Rattle.ord_tree.proofs.KeySides.{Rises, cut_found}
 
 -- what stands before one that comes before all that are looked for does so too
@@ -56,7 +58,7 @@ module _ (tally : ℕ → ℕ → ℕ) (c : Column) (side : Node → Ordering) (
   sought_right h =
       let t : comes_before s (side n) ≡ true = ap (comes_before s) is ∙ h in
       go_right tally c (Rises side) (λ x. is_sought s (side x)) whole n link found o
-      (All-each (λ x. AllByRecursion (Rises side x) (n ∷ nodes o.right)) (λ x. is_sought s (side x) ≡ false) (λ x k. passed s (side n) (side x) t k.0) (nodes o.left) o.pairs.across) (passed s (side n) (side n) t (omega arith))
+      (All-map (λ x. AllByRecursion (Rises side x) (n ∷ nodes o.right)) (λ x. is_sought s (side x) ≡ false) (λ x k. passed s (side n) (side x) t k.0) (nodes o.left) o.pairs.across) (passed s (side n) (side n) t (omega arith))
 
   pub sought_here : is_sought s order ≡ true → Nears tally c (Rises side) (λ x. is_sought s (side x)) whole link.a (Some n)
   sought_here h = take_here tally c (Rises side) (λ x. is_sought s (side x)) whole n link found o (ap (is_sought s) is ∙ h)
@@ -66,30 +68,13 @@ module _ (tally : ℕ → ℕ → ℕ) (c : Column) (side : Node → Ordering) (
       let t : comes_before s (side n) ≡ false = ap (comes_before s) is ∙ h in
       let u : is_sought s (side n) ≡ false = ap (is_sought s) is ∙ e in
       go_left tally c (Rises side) (λ x. is_sought s (side x)) whole n link found o u
-      (All-each (Rises side n) (λ x. is_sought s (side x) ≡ false) (λ x k. ahead s (side n) (side x) t u k) (nodes o.right) o.pairs.back.0)
+      (All-map (Rises side n) (λ x. is_sought s (side x) ≡ false) (λ x k. ahead s (side n) (side x) t u k) (nodes o.right) o.pairs.back.0)
 
 -- ---- the definitions by places
 
-falls_lt : (o p : Ordering) → ordering_index o ≤ ordering_index p → is_lt o ≡ false → is_lt p ≡ false
-falls_lt o Less h e = by_index o h e
-  where
-    by_index : (o : Ordering) → ordering_index o ≤ 0 → is_lt o ≡ false → true ≡ false
-    by_index Less h e = e
-    by_index Equal h e = absurd (omega arith)
-    by_index Greater h e = absurd (omega arith)
-falls_lt o Equal h e = refl
-falls_lt o Greater h e = refl
-
-falls_le : (o p : Ordering) → ordering_index o ≤ ordering_index p → is_le o ≡ false → is_le p ≡ false
-falls_le Less p h e = cc
-falls_le Equal p h e = cc
-falls_le Greater Less h e = absurd (omega arith)
-falls_le Greater Equal h e = absurd (omega arith)
-falls_le Greater Greater h e = refl
-
 -- the first that does not come before the key, and the first that comes after it, are those looked for
 pub lower_found : (side : Node → Ordering) (xs : List Node) → EachPair (Rises side) xs → lower side xs ≡ find (λ x. is_sought NotBefore (side x)) xs
-lower_found side xs h = cut_found (λ x. is_lt (side x)) xs (EachPair-each (Rises side) (λ x y. is_lt (side x) ≡ false → is_lt (side y) ≡ false) (λ x y k. falls_lt (side x) (side y) k) xs h)
+lower_found side xs h = cut_found (λ x. is_lt (side x)) xs (EachPair-each (Rises side) (λ x y. is_lt (side x) ≡ false → is_lt (side y) ≡ false) (λ x y k. lt_falls (side x) (side y) k) xs h)
 
 pub upper_found : (side : Node → Ordering) (xs : List Node) → EachPair (Rises side) xs → upper side xs ≡ find (λ x. is_sought After (side x)) xs
-upper_found side xs h = cut_found (λ x. is_le (side x)) xs (EachPair-each (Rises side) (λ x y. is_le (side x) ≡ false → is_le (side y) ≡ false) (λ x y k. falls_le (side x) (side y) k) xs h)
+upper_found side xs h = cut_found (λ x. is_le (side x)) xs (EachPair-each (Rises side) (λ x y. is_le (side x) ≡ false → is_le (side y) ≡ false) (λ x y k. le_falls (side x) (side y) k) xs h)

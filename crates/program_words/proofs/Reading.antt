@@ -4,6 +4,7 @@ use Rattle.std.specs.Prelude.{String, ◌==◌, not, if◌then◌else◌, Err}
 use Rattle.std.specs.Box.{box_value}
 use Rattle.std.specs.Str.{bytes_eq}
 use Rattle.std.proofs.lemmas.Option.{none-some, same_Some}
+use Rattle.std.proofs.lemmas.Bool.{not-false}
 use Rattle.clap.specs.Words.{HasKind, IsAmong, Kinds, Row, Text, fault_of, first_of, found_of, is_simple, is_simple_and_free, kind_of, rows_of, subcommand_name_of, subcommand_of, subcommand_rows_of}
 use Rattle.clap.specs.declared.error.Error.{Error}
 use Rattle.clap.specs.declared.error.kind.ErrorKind.{ErrorKind}
@@ -68,10 +69,6 @@ pub entered_both : (m : ArgMatches) (name : Text) (rows : List Row) → Some nam
     → Some rows ≡ option_map (λ p. p.1) (subcommand_rows_of m) → subcommand_rows_of m ≡ Some (name, rows)
 entered_both m = both (λ b. (out-SubCommand (box_value b)).name.now) (λ b. rows_of (found_of (out-SubCommand (box_value b)).matches)) (out-ArgMatches m).subcommand
 
-of_not_false : (b : Bool) → not b ≡ false → b ≡ true
-of_not_false true failed = refl
-of_not_false false failed = absurd (true≢false failed)
-
 -- the run of a subcommand with this name and these rows
 pub asked-run : (m : ArgMatches) (name : Text) (rows : List Row) (is_run : Bool) (schema commands : Option Text)
     → Some name ≡ subcommand_name_of m → Some rows ≡ option_map (λ p. p.1) (subcommand_rows_of m)
@@ -90,5 +87,5 @@ pub asked-serve : (m : ArgMatches) (name : Text) (rows : List Row) (is_run is_ot
     → option_and_then asking_by (subcommand_rows_of m) ≡ option_map serve (serving_in rows)
 asked-serve m name rows is_run is_other named found tested failed other none =
     let no_run : bytes_eq name (codes "run") ≡ false = sym tested ∙ failed in
-    let is_serve : bytes_eq name (codes "serve") ≡ true = of_not_false _ (sym other ∙ none) in
+    let is_serve : bytes_eq name (codes "serve") ≡ true = not-false _ (sym other ∙ none) in
     rw (entered_both m name rows named found, no_run, is_serve) refl

@@ -1,5 +1,6 @@
 -- The way up from a node to the root.
 use Rattle.std.proofs.Common.{◌≡◌, ◌≢◌, ℕ, ◌+◌, ◌^◌, ◌<◌, ◌≤◌, List, [], ◌∷◌, ◌++◌, length, Option, Some, None, refl, sym, ap, ◌∙◌, subst, arith, append_assoc, length-append}
+use Rattle.std.proofs.lemmas.Option.{same_Some}
 use Rattle.node_store.specs.declared.Node.{Node}
 use Rattle.node_store.specs.declared.Link.{Link}
 use Rattle.node_store.specs.Column.{Column, IsNode}
@@ -18,6 +19,7 @@ use Rattle.ord_tree.proofs.Rotations.{IsAt-nodes}
 use Rattle.ord_tree.proofs.TreeLinks.{AreNodes-root, LacksRoot-apart, absent}
 use Rattle.ord_tree.proofs.Seeking.{nodes-plug_parts}
 use Rattle.ord_tree.proofs.Rising.{IsDistinct-right}
+use Rattle.ord_tree.proofs.Climbing.{height-plug}
 use Rattle.rank_tree.specs.Subtrees.{size_tally}
 use Rattle.rank_tree.proofs.Counted.{stored_size, length_fork}
 
@@ -47,11 +49,6 @@ pub record ClimbTurn (c : Column) (whole : Tree) (n below parent : Node) (link :
   pub fits : link.a ≢ Some below → rank + (size + 1) < 2 ^ 64
   pub higher : links + 1 < height whole
 
-pub height_plug : (z : Path) (t : Tree) → height t ≤ height (plug z t)
-height_plug Top t = omega arith
-height_plug (LeftOf z n r) t = omega (arith, height_plug z (Fork t n r))
-height_plug (RightOf z l n) t = omega (arith, height_plug z (Fork l n t))
-
 -- a subtree has no more nodes than the whole
 pub length_plug : (z : Path) (t : Tree) → length (nodes t) ≤ length (nodes (plug z t))
 length_plug z t = omega (arith, ap length (nodes-plug_parts z t), length-append (before z) (nodes t ++ after z), length-append (nodes t) (after z))
@@ -59,25 +56,19 @@ length_plug z t = omega (arith, ap length (nodes-plug_parts z t), length-append 
 abbrev some_node : Node → Option Node
 some_node x = Some x
 
-same_some : {m k : Node} → Some m ≡ Some k → m ≡ k
-same_some e = cc
-
-same_link : {x y : Link} → Some x ≡ Some y → x ≡ y
-same_link e = cc
-
 turn_at : (c : Column) (whole : Tree) (n below : Node) (at : Option Node) (parent : Node) (link : Link) (size rank links : ℕ) (path : Path) (t : Tree) → ClimbsAt c whole n below at rank links path t → at ≡ Some parent → c parent ≡ Some link → size ≡ stored_tag c link.a → ClimbTurn c whole n below parent link size rank links
 turn_at c whole n below at parent link size rank links Top t k e l w = absurd (none (sym e ∙ k.at_is))
   where
     none : Some parent ≡ None → ⊥
     none h = cc
 turn_at c whole n below at parent link size rank links (LeftOf z m r) t k e l w =
-    let q : parent ≡ m = same_some (sym e ∙ k.at_is) in
-    let is : link ≡ tree_link size_tally (bottom z) t r = same_link (sym l ∙ ap c q ∙ k.leads.0) in
+    let q : parent ≡ m = same_Some _ _ (sym e ∙ k.at_is) in
+    let is : link ≡ tree_link size_tally (bottom z) t r = same_Some _ _ (sym l ∙ ap c q ∙ k.leads.0) in
     let left : link.a ≡ Some below = ap (λ (x : Link). x.a) is ∙ k.below_is in
-    let low = height_plug z (Fork t m r) in
+    let low = height-plug z (Fork t m r) in
     let high : height (plug z (Fork t m r)) ≡ height whole = ap height k.whole_is in
     record {
-      left_node = λ b h. let s : below ≡ b = same_some (sym left ∙ h) in subst (λ (x : Node). IsNode c x) s k.has;
+      left_node = λ b h. let s : below ≡ b = same_Some _ _ (sym left ∙ h) in subst (λ (x : Node). IsNode c x) s k.has;
       from_left = λ h. record {
         path = z;
         here = Fork t m r;
@@ -99,13 +90,13 @@ turn_at c whole n below at parent link size rank links (LeftOf z m r) t k e l w 
       higher = omega (arith, k.few, low, high);
     }
 turn_at c whole n below at parent link size rank links (RightOf z s m) t k e l w =
-    let q : parent ≡ m = same_some (sym e ∙ k.at_is) in
-    let is : link ≡ tree_link size_tally (bottom z) s t = same_link (sym l ∙ ap c q ∙ k.leads.0) in
+    let q : parent ≡ m = same_Some _ _ (sym e ∙ k.at_is) in
+    let is : link ≡ tree_link size_tally (bottom z) s t = same_Some _ _ (sym l ∙ ap c q ∙ k.leads.0) in
     let left : link.a ≡ root s = ap (λ (x : Link). x.a) is in
     let parts = IsDistinct-parts (nodes t) (m ∷ (nodes s ++ outside z)) k.distinct in
     let lacks = LacksRoot-apart t (m ∷ (nodes s ++ outside z)) parts.apart below k.below_is in
     let other : link.a ≢ Some below = λ h. absent s below (Lacks-front (nodes s) (outside z) below lacks.1) (sym left ∙ h) in
-    let low = height_plug z (Fork s m t) in
+    let low = height-plug z (Fork s m t) in
     let high : height (plug z (Fork s m t)) ≡ height whole = ap height k.whole_is in
     let few = length_plug z (Fork s m t) in
     let many : length (nodes (plug z (Fork s m t))) ≡ length (nodes whole) = ap (λ (x : Tree). length (nodes x)) k.whole_is in
@@ -142,9 +133,9 @@ climb_turn c whole n below at parent link size rank links k e l w = turn_at c wh
 parent_at : (c : Column) (whole : Tree) (n below : Node) (at : Option Node) (rank links : ℕ) (path : Path) (t : Tree) → ClimbsAt c whole n below at rank links path t → AreNodes c at
 parent_at c whole n below at rank links Top t k b h = cc (k.at_is, h)
 parent_at c whole n below at rank links (LeftOf z m r) t k b h =
-    subst (λ (x : Node). IsNode c x) (same_some (sym k.at_is ∙ h)) (record { block = tree_link size_tally (bottom z) t r; is = k.leads.0 })
+    subst (λ (x : Node). IsNode c x) (same_Some _ _ (sym k.at_is ∙ h)) (record { block = tree_link size_tally (bottom z) t r; is = k.leads.0 })
 parent_at c whole n below at rank links (RightOf z s m) t k b h =
-    subst (λ (x : Node). IsNode c x) (same_some (sym k.at_is ∙ h)) (record { block = tree_link size_tally (bottom z) s t; is = k.leads.0 })
+    subst (λ (x : Node). IsNode c x) (same_Some _ _ (sym k.at_is ∙ h)) (record { block = tree_link size_tally (bottom z) s t; is = k.leads.0 })
 
 pub climb_parent : (c : Column) (whole : Tree) (n below : Node) (at : Option Node) (rank links : ℕ) → Climbs c whole n below at rank links → AreNodes c at
 climb_parent c whole n below at rank links k = parent_at c whole n below at rank links k.path k.here k.is

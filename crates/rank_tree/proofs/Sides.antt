@@ -10,8 +10,9 @@ use Rattle.node_store.specs.declared.Node.{Node}
 use Rattle.list_model.specs.Order.{EachPair}
 use Rattle.list_model.proofs.Counts.{count_by-cons, count_by_none}
 use Rattle.list_model.proofs.Permuted.{count_by-append}
+use Rattle.list_model.proofs.InOrder.{All-map}
 use Rattle.ord_tree.proofs.KeySides.{Rises}
-use Rattle.ord_tree.proofs.Nearing.{EachPair-parts, All-each}
+use Rattle.ord_tree.proofs.Nearing.{EachPair-parts}
 use Rattle.rank_tree.specs.Sides.{comes_first}
 
 count_by_all : {X : Type 0} (q : X → Bool) (xs : List X) → AllByRecursion (λ x. q x ≡ true) xs → count_by q xs ≡ length xs
@@ -35,7 +36,7 @@ parts_of side xs y ys h =
     record {
       front = p.front;
       back = p.back.1;
-      before = All-each (λ x. AllByRecursion (Rises side x) (y ∷ ys)) (λ x. Rises side x y) (λ x k. k.0) xs p.across;
+      before = All-map (λ x. AllByRecursion (Rises side x) (y ∷ ys)) (λ x. Rises side x y) (λ x k. k.0) xs p.across;
       after = p.back.0;
     }
 
@@ -107,14 +108,14 @@ module _ (side : Node → Ordering) (b : Bool) (xs : List Node) (y : Node) (ys :
   -- where the member comes first, so does all before it
   pub count_right : comes_first b (side y) ≡ true → count_by (λ x. comes_first b (side x)) (xs ++ y ∷ ys) ≡ length xs + 1 + count_by (λ x. comes_first b (side x)) ys
   count_right e =
-      let all = count_by_all (λ x. comes_first b (side x)) xs (All-each (λ x. Rises side x y) (λ x. comes_first b (side x) ≡ true) (λ x h. first_before b (side x) (side y) h e) xs p.before) in
+      let all = count_by_all (λ x. comes_first b (side x)) xs (All-map (λ x. Rises side x y) (λ x. comes_first b (side x) ≡ true) (λ x h. first_before b (side x) (side y) h e) xs p.before) in
       let one = ap number e in
       omega (arith, split_count, all, one)
 
   -- where it does not, nothing after it does
   pub count_left : comes_first b (side y) ≡ false → count_by (λ x. comes_first b (side x)) (xs ++ y ∷ ys) ≡ count_by (λ x. comes_first b (side x)) xs
   count_left e =
-      let none = count_by_none (λ x. comes_first b (side x)) ys (All-each (Rises side y) (λ x. comes_first b (side x) ≡ false) (λ x h. last_after b (side y) (side x) h e) ys p.after) in
+      let none = count_by_none (λ x. comes_first b (side x)) ys (All-map (Rises side y) (λ x. comes_first b (side x) ≡ false) (λ x h. last_after b (side y) (side x) h e) ys p.after) in
       let zero = ap number e in
       omega (arith, split_count, none, zero)
 
@@ -125,10 +126,10 @@ module _ (side : Node → Ordering) (b : Bool) (xs : List Node) (y : Node) (ys :
   any_right m e =
       split_any m
       ∙ met_right m (list_any (λ x. is_eq (side x)) xs) (is_eq (side y)) (list_any (λ x. is_eq (side x)) ys)
-      (λ f. any_none (λ x. is_eq (side x)) xs (All-each (λ x. Rises side x y) (λ x. is_eq (side x) ≡ false) (λ x h. none_before b (side x) (side y) h e f) xs p.before))
+      (λ f. any_none (λ x. is_eq (side x)) xs (All-map (λ x. Rises side x y) (λ x. is_eq (side x) ≡ false) (λ x h. none_before b (side x) (side y) h e f) xs p.before))
 
   pub any_left : (m : Bool) → comes_first b (side y) ≡ false → (m || list_any (λ x. is_eq (side x)) (xs ++ y ∷ ys)) ≡ ((m || is_eq (side y)) || list_any (λ x. is_eq (side x)) xs)
   any_left m e =
       split_any m
       ∙ met_left m (list_any (λ x. is_eq (side x)) xs) (is_eq (side y)) (list_any (λ x. is_eq (side x)) ys)
-      (λ f. any_none (λ x. is_eq (side x)) ys (All-each (Rises side y) (λ x. is_eq (side x) ≡ false) (λ x h. none_after b (side y) (side x) h e f) ys p.after))
+      (λ f. any_none (λ x. is_eq (side x)) ys (All-map (Rises side y) (λ x. is_eq (side x) ≡ false) (λ x h. none_after b (side y) (side x) h e f) ys p.after))

@@ -1,18 +1,15 @@
 -- A chain whose links are turned round, node by node.
 use Rattle.std.proofs.Common.{◌≡◌, ℕ, ◌+◌, List, [], ◌∷◌, ◌++◌, length, reverse, Option, Some, None, refl, sym, ap, ◌∙◌, subst, arith, append_assoc}
-use Rattle.std.proofs.lemmas.List.{reverse-append, length-reverse, append-nil}
+use Rattle.std.proofs.lemmas.List.{length-reverse, append-nil}
 use Rattle.node_store.specs.declared.Node.{Node}
 use Rattle.node_store.specs.declared.Link.{Link}
 use Rattle.node_store.specs.Column.{Column, IsPut, IsNode}
 use Rattle.node_store.specs.Nodes.{Lacks, IsDistinct, first_or, last_or}
-use Rattle.node_store.proofs.NodeLists.{IsDistinct-parts, AreApart-head, IsSameAt-others, Lacks-append, last_or-append, first_or-append}
+use Rattle.node_store.proofs.NodeLists.{IsDistinct-parts, AreApart-head, IsSameAt-others, Lacks-append, last_or-append, reverse_cons, first_reversed}
 use Rattle.seq_index.specs.declared.SeqIndex.{SeqIndex}
 use Rattle.seq_index.specs.Links.{chain_link, Runs}
 use Rattle.seq_index.specs.Spelled.{Spells}
 use Rattle.seq_index.proofs.Runs.{Runs-same, Distinct-remove}
-
-reverse_cons : (x : Node) (xs : List Node) → reverse (x ∷ xs) ≡ reverse xs ++ x ∷ []
-reverse_cons x xs = reverse-append (x ∷ []) xs
 
 -- the nodes that were walked are linked the other way round, and the rest is as it was
 pub record Turning (c : Column) (at : Option Node) (xs : List Node) (steps : ℕ) : Type 0 where
@@ -85,23 +82,6 @@ Turning_step c d at xs steps n link t e is put =
     subst (λ (o : Option Node). Turning d o xs (steps + 1)) (sym b) done
 
 -- ---- the ends of a list turned round
-
-first_onto : (xs : List Node) (x : Node) → first_or (xs ++ x ∷ []) None ≡ first_or xs (Some x)
-first_onto [] x = refl
-first_onto (y ∷ xs) x = refl
-
-reversed_onto : (xs : List Node) (x : Node) → first_or (reverse xs ++ x ∷ []) None ≡ last_or xs (Some x)
-reversed_onto [] x = refl
-reversed_onto (y ∷ xs) x =
-    ap (λ (z : List Node). first_or (z ++ x ∷ []) None) (reverse_cons y xs)
-    ∙ ap (λ (z : List Node). first_or z None) (append_assoc (reverse xs) (y ∷ []) (x ∷ []))
-    ∙ first_or-append (reverse xs) (y ∷ x ∷ []) None
-    ∙ sym (first_onto (reverse xs) y)
-    ∙ reversed_onto xs y
-
-first_reversed : (xs : List Node) → first_or (reverse xs) None ≡ last_or xs None
-first_reversed [] = refl
-first_reversed (x ∷ xs) = ap (λ (z : List Node). first_or z None) (reverse_cons x xs) ∙ reversed_onto xs x
 
 last_reversed : (xs : List Node) → last_or (reverse xs) None ≡ first_or xs None
 last_reversed [] = refl

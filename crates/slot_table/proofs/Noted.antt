@@ -3,7 +3,7 @@ use Rattle.std.proofs.Common.{◌≡◌, ◌≢◌, ℕ, zero, suc, ◌+◌, ◌
 use Rattle.std.specs.Prelude.{min, remove, IsPermutation}
 use Rattle.std.specs.List.{slice_set, AllByRecursion}
 use Rattle.std.specs.Option.{is_none}
-use Rattle.std.specs.Ordering.{is_lt, nat_cmp}
+use Rattle.std.specs.Ordering.{nat_cmp}
 use Rattle.std.specs.declared.cmp.Ordering.{Ordering}
 use Rattle.std.specs.BinaryHeap.{IsHeap, IsUpperBound}
 use Rattle.std.specs.declared.cmp.Reverse.{Reverse}
@@ -12,6 +12,7 @@ use Rattle.std.proofs.lemmas.Bool.Decides.{nat_tests}
 use Rattle.std.proofs.lemmas.List.{length-append}
 use Rattle.std.proofs.lemmas.List.Sums.{count_by-le-length}
 use Rattle.std.proofs.lemmas.List.Sorted.{length_permutation, IsPermutation-remove}
+use Rattle.std.proofs.lemmas.Map.Keys.{ge_from_not_lt}
 use Rattle.list_model.proofs.Counts.{count_by-cons, count_by_none}
 use Rattle.list_model.proofs.Permuted.{count_by-permutation}
 use Rattle.slot_table.specs.Slots.{Slots, HasRoom, item_at, first_free, with_item}
@@ -22,9 +23,6 @@ use Rattle.slot_table.proofs.Gaps.{gap_within, taken_within, taken_is_no_gap, fi
 abbrev pub lower_first : Reverse ℕ → Reverse ℕ → Ordering
 lower_first x y = nat_cmp y.0 x.0
 
-not_less : (y x : ℕ) → is_lt (nat_cmp y x) ≡ false → x ≤ y
-not_less y x h = grind (arith, nat_tests)
-
 other : (y x j : ℕ) → x ≤ y → j < x → (j == y) ≡ false
 other y x j le lt = grind (arith, nat_tests)
 
@@ -34,7 +32,7 @@ same x = grind (arith, nat_tests)
 -- no slot below the first of the heap is noted
 all_others : (x : Reverse ℕ) (noted : List (Reverse ℕ)) (j : ℕ) → j < x.0 → IsUpperBound lower_first x noted → AllByRecursion (λ r. (j == r.0) ≡ false) noted
 all_others x [] j lt h = tt
-all_others x (y ∷ noted) j lt h = (other y.0 x.0 j (not_less y.0 x.0 h.0) lt, all_others x noted j lt h.1)
+all_others x (y ∷ noted) j lt h = (other y.0 x.0 j (ge_from_not_lt y.0 x.0 h.0) lt, all_others x noted j lt h.1)
 
 abbrev one_if : Bool → ℕ
 one_if b = cond b 1 0

@@ -5,6 +5,7 @@ mod fault;
 mod handle;
 mod out;
 mod print;
+mod quote;
 mod reply;
 
 pub use container_model::Handle;
@@ -12,4 +13,5 @@ pub use fault::Fault;
 pub use handle::{SPELLING_LEN, spelling};
 pub use key_extract::{Cell, Row, Text};
 pub use out::{Out, OutOfRoom, READY_ROOM};
+pub use quote::push_quoted;
 pub use reply::{Heading, Record, Reply, write_reply};

@@ -1,9 +1,8 @@
 //! The texts of replies.
 
-ghost use Rattle.std.specs.Prelude.{◌≡◌, ◌<◌, ◌∷◌, ◌++◌, map, false, slice_get};
+ghost use Rattle.std.specs.Prelude.{◌≡◌, ◌∷◌, ◌++◌, map, false, slice_get};
 ghost use Rattle.std.specs.Option.{option_copied};
-ghost use Rattle.json.specs.Print.{quoted, escape_byte};
-ghost use Rattle.std.specs.Char.{digit_char};
+ghost use Rattle.json.specs.Print.{quoted};
 ghost use Rattle.serde_json.specs.Written.{compact_text, comma_if};
 ghost use Rattle.table_reply.specs.Buffer.{Adds, AddsWhole};
 ghost use Rattle.table_reply.specs.Answer.{done, found, counted, after, shown, banned, erased, blocked_text, fault, listed, shown_front, answer_text, handle_text, handle_or_null, data_of, row_data, named, listed_of, listed_text, listed_texts, listed_front, record_front};
@@ -11,6 +10,7 @@ ghost use Rattle.table_reply.specs.Answer.{done, found, counted, after, shown, b
 use crate::fault::Fault;
 use crate::handle::{SPELLING_LEN, spelling};
 use crate::out::{Out, OutOfRoom};
+use crate::quote::push_quoted;
 use crate::reply::{Heading, Record};
 use arrayvec::ArrayString;
 use container_model::Handle;
@@ -265,43 +265,5 @@ fn push_cell(out: &mut Out, cell: Option<&Cell>) -> Result<(), OutOfRoom>
         Some(Cell::Text(text)) => push_quoted(out, text.as_str()),
         Some(Cell::Bool(true)) => out.try_push(b"true"),
         Some(Cell::Bool(false)) => out.try_push(b"false"),
-    }
-}
-
-fn push_quoted(out: &mut Out, text: &str) -> Result<(), OutOfRoom>
-    ensures { Adds result out.old out.new (quoted text.now) }
-{
-    out.try_push(b"\"")?;
-    for byte in text.as_bytes() {
-        push_escaped(out, *byte)?;
-    }
-    out.try_push(b"\"")
-}
-
-#[tactic(auto, unfolding(json::specs::Print::escape_byte))]
-fn push_escaped(out: &mut Out, byte: u8) -> Result<(), OutOfRoom>
-    ensures { Adds result out.old out.new (escape_byte byte) }
-{
-    match byte {
-        b'"' => out.try_push(b"\\\""),
-        b'\\' => out.try_push(b"\\\\"),
-        8 => out.try_push(b"\\b"),
-        12 => out.try_push(b"\\f"),
-        b'\n' => out.try_push(b"\\n"),
-        b'\r' => out.try_push(b"\\r"),
-        b'\t' => out.try_push(b"\\t"),
-        0..32 => out.try_push(&[b'\\', b'u', b'0', b'0', hex(byte / 16), hex(byte % 16)]),
-        _ => out.try_push(&[byte]),
-    }
-}
-
-fn hex(digit: u8) -> u8
-    requires { digit < 16 }
-    ensures { result ≡ digit_char digit }
-{
-    if digit < 10 {
-        b'0' + digit
-    } else {
-        b'a' + (digit - 10)
     }
 }

@@ -1,5 +1,5 @@
 use Rattle.std.proofs.Common.{◌+◌, arith, false}
-use Rattle.index_set.proofs.Each.{get_or_same}
+use Rattle.std.proofs.lemmas.List.{get_or_default}
 use Rattle.container_model.specs.declared.handle.Kind.TheVariants.{Sequenced}
 use Rattle.index_set.proofs.Frame.{steps_of}
 use Rattle.index_set.proofs.Walk.{walk_start, walk_step, same_walk, all_keyed, keyed_start, keyed_here, keyed_step, room_to_step, same_from_step, no_room, on_err}
@@ -10,7 +10,7 @@ loop-index-init g c = record {
   walk = walk_start _ c.args.store.now c.args.specs.now c.args.indices.now c.requires;
   keyed = λ order hash_of h. keyed_start order hash_of (λ xs. xs) c.args.specs.now c.args.store.now c.args.indices.now h.each;
   room = λ j d e lt below. absurd (omega (arith, below));
-  rest = λ j d e lt _ f. get_or_same c.args.indices.now j e f (omega (arith, lt, c.requires.one_each));
+  rest = λ j d e lt _ f. get_or_default c.args.indices.now j e f (omega (arith, lt, c.requires.one_each));
 }
 
 pub reserve_one-requires : goal.reserve_one-requires

@@ -5,8 +5,9 @@ use Rattle.container_model.specs.Sequence.{has_each_once}
 use Rattle.linked_set.specs.Linked.{entries_in}
 use Rattle.linked_set.specs.Seen.{seen}
 use Rattle.linked_set.proofs.Contents.{length-entries}
-use Rattle.linked_set.proofs.Rearranged.{each_once, each_passes, not_as_many, not_apart, once_if}
+use Rattle.linked_set.proofs.Rearranged.{each_once, not_as_many, not_apart, once_if}
 use Rattle.linked_set.proofs.rearrange.has_each_once.Goals as goal
+use Rattle.list_model.proofs.Lists.{each_passes}
 
 pub returns-then-handles-len : goal.returns-then-handles-len
 returns-then-handles-len g c =

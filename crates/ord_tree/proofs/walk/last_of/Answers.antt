@@ -2,9 +2,10 @@ use Rattle.std.proofs.Common.{List, Option, None, sym, ap, subst, ◌∙◌}
 use Rattle.node_store.specs.declared.Node.{Node}
 use Rattle.node_store.specs.Nodes.{first_or}
 use Rattle.node_store.specs.ByNode.{column_of}
+use Rattle.node_store.proofs.NodeLists.{first_reversed}
 use Rattle.ord_tree.specs.Tree.{nodes, IsAt}
 use Rattle.ord_tree.specs.Mirror.{mirror}
-use Rattle.ord_tree.proofs.Mirror.{IsAt-mirror, nodes-mirror, first_reversed}
+use Rattle.ord_tree.proofs.Mirror.{IsAt-mirror, nodes-mirror}
 use Rattle.ord_tree.proofs.walk.last_of.Goals as goal
 
 pub last_below-requires-clause-below : goal.last_below-requires-clause-below

@@ -1,7 +1,8 @@
 use Rattle.std.proofs.Common.{ℕ, ◌+◌, ap, ◌∙◌}
 use Rattle.node_store.proofs.ByNode.{node_in_column}
+use Rattle.node_store.proofs.NodeLists.{IsDistinct-insert}
 use Rattle.seq_index.specs.Spelled.{col_of}
-use Rattle.seq_index.proofs.Runs.{Runs-insert, Distinct-insert}
+use Rattle.seq_index.proofs.Runs.{Runs-insert}
 use Rattle.seq_index.proofs.ChainLists.{first-insert, last-insert, length-insert}
 use Rattle.seq_index.proofs.SeqIndex.insert_between.Goals as goal
 
@@ -23,7 +24,7 @@ returns-clause-list g c = λ xs ys h new before after.
       runs = Runs-insert _ _ _ _ xs c.args.n ys h.distinct new put next prev h.runs;
       first = rw (c.end_beside-self.ensures, before, h.first) (first-insert xs c.args.n ys);
       last = rw (c.end_beside-self-2.ensures, after, h.last) (last-insert xs c.args.n ys);
-      distinct = Distinct-insert xs c.args.n ys h.distinct new;
+      distinct = IsDistinct-insert xs c.args.n ys h.distinct new;
       len = ap (λ (k : ℕ). k + 1) h.len ∙ length-insert xs c.args.n ys;
       fits = c.requires.room;
     }

@@ -1,5 +1,4 @@
 use Rattle.std.proofs.Common.{◌≡◌, ℕ, ◌<◌, ◌≤◌, ◌+◌, ◌-◌, ◌^◌, ◌%◌, ◌==◌, false, ◌∙◌, ap, sym, arith, length}
-use Rattle.std.proofs.lemmas.Bool.Decides.{nat_tests}
 use Rattle.container_model.specs.declared.handle.Handle.{Handle}
 use Rattle.container_model.specs.Insert.{free_slot, new_handle}
 use Rattle.index_set.specs.Set.{store_of, contents}
@@ -7,9 +6,7 @@ use Rattle.linked_set.specs.Linked.{entries_in}
 use Rattle.linked_set.proofs.FreeSlots.{free_slot-le-length}
 use Rattle.linked_set.proofs.LeadsTo.{free_slot-is_first_free}
 use Rattle.multi_index.proofs.container.MultiIndex.entry.Goals as goal
-
-below_top : (n : ℕ) → n < 2 ^ 64 → (n == 2 ^ 64 - 1) ≡ false → n + 1 < 2 ^ 64
-below_top n less other = grind (arith, nat_tests)
+use Rattle.multi_index.proofs.Shrunk.{next_number}
 
 pub overflow_cast-handle : goal.overflow_cast-handle
 overflow_cast-handle g c =
@@ -29,6 +26,6 @@ returns-clause-handle g c unspent =
     let writes : c.self.inside.writes ≡ c.args.self.now.writes = ap (λ s. s.writes) c.self.view_is in
     let narrow : c.self.inside.writes < 2 ^ 64 = c.self.invariant.numbered in
     let free : (c.self.inside.writes == 2 ^ 64 - 1) ≡ false = ap (λ n. n == 2 ^ 64 - 1) writes ∙ unspent in
-    let next = below_top c.self.inside.writes narrow free in
+    let next = next_number c.self.inside.writes narrow free in
     let make : ℕ → ℕ → Handle = λ k m. record { slot = k; stamp = m } in
     ap (λ k. make k ((c.self.inside.writes + 1) % 2 ^ 64)) slot ∙ (ap (make (free_slot entries)) (omega (arith, next)) ∙ ap new_handle c.self.view_is)

@@ -1,6 +1,5 @@
-use Rattle.std.proofs.Common.{◌≡◌, ◌<◌, ◌-◌, ◌^◌, ◌==◌, ◌∙◌, length, Option, Some, None, refl, ap, sym, subst}
+use Rattle.std.proofs.Common.{◌≡◌, ◌<◌, ◌-◌, ◌^◌, ◌==◌, ◌∙◌, length, ap, sym, subst}
 use Rattle.std.specs.Prelude.{IfSome, not, option_and_then}
-use Rattle.std.specs.Option.{IsSome}
 use Rattle.container_model.specs.State.{is_handle, row_of}
 use Rattle.container_model.specs.Find.{is_live}
 use Rattle.container_model.specs.Change.{next_in, with_erased}
@@ -13,11 +12,8 @@ use Rattle.linked_set.proofs.Seen.{seen_only}
 use Rattle.multi_index.proofs.HeldByAll.{held_by_all}
 use Rattle.linked_set.proofs.LeadsTo.{row_of_live}
 use Rattle.linked_set.proofs.Live.{stale_seen}
+use Rattle.linked_set.proofs.Rearranged.{some_by}
 use Rattle.multi_index.proofs.container.MultiIndex.erase_live.Goals as goal
-
-some_by : {A : Type 0} (o : Option A) → (o ≡ None → ⊥) → IsSome o
-some_by (Some a) h = refl
-some_by None h = absurd (h refl)
 
 pub unwrap-node-requires : goal.unwrap-node-requires
 unwrap-node-requires g c =

@@ -1,12 +1,13 @@
 use Rattle.std.proofs.Common.{sym, ◌∙◌, reverse}
 use Rattle.node_store.specs.ByNode.{column_of}
+use Rattle.node_store.proofs.NodeLists.{first_reversed}
 use Rattle.ord_tree.specs.Mirror.{mirror, flipped, flipped_link, flipped_tally}
 use Rattle.ord_tree.specs.Spelled.{tree_of}
 use Rattle.ord_tree.proofs.Laws.{the_tree}
 use Rattle.ord_tree.proofs.NextTo.{prev_is}
 use Rattle.ord_tree.proofs.Removing.{index_whole, whole_node, has_tree, next_of, next_answer}
 use Rattle.ord_tree.proofs.Climbing.{climb_from, has_climb}
-use Rattle.ord_tree.proofs.Mirror.{flip_link, Whole-mirror, list_mirrored, first_reversed}
+use Rattle.ord_tree.proofs.Mirror.{flip_link, Whole-mirror, list_mirrored}
 use Rattle.ord_tree.proofs.tree.OrdTree.prev.Goals as goal
 
 pub link-link-requires-clause-node : goal.link-link-requires-clause-node

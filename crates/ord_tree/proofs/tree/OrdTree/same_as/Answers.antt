@@ -5,7 +5,7 @@ use Rattle.node_store.proofs.ByNode.{node_of_column}
 use Rattle.list_model.specs.Order.{EachPair}
 use Rattle.ord_tree.specs.Side.{side_of}
 use Rattle.ord_tree.specs.Same.{is_kept}
-use Rattle.ord_tree.specs.Laws.{cuts_at}
+use Rattle.key_extract.specs.Laws.{cuts_at}
 use Rattle.ord_tree.proofs.Laws.{the_tree}
 use Rattle.ord_tree.proofs.KeySides.{Rises, Rises-from, side_of-is}
 use Rattle.ord_tree.proofs.Nearing.{Nears-start, Nears-node, Nears-end, Opens-from}

@@ -4,7 +4,7 @@ use Rattle.std.proofs.lemmas.Result.{err_from_is_err_and}
 use Rattle.json.specs.Print.{quoted, escape_byte}
 use Rattle.table_reply.proofs.Room.{Midway, begin, step, stop}
 use Rattle.table_reply.proofs.Texts.{quoted_rest, quoted-rest}
-use Rattle.table_reply.proofs.print.push_quoted.Goals as goal
+use Rattle.table_reply.proofs.quote.push_in_pieces.Goals as goal
 
 pub loop-byte-init : goal.loop-byte-init
 loop-byte-init c =
