@@ -21,9 +21,6 @@ line_of-machine t cutters s old within is = get_or-map unfinished_of cutters s o
 pub machine_is : (t u : List TableState) (cs ds : List Cutter) → t ≡ u → cs ≡ ds → machine t cs ≡ machine u ds
 machine_is t u cs ds tables cutters = ap (λ x. machine x cs) tables ∙ ap (machine u) cutters
 
-pub sessions_of : (t u : List TableState) (cs ds : List Cutter) → length cs ≡ length ds → length (machine t cs).unfinished ≡ length (machine u ds).unfinished
-sessions_of t u cs ds e = length-map cs unfinished_of ∙ (e ∙ sym (length-map ds unfinished_of))
-
 -- the session of the signal has a new cutter
 pub taken_by : (sig : Signal) (t u : List TableState) (cutters : List Cutter) (old new : Cutter) (text : List ℕ) → session_of sig < length cutters → old ≡ get_or cutters (session_of sig) old
     → Answers t old.unfinished sig text u new.unfinished → Takes (machine t cutters) sig text (machine u (slice_set cutters (session_of sig) new))

@@ -1,5 +1,5 @@
 -- The step of one table among those of all.
-use Rattle.std.proofs.Common.{◌≡◌, ℕ, ◌<◌, List, length, get_or, slice_set, Some, refl, ap, ◌∙◌, inl, inr}
+use Rattle.std.proofs.Common.{◌≡◌, ℕ, List, length, get_or, slice_set, Some, refl, ap, ◌∙◌, inl, inr}
 use Rattle.std.proofs.lemmas.List.{set-get_or}
 use Rattle.std.proofs.lemmas.Option.{slice_get_read}
 use Rattle.std.proofs.lemmas.List.Quantifiers.{position-Some}
@@ -33,6 +33,3 @@ pub carried-at : (tables : List TableState) (command : Command) (place : ℕ) (o
 carried-at tables command place old at is =
     let within = (position-Some _ tables place old at).0 in
     rw (at, slice_get_read tables (length tables) place old refl within is) refl
-
-pub table_within : (tables : List TableState) (name : List ℕ) (place : ℕ) (d : TableState) → table_at tables name ≡ Some place → place < length tables
-table_within tables name place d at = (position-Some _ tables place d at).0
