@@ -1,7 +1,7 @@
 -- What a call leaves, over plain values.
-use Rattle.std.proofs.Common.{◌≡◌, ℕ, suc, zero, ◌+◌, ◌<◌, ◌≤◌, inr, true, false, List, [], ◌∷◌, ◌++◌, length, refl, sym, ap, ◌∙◌, arith, take, drop, get_or, length-append}
+use Rattle.std.proofs.Common.{◌≡◌, ℕ, ◌+◌, ◌<◌, ◌≤◌, inr, true, false, List, [], ◌∷◌, ◌++◌, length, refl, sym, ap, ◌∙◌, arith, take, drop, length-append}
 use Rattle.std.specs.Prelude.{slice_index_or, slice_set, Option, Some}
-use Rattle.std.proofs.lemmas.List.{take_all}
+use Rattle.std.proofs.lemmas.List.{take_all, get_or_default}
 use Rattle.table_cmd.specs.declared.command.Command.{Command}
 use Rattle.table_schema.specs.Shape.{TableShape}
 use Rattle.table_step.specs.Step.{Step, Steps, TableState, Took, step_of}
@@ -12,11 +12,6 @@ use Rattle.shared_tables.specs.Journal.{AnsweredData, EntryData, is_write, line_
 use Rattle.shared_tables.specs.Kept.{IsKept, idle}
 use Rattle.shared_tables.specs.Call.{TrackTold}
 use Rattle.shared_tables.proofs.Kept.{kept_write}
-
-in_range : {X : Type 0} (xs : List X) (k : ℕ) (d e : X) → k < length xs → get_or xs k d ≡ get_or xs k e
-in_range [] k d e h = absurd (omega arith)
-in_range (x ∷ xs) zero d e h = refl
-in_range (x ∷ xs) (suc k) d e h = in_range xs k d e (omega arith)
 
 dropped : (xs ys : List ℕ) → drop (length xs) (xs ++ ys) ≡ ys
 dropped [] ys = refl
@@ -34,7 +29,7 @@ whole_line told_before told text is short =
     take_all 256 text few
 
 pub default_any : (tallies : List Tally) (session : ℕ) (tally : Tally) → session < length tallies → tally ≡ slice_index_or tallies session tally → tally ≡ slice_index_or tallies session idle
-default_any tallies session tally h e = e ∙ in_range tallies session tally idle h
+default_any tallies session tally h e = e ∙ get_or_default tallies session tally idle h
 
 write_of : (o : Outcome) → o ≡ outcomes.Write → is_write o ≡ true
 write_of outcomes.Write e = refl

@@ -4,7 +4,6 @@ pub mod Calls
 pub mod Hears
 pub mod Schemas
 pub mod Prefixes
-pub mod Alike
 pub mod Passes
 pub mod Tables
 pub mod Fresh

@@ -3,16 +3,12 @@ use Rattle.std.proofs.Common.{◌≡◌, ℕ, ◌+◌, ◌<◌, ◌≤◌, List,
 use Rattle.std.specs.Prelude.{Option}
 use Rattle.std.specs.List.{flat_map}
 use Rattle.std.specs.Io.KnownBytes.{Appends}
-use Rattle.std.proofs.KnownBytes.{Appends-nil, Appends-trans}
+use Rattle.std.proofs.KnownBytes.{Appends-trans}
 use Rattle.std.proofs.lemmas.Grind.{flat_map-append}
 use Rattle.std.proofs.lemmas.List.{drop_more, map-append, take_all, take_more}
 use Rattle.table_engine.specs.Devices.{AppendsFront}
 use Rattle.shared_tables.specs.Journal.{EntryData}
 use Rattle.shared_tables.specs.Text.{AppendsEntries, entries_in, entry_line, journal_text}
-
--- nothing is written yet
-pub front_nothing : (known : Option (List ℕ)) (text : List ℕ) → AppendsFront known known text
-front_nothing known text = ([], (text, refl), Appends-nil known)
 
 -- the first ones, one, and those after it
 split_at_one : {A : Type 0} (xs : List A) (k : ℕ) (x : A) → k < length xs → x ≡ get_or xs k x → take k xs ++ x ∷ drop (k + 1) xs ≡ xs

@@ -1,9 +1,10 @@
 -- The passes of a session, one pass at a time.
-use Rattle.std.proofs.Common.{◌≡◌, ℕ, ◌+◌, ◌==◌, ◌<◌, ◌≤◌, Bool, true, false, List, [], ◌∷◌, ◌++◌, length, refl, sym, ap, ◌∙◌, subst, arith, take, drop, get_or, append-nil}
+use Rattle.std.proofs.Common.{◌≡◌, ℕ, ◌+◌, ◌==◌, ◌<◌, ◌≤◌, Bool, true, false, List, [], ◌∷◌, ◌++◌, length, refl, sym, ap, ◌∙◌, subst, arith, take, drop, get_or}
 use Rattle.std.specs.Prelude.{All, cond, nat_lt, ◌&&◌, Option, Some, None}
 use Rattle.std.proofs.lemmas.List.{take-append-drop}
 use Rattle.std.proofs.lemmas.List.Elements.{filter-append, filter_more, filter_passes}
 use Rattle.std.proofs.lemmas.Bool.Decides.{nat_tests}
+use Rattle.std.proofs.lemmas.Bool.{cond-true}
 use Rattle.shared_tables.specs.Pass.{PassData}
 use Rattle.shared_tables.specs.Gathered.{AgreesWith, FirstFailure, SessionAgrees, passes_of}
 use Rattle.shared_tables.specs.Holders.{IsHolder}
@@ -12,14 +13,6 @@ use Rattle.shared_tables.specs.Journal.{own}
 use Rattle.shared_tables.specs.declared.holder.Holder.{Holder}
 use Rattle.shared_tables.specs.declared.holder.Holder.TheVariants.{Nobody, One, Several}
 
-cond_true : {X : Type 0} (b : Bool) (x y : X) → b ≡ true → cond b x y ≡ x
-cond_true true x y e = refl
-cond_true false x y e = cc
-
-cond_false : {X : Type 0} (b : Bool) (x y : X) → b ≡ false → cond b x y ≡ y
-cond_false true x y e = cc
-cond_false false x y e = refl
-
 module _ (session : ℕ) (passes : List PassData) (k : ℕ) (p : PassData) where
   more : k < length passes → p ≡ get_or passes k p → passes_of session (take (k + 1) passes) ≡ passes_of session (take k passes) ++ cond (p.session == session) (p ∷ []) []
   more h is = filter_more (λ q. q.session == session) passes k p h ∙ ap (λ (q : PassData). passes_of session (take k passes) ++ cond (q.session == session) (q ∷ []) []) (sym is)
@@ -27,12 +20,7 @@ module _ (session : ℕ) (passes : List PassData) (k : ℕ) (p : PassData) where
   pub passes_more : k < length passes → p ≡ get_or passes k p → p.session ≡ session → passes_of session (take (k + 1) passes) ≡ passes_of session (take k passes) ++ p ∷ []
   passes_more h is mine =
       let b : (p.session == session) ≡ true = grind (arith, nat_tests) in
-      more h is ∙ ap (λ xs. passes_of session (take k passes) ++ xs) (cond_true (p.session == session) (p ∷ []) [] b)
-
-  pub passes_other : k < length passes → p ≡ get_or passes k p → (p.session ≡ session → ⊥) → passes_of session (take (k + 1) passes) ≡ passes_of session (take k passes)
-  passes_other h is other =
-      let b : (p.session == session) ≡ false = grind (arith, nat_tests) in
-      more h is ∙ ap (λ xs. passes_of session (take k passes) ++ xs) (cond_false (p.session == session) (p ∷ []) [] b) ∙ append-nil (passes_of session (take k passes))
+      more h is ∙ ap (λ xs. passes_of session (take k passes) ++ xs) (cond-true (p.session == session) (p ∷ []) [] b)
 
 -- the passes of a session among all are those among the first ones, and then others
 pub passes_rest : (session : ℕ) (passes : List PassData) (k : ℕ) → passes_of session passes ≡ passes_of session (take k passes) ++ passes_of session (drop k passes)

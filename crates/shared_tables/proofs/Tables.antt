@@ -1,15 +1,13 @@
 -- The journals of all tables, one table at a time.
 use Rattle.std.proofs.Common.{◌≡◌, ℕ, ◌+◌, ◌<◌, ◌≤◌, List, [], ◌∷◌, ◌++◌, length, map, refl, sym, ap, ◌∙◌, subst, arith, take, get_or}
-use Rattle.std.specs.Prelude.{All, Some}
+use Rattle.std.specs.Prelude.{All}
 use Rattle.std.proofs.lemmas.List.{take_all, take_more, map-append, length-map, length-take-le}
 use Rattle.std.proofs.lemmas.List.Elements.{All-push}
-use Rattle.std.proofs.lemmas.Option.{slice_get_read}
 use Rattle.table_schema.specs.Shape.{TableShape}
 use Rattle.shared_tables.specs.Journal.{EntryData}
 use Rattle.shared_tables.specs.Pass.{PassData}
 use Rattle.shared_tables.specs.Call.{CellData}
-use Rattle.shared_tables.specs.Gathered.{FirstFailure, SessionAgrees}
-use Rattle.shared_tables.specs.Journals.{AllAgree, AreJournals, FirstAt, Gathered, IsLegalCell, MismatchAt, cells_of}
+use Rattle.shared_tables.specs.Journals.{AllAgree, AreJournals, Gathered, IsLegalCell, cells_of}
 
 abbrev pub journals_in : List CellData → List (List EntryData)
 journals_in cells = map (λ cell. cell.journal) cells
@@ -46,13 +44,6 @@ first_more schema workers cells k cell shape h l is shape_is same counted legal 
       subst (λ (cs : List CellData). All IsLegalCell cs) (sym more) (All-push IsLegalCell (take k cells) cell so_far.1 legal),
     )
 
-pub first_all : (schema : List TableShape) (workers : ℕ) (cells : List CellData) (k : ℕ) → length cells ≤ k → length cells ≡ length schema
-    → FirstOf schema workers cells k → (cells ≡ cells_of schema workers (journals_in cells)) × All IsLegalCell cells
-first_all schema workers cells k done count so_far =
-    let here : take k cells ≡ cells = take_all k cells done in
-    let there : take k schema ≡ schema = take_all k schema (omega arith) in
-    (sym here ∙ so_far.0 ∙ (λ i. cells_of (there i) workers (journals_in (here i))), subst (λ (cs : List CellData). All IsLegalCell cs) here so_far.1)
-
 pub agree_more : (passes : List PassData) (cells : List CellData) (k : ℕ) (cell : CellData) → k < length cells → cell ≡ get_or cells k cell
     → AllAgree passes cell → All (AllAgree passes) (take k cells) → All (AllAgree passes) (take (k + 1) cells)
 agree_more passes cells k cell h is agrees so_far =
@@ -61,10 +52,6 @@ agree_more passes cells k cell h is agrees so_far =
 
 pub agree_all : (passes : List PassData) (cells : List CellData) (k : ℕ) → length cells ≤ k → All (AllAgree passes) (take k cells) → All (AllAgree passes) cells
 agree_all passes cells k done so_far = subst (λ (cs : List CellData). All (AllAgree passes) cs) (take_all k cells done) so_far
-
-pub fails_at : (passes : List PassData) (cells : List CellData) (k n : ℕ) (cell : CellData) → k < length cells → cell ≡ get_or cells k cell
-    → FirstFailure (SessionAgrees passes cell) (Some n) → All (AllAgree passes) (take k cells) → FirstAt cells passes k n
-fails_at passes cells k n cell h is fails so_far = record { before = so_far; cell = cell; there = slice_get_read cells (length cells) k cell refl h is; least = fails }
 
 are_journals : (schema : List TableShape) (workers : ℕ) (cells : List CellData) → length cells ≡ length schema
     → cells ≡ cells_of schema workers (journals_in cells) → All IsLegalCell cells → AreJournals schema workers (journals_in cells)
@@ -78,13 +65,4 @@ pub gathered : (schema : List TableShape) (workers : ℕ) (cells : List CellData
 gathered schema workers cells passes count same legal agree = record {
   journals_are = are_journals schema workers cells count same legal;
   agree = subst (λ (cs : List CellData). All (AllAgree passes) cs) same agree;
-}
-
-pub mismatched : (schema : List TableShape) (workers : ℕ) (cells : List CellData) (passes : List PassData) (k n : ℕ) → length cells ≡ length schema
-    → cells ≡ cells_of schema workers (journals_in cells) → All IsLegalCell cells → FirstAt cells passes k n
-    → MismatchAt (record { schema = schema; workers = workers }) passes k n
-mismatched schema workers cells passes k n count same legal first = record {
-  journals = journals_in cells;
-  journals_are = are_journals schema workers cells count same legal;
-  first = subst (λ (cs : List CellData). FirstAt cs passes k n) same first;
 }
