@@ -20,7 +20,7 @@ impl<T> Extract<Keyed<T>> for ByKey {
     ghost use Rattle.std.specs.Ordering.{nat_cmp};
     ghost use Rattle.std.proofs.lemmas.Cmp.{nat_cmp_total, on_total, tied_back};
     ghost use Rattle.std.proofs.lemmas.Map.Lookups.{exact_unsigned};
-    ghost use Rattle.ord_tree.specs.Laws.{cuts_at};
+    ghost use Rattle.key_extract.specs.Laws.{cuts_at};
     ghost use Rattle.index_tests.specs.Keys.{by_key};
 
     type Probe = u64;

@@ -35,7 +35,7 @@ impl Extract<u64> for Numbers {
     ghost use Rattle.std.proofs.Common.{◌∙◌};
     ghost use Rattle.std.specs.Ordering.{nat_cmp};
     ghost use Rattle.std.proofs.lemmas.Cmp.{nat_cmp_total, tied_back};
-    ghost use Rattle.ord_tree.specs.Laws.{cuts_at};
+    ghost use Rattle.key_extract.specs.Laws.{cuts_at};
 
     type Probe = u64;
 
