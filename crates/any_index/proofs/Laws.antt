@@ -25,7 +25,7 @@ use Rattle.seq_index.proofs.Laws as seq
 use Rattle.row_index.proofs.Laws as row
 use Rattle.ord_tree.specs.Side.{order_at}
 use Rattle.ord_tree.proofs.Laws as ord
-pub use Rattle.ord_tree.proofs.Laws.{Holds_at}
+pub use Rattle.ord_tree.proofs.Laws.{Holds_at, Holds_last}
 use Rattle.ord_tree.proofs.Ordered.{IsInOrder_others}
 use Rattle.rank_tree.proofs.Laws as rank
 use Rattle.hash_index.specs.Chains.{tag_at}

@@ -1,5 +1,5 @@
 -- The laws of what an index spells, for the crates above.
-use Rattle.std.proofs.Common.{◌≡◌, ℕ, zero, suc, ◌≤◌, List, [], ◌∷◌, ◌++◌, Option, Some, None, slice_get, ◌+◌, refl, sym, ap, ◌∙◌, subst, arith}
+use Rattle.std.proofs.Common.{◌≡◌, ℕ, zero, suc, ◌≤◌, List, [], ◌∷◌, ◌++◌, Option, Some, None, slice_get, ◌+◌, refl, sym, ap, ◌∙◌, subst, arith, length}
 use Rattle.node_store.specs.declared.Node.{Node}
 use Rattle.node_store.specs.Column.{Column, IsNode}
 use Rattle.node_store.specs.Nodes.{AllNodes, Lacks, IsDistinct, IsSameAt}
@@ -13,7 +13,7 @@ use Rattle.ord_tree.specs.declared.tree.OrdTree.{OrdTree}
 use Rattle.ord_tree.specs.declared.tally.Tally.{Ghosts}
 use Rattle.ord_tree.specs.Tree.{Tree, Leaf, Fork, nodes, root, height, tree_link, Hangs, stored_height, left_of, right_of}
 use Rattle.ord_tree.specs.Spelled.{SpellsTree, Spells, IsSound, spelled, tree_of, tree_below, col_of, Holds}
-use Rattle.list_model.specs.Walk.{without, next, prev, place_of}
+use Rattle.list_model.specs.Walk.{without, next, prev, last, place_of}
 use Rattle.list_model.proofs.Neighbours.{some_prev}
 use Rattle.ord_tree.proofs.NodeWalks.{without_at, rest_lacks}
 use Rattle.ord_tree.proofs.TreeLinks.{Hangs-same, stored_height-is}
@@ -146,6 +146,11 @@ module _ {T : Type 0} {G : Ghosts T} where
 -- the first node stands in the list
 pub Holds_first : (xs : List Node) (n : Node) → slice_get xs 0 ≡ Some n → Holds xs n
 Holds_first xs n e = Holds_at xs 0 n e
+
+-- so does the last one
+pub Holds_last : (xs : List Node) (n : Node) → last xs ≡ Some n → Holds xs n
+Holds_last [] n e = cc
+Holds_last (x ∷ xs) n e = Holds_at (x ∷ xs) (length xs) n e
 
 -- and the node after another, and the one before it
 pub Holds_next : (xs : List Node) (m n : Node) → next (same_node m) xs ≡ Some n → Holds xs n
