@@ -1,8 +1,10 @@
 pub mod Masks
+pub mod Levels
 pub mod Untagged
 pub mod OneBucket
 pub mod Spelling
 pub mod Changes
-pub mod Pouring
 pub mod Matching
+pub mod Cutting
+pub mod Growing
 pub mod Laws

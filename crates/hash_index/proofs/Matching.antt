@@ -132,7 +132,7 @@ module _ (p : Node → Bool) where
   pub find_middle : (xs ys zs : List Node) → AllByRecursion (λ x. p x ≡ false) xs → AllByRecursion (λ x. p x ≡ false) zs → find p (xs ++ (ys ++ zs)) ≡ find p ys
   find_middle xs ys zs before after = find_past xs (ys ++ zs) before ∙ find_front ys zs after
 
-  filter_none : (xs : List Node) → AllByRecursion (λ x. p x ≡ false) xs → filter p xs ≡ []
+  pub filter_none : (xs : List Node) → AllByRecursion (λ x. p x ≡ false) xs → filter p xs ≡ []
   filter_none [] h = refl
   filter_none (x ∷ xs) h = ap (λ b. cond b (x ∷ filter p xs) (filter p xs)) h.0 ∙ filter_none xs h.1
 

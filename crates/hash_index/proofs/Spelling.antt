@@ -1,5 +1,5 @@
 -- What an index spells, by its buckets.
-use Rattle.std.proofs.Common.{◌≡◌, ◌≢◌, ℕ, ◌+◌, ◌%◌, ◌<◌, ◌≤◌, List, [], ◌∷◌, ◌++◌, length, map, get_or, drop, Option, Some, None, refl, sym, ap, ◌∙◌, subst, arith, append_assoc, length-append}
+use Rattle.std.proofs.Common.{◌≡◌, ◌≢◌, ℕ, ◌+◌, ◌<◌, ◌≤◌, List, [], ◌∷◌, ◌++◌, length, map, get_or, drop, Option, Some, None, refl, sym, ap, ◌∙◌, subst, arith, append_assoc, length-append}
 use Rattle.std.specs.List.{AllByRecursion}
 use Rattle.std.specs.Option.{option_map}
 use Rattle.std.specs.Vec.{vec_len}
@@ -8,7 +8,7 @@ use Rattle.node_store.specs.declared.Link.{Link}
 use Rattle.node_store.specs.Column.{Column, IsNode}
 use Rattle.node_store.specs.Nodes.{IsSameAt, IsDistinct, AllNodes, first_or, last_or}
 use Rattle.node_store.specs.ByNode.{same_node}
-use Rattle.node_store.proofs.NodeLists.{first_or-append}
+use Rattle.node_store.proofs.NodeLists.{first_or-append, IsDistinct-parts}
 use Rattle.list_model.specs.Walk.{next}
 use Rattle.list_model.proofs.InOrder.{All-map}
 use Rattle.list_model.proofs.Kept.{All-split}
@@ -17,34 +17,35 @@ use Rattle.seq_index.proofs.Runs.{Runs-at, AreNodes-last, AreNodes-first}
 use Rattle.seq_index.proofs.Walks.{next_at}
 use Rattle.hash_index.specs.declared.HashIndex.{HashIndex}
 use Rattle.hash_index.specs.Chains.{untagged_link, untagged, tag_at, IsIn, AreChains, joined, first_head}
-use Rattle.hash_index.specs.Spelled.{Spells, IsSound, spelled, chains_of, Holds}
+use Rattle.hash_index.specs.Spelled.{Spells, IsSound, spelled, chains_of, leads_to, Holds}
 use Rattle.hash_index.specs.Walks.{Leads, rest_of, Ends, HasHash}
+use Rattle.hash_index.proofs.Levels.{leads_within}
 use Rattle.hash_index.proofs.Untagged.{tag_is, tagged_node}
 use Rattle.hash_index.proofs.OneBucket.{Hangs, Focus, IsElsewhere, focus, chains_are, chains_same, chains_nodes, heads_first, follow_leads, leads_runs}
 
 -- an index whose buckets hold these nodes spells them
-pub Spells_from : (cs : ℕ → Column) (i : HashIndex) (xs : List Node) → Hangs (cs i.col) (vec_len i.buckets) 0 i.buckets.items xs → IsDistinct xs → i.len ≡ length xs → i.len ≤ vec_len i.buckets → Spells cs i xs
+pub Spells_from : (cs : ℕ → Column) (i : HashIndex) (xs : List Node) → Hangs (cs i.col) (leads_to i) 0 i.buckets.items xs → IsDistinct xs → i.len ≡ length xs → i.len ≤ vec_len i.buckets → Spells cs i xs
 unfolding spelled
 Spells_from cs i xs h dist len load =
     let fits : length (joined h.chains) ≤ i.len = omega (arith, len, ap length h.whole) in
-    let e : chains_of cs i ≡ h.chains = chains_are (cs i.col) (vec_len i.buckets) 0 i.len i.buckets.items h.chains fits h.are in
+    let e : chains_of cs i ≡ h.chains = chains_are (cs i.col) (leads_to i) 0 i.len i.buckets.items h.chains fits h.are in
     record {
       is = sym (ap joined e ∙ h.whole);
-      chains = subst (λ z. AreChains (cs i.col) (vec_len i.buckets) 0 i.buckets.items z) (sym e) h.are;
+      chains = subst (λ z. AreChains (cs i.col) (leads_to i) 0 i.buckets.items z) (sym e) h.are;
       distinct = dist;
       len = len;
       load = load;
     }
 
-pub hangs_of : (cs : ℕ → Column) (i : HashIndex) (xs : List Node) → Spells cs i xs → Hangs (cs i.col) (vec_len i.buckets) 0 i.buckets.items xs
+pub hangs_of : (cs : ℕ → Column) (i : HashIndex) (xs : List Node) → Spells cs i xs → Hangs (cs i.col) (leads_to i) 0 i.buckets.items xs
 unfolding spelled
 hangs_of cs i xs h = record { chains = chains_of cs i; are = h.chains; whole = sym h.is }
 
-pub hangs_focus : (c : Column) (count b : ℕ) (heads : List (Option Node)) (xs : List Node) → b < length heads → Hangs c count 0 heads xs → Focus c count 0 b b heads xs
-hangs_focus c count b heads xs lt h = subst (λ z. Focus c count 0 b b heads z) h.whole (focus c count b heads h.chains lt h.are)
+pub hangs_focus : (c : Column) (to : ℕ → ℕ) (b : ℕ) (heads : List (Option Node)) (xs : List Node) → b < length heads → Hangs c to 0 heads xs → Focus c to 0 b b heads xs
+hangs_focus c to b heads xs lt h = subst (λ z. Focus c to 0 b b heads z) h.whole (focus c to b heads h.chains lt h.are)
 
-pub focus_of : (cs : ℕ → Column) (i : HashIndex) (xs : List Node) (b : ℕ) → b < vec_len i.buckets → Spells cs i xs → Focus (cs i.col) (vec_len i.buckets) 0 b b i.buckets.items xs
-focus_of cs i xs b lt h = hangs_focus (cs i.col) (vec_len i.buckets) b i.buckets.items xs (omega (arith, i.buckets.ok, lt)) (hangs_of cs i xs h)
+pub focus_of : (cs : ℕ → Column) (i : HashIndex) (xs : List Node) (b : ℕ) → b < vec_len i.buckets → Spells cs i xs → Focus (cs i.col) (leads_to i) 0 b b i.buckets.items xs
+focus_of cs i xs b lt h = hangs_focus (cs i.col) (leads_to i) b i.buckets.items xs (omega (arith, i.buckets.ok, lt)) (hangs_of cs i xs h)
 
 pub spelled_is : (cs : ℕ → Column) (i : HashIndex) (xs : List Node) → Spells cs i xs → spelled cs i ≡ xs
 spelled_is cs i xs h = sym h.is
@@ -56,23 +57,23 @@ pub Spells_same : (cs ds : ℕ → Column) (i : HashIndex) (xs : List Node) → 
 Spells_same cs ds i xs s h =
     let k = hangs_of cs i xs h in
     Spells_from ds i xs
-    (record { chains = k.chains; are = chains_same (cs i.col) (ds i.col) (vec_len i.buckets) 0 i.buckets.items k.chains (subst (λ z. IsSameAt (cs i.col) (ds i.col) z) (sym k.whole) s) k.are; whole = k.whole })
+    (record { chains = k.chains; are = chains_same (cs i.col) (ds i.col) (leads_to i) (leads_to i) 0 (λ b le hash e. e) i.buckets.items k.chains (subst (λ z. IsSameAt (cs i.col) (ds i.col) z) (sym k.whole) s) k.are; whole = k.whole })
     h.distinct h.len h.load
 
 pub Spells_nodes : (cs : ℕ → Column) (i : HashIndex) (xs : List Node) → Spells cs i xs → AllNodes (cs i.col) xs
 Spells_nodes cs i xs h =
     let k = hangs_of cs i xs h in
-    subst (λ z. AllNodes (cs i.col) z) k.whole (chains_nodes (cs i.col) (vec_len i.buckets) 0 i.buckets.items k.chains k.are)
+    subst (λ z. AllNodes (cs i.col) z) k.whole (chains_nodes (cs i.col) (leads_to i) 0 i.buckets.items k.chains k.are)
 
 -- an index of no nodes
-pub empty_hangs : (c : Column) (count k : ℕ) (heads : List (Option Node)) → AllByRecursion (λ o. o ≡ None) heads → Hangs c count k heads []
-empty_hangs c count k [] h = record { chains = []; are = tt; whole = refl }
-empty_hangs c count k (head ∷ heads) h =
-    let r = empty_hangs c count (k + 1) heads h.1 in
+pub empty_hangs : (c : Column) (to : ℕ → ℕ) (k : ℕ) (heads : List (Option Node)) → AllByRecursion (λ o. o ≡ None) heads → Hangs c to k heads []
+empty_hangs c to k [] h = record { chains = []; are = tt; whole = refl }
+empty_hangs c to k (head ∷ heads) h =
+    let r = empty_hangs c to (k + 1) heads h.1 in
     record { chains = [] ∷ r.chains; are = (record { first = h.0; runs = tt; members = tt }, r.are); whole = r.whole }
 
 pub empty_sound : (cs : ℕ → Column) (i : HashIndex) → AllByRecursion (λ o. o ≡ None) i.buckets.items → i.len ≡ 0 → IsSound cs i
-empty_sound cs i h e = IsSound_from cs i [] (Spells_from cs i [] (empty_hangs (cs i.col) (vec_len i.buckets) 0 i.buckets.items h) tt e (omega (arith, e)))
+empty_sound cs i h e = IsSound_from cs i [] (Spells_from cs i [] (empty_hangs (cs i.col) (leads_to i) 0 i.buckets.items h) tt e (omega (arith, e)))
 
 -- ---- nodes of a list
 
@@ -107,12 +108,12 @@ pub holds_middle : (P : Node → Type 0) (xs ys zs : List Node) (n : Node) → A
 holds_middle P xs ys zs n before after apart h = holds_front P ys zs n after apart (holds_past P xs (ys ++ zs) n before apart h)
 
 -- a node of the bucket stands in its chain
-pub held_chain : (c : Column) (count k j b : ℕ) (heads : List (Option Node)) (xs : List Node) (n : Node) (f : Focus c count k j b heads xs) → IsIn c count b n → Holds xs n → Holds f.chain n
-held_chain c count k j b heads xs n f is h =
-    holds_middle (IsElsewhere c count b) f.front f.chain f.back n f.before f.after (λ e. e is) (subst (λ z. Holds z n) f.whole h)
+pub held_chain : (c : Column) (to : ℕ → ℕ) (k j b : ℕ) (heads : List (Option Node)) (xs : List Node) (n : Node) (f : Focus c to k j b heads xs) → IsIn c to b n → Holds xs n → Holds f.chain n
+held_chain c to k j b heads xs n f is h =
+    holds_middle (IsElsewhere c to b) f.front f.chain f.back n f.before f.after (λ e. e is) (subst (λ z. Holds z n) f.whole h)
 
-pub is_in : (c : Column) (count : ℕ) (n : Node) (link : Link) → c n ≡ Some link → IsIn c count (link.tag % count) n
-is_in c count n link is = ap (option_map (λ hash. hash % count)) (tag_is c n link is)
+pub is_in : (c : Column) (to : ℕ → ℕ) (n : Node) (link : Link) → c n ≡ Some link → IsIn c to (to link.tag) n
+is_in c to n link is = ap (option_map to) (tag_is c n link is)
 
 -- the list at a node of one bucket
 pub split_at : (xs front chain back ps : List Node) (n : Node) (qs : List Node) → xs ≡ front ++ (chain ++ back) → chain ≡ ps ++ n ∷ qs → xs ≡ (front ++ ps) ++ n ∷ (qs ++ back)
@@ -132,7 +133,7 @@ some_bucket cs i xs n h k = omega (arith, h.len, h.load, ap length k.is, length-
 pub first_spelled : (cs : ℕ → Column) (i : HashIndex) → IsSound cs i → first_head i.buckets.items ≡ first_or (spelled cs i) None
 first_spelled cs i h =
     let k = hangs_of cs i (spelled cs i) h in
-    heads_first (cs i.col) (vec_len i.buckets) 0 i.buckets.items k.chains k.are ∙ ap (λ z. first_or z None) k.whole
+    heads_first (cs i.col) (leads_to i) 0 i.buckets.items k.chains k.are ∙ ap (λ z. first_or z None) k.whole
 
 -- ---- walks
 
@@ -161,9 +162,8 @@ pub record HasNeighbours (c : Column) (link : Link) : Type 0 where
 
 pub has_neighbours : (cs : ℕ → Column) (i : HashIndex) (xs : List Node) (n : Node) (link : Link) → Spells cs i xs → Holds xs n → cs i.col n ≡ Some link → HasNeighbours (cs i.col) link
 has_neighbours cs i xs n link h k is =
-    let some = some_bucket cs i xs n h k in
-    let f = focus_of cs i xs (link.tag % vec_len i.buckets) (omega arith) h in
-    let held = held_chain (cs i.col) (vec_len i.buckets) 0 (link.tag % vec_len i.buckets) (link.tag % vec_len i.buckets) i.buckets.items xs n f (is_in (cs i.col) (vec_len i.buckets) n link is) k in
+    let f = focus_of cs i xs (leads_to i link.tag) (leads_within i link.tag (some_bucket cs i xs n h k)) h in
+    let held = held_chain (cs i.col) (leads_to i) 0 (leads_to i link.tag) (leads_to i link.tag) i.buckets.items xs n f (is_in (cs i.col) (leads_to i) n link is) k in
     let runs = subst (λ z. Runs (untagged (cs i.col)) None z None) held.is f.here.runs in
     let near = neighbours (cs i.col) held.before n held.after link runs is in
     let past = subst (λ z. Runs (untagged (cs i.col)) None z None) (sym (append_assoc held.before (n ∷ []) held.after)) runs in
@@ -181,14 +181,14 @@ beside_none [] o e = refl
 beside_none (q ∷ qs) o e = cc
 
 -- what comes after a node in a walk over all
-pub record After (count : ℕ) (heads : List (Option Node)) (link : Link) (ys : List Node) : Type 0 where
+pub record After (to : ℕ → ℕ) (heads : List (Option Node)) (link : Link) (ys : List Node) : Type 0 where
   pub some : (m : Node) → link.b ≡ Some m → Some m ≡ first_or ys None
-  pub none : link.b ≡ None → first_head (drop (link.tag % count + 1) heads) ≡ first_or ys None
+  pub none : link.b ≡ None → first_head (drop (to link.tag + 1) heads) ≡ first_or ys None
 
-pub after_node : (cs : ℕ → Column) (i : HashIndex) (xs : List Node) (n : Node) (ys : List Node) (link : Link) → link.tag % vec_len i.buckets < vec_len i.buckets → Spells cs i (xs ++ n ∷ ys) → cs i.col n ≡ Some link → After (vec_len i.buckets) i.buckets.items link ys
+pub after_node : (cs : ℕ → Column) (i : HashIndex) (xs : List Node) (n : Node) (ys : List Node) (link : Link) → leads_to i link.tag < vec_len i.buckets → Spells cs i (xs ++ n ∷ ys) → cs i.col n ≡ Some link → After (leads_to i) i.buckets.items link ys
 after_node cs i xs n ys link lt h is =
-    let f = focus_of cs i (xs ++ n ∷ ys) (link.tag % vec_len i.buckets) lt h in
-    let held = held_chain (cs i.col) (vec_len i.buckets) 0 (link.tag % vec_len i.buckets) (link.tag % vec_len i.buckets) i.buckets.items (xs ++ n ∷ ys) n f (is_in (cs i.col) (vec_len i.buckets) n link is) (record { before = xs; after = ys; is = refl }) in
+    let f = focus_of cs i (xs ++ n ∷ ys) (leads_to i link.tag) lt h in
+    let held = held_chain (cs i.col) (leads_to i) 0 (leads_to i link.tag) (leads_to i link.tag) i.buckets.items (xs ++ n ∷ ys) n f (is_in (cs i.col) (leads_to i) n link is) (record { before = xs; after = ys; is = refl }) in
     let near = neighbours (cs i.col) held.before n held.after link (subst (λ z. Runs (untagged (cs i.col)) None z None) held.is f.here.runs) is in
     let split = split_at (xs ++ n ∷ ys) f.front f.chain f.back held.before n held.after f.whole held.is in
     let e : first_or ys None ≡ first_or held.after (first_or f.back None) =
@@ -200,27 +200,36 @@ after_node cs i xs n ys link lt h is =
 
 -- ---- the chain of a hash
 
-rest_is : (cs : ℕ → Column) (i : HashIndex) (xs : List Node) (b : ℕ) (f : Focus (cs i.col) (vec_len i.buckets) 0 b b i.buckets.items xs) → i.len ≡ length xs → Leads (untagged (cs i.col)) (get_or i.buckets.items b None) f.chain × (rest_of cs i (get_or i.buckets.items b None) ≡ f.chain)
+pub rest_is : (cs : ℕ → Column) (i : HashIndex) (xs : List Node) (b : ℕ) (f : Focus (cs i.col) (leads_to i) 0 b b i.buckets.items xs) → i.len ≡ length xs → Leads (untagged (cs i.col)) (get_or i.buckets.items b None) f.chain × (rest_of cs i (get_or i.buckets.items b None) ≡ f.chain)
 rest_is cs i xs b f len =
     let leads = subst (λ o. Leads (untagged (cs i.col)) o f.chain) (sym f.here.first) (leads_runs (cs i.col) None f.chain f.here.runs) in
     let fits : length f.chain ≤ i.len = omega (arith, len, ap length f.whole, length-append f.front (f.chain ++ f.back), length-append f.chain f.back) in
     (leads, follow_leads (untagged (cs i.col)) (get_or i.buckets.items b None) f.chain i.len fits leads)
 
-pub has_hash : (cs : ℕ → Column) (i : HashIndex) (hash : ℕ) (head : Option Node) → hash % vec_len i.buckets < vec_len i.buckets → head ≡ get_or i.buckets.items (hash % vec_len i.buckets) None → IsSound cs i → HasHash cs i hash head
+-- from a bucket's first node there is a chain of distinct nodes
+pub head_ends : (cs : ℕ → Column) (i : HashIndex) (b : ℕ) (head : Option Node) → b < vec_len i.buckets → head ≡ get_or i.buckets.items b None → IsSound cs i → Ends cs i head × IsDistinct (rest_of cs i head)
+head_ends cs i b head lt at h =
+    let f = focus_of cs i (spelled cs i) b lt h in
+    let r = rest_is cs i (spelled cs i) b f h.len in
+    let back = IsDistinct-parts f.front (f.chain ++ f.back) (subst IsDistinct f.whole h.distinct) in
+    let ends : Ends cs i (get_or i.buckets.items b None) = subst (λ z. Leads (untagged (cs i.col)) (get_or i.buckets.items b None) z) (sym r.1) r.0 in
+    (subst (Ends cs i) (sym at) ends, subst IsDistinct (sym (ap (λ o. rest_of cs i o) at ∙ r.1)) (IsDistinct-parts f.chain f.back back.back).front)
+
+pub has_hash : (cs : ℕ → Column) (i : HashIndex) (hash : ℕ) (head : Option Node) → leads_to i hash < vec_len i.buckets → head ≡ get_or i.buckets.items (leads_to i hash) None → IsSound cs i → HasHash cs i hash head
 has_hash cs i hash head lt at h =
-    let count = vec_len i.buckets in
-    let f = focus_of cs i (spelled cs i) (hash % vec_len i.buckets) lt h in
-    let r = rest_is cs i (spelled cs i) (hash % vec_len i.buckets) f h.len in
+    let to = leads_to i in
+    let f = focus_of cs i (spelled cs i) (leads_to i hash) lt h in
+    let r = rest_is cs i (spelled cs i) (leads_to i hash) f h.len in
     subst (HasHash cs i hash) (sym at) (record {
       front = f.front;
       back = f.back;
       whole = f.whole ∙ ap (λ z. f.front ++ (z ++ f.back)) (sym r.1);
-      ends = subst (λ z. Leads (untagged (cs i.col)) (get_or i.buckets.items (hash % vec_len i.buckets) None) z) (sym r.1) r.0;
-      before = All-map (IsElsewhere (cs i.col) count (hash % count)) (λ n. tag_at (cs i.col) n ≢ Some hash) (λ n e k. e (ap (option_map (λ z. z % count)) k)) f.front f.before;
-      after = All-map (IsElsewhere (cs i.col) count (hash % count)) (λ n. tag_at (cs i.col) n ≢ Some hash) (λ n e k. e (ap (option_map (λ z. z % count)) k)) f.back f.after;
+      ends = subst (λ z. Leads (untagged (cs i.col)) (get_or i.buckets.items (leads_to i hash) None) z) (sym r.1) r.0;
+      before = All-map (IsElsewhere (cs i.col) to (to hash)) (λ n. tag_at (cs i.col) n ≢ Some hash) (λ n e k. e (ap (option_map to) k)) f.front f.before;
+      after = All-map (IsElsewhere (cs i.col) to (to hash)) (λ n. tag_at (cs i.col) n ≢ Some hash) (λ n e k. e (ap (option_map to) k)) f.back f.after;
     })
 
-none_long : (xs : List Node) → length xs ≤ 0 → xs ≡ []
+pub none_long : {X : Type 0} (xs : List X) → length xs ≤ 0 → xs ≡ []
 none_long [] le = refl
 none_long (x ∷ xs) le = absurd (omega arith)
 
@@ -228,7 +237,7 @@ pub no_nodes : (cs : ℕ → Column) (i : HashIndex) → IsSound cs i → i.len 
 no_nodes cs i h e = none_long (spelled cs i) (omega (arith, h.len, e))
 
 -- each chain ends
-pub chains_end : (cs : ℕ → Column) (i : HashIndex) (k : ℕ) (heads : List (Option Node)) → AreChains (cs i.col) (vec_len i.buckets) k heads (map (rest_of cs i) heads) → AllByRecursion (Ends cs i) heads
+pub chains_end : (cs : ℕ → Column) (i : HashIndex) (k : ℕ) (heads : List (Option Node)) → AreChains (cs i.col) (leads_to i) k heads (map (rest_of cs i) heads) → AllByRecursion (Ends cs i) heads
 chains_end cs i k [] h = tt
 chains_end cs i k (head ∷ heads) h =
     (subst (λ o. Leads (untagged (cs i.col)) o (rest_of cs i head)) (sym h.0.first) (leads_runs (cs i.col) None (rest_of cs i head) h.0.runs), chains_end cs i (k + 1) heads h.1)

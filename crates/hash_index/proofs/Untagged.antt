@@ -1,13 +1,14 @@
 -- Columns without their tags, and the tags alone.
-use Rattle.std.proofs.Common.{◌≡◌, ◌≢◌, ℕ, List, [], ◌∷◌, Option, Some, None, refl, ap}
-use Rattle.std.specs.Option.{option_map}
+use Rattle.std.proofs.Common.{◌≡◌, ◌≢◌, ℕ, true, false, ◌==◌, List, [], ◌∷◌, Option, Some, None, refl, ap, ◌∙◌}
+use Rattle.std.specs.Option.{option_map, option_map_or}
+use Rattle.std.proofs.lemmas.Bool.{eqb-true, eq-eqb, ne_eqb}
 use Rattle.node_store.specs.declared.Node.{Node}
 use Rattle.node_store.specs.declared.Link.{Link}
 use Rattle.node_store.specs.Column.{Column, IsPut, IsNode}
 use Rattle.node_store.specs.Nodes.{IsSameAt}
 use Rattle.seq_index.specs.Links.{SetsNext, SetsPrev}
 use Rattle.seq_index.proofs.Runs.{SetsNext-some, SetsPrev-some}
-use Rattle.hash_index.specs.Chains.{untagged_link, untagged, tag_at}
+use Rattle.hash_index.specs.Chains.{untagged_link, untagged, tag_at, leads, IsIn}
 
 abbrev tag_of : Link → ℕ
 tag_of l = l.tag
@@ -50,3 +51,25 @@ next_untagged c d m link next is put =
 pub prev_untagged : (c d : Column) (m : Node) (link : Link) (prev : Option Node) → c m ≡ Some link → IsPut c d m (record link { a = prev }) → SetsPrev (untagged c) (untagged d) (Some m) prev
 prev_untagged c d m link prev is put =
     SetsPrev-some (untagged c) (untagged d) m (untagged_link link) prev (ap (option_map untagged_link) is) (put_untagged c d m (record link { a = prev }) put)
+
+-- ---- the bucket that a tag leads to
+
+some_tag : (to : ℕ → ℕ) (b : ℕ) (o : Option ℕ) → option_map_or (λ hash. to hash == b) o false ≡ true → (hash : ℕ) × ((o ≡ Some hash) × (to hash ≡ b))
+some_tag to b None e = cc
+some_tag to b (Some hash) e = (hash, (refl, eqb-true (to hash) b e))
+
+pub leads_tag : (c : Column) (to : ℕ → ℕ) (b : ℕ) (n : Node) → leads c to b n ≡ true → (hash : ℕ) × ((tag_at c n ≡ Some hash) × (to hash ≡ b))
+leads_tag c to b n e = some_tag to b (tag_at c n) e
+
+pub leads_there : (c : Column) (to : ℕ → ℕ) (b : ℕ) (n : Node) (hash : ℕ) → tag_at c n ≡ Some hash → to hash ≡ b → leads c to b n ≡ true
+leads_there c to b n hash is e = ap (λ o. option_map_or (λ k. to k == b) o false) is ∙ eq-eqb (to hash) b e
+
+pub leads_elsewhere : (c : Column) (to : ℕ → ℕ) (b : ℕ) (n : Node) (hash : ℕ) → tag_at c n ≡ Some hash → to hash ≢ b → leads c to b n ≡ false
+leads_elsewhere c to b n hash is ne = ap (λ o. option_map_or (λ k. to k == b) o false) is ∙ ne_eqb (to hash) b ne
+
+in_some : (to : ℕ → ℕ) (b : ℕ) (o : Option ℕ) → option_map to o ≡ Some b → (hash : ℕ) × ((o ≡ Some hash) × (to hash ≡ b))
+in_some to b None e = cc
+in_some to b (Some hash) e = let is : to hash ≡ b = cc in (hash, (refl, is))
+
+pub in_tag : (c : Column) (to : ℕ → ℕ) (b : ℕ) (n : Node) → IsIn c to b n → (hash : ℕ) × ((tag_at c n ≡ Some hash) × (to hash ≡ b))
+in_tag c to b n h = in_some to b (tag_at c n) h

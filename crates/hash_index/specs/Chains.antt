@@ -1,7 +1,7 @@
 -- Chains of nodes, one for each bucket.
-use Rattle.std.specs.Prelude.{◌≡◌, ◌≢◌, ℕ, ◌+◌, ◌%◌, List, [], ◌∷◌, ◌++◌, length, map, fold, max, Option, Some, None}
+use Rattle.std.specs.Prelude.{◌≡◌, ◌≢◌, ℕ, ◌+◌, List, [], ◌∷◌, ◌++◌, length, map, filter, fold, max, Bool, false, ◌==◌, Option, Some, None}
 use Rattle.std.specs.List.{AllByRecursion}
-use Rattle.std.specs.Option.{option_map}
+use Rattle.std.specs.Option.{option_map, option_map_or}
 use Rattle.node_store.specs.declared.Node.{Node}
 use Rattle.node_store.specs.declared.Link.{Link}
 use Rattle.node_store.specs.Column.{Column}
@@ -24,22 +24,30 @@ tag_at c n = option_map (λ l. l.tag) (c n)
 abbrev pub KeepsTags : Column → Column → Type 0
 KeepsTags c d = (n : Node) → tag_at d n ≡ tag_at c n
 
--- the hash that the column keeps of the node leads to this one of so many buckets
-abbrev pub IsIn : Column → ℕ → ℕ → Node → Type 0
-IsIn c count b n = option_map (λ hash. hash % count) (tag_at c n) ≡ Some b
+-- the hash that the column keeps of the node leads to this bucket, where `to` says which bucket a hash leads to
+abbrev pub IsIn : Column → (ℕ → ℕ) → ℕ → Node → Type 0
+IsIn c to b n = option_map to (tag_at c n) ≡ Some b
+
+-- whether it does
+abbrev pub leads : Column → (ℕ → ℕ) → ℕ → Node → Bool
+leads c to b n = option_map_or (λ hash. to hash == b) (tag_at c n) false
+
+-- those of the nodes that are in this bucket
+abbrev pub members : Column → (ℕ → ℕ) → ℕ → List Node → List Node
+members c to b xs = filter (leads c to b) xs
 
 -- the nodes of one bucket, linked to and fro, from the first of them
-pub record IsChain (c : Column) (count b : ℕ) (head : Option Node) (xs : List Node) : Type 0 where
+pub record IsChain (c : Column) (to : ℕ → ℕ) (b : ℕ) (head : Option Node) (xs : List Node) : Type 0 where
   pub first : head ≡ first_or xs None
   pub runs : Runs (untagged c) None xs None
-  pub members : AllByRecursion (IsIn c count b) xs
+  pub members : AllByRecursion (IsIn c to b) xs
 
--- the chains of so many buckets, from this one on
-abbrev pub AreChains : Column → ℕ → ℕ → List (Option Node) → List (List Node) → Type 0
-AreChains c count b [] [] = Unit {0}
-AreChains c count b [] (xs ∷ xss) = ⊥
-AreChains c count b (head ∷ heads) [] = ⊥
-AreChains c count b (head ∷ heads) (xs ∷ xss) = IsChain c count b head xs × AreChains c count (b + 1) heads xss
+-- the chains of the buckets from this one on
+abbrev pub AreChains : Column → (ℕ → ℕ) → ℕ → List (Option Node) → List (List Node) → Type 0
+AreChains c to b [] [] = Unit {0}
+AreChains c to b [] (xs ∷ xss) = ⊥
+AreChains c to b (head ∷ heads) [] = ⊥
+AreChains c to b (head ∷ heads) (xs ∷ xss) = IsChain c to b head xs × AreChains c to (b + 1) heads xss
 
 -- the chains in the order of their buckets
 abbrev pub joined : List (List Node) → List Node

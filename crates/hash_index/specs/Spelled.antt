@@ -1,5 +1,5 @@
 -- The nodes that a hashed index has, bucket by bucket.
-use Rattle.std.specs.Prelude.{◌≡◌, ℕ, ◌*◌, ◌<◌, ◌≤◌, List, length, map, max, if◌then◌else◌, nat_lt}
+use Rattle.std.specs.Prelude.{◌≡◌, ℕ, ◌+◌, ◌<◌, ◌≤◌, List, length, map, if◌then◌else◌, nat_lt}
 use Rattle.std.specs.Vec.{vec_len}
 use Rattle.node_store.specs.declared.Node.{Node}
 use Rattle.node_store.specs.Column.{Column}
@@ -9,6 +9,7 @@ use Rattle.hash_index.specs.declared.HashIndex.{HashIndex}
 pub use Rattle.seq_index.specs.Spelled.{Holds}
 use Rattle.seq_index.specs.Spelled.{follow}
 pub use Rattle.hash_index.specs.Chains.{KeepsTags}
+use Rattle.hash_index.specs.Buckets.{bucket_of}
 use Rattle.hash_index.specs.Chains.{AreChains, joined, untagged}
 
 -- the column that the index uses
@@ -23,9 +24,13 @@ index_of i = i.index
 abbrev pub buckets_of : HashIndex → ℕ
 buckets_of i = vec_len i.buckets
 
--- how many buckets have room for one node more: as many as there are, or twice as many where there are no more than nodes
+-- how many buckets have room for one node more: as many as there are, or one more where there are no more than nodes
 abbrev pub grown : ℕ → ℕ → ℕ
-grown nodes buckets = if nat_lt nodes buckets then buckets else max (buckets * 2) 8
+grown nodes buckets = if nat_lt nodes buckets then buckets else buckets + 1
+
+-- the bucket that a hash leads to
+abbrev pub leads_to : HashIndex → ℕ → ℕ
+leads_to i hash = bucket_of i.level (vec_len i.buckets) hash
 
 -- the chain from each bucket's first node
 abbrev pub chains_of : (ℕ → Column) → HashIndex → List (List Node)
@@ -38,7 +43,7 @@ spelled cs i = joined (chains_of cs i)
 -- the index has these nodes, at most one a bucket on average, each in the bucket of the hash that the column keeps of it
 pub record Spells (cs : ℕ → Column) (i : HashIndex) (xs : List Node) : Type 0 where
   pub is : xs ≡ spelled cs i
-  pub chains : AreChains (cs i.col) (vec_len i.buckets) 0 i.buckets.items (chains_of cs i)
+  pub chains : AreChains (cs i.col) (leads_to i) 0 i.buckets.items (chains_of cs i)
   pub distinct : IsDistinct xs
   pub len : i.len ≡ length xs
   pub load : i.len ≤ vec_len i.buckets

@@ -1,11 +1,11 @@
 //! Buckets, and walks over all nodes.
-ghost use Rattle.std.specs.Prelude.{◌≡◌, ℕ, ◌+◌, ◌%◌, ◌<◌, ◌≤◌, List, ◌∷◌, ◌++◌, length, Some, None, vec_len, drop, slice_get};
+ghost use Rattle.std.specs.Prelude.{◌≡◌, ℕ, ◌+◌, ◌*◌, ◌%◌, ◌<◌, ◌≤◌, List, ◌∷◌, ◌++◌, length, Some, None, vec_len, drop, slice_get};
 ghost use Rattle.node_store.specs.declared.Node.{Node};
 ghost use Rattle.node_store.specs.Column.{Column};
 ghost use Rattle.node_store.specs.Nodes.{first_or};
 ghost use Rattle.node_store.specs.ByNode.{column_of, same_node};
 ghost use Rattle.list_model.specs.Walk.{next as the_next};
-ghost use Rattle.hash_index.specs.Spelled.{Spells, chains_of, buckets_of};
+ghost use Rattle.hash_index.specs.Spelled.{Spells, chains_of, buckets_of, leads_to};
 ghost use Rattle.hash_index.specs.Stored.{nodes_of, AreBucketsOf, HasNode};
 ghost use Rattle.hash_index.specs.Chains.{first_head, longest};
 ghost use Rattle.hash_index.specs.Walks.{rest_of, Ends};
@@ -102,9 +102,21 @@ impl HashIndex {
     // The bucket of a hash.
     pub(crate) fn bucket(&self, hash: u64) -> usize
         requires { 0 < vec_len self.now.buckets }
-        ensures is { result ≡ hash % vec_len self.now.buckets }
+        ensures is { result ≡ leads_to self.now hash }
         ensures within { result < vec_len self.now.buckets }
     {
-        (hash & (self.buckets.len() as u64 - 1)) as usize
+        let bucket = self.remainder(hash);
+        if bucket < self.buckets.len() {
+            bucket
+        } else {
+            bucket - self.level
+        }
+    }
+
+    // The remainder of a hash by the number of buckets that are to be.
+    pub(crate) fn remainder(&self, hash: u64) -> usize
+        ensures { result ≡ hash % (self.now.level * 2) }
+    {
+        (hash & (self.level as u64 * 2 - 1)) as usize
     }
 }

@@ -1,9 +1,12 @@
 //! Writes of the links of a chain.
-ghost use Rattle.std.specs.Prelude.{◌≡◌, ◌<◌};
+ghost use Rattle.std.specs.Prelude.{◌≡◌, ◌≢◌, ◌<◌, List, [], ◌∷◌, ◌++◌, Some, None};
+ghost use Rattle.node_store.specs.declared.Node.{Node};
+ghost use Rattle.node_store.specs.Nodes.{IsDistinct};
 ghost use Rattle.node_store.specs.ByNode.{column_of, contents};
-ghost use Rattle.node_store.specs.Column.{KeepsOthers};
+ghost use Rattle.node_store.specs.Column.{KeepsOthers, KeepsNodes, IsNode, Column};
 ghost use Rattle.seq_index.specs.Links.{AreNodes, SetsNext, SetsPrev, end_beside};
-ghost use Rattle.hash_index.specs.Chains.{untagged, KeepsTags, KeepsOtherNodes};
+ghost use Rattle.hash_index.specs.Chains.{untagged, tag_at, KeepsTags, KeepsOtherNodes};
+ghost use Rattle.hash_index.specs.Split.{Builds};
 
 use node_store::{Link, Node, NodeStore};
 
@@ -60,4 +63,52 @@ pub(crate) fn first_beside(
     ensures { result ≡ end_beside before first after }
 {
     if before.is_some() { first } else { after }
+}
+
+// The ends of a chain that is made node by node.
+#[derive(Clone, Copy)]
+pub(crate) struct Chain {
+    pub(crate) first: Option<Node>,
+    last: Option<Node>,
+}
+
+impl Chain {
+    // A chain of no nodes.
+    pub(crate) fn new() -> Chain
+        ensures { (c : Column) → Builds c result [] }
+    {
+        Chain {
+            first: None,
+            last: None,
+        }
+    }
+
+    // Puts `n` last, which keeps its hash.
+    pub(crate) fn append<R>(&mut self, store: &mut NodeStore<R>, col: usize, n: Node, hash: u64)
+        requires col { col < 8 }
+        requires node { IsNode (column_of store.old col) n }
+        requires last { AreNodes (column_of store.old col) self.old.last }
+        requires hash { tag_at (column_of store.old col) n ≡ Some hash }
+        ensures builds { (xs : List Node) → IsDistinct (xs ++ n ∷ []) →
+            Builds (column_of store.old col) self.old xs →
+            Builds (column_of store.new col) self.new (xs ++ n ∷ []) }
+        ensures tags { KeepsTags (column_of store.old col) (column_of store.new col) }
+        ensures same { (m : Node) → m ≢ n → self.old.last ≢ Some m →
+            column_of store.new col m ≡ column_of store.old col m }
+        ensures nodes { KeepsNodes (column_of store.old col) (column_of store.new col) }
+        ensures others { KeepsOthers (column_of store.old) (column_of store.new) col }
+        ensures contents { contents store.new ≡ contents store.old }
+    {
+        let link = Link {
+            a: self.last,
+            b: None,
+            up: None,
+            tag: hash,
+            height: 0,
+        };
+        store.set_link(n, col, link);
+        set_next(store, col, self.last, Some(n));
+        self.first = first_beside(self.last, self.first, Some(n));
+        self.last = Some(n);
+    }
 }

@@ -1,33 +1,50 @@
-//! Growth of the buckets.
-ghost use Rattle.std.specs.Prelude.{◌≡◌, ◌<◌, None, IfOk, OnOk, OnErr, IsPermutation, length, vec_len};
-ghost use Rattle.std.specs.List.{AllByRecursion};
-ghost use Rattle.node_store.specs.ByNode.{column_of};
-ghost use Rattle.hash_index.specs.Spelled.{col_of, index_of, buckets_of, grown, HasRoom, KeepsTags};
+//! Growth of the buckets, one at a time.
+ghost use Rattle.std.specs.Prelude.{◌≡◌, ℕ, ◌+◌, ◌*◌, ◌<◌, OnOk, OnErr, IsPermutation, length, vec_len, vec_capacity};
+ghost use Rattle.node_store.specs.declared.Node.{Node};
+ghost use Rattle.node_store.specs.ByNode.{column_of, contents};
+ghost use Rattle.node_store.specs.Column.{KeepsOthers};
+ghost use Rattle.node_store.specs.Nodes.{IsDistinct, Lacks};
+ghost use Rattle.hash_index.specs.Spelled.{col_of, buckets_of, grown, leads_to, HasRoom, KeepsTags};
 ghost use Rattle.hash_index.specs.Stored.{nodes_of, AreBucketsOf, KeepsRest};
+ghost use Rattle.hash_index.specs.Walks.{rest_of, Ends};
+ghost use Rattle.hash_index.specs.Chains.{members};
+ghost use Rattle.hash_index.specs.Split.{Builds, IsSame, left, taken};
 
 use crate::HashIndex;
+use crate::chain::Chain;
 use node_store::{Node, NodeStore};
 use std::alloc::{AllocError, Global};
 
-// So many buckets of no node.
-fn empty_buckets(alloc: Global, count: usize) -> Result<Vec<Option<Node>>, AllocError>
-    ensures empty { IfOk result (λ v. AllByRecursion (λ head. head ≡ None) v.items) }
-    ensures count { IfOk result (λ v. vec_len v ≡ count) }
+// Moves the buckets into a larger block where theirs is full. Where memory is refused, they are as before.
+fn make_room(alloc: Global, buckets: &mut Vec<Option<Node>>) -> Result<(), AllocError>
+    ensures room { OnOk result (vec_len buckets.new < vec_capacity buckets.new) }
+    ensures same { buckets.new.items ≡ buckets.old.items }
+    ensures unchanged { OnErr result (buckets.new ≡ buckets.old) }
 {
-    let mut buckets = Vec::with_capacity(alloc, count)?;
-    for _ in 0..count {
-        buckets.push(None)?;
+    let count = buckets.len();
+    if count < buckets.capacity() {
+        return Ok(());
     }
-    Ok(buckets)
+    let mut larger = Vec::with_capacity(alloc, (count * 2).max(8))?;
+    larger.extend_from_slice(buckets)?;
+    *buckets = larger;
+    Ok(())
 }
 
 impl HashIndex {
-    /// Makes room for one more node: where there are as many nodes as buckets, it doubles the buckets and puts each
-    /// node into its new one. Where memory is refused, everything is as before. O(1) on average over many insertions.
+    /// Makes room for one more node: where there are as many nodes as buckets, it adds one bucket, and moves those
+    /// nodes of one other bucket into it whose hashes lead there. Each chain keeps its order. Where memory is refused,
+    /// everything is as before. Expected O(1), but for the block of the buckets, which is copied where it is full:
+    /// O(1) on average over many insertions.
     pub fn reserve_one<R>(&mut self, store: &mut NodeStore<R>) -> Result<(), AllocError>
         requires { AreBucketsOf self.old store.old }
         ensures chain { AreBucketsOf self.new store.new }
         ensures list { IsPermutation (nodes_of self.old store.old) (nodes_of self.new store.new) }
+        ensures order { (b : ℕ) →
+            members (column_of store.old (col_of self.old)) (leads_to self.new) b
+            (nodes_of self.new store.new) ≡
+            members (column_of store.old (col_of self.old)) (leads_to self.new) b
+            (nodes_of self.old store.old) }
         ensures tags { KeepsTags (column_of store.old (col_of self.old))
             (column_of store.new (col_of self.old)) }
         ensures room { OnOk result (HasRoom self.new) }
@@ -41,41 +58,84 @@ impl HashIndex {
         if self.len < self.buckets.len() {
             return Ok(());
         }
-        let count = (self.buckets.len() * 2).max(8);
-        let fresh = HashIndex {
-            alloc: self.alloc,
-            col: self.col,
-            index: self.index,
-            buckets: empty_buckets(self.alloc, count)?,
-            len: 0,
-        };
-        self.pour(store, fresh);
+        self.reserve_bucket()?;
+        if self.buckets.is_empty() {
+            self.buckets.push_reserved(None);
+        } else {
+            self.add_bucket(store);
+        }
         Ok(())
     }
 
-    // Puts each node into the buckets of an empty index, which becomes this one.
-    fn pour<R>(&mut self, store: &mut NodeStore<R>, mut fresh: HashIndex)
+    // Makes room for one more bucket, in the block and below twice the level. Where memory is refused, everything is as before.
+    fn reserve_bucket(&mut self) -> Result<(), AllocError>
+        ensures same { IsSame self.old self.new }
+        ensures room { OnOk result (vec_len self.new.buckets < vec_capacity self.new.buckets) }
+        ensures level { OnOk result (vec_len self.new.buckets < self.new.level * 2) }
+        ensures unchanged { OnErr result (self.new ≡ self.old) }
+    {
+        make_room(self.alloc, &mut self.buckets)?;
+        if self.buckets.len() == self.level * 2 {
+            self.level *= 2;
+        }
+        Ok(())
+    }
+
+    // Adds a bucket, for which there is room, with the nodes that it takes over from the one `level` before it.
+    fn add_bucket<R>(&mut self, store: &mut NodeStore<R>)
         requires chain { AreBucketsOf self.old store.old }
-        requires empty { fresh.len ≡ 0 }
-        requires none { AreBucketsOf fresh store.old }
-        requires col { col_of fresh ≡ col_of self.old }
-        requires index { index_of fresh ≡ index_of self.old }
-        requires room { self.old.len < vec_len fresh.buckets }
+        requires some { 0 < vec_len self.old.buckets }
+        requires room { vec_len self.old.buckets < vec_capacity self.old.buckets }
+        requires level { vec_len self.old.buckets < self.old.level * 2 }
         ensures chain { AreBucketsOf self.new store.new }
         ensures list { IsPermutation (nodes_of self.old store.old) (nodes_of self.new store.new) }
+        ensures order { (b : ℕ) →
+            members (column_of store.old (col_of self.old)) (leads_to self.new) b
+            (nodes_of self.new store.new) ≡
+            members (column_of store.old (col_of self.old)) (leads_to self.new) b
+            (nodes_of self.old store.old) }
         ensures tags { KeepsTags (column_of store.old (col_of self.old))
             (column_of store.new (col_of self.old)) }
-        ensures room { HasRoom self.new }
-        ensures buckets { buckets_of self.new ≡ buckets_of fresh }
+        ensures len { self.new.len ≡ self.old.len }
+        ensures buckets { buckets_of self.new ≡ buckets_of self.old + 1 }
         ensures rest { KeepsRest self.old self.new store.old store.new }
     {
-        let mut at = self.first_from(0);
-        for _ in 0..self.len {
-            let Some(n) = at else { unreachable!() };
+        let from = self.buckets.len() - self.level;
+        let (stay, moved) = self.cut(store, self.buckets[from]);
+        self.buckets[from] = stay.first;
+        self.buckets.push_reserved(moved.first);
+    }
+
+    // Cuts a chain in two: the nodes that stay in their bucket once there is one more, and those that go there.
+    fn cut<R>(&self, store: &mut NodeStore<R>, at: Option<Node>) -> (Chain, Chain)
+        requires ends { Ends (column_of store.old) self.now at }
+        requires distinct { IsDistinct (rest_of (column_of store.old) self.now at) }
+        ensures stay { Builds (column_of store.new (col_of self.now)) result.0
+            (left (column_of store.old (col_of self.now)) self.now
+            (rest_of (column_of store.old) self.now at)) }
+        ensures moved { Builds (column_of store.new (col_of self.now)) result.1
+            (taken (column_of store.old (col_of self.now)) self.now
+            (rest_of (column_of store.old) self.now at)) }
+        ensures tags { KeepsTags (column_of store.old (col_of self.now))
+            (column_of store.new (col_of self.now)) }
+        ensures same { (m : Node) → Lacks (rest_of (column_of store.old) self.now at) m →
+            column_of store.new (col_of self.now) m ≡ column_of store.old (col_of self.now) m }
+        ensures others { KeepsOthers (column_of store.old) (column_of store.new)
+            (col_of self.now) }
+        ensures contents { contents store.new ≡ contents store.old }
+    {
+        let mut stay = Chain::new();
+        let mut moved = Chain::new();
+        let mut at = at;
+        while let Some(n) = at {
             let link = store.link(n, self.col);
-            at = self.after(link);
-            fresh.put(store, n, link.tag);
+            at = link.b;
+            if self.remainder(link.tag) == self.buckets.len() {
+                moved.append(store, self.col, n, link.tag);
+            } else {
+                stay.append(store, self.col, n, link.tag);
+            }
         }
-        *self = fresh;
+        (stay, moved)
     }
 }

@@ -4,7 +4,7 @@
 //! stand in one index of each column at once.
 #![tactic(auto)]
 
-ghost use Rattle.std.specs.Prelude.{◌≡◌, ◌≢◌, ℕ, ◌+◌, ◌%◌, ◌<◌, ◌≤◌, List, [], ◌∷◌, ◌++◌, length, Option, Some, None, IsPermutation, vec_len};
+ghost use Rattle.std.specs.Prelude.{◌≡◌, ◌≢◌, ℕ, ◌+◌, ◌*◌, ◌<◌, ◌≤◌, max, List, [], ◌∷◌, ◌++◌, length, Option, Some, None, IsPermutation, vec_len};
 ghost use Rattle.node_store.specs.declared.Node.{Node};
 ghost use Rattle.node_store.specs.Column.{Column, IsNode};
 ghost use Rattle.node_store.specs.Store.{IsNodeOf};
@@ -25,16 +25,21 @@ use node_store::{Link, Node, NodeStore};
 use std::alloc::Global;
 
 /// Nodes in buckets by the hashes of their keys, at most one a bucket on average. The `tag` of a node's link is the
-/// hash that it was put in with. The number of buckets is a power of two, or 0.
+/// hash that it was put in with. Buckets are added one at a time: from `level` on, each takes over nodes of the one
+/// that stands `level` before it, until there are `level * 2`.
 #[derive(Drop)]
 pub struct HashIndex {
     alloc: Global,
     col: usize,
     index: usize,
     buckets: Vec<Option<Node>>,
+    level: usize,
     len: usize,
     ghost col_exists: { col < 8 },
-    ghost masked: { HasMask (vec_len buckets) } by { HasMask_prop (vec_len buckets) },
+    ghost some_level: { 0 < level },
+    ghost masked: { HasMask (level * 2) } by { HasMask_prop (level * 2) },
+    ghost reached: { level ≤ max 1 (vec_len buckets) },
+    ghost covered: { vec_len buckets ≤ level * 2 },
 }
 
 impl HashIndex {
@@ -56,6 +61,7 @@ impl HashIndex {
             col,
             index,
             buckets: Vec::new(alloc),
+            level: 1,
             len: 0,
         }
     }

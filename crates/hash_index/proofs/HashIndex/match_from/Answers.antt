@@ -6,7 +6,7 @@ use Rattle.hash_index.specs.Spelled.{col_of, index_of}
 use Rattle.hash_index.specs.Hashed.{side_of}
 use Rattle.hash_index.specs.Walks.{rest_of}
 use Rattle.std.specs.Prelude.{find}
-use Rattle.hash_index.proofs.Matching.{walk_node, walk_rest, walk_step, rest_none, find_hit, find_miss, hashed_first, hashed_rest}
+use Rattle.hash_index.proofs.Matching.{walk_node, walk_rest, walk_step, rest_none, find_hit, find_miss, hashed_rest}
 use Rattle.hash_index.proofs.HashIndex.match_from.Goals as goal
 
 pub has_key-requires-clause-node : goal.has_key-requires-clause-node
