@@ -96,7 +96,6 @@ filter_apart p (x ∷ xs) ys h = filter_apart_by x (filter p xs) ys (p x) h.0 (f
 
 pub cut_distinct : (p : Node → Bool) (front chain back : List Node) → IsDistinct (front ++ (chain ++ back)) → IsDistinct (cut_list p front chain back)
 cut_distinct p front chain back dist =
-    let q : Node → Bool = λ n. not (p n) in
     let stay = filter (λ n. not (p n)) chain in
     let gone = filter p chain in
     let parts = IsDistinct-parts front (chain ++ back) dist in
@@ -131,7 +130,6 @@ filter_within r q (x ∷ xs) sub = within_by r x (filter q xs) (filter r xs) (q 
 -- where it keeps nodes of the part that stays, and of the rest
 stay_kept : (r p : Node → Bool) (front chain back : List Node) → ((n : Node) → r n ≡ true → not (p n) ≡ true) → filter r (cut_list p front chain back) ≡ filter r (front ++ (chain ++ back))
 stay_kept r p front chain back sub =
-    let q : Node → Bool = λ n. not (p n) in
     let stay = filter (λ n. not (p n)) chain in
     let gone = filter p chain in
     let none : filter r gone ≡ [] = filter_out r p chain (λ n yes_p yes_r. never_both p n yes_p (sub n yes_r)) in

@@ -59,10 +59,6 @@ pub Lacks_without : (xs : List Node) (n : Node) → Lacks (without (same_node n)
 Lacks_without [] n = tt
 Lacks_without (x ∷ xs) n = without_by xs n x (same_node n x) refl (Lacks_without xs n)
 
--- the list without a node, by what stands before and after it
-pub without_is : (cs : ℕ → Column) (i : HashIndex) (xs ys : List Node) (n : Node) → IsSound cs i → spelled cs i ≡ xs ++ n ∷ ys → without (same_node n) (spelled cs i) ≡ xs ++ ys
-without_is cs i xs ys n h e = ap (without (same_node n)) e ∙ without_at xs n ys (subst IsDistinct e h.distinct)
-
 -- ---- when nodes come and go in the store
 
 -- the store has each node of the list
@@ -103,9 +99,6 @@ module _ {R : Type 0} (hash : R → ℕ) (old new : Store R) (col : ℕ) where
   IsHashed_tags [] tags e h = tt
   IsHashed_tags (x ∷ xs) tags e h =
       (tags x ∙ (h.0 ∙ sym (ap (λ (f : Node → Option R). option_map hash (f x)) (records_kept old new e))), IsHashed_tags xs tags e h.1)
-
-  pub IsHashed_kept : (xs : List Node) → column_of new col ≡ column_of old col → contents new ≡ contents old → IsHashed hash old col xs → IsHashed hash new col xs
-  IsHashed_kept xs same e h = IsHashed_tags xs (λ n. ap (λ (c : Column). tag_at c n) same) e h
 
   -- or where links and records of all other nodes stay, as when a node comes or goes, or its record is written
   pub IsHashed_others : (n : Node) (xs : List Node) → ((m : Node) → m ≢ n → tag_at (column_of new col) m ≡ tag_at (column_of old col) m) → ((m : Node) → m ≢ n → record_of new m ≡ record_of old m) → Lacks xs n → IsHashed hash old col xs → IsHashed hash new col xs

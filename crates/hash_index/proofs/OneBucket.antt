@@ -13,10 +13,7 @@ use Rattle.seq_index.specs.Spelled.{follow, following}
 use Rattle.seq_index.proofs.Runs.{Runs-same}
 use Rattle.hash_index.specs.Chains.{untagged, IsIn, IsChain, AreChains, joined, first_head}
 use Rattle.hash_index.specs.Walks.{Leads}
-use Rattle.hash_index.proofs.Untagged.{same_untagged, tagged_node, in_tag}
-
-abbrev tag_of : Link → ℕ
-tag_of l = l.tag
+use Rattle.hash_index.proofs.Untagged.{tag_of, same_untagged, tagged_node, in_tag}
 
 -- the node is in another bucket, or in none
 abbrev pub IsElsewhere : Column → (ℕ → ℕ) → ℕ → Node → Type 0

@@ -10,7 +10,7 @@ use Rattle.seq_index.specs.Links.{SetsNext, SetsPrev}
 use Rattle.seq_index.proofs.Runs.{SetsNext-some, SetsPrev-some}
 use Rattle.hash_index.specs.Chains.{untagged_link, untagged, tag_at, leads, IsIn}
 
-abbrev tag_of : Link → ℕ
+abbrev pub tag_of : Link → ℕ
 tag_of l = l.tag
 
 -- what an option of links holds, where it is known without its tag

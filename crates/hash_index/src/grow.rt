@@ -67,7 +67,8 @@ impl HashIndex {
         Ok(())
     }
 
-    // Makes room for one more bucket, in the block and below twice the level. Where memory is refused, everything is as before.
+    // Makes room for one more bucket, in the block and below twice the level. Where memory is refused, everything is as
+    // before.
     fn reserve_bucket(&mut self) -> Result<(), AllocError>
         ensures same { IsSame self.old self.new }
         ensures room { OnOk result (vec_len self.new.buckets < vec_capacity self.new.buckets) }
