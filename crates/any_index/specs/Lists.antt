@@ -9,6 +9,7 @@ use Rattle.list_model.specs.Place.{not_above}
 use Rattle.list_model.specs.Walk.{settled}
 use Rattle.node_store.specs.declared.Node.{Node}
 use Rattle.node_store.specs.ByNode.{same_node}
+pub use Rattle.row_index.specs.Sunk.{IsSunk}
 use Rattle.any_index.specs.Spelled.{number_cmp}
 
 -- where a new node goes: in a sequence to the place that was asked for, or last; by its key after its equals; by its number

@@ -1,11 +1,16 @@
 //! Changes of the order of a sequence.
 ghost use Rattle.std.specs.Prelude.{◌≡◌, ◌≤◌, IsTrue, length, reverse as reversed, IsPermutation};
+ghost use Rattle.std.specs.Ordering.{is_eq};
+ghost use Rattle.container_model.specs.declared.handle.Kind.TheVariants.{Random};
 ghost use Rattle.container_model.specs.State.{is_sequence_kind};
 ghost use Rattle.list_model.specs.Walk.{relocated};
-ghost use Rattle.node_store.specs.ByNode.{same_node};
+ghost use Rattle.node_store.specs.ByNode.{record_of, same_node};
+ghost use Rattle.any_index.specs.Lists.{IsSunk};
+ghost use Rattle.any_index.specs.Side.{side_of};
 ghost use Rattle.any_index.specs.Spelled.{HasRoom, kind_of};
 
 use crate::AnyIndex;
+use key_extract::Extract;
 use node_store::{Node, NodeStore};
 
 impl AnyIndex {
@@ -60,6 +65,35 @@ impl AnyIndex {
             AnyIndex::Sequenced(sequence) => sequence.reverse(store),
             AnyIndex::Random(row) => row.reverse(store),
             AnyIndex::Ordered(_) | AnyIndex::Ranked(_) | AnyIndex::Hashed(_) => unreachable!(),
+        }
+    }
+
+    /// Puts the nodes of a row whose records have the key of index `index` behind all others, which keep their order. It takes
+    /// no memory. O(nodes + k log k) for k that have the key. Others have no such call.
+    pub fn sink<R, E: Extract<R>>(
+        &mut self,
+        store: &mut NodeStore<R>,
+        keys: &E,
+        index: usize,
+        probe: &E::Probe,
+    )
+        requires sound { IsIn self.old store.old }
+        requires kind { kind_of self.old ≡ Random }
+        requires key { IsTrue (E.has_key keys.now index) }
+        requires fits { IsTrue (E.does_fit keys.now index probe.now) }
+        ensures sound { IsIn self.new store.new }
+        ensures sunk { IsSunk (λ n. is_eq (side_of (record_of store.old)
+            (λ a. E.probe_order_of keys.now index a probe.now) n))
+            (nodes_of self.old store.old) (nodes_of self.new store.new) }
+        ensures room { HasRoom self.old → HasRoom self.new }
+        ensures rest { KeepsRest self.old self.new store.old store.new }
+    {
+        match self {
+            AnyIndex::Random(row) => row.sink(store, keys, index, probe),
+            AnyIndex::Sequenced(_)
+            | AnyIndex::Ordered(_)
+            | AnyIndex::Ranked(_)
+            | AnyIndex::Hashed(_) => unreachable!(),
         }
     }
 }

@@ -1,5 +1,7 @@
 //! Changes of the order of one sequence.
 ghost use Rattle.std.specs.Prelude.{◌≡◌, ◌≤◌, ◌<◌, length, IsTrue, IsPermutation, slice_set, reverse as reversed};
+ghost use Rattle.std.specs.Ordering.{is_eq};
+ghost use Rattle.container_model.specs.declared.handle.Kind.TheVariants.{Random};
 ghost use Rattle.container_model.specs.State.{is_sequence_kind};
 ghost use Rattle.list_model.specs.Walk.{relocated};
 ghost use Rattle.node_store.specs.Nodes.{Holds};
@@ -10,8 +12,9 @@ use key_extract::Extract;
 use node_store::Node;
 
 impl<R, E: Extract<R>> IndexSet<R, E> {
-    ghost use Rattle.index_set.specs.Asked.{HasIndex};
-    ghost use Rattle.index_set.specs.Set.{contents, lists_of, list_of, kind_at, HasRoom, IsSound, IsKeyed, IsOfSame};
+    ghost use Rattle.index_set.specs.Asked.{HasIndex, CanFind};
+    ghost use Rattle.index_set.specs.Lists.{IsSunk};
+    ghost use Rattle.index_set.specs.Set.{contents, lists_of, list_of, kind_at, probe_side, HasRoom, IsSound, IsKeyed, IsOfSame};
 
     /// Moves `n` before the node at the place of a sequence, or last. The place counts with `n` still in. It takes no
     /// memory. O(the distance of the place from the nearer end), in one with places O(the nodes from the lower of both
@@ -63,5 +66,24 @@ impl<R, E: Extract<R>> IndexSet<R, E> {
         ensures contents { contents self.new ≡ contents self.old }
     {
         self.indices[index].reverse(&mut self.store);
+    }
+
+    /// Puts the nodes of a row whose records have the key of index `index` behind all others, which keep their order. It takes
+    /// no memory. O(nodes + k log k) for k that have the key. A row is a sequence with places, and others have no such call.
+    pub fn sink(&mut self, row: usize, index: usize, probe: &E::Probe)
+        requires at { HasIndex E.Extract self.old row }
+        requires kind { kind_at self.old row ≡ Random }
+        requires key { CanFind E.Extract self.old index probe.now }
+        ensures sound { IsSound E.has_key self.new }
+        ensures same { IsOfSame self.old self.new }
+        ensures lists { lists_of self.new ≡ slice_set (lists_of self.old) row
+            (list_of self.new row) }
+        ensures sunk { IsSunk (λ n. is_eq (probe_side E.probe_order_of self.old index probe.now n))
+            (list_of self.old row) (list_of self.new row) }
+        ensures room { HasRoom self.old → HasRoom self.new }
+        ensures keyed { IsKeyed E.order_of E.hash_of self.new }
+        ensures contents { contents self.new ≡ contents self.old }
+    {
+        self.indices[row].sink(&mut self.store, &self.keys, index, probe);
     }
 }

@@ -1,0 +1,42 @@
+use Rattle.std.proofs.Common.{ap, subst, sym, refl, ◌∙◌}
+use Rattle.std.specs.Prelude.{IsTrue}
+use Rattle.container_model.specs.State.{has_key_kind, is_hashed_kind, is_sorted_kind, is_sequence_kind}
+use Rattle.index_set.proofs.Frame.{steps_of}
+use Rattle.index_set.proofs.Reading.{sound_here, kind_here, list_here}
+use Rattle.index_set.proofs.Moving.{placed_moved, lists_moved, room_moved, keyed_moved}
+use Rattle.index_set.proofs.Stores.{IsStore_kept}
+use Rattle.index_set.proofs.Sinking.{has_its_key, probe_fits, sunk_here}
+use Rattle.index_set.proofs.set.IndexSet.sink.Goals as goal
+
+pub sink-requires-clause-sound : goal.sink-requires-clause-sound
+sink-requires-clause-sound g c = sound_here c.args.self.now c.requires.at.sound c.args.row c.requires.at.index c.index_mut.result.now c.index_mut.ensures.value
+
+pub sink-requires-clause-kind : goal.sink-requires-clause-kind
+sink-requires-clause-kind g c = kind_here c.args.self.now c.requires.at.sound c.args.row c.requires.at.index c.index_mut.result.now c.index_mut.ensures.value ∙ c.requires.kind
+
+pub sink-requires-clause-key : goal.sink-requires-clause-key
+sink-requires-clause-key g c = has_its_key g.E.Extract c.args.self.now c.args.index c.args.probe.now c.requires.key
+
+pub sink-requires-clause-fits : goal.sink-requires-clause-fits
+sink-requires-clause-fits g c = probe_fits g.E.Extract c.args.self.now c.args.index c.args.probe.now c.requires.key
+
+pub returns-clause-sound : goal.returns-clause-sound
+returns-clause-sound g c =
+    let old = c.requires.at.sound in
+    record {
+      some = old.some;
+      few = old.few;
+      keys = old.keys;
+      placed = placed_moved c.args.self.now c.requires.at.sound c.args.row c.requires.at.index c.index_mut.result.now c.sink.new.self c.index_mut.ensures.value c.sink.new.store (steps_of c.sink.ensures.sound c.sink.ensures.rest.kind c.sink.ensures.rest.col c.sink.ensures.rest.index c.sink.ensures.rest.others);
+      nodes = IsStore_kept c.args.self.now.store c.sink.new.store c.sink.ensures.rest.contents old.nodes;
+    }
+
+pub returns-clause-room : goal.returns-clause-room
+returns-clause-room g c =
+    room_moved c.args.self.now c.requires.at.sound c.args.row c.requires.at.index c.index_mut.result.now c.sink.new.self c.index_mut.ensures.value c.sink.new.store (steps_of c.sink.ensures.sound c.sink.ensures.rest.kind c.sink.ensures.rest.col c.sink.ensures.rest.index c.sink.ensures.rest.others)
+    c.sink.ensures.room
+
+pub returns-clause-keyed : goal.returns-clause-keyed
+returns-clause-keyed g c =
+    keyed_moved c.args.self.now c.requires.at.sound c.args.row c.requires.at.index c.index_mut.result.now c.sink.new.self c.index_mut.ensures.value c.sink.new.store (steps_of c.sink.ensures.sound c.sink.ensures.rest.kind c.sink.ensures.rest.col c.sink.ensures.rest.index c.sink.ensures.rest.others)
+    (subst (λ kind. IsTrue (is_sequence_kind kind)) (sym c.requires.kind) refl) c.sink.ensures.rest.contents (g.E.Extract.order_of c.args.self.now.keys) (g.E.Extract.hash_of c.args.self.now.keys) c.requires.key.keyed
