@@ -16,3 +16,4 @@ pub mod Written
 pub mod UniqueSteps
 pub mod StaysUnique
 pub mod Emptied
+pub mod Sinking

@@ -1,23 +1,32 @@
 //! Taking out all records of a key.
-ghost use Rattle.std.specs.Prelude.{◌≡◌, ◌+◌, ◌<◌, filter, length, map, Some, IsTrue};
-ghost use Rattle.node_store.specs.Store.{len_of};
+ghost use Rattle.std.specs.Prelude.{◌≡◌, ◌×◌, ◌+◌, ◌<◌, filter, length, map, None, Some, IfSome, IsTrue};
+ghost use Rattle.std.specs.declared.cmp.Ordering.TheVariants.{Equal};
+ghost use Rattle.list_model.specs.Place.{find_equal};
+ghost use Rattle.node_store.specs.Nodes.{Holds};
+ghost use Rattle.node_store.specs.Store.{IsNodeOf, len_of};
 ghost use Rattle.container_model.specs.State.{has_key_kind, is_hashed_kind, is_sorted_kind};
-ghost use Rattle.index_set.specs.Set.{kind_at as kind_in};
-ghost use Rattle.index_set.specs.Set.{store_of, keys_of, specs_of, contents, record_of, lists_of, IsOfSame};
+ghost use Rattle.index_set.specs.Asked.{CanFind};
+ghost use Rattle.index_set.specs.Set.{kind_at as kind_in, probe_side};
+ghost use Rattle.index_set.specs.Set.{store_of, keys_of, specs_of, contents, record_of, list_of, lists_of, IsSound, IsOfSame};
 ghost use Rattle.linked_set.specs.Held.{AreHeld, has_other_key};
 ghost use Rattle.linked_set.specs.Linked.{entries_in, handles_in};
 ghost use Rattle.linked_set.specs.Seen.{IsLinked};
 
 use crate::by_row::ByRow;
 use crate::erase::take_out;
-use container_model::Entry;
+use container_model::{Entry, Kind};
 use index_set::IndexSet;
 use key_extract::Extract;
 use node_store::Node;
 use slot_table::SlotTable;
+use std::cmp::Ordering;
+
+// Up to this many records leave rows one by one.
+const FEW: u64 = 8;
 
 /// Takes out every record that has the key at the index, also a leading part of one, and answers how many there were. It
-/// takes no memory. For each record that goes, what `take_out` costs and a look-up.
+/// takes no memory. For each record that goes, a look-up and O(log n) for each index; and where there are more than a few,
+/// O(n) for each index whose places can be counted, whose records of the key go behind all others first.
 pub fn take_key<R: Drop, E: Extract<R>>(
     set: &mut IndexSet<Entry<R>, ByRow<E>>,
     slots: &mut SlotTable<Node>,
@@ -37,9 +46,108 @@ pub fn take_key<R: Drop, E: Extract<R>>(
     ensures added { (store_of set.new).added ≡ (store_of set.old).added }
     ensures count { result + len_of (store_of set.new) ≡ len_of (store_of set.old) }
 {
+    if set.count(index, probe) > FEW {
+        sink_key(set, slots, index, probe);
+    }
+    take_each(set, slots, index, probe)
+}
+
+// Takes out every record that has the key, one by one.
+fn take_each<R: Drop, E: Extract<R>>(
+    set: &mut IndexSet<Entry<R>, ByRow<E>>,
+    slots: &mut SlotTable<Node>,
+    index: usize,
+    probe: &E::Probe,
+) -> u64
+    requires linked { IsLinked E.has_key E.order_of E.hash_of set.old slots.old.items }
+    requires held { AreHeld set.old }
+    requires index { index < length (specs_of set.old) }
+    requires kind { IsTrue (has_key_kind (kind_in set.old index)) }
+    requires fits { IsTrue (is_sorted_kind (kind_in set.old index)) → IsTrue (E.does_fit (keys_of set.old).keys index probe.now) }
+    requires whole { IsTrue (is_hashed_kind (kind_in set.old index)) → IsTrue (E.is_whole (keys_of set.old).keys index probe.now) }
+    ensures linked { IsLinked E.has_key E.order_of E.hash_of set.new slots.new.items }
+    ensures same { IsOfSame set.old set.new }
+    ensures entries { entries_in (contents set.new) ≡ filter (λ e. has_other_key E.probe_order_of set.old index probe.now e.handle) (entries_in (contents set.old)) }
+    ensures lists { handles_in (record_of set.new) (lists_of set.new) ≡ map (λ list. filter (has_other_key E.probe_order_of set.old index probe.now) list) (handles_in (record_of set.old) (lists_of set.old)) }
+    ensures added { (store_of set.new).added ≡ (store_of set.old).added }
+    ensures count { result + len_of (store_of set.new) ≡ len_of (store_of set.old) }
+{
     let before = set.len();
-    while let Some(node) = set.find_any(index, probe) {
+    while let Some(node) = last_or_any(set, slots, index, probe) {
         take_out(set, slots, node);
     }
     (before - set.len()) as u64
+}
+
+// Puts the records that have the key behind all others in each index whose places can be counted.
+fn sink_key<R, E: Extract<R>>(
+    set: &mut IndexSet<Entry<R>, ByRow<E>>,
+    slots: &SlotTable<Node>,
+    index: usize,
+    probe: &E::Probe,
+)
+    requires linked { IsLinked E.has_key E.order_of E.hash_of set.old slots.now.items }
+    requires held { AreHeld set.old }
+    requires index { index < length (specs_of set.old) }
+    requires kind { IsTrue (has_key_kind (kind_in set.old index)) }
+    requires fits { IsTrue (is_sorted_kind (kind_in set.old index)) → IsTrue (E.does_fit (keys_of set.old).keys index probe.now) }
+    requires whole { IsTrue (is_hashed_kind (kind_in set.old index)) → IsTrue (E.is_whole (keys_of set.old).keys index probe.now) }
+    ensures linked { IsLinked E.has_key E.order_of E.hash_of set.new slots.now.items }
+    ensures held { AreHeld set.new }
+    ensures same { IsOfSame set.old set.new }
+    ensures contents { contents set.new ≡ contents set.old }
+    ensures lists { map (λ list. filter (has_other_key E.probe_order_of set.old index probe.now) list) (handles_in (record_of set.new) (lists_of set.new)) ≡ map (λ list. filter (has_other_key E.probe_order_of set.old index probe.now) list) (handles_in (record_of set.old) (lists_of set.old)) }
+{
+    for row in 0..set.specs().len() {
+        if let Kind::Random = set.specs()[row].kind {
+            set.sink(row, index, probe);
+        }
+    }
+}
+
+// A node whose record has the key: the last of an index whose places can be counted, where one has it, so that no other
+// closes up when it goes.
+fn last_or_any<R, E: Extract<R>>(
+    set: &IndexSet<Entry<R>, ByRow<E>>,
+    slots: &SlotTable<Node>,
+    index: usize,
+    probe: &E::Probe,
+) -> Option<Node>
+    requires linked { IsLinked E.has_key E.order_of E.hash_of set.now slots.now.items }
+    requires held { AreHeld set.now }
+    requires index { index < length (specs_of set.now) }
+    requires kind { IsTrue (has_key_kind (kind_in set.now index)) }
+    requires fits { IsTrue (is_sorted_kind (kind_in set.now index)) → IsTrue (E.does_fit (keys_of set.now).keys index probe.now) }
+    requires whole { IsTrue (is_hashed_kind (kind_in set.now index)) → IsTrue (E.is_whole (keys_of set.now).keys index probe.now) }
+    ensures found { IfSome result (λ n. Holds (list_of set.now index) n × (probe_side (λ by i a. E.probe_order_of by.keys i a.row) set.now index probe.now n ≡ Equal)) }
+    ensures none { result ≡ None → find_equal (probe_side (λ by i a. E.probe_order_of by.keys i a.row) set.now index probe.now) (list_of set.now index) ≡ None }
+{
+    let last = last_of_key(set, index, probe);
+    if last.is_some() {
+        return last;
+    }
+    set.find_any(index, probe)
+}
+
+// The last node of the first index whose places can be counted and whose last record has the key.
+fn last_of_key<R, E: Extract<R>>(
+    set: &IndexSet<Entry<R>, ByRow<E>>,
+    index: usize,
+    probe: &E::Probe,
+) -> Option<Node>
+    requires sound { IsSound (λ by. E.has_key by.keys) set.now }
+    requires has { IsTrue (E.has_key (keys_of set.now).keys index) }
+    requires fits { IsTrue (E.does_fit (keys_of set.now).keys index probe.now) }
+    ensures { IfSome result (λ n. IsNodeOf (store_of set.now) n × (probe_side (λ by i a. E.probe_order_of by.keys i a.row) set.now index probe.now n ≡ Equal)) }
+{
+    for row in 0..set.specs().len() {
+        if let Kind::Random = set.specs()[row].kind {
+            if let Some(node) = set.last(row) {
+                if set.keys().order_probe(index, set.get(node), probe) == Ordering::Equal {
+                    return Some(node);
+                }
+            }
+        }
+    }
+    None
 }

@@ -3,7 +3,7 @@ use Rattle.std.specs.Prelude.{IsTrue}
 use Rattle.container_model.specs.State.{has_key_kind, is_hashed_kind, is_sorted_kind}
 use Rattle.linked_set.specs.Held.{has_other_key}
 use Rattle.linked_set.proofs.Thinned.{kind_kept, none_thinned, one_thinned, entries_thinned, lists_thinned, here, all_other, found_held, found_stopped}
-use Rattle.linked_set.proofs.erase_key.take_key.Goals as goal
+use Rattle.linked_set.proofs.erase_key.take_each.Goals as goal
 
 pub loop-node-init : goal.loop-node-init
 loop-node-init g c = none_thinned (has_other_key g.E.Extract.probe_order_of c.args.set.now c.args.index c.args.probe.now) c.args.set.now c.args.slots.now.items c.requires.linked c.requires.held

@@ -2,7 +2,7 @@ use Rattle.node_store.specs.Store.{len_of}
 use Rattle.index_set.specs.Set.{store_of}
 use Rattle.linked_set.specs.Held.{has_other_key}
 use Rattle.linked_set.proofs.Thinned.{Thinned}
-use Rattle.linked_set.proofs.erase_key.take_key.Given as goal
+use Rattle.linked_set.proofs.erase_key.take_each.Given as goal
 
 abbrev pub invariant-loop-node : goal.invariant-loop-node
 invariant-loop-node g l =
