@@ -20,6 +20,7 @@ pub mod Rewritten
 pub mod Seen
 pub mod Settling
 pub mod Sides
+pub mod Sinking
 pub mod Sorted
 pub mod StableSort
 pub mod Thinned

@@ -55,7 +55,7 @@ filters_twice k q passes [] = refl
 filters_twice k q passes (xs ∷ xss) = λ i. filter_twice k q passes xs i ∷ filters_twice k q passes xss i
 
 -- and all of a list whose members all pass
-filter_all : {X : Type 0} (k : X → Bool) (xs : List X) → AllByRecursion (λ x. k x ≡ true) xs → filter k xs ≡ xs
+pub filter_all : {X : Type 0} (k : X → Bool) (xs : List X) → AllByRecursion (λ x. k x ≡ true) xs → filter k xs ≡ xs
 filter_all k [] all = refl
 filter_all k (x ∷ xs) all = ap (λ b. cond b (x ∷ filter k xs) (filter k xs)) all.0 ∙ ap (λ ys. x ∷ ys) (filter_all k xs all.1)
 
@@ -176,7 +176,7 @@ module _ {E R P : Type 0} {has_key : E → ℕ → Bool} {order : E → ℕ → 
   here = subst (λ specs. index < length specs) (sym was.same.specs) within
 
   -- a node has the key where its record has it among all that there were
-  other_key : (n : Node) → IsNodeOf (store_of now) n → has_other_key probe_order old index probe (handle_of (record_of now) n) ≡ not (is_eq (side n))
+  pub other_key : (n : Node) → IsNodeOf (store_of now) n → has_other_key probe_order old index probe (handle_of (record_of now) n) ≡ not (is_eq (side n))
   other_key n is =
       let p = has_record (store_of now) n is in
       let entries = entries_in (contents old) in

@@ -1,11 +1,10 @@
 //! Taking out all records of a key.
-ghost use Rattle.std.specs.Prelude.{◌≡◌, ◌×◌, ◌+◌, ◌<◌, filter, length, map, None, Some, IfSome, IsTrue};
+ghost use Rattle.std.specs.Prelude.{◌≡◌, ◌+◌, ◌<◌, filter, length, map, None, Some, IfSome, IsTrue};
 ghost use Rattle.std.specs.declared.cmp.Ordering.TheVariants.{Equal};
 ghost use Rattle.list_model.specs.Place.{find_equal};
 ghost use Rattle.node_store.specs.Nodes.{Holds};
 ghost use Rattle.node_store.specs.Store.{IsNodeOf, len_of};
 ghost use Rattle.container_model.specs.State.{has_key_kind, is_hashed_kind, is_sorted_kind};
-ghost use Rattle.index_set.specs.Asked.{CanFind};
 ghost use Rattle.index_set.specs.Set.{kind_at as kind_in, probe_side};
 ghost use Rattle.index_set.specs.Set.{store_of, keys_of, specs_of, contents, record_of, list_of, lists_of, IsSound, IsOfSame};
 ghost use Rattle.linked_set.specs.Held.{AreHeld, has_other_key};

@@ -12,7 +12,8 @@ use linked_set::take_key;
 impl<R: Drop, E: Extract<R> + Drop> MultiIndex<R, E> {
     /// Takes out every record that has the key at the index, also a leading part of one, and answers how many there were: at
     /// most one of a whole key, where the index is unique. A refusal changes nothing: `Kind`, where the index is a sequence,
-    /// comes before `Spent`. It takes no memory. For each record that goes, what `erase` costs and a look-up.
+    /// comes before `Spent`. It takes no memory. For each record that goes, a look-up and O(log n)
+    /// for each index; and where there are more than a few, O(n) for each index whose places can be counted.
     pub fn erase_key(&mut self, index: usize, probe: &E::Probe) -> Result<u64, Refused<R>>
         requires in_range { index < length self.old.specs }
         requires fits { IsTrue (has_key_kind (kind_at self.old index)) → IsTrue (E.does_fit self.old.keys index probe.now) }

@@ -8,23 +8,25 @@ use Rattle.linked_set.proofs.erase_key.take_each.Goals as goal
 pub loop-node-init : goal.loop-node-init
 loop-node-init g c = none_thinned (has_other_key g.E.Extract.probe_order_of c.args.set.now c.args.index c.args.probe.now) c.args.set.now c.args.slots.now.items c.requires.linked c.requires.held
 
-pub find_any-requires : goal.find_any-requires
-find_any-requires g c = record {
-  sound = c.loop-node.invariant.linked.sound;
-  index = here g.E.Extract.probe_order_of c.args.index c.args.probe.now c.args.set.now c.loop-node.set c.loop-node.slots.items c.loop-node.invariant c.requires.index;
-  kind = subst (λ kind. IsTrue (has_key_kind kind)) (sym (kind_kept c.args.set.now c.loop-node.set c.args.index c.loop-node.invariant.same)) c.requires.kind;
-  fits =
-      λ sorted.
-      let same = c.loop-node.invariant.same in
-      subst (λ by. IsTrue (g.E.Extract.does_fit by.keys c.args.index c.args.probe.now)) (sym same.keys)
-      (c.requires.fits (subst (λ kind. IsTrue (is_sorted_kind kind)) (kind_kept c.args.set.now c.loop-node.set c.args.index same) sorted));
-  whole =
-      λ hashed.
-      let same = c.loop-node.invariant.same in
-      subst (λ by. IsTrue (g.E.Extract.is_whole by.keys c.args.index c.args.probe.now)) (sym same.keys)
-      (c.requires.whole (subst (λ kind. IsTrue (is_hashed_kind kind)) (kind_kept c.args.set.now c.loop-node.set c.args.index same) hashed));
-  keyed = c.loop-node.invariant.linked.keyed;
-}
+pub last_or_any-requires-clause-index : goal.last_or_any-requires-clause-index
+last_or_any-requires-clause-index g c = here g.E.Extract.probe_order_of c.args.index c.args.probe.now c.args.set.now c.loop-node.set c.loop-node.slots.items c.loop-node.invariant c.requires.index
+
+pub last_or_any-requires-clause-kind : goal.last_or_any-requires-clause-kind
+last_or_any-requires-clause-kind g c = subst (λ kind. IsTrue (has_key_kind kind)) (sym (kind_kept c.args.set.now c.loop-node.set c.args.index c.loop-node.invariant.same)) c.requires.kind
+
+pub last_or_any-requires-clause-fits : goal.last_or_any-requires-clause-fits
+last_or_any-requires-clause-fits g c =
+    λ sorted.
+    let same = c.loop-node.invariant.same in
+    subst (λ by. IsTrue (g.E.Extract.does_fit by.keys c.args.index c.args.probe.now)) (sym same.keys)
+    (c.requires.fits (subst (λ kind. IsTrue (is_sorted_kind kind)) (kind_kept c.args.set.now c.loop-node.set c.args.index same) sorted))
+
+pub last_or_any-requires-clause-whole : goal.last_or_any-requires-clause-whole
+last_or_any-requires-clause-whole g c =
+    λ hashed.
+    let same = c.loop-node.invariant.same in
+    subst (λ by. IsTrue (g.E.Extract.is_whole by.keys c.args.index c.args.probe.now)) (sym same.keys)
+    (c.requires.whole (subst (λ kind. IsTrue (is_hashed_kind kind)) (kind_kept c.args.set.now c.loop-node.set c.args.index same) hashed))
 
 pub take_out-requires-clause-linked : goal.take_out-requires-clause-linked
 take_out-requires-clause-linked g c = c.loop-node.invariant.linked
@@ -60,12 +62,12 @@ returns-clause-same g c = c.loop-node.invariant.same
 pub returns-clause-entries : goal.returns-clause-entries
 returns-clause-entries g c =
     entries_thinned (has_other_key g.E.Extract.probe_order_of c.args.set.now c.args.index c.args.probe.now) c.args.set.now c.loop-node.set c.loop-node.slots.items c.loop-node.invariant
-    (all_other g.E.Extract.probe_order_of c.args.index c.args.probe.now c.args.set.now c.loop-node.set c.loop-node.slots.items c.loop-node.invariant c.requires.index (c.find_any.ensures.none c.in_default.is))
+    (all_other g.E.Extract.probe_order_of c.args.index c.args.probe.now c.args.set.now c.loop-node.set c.loop-node.slots.items c.loop-node.invariant c.requires.index (c.last_or_any.ensures.none c.in_default.is))
 
 pub returns-clause-lists : goal.returns-clause-lists
 returns-clause-lists g c =
     lists_thinned (has_other_key g.E.Extract.probe_order_of c.args.set.now c.args.index c.args.probe.now) c.args.set.now c.loop-node.set c.loop-node.slots.items c.loop-node.invariant
-    (all_other g.E.Extract.probe_order_of c.args.index c.args.probe.now c.args.set.now c.loop-node.set c.loop-node.slots.items c.loop-node.invariant c.requires.index (c.find_any.ensures.none c.in_default.is))
+    (all_other g.E.Extract.probe_order_of c.args.index c.args.probe.now c.args.set.now c.loop-node.set c.loop-node.slots.items c.loop-node.invariant c.requires.index (c.last_or_any.ensures.none c.in_default.is))
 
 pub returns-clause-added : goal.returns-clause-added
 returns-clause-added g c = c.loop-node.invariant.added
