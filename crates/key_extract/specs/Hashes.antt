@@ -4,14 +4,15 @@ use Rattle.std.specs.List.{flat_map}
 use Rattle.std.specs.Hash.{HashWrites, isize, i64, str, bool, option}
 use Rattle.std.specs.Hash.FoldHasher as folding
 use Rattle.key_extract.specs.declared.cell.Cell.{Cell}
-use Rattle.key_extract.specs.declared.cell.Cell.TheVariants.{Int, Text, Bool as Truth}
+use Rattle.key_extract.specs.declared.cell.Cell.TheVariants.{Null, Int, Text, Bool as Truth}
 use Rattle.key_extract.specs.declared.key.Part.{Part}
 
 -- the type of the cell, and then its value
 abbrev pub cell_writes : Cell → HashWrites
-cell_writes (Int a) = isize (pos 0) ++ i64 a
-cell_writes (Text a) = isize (pos 1) ++ str a
-cell_writes (Truth a) = isize (pos 2) ++ bool a
+cell_writes Null = isize (pos 0)
+cell_writes (Int a) = isize (pos 1) ++ i64 a
+cell_writes (Text a) = isize (pos 2) ++ str a
+cell_writes (Truth a) = isize (pos 3) ++ bool a
 
 -- whether there is a cell, and then that cell
 abbrev pub optional_cell_writes : Option Cell → HashWrites

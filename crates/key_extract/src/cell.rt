@@ -105,6 +105,8 @@ impl Hash for Text {
 /// A value of a row in one column.
 #[derive(Debug, Drop, PartialEq, Eq, Hash)]
 pub enum Cell {
+    /// No value.
+    Null,
     /// A whole number.
     Int(i64),
     /// A text.
@@ -119,20 +121,25 @@ impl Cell {
         ensures { IfOk result (λ copy. copy ≡ self.now) }
     {
         Ok(match self {
+            Cell::Null => Cell::Null,
             Cell::Int(value) => Cell::Int(*value),
             Cell::Text(text) => Cell::Text(text.copy()?),
             Cell::Bool(value) => Cell::Bool(*value),
         })
     }
 
-    /// Whole numbers come before texts, and texts before truth values; false comes before true. O(length of the texts).
+    /// Null comes before whole numbers, these before texts, and texts before truth values; false comes before true.
+    /// Two nulls are equal. O(length of the texts).
     pub fn compare(&self, other: &Cell) -> Ordering
         ensures { result ≡ cell_cmp self.now other.now }
     {
         match (self, other) {
+            (Cell::Null, Cell::Null) => Ordering::Equal,
             (Cell::Int(a), Cell::Int(b)) => a.cmp(b),
             (Cell::Text(a), Cell::Text(b)) => a.as_str().cmp(b.as_str()),
             (Cell::Bool(a), Cell::Bool(b)) => a.cmp(b),
+            (Cell::Null, _) => Ordering::Less,
+            (_, Cell::Null) => Ordering::Greater,
             (Cell::Int(_), _) | (Cell::Text(_), Cell::Bool(_)) => Ordering::Less,
             (Cell::Text(_), Cell::Int(_)) | (Cell::Bool(_), _) => Ordering::Greater,
         }
