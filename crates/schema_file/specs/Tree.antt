@@ -36,6 +36,10 @@ optional missing read (Some d) = read d
 abbrev pub text_at : List ℕ → Members → Option (List ℕ)
 text_at key ms = option_and_then as_str (get_member key ms)
 
+-- the truth value at a key; where it is missing, false
+abbrev pub truth_at : List ℕ → Members → Option Bool
+truth_at key ms = optional false as_bool (get_member key ms)
+
 -- the type of cells that a text names
 abbrev pub cell_of : List ℕ → Option CellKind
 cell_of text =
@@ -54,21 +58,18 @@ kind_of text =
     else (if bytes_eq text (codes "hashed") then Some kinds.Hashed
     else None))))
 
--- a column: its name, and the type of its cells
+-- a column: its name, the type of its cells, and whether they may be null
 unfoldable pub column_of : Data → Option Column
 column_of d = do
-  ms ← table_with (codes "name" ∷ codes "cell" ∷ []) d
+  ms ← table_with (codes "name" ∷ codes "cell" ∷ codes "null" ∷ []) d
   name ← text_at (codes "name") ms
   cell ← option_and_then cell_of (text_at (codes "cell") ms)
-  Some (record { name = name; cell = cell })
+  null ← truth_at (codes "null") ms
+  Some (record { name = name; cell = cell; null = null })
 
 -- the greatest number of records; where it is missing, the greatest of all
 abbrev pub max_of : Members → Option ℤ
 max_of ms = optional (pos 4294967295) as_integer (get_member (codes "max") ms)
-
--- where it is missing, false
-abbrev pub unique_of : Members → Option Bool
-unique_of ms = optional false as_bool (get_member (codes "unique") ms)
 
 -- the texts of a key, which need not be there
 abbrev pub key_of : Members → Option (Option (List (List ℕ)))
@@ -80,7 +81,7 @@ index_of d = do
   ms ← table_with (codes "name" ∷ codes "kind" ∷ codes "unique" ∷ codes "key" ∷ []) d
   name ← text_at (codes "name") ms
   kind ← option_and_then kind_of (text_at (codes "kind") ms)
-  unique ← unique_of ms
+  unique ← truth_at (codes "unique") ms
   key ← key_of ms
   Some (record { name = name; kind = kind; unique = unique; key = key })
 

@@ -11,7 +11,8 @@ use toml::Table;
 
 /// Reads a schema file: TOML with one key `table`, an array of tables. A table has a `name`, a `max`
 /// (1 to 4294967295, which it is where it is missing), its columns `column` and its indices `index`; a
-/// column a `name` and a `cell` (`int`, `text` or `bool`); an index a `name`, a `kind` (`sequenced`,
+/// column a `name`, a `cell` (`int`, `text` or `bool`) and `null`, whether its cells may be null (false where it is
+/// missing); an index a `name`, a `kind` (`sequenced`,
 /// `random`, `ordered`, `ranked` or `hashed`), `unique` (false where it is missing) and a `key` of column
 /// names, each with `-` before it for a falling part. Ordered, ranked and hashed indices have a key, and they
 /// alone may be unique; a hashed key has no falling part.

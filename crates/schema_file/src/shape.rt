@@ -3,7 +3,7 @@ ghost use Rattle.std.specs.Prelude.{◌≡◌, IfOk, [], ◌∷◌, map, codes, 
 ghost use Rattle.std.specs.List.{list_any};
 ghost use Rattle.toml.specs.Data.{Data, get_member, as_str, as_integer, as_bool};
 ghost use Rattle.toml.specs.View.{view, table_view};
-ghost use Rattle.schema_file.specs.Tree.{has_only, table_with, each_of, text_at, cell_of, kind_of, column_of, max_of, unique_of, key_of, index_of, table_of, drafts_of};
+ghost use Rattle.schema_file.specs.Tree.{has_only, table_with, each_of, text_at, cell_of, kind_of, column_of, max_of, truth_at, key_of, index_of, table_of, drafts_of};
 
 use std::alloc::{AllocError, Global};
 use table_schema::{CellKind, Column, DraftIndex, DraftTable, Kind, Text};
@@ -99,7 +99,7 @@ impl Item for Column {
 
     #[tactic(auto, unfolding(crate::specs::Tree::column_of))]
     fn read(alloc: Global, value: &Value) -> Result<Option<Column>, AllocError> {
-        let Some(members) = table_with(value, &["name", "cell"]) else {
+        let Some(members) = table_with(value, &["name", "cell", "null"]) else {
             return Ok(None);
         };
         let Some(name) = text_at(members, "name") else {
@@ -108,9 +108,13 @@ impl Item for Column {
         let Some(cell) = text_at(members, "cell").and_then(cell_of) else {
             return Ok(None);
         };
+        let Some(null) = truth_at(members, "null") else {
+            return Ok(None);
+        };
         Ok(Some(Column {
             name: Text::copy_of(alloc, name)?,
             cell,
+            null,
         }))
     }
 }
@@ -129,7 +133,7 @@ impl Item for DraftIndex {
         let Some(kind) = text_at(members, "kind").and_then(kind_of) else {
             return Ok(None);
         };
-        let Some(unique) = unique_of(members) else {
+        let Some(unique) = truth_at(members, "unique") else {
             return Ok(None);
         };
         let Some(key) = key_of(alloc, members)? else {
@@ -165,10 +169,11 @@ fn max_of(members: &Table) -> Option<i64>
     }
 }
 
-fn unique_of(members: &Table) -> Option<bool>
-    ensures { result ≡ unique_of (table_view members.now) }
+// The truth value at a key; false where the key is missing.
+fn truth_at(members: &Table, key: &str) -> Option<bool>
+    ensures { result ≡ truth_at key.now (table_view members.now) }
 {
-    match value_at(members, "unique") {
+    match value_at(members, key) {
         Some(value) => value.as_bool(),
         None => Some(false),
     }

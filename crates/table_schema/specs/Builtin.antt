@@ -9,8 +9,8 @@ use Rattle.table_schema.specs.Shape.{TableShape}
 -- an integer and a text
 abbrev pub builtin_columns : List Column
 builtin_columns =
-    record { name = codes "id"; cell = Int }
-    ∷ record { name = codes "g"; cell = Text }
+    record { name = codes "id"; cell = Int; null = false }
+    ∷ record { name = codes "g"; cell = Text; null = false }
     ∷ []
 
 -- a sequence, and a unique order by the first column

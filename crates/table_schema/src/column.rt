@@ -18,6 +18,8 @@ pub enum CellKind {
 pub struct Column {
     pub name: Text,
     pub cell: CellKind,
+    /// Whether its cells may be null.
+    pub null: bool,
 }
 
 impl Column {
@@ -28,6 +30,7 @@ impl Column {
         Ok(Column {
             name: self.name.copy()?,
             cell: self.cell,
+            null: self.null,
         })
     }
 }

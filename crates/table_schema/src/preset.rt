@@ -36,10 +36,12 @@ fn columns(alloc: Global) -> Result<Vec<Column>, AllocError>
     columns.push(Column {
         name: Text::copy_of(alloc, "id")?,
         cell: CellKind::Int,
+        null: false,
     })?;
     columns.push(Column {
         name: Text::copy_of(alloc, "g")?,
         cell: CellKind::Text,
+        null: false,
     })?;
     Ok(columns)
 }
