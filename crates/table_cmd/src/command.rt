@@ -10,9 +10,9 @@ use std::marker::Model;
 /// A value of a command.
 #[derive(Debug, Drop)]
 pub enum Value {
-    /// A whole number of 64 bits with its sign, a text or a truth value.
+    /// Null, a whole number of 64 bits with its sign, a text or a truth value.
     Cell(Cell),
-    /// JSON that is a cell of no type: null, an array, an object, a number with a fraction or an exponent, `-0`, or
+    /// JSON that is a cell of no type: an array, an object, a number with a fraction or an exponent, `-0`, or
     /// a whole number beyond 64 bits.
     Other,
 }

@@ -12,6 +12,7 @@ fn is_same_cell(a: &Cell, b: &Cell) -> bool
     ensures { IsTrue result ↔ (a.now ≡ b.now) }
 {
     match (a, b) {
+        (Cell::Null, Cell::Null) => true,
         (Cell::Int(a), Cell::Int(b)) => a == b,
         (Cell::Text(a), Cell::Text(b)) => a.as_str() == b.as_str(),
         (Cell::Bool(a), Cell::Bool(b)) => a == b,

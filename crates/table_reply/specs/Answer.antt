@@ -85,9 +85,10 @@ unfoldable pub handle_or_null : Option Handle → List ℕ
 handle_or_null None = codes "null"
 handle_or_null (Some h) = handle_text h
 
--- a cell as JSON, and a missing one
+-- a cell as JSON; a missing one is null
 abbrev pub data_of : Option Cell → Data
 data_of None = null
+data_of (Some cells.Null) = null
 data_of (Some (cells.Int n)) = number (of_integer n)
 data_of (Some (cells.Text s)) = string s
 data_of (Some (cells.Bool b)) = boolean b

@@ -260,7 +260,7 @@ fn push_cell(out: &mut Out, cell: Option<&Cell>) -> Result<(), OutOfRoom>
     ensures { Adds result out.old out.new (compact_text (data_of (option_copied cell.entry))) }
 {
     match cell {
-        None => out.try_push(b"null"),
+        None | Some(Cell::Null) => out.try_push(b"null"),
         Some(Cell::Int(number)) => out.try_push(Buffer::new().format(*number).as_bytes()),
         Some(Cell::Text(text)) => push_quoted(out, text.as_str()),
         Some(Cell::Bool(true)) => out.try_push(b"true"),
