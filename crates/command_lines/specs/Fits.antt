@@ -26,6 +26,7 @@ IntFits (pos n) = n < 2 ^ 63
 IntFits (negsuc n) = n < 2 ^ 63
 
 abbrev pub CellFits : Cell → Type 0
+CellFits cells.Null = ⊤
 CellFits (cells.Int n) = IntFits n
 CellFits (cells.Text s) = IsUtf8 s
 CellFits (cells.Bool b) = ⊤

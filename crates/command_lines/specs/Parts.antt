@@ -27,9 +27,9 @@ abbrev pub int_or_other : Option ℤ → Value
 int_or_other None = Other
 int_or_other (Some n) = Cell (cells.Int n)
 
--- a number, a text or a truth value as a cell; anything else is no cell
+-- null, a number, a text or a truth value as a cell; anything else is no cell
 abbrev pub value_of : Data → Value
-value_of null = Other
+value_of null = Cell cells.Null
 value_of (boolean b) = Cell (cells.Bool b)
 value_of (number n) = int_or_other (as_i64 n)
 value_of (string s) = Cell (cells.Text s)

@@ -18,13 +18,14 @@ fn value_of(alloc: Global, json: &Json) -> Result<Value, AllocError>
     ensures { IfOk result (λ value. value ≡ value_of (view json.now)) }
 {
     match json {
+        Json::Null => Ok(Value::Cell(Cell::Null)),
         Json::Bool(truth) => Ok(Value::Cell(Cell::Bool(*truth))),
         Json::Number(number) => Ok(match number.as_i64() {
             Some(number) => Value::Cell(Cell::Int(number)),
             None => Value::Other,
         }),
         Json::String(text) => Ok(Value::Cell(Cell::Text(Text::new(text.clone()?)))),
-        Json::Null | Json::Array(_) | Json::Object(_) => Ok(Value::Other),
+        Json::Array(_) | Json::Object(_) => Ok(Value::Other),
     }
 }
 
