@@ -32,11 +32,11 @@ none_more (Some c) rest done e = cc
 
 -- the cell that a value is at the part of this place
 abbrev pub part_cell : List Column → List Part → ℕ → Value → Option Cell
-part_cell columns parts place value = option_and_then (λ part. option_and_then (λ column. cell_for column.cell value) (slice_get columns part.column)) (slice_get parts place)
+part_cell columns parts place value = option_and_then (λ part. option_and_then (λ column. cell_for column value) (slice_get columns part.column)) (slice_get parts place)
 
 within_column : (column : Option Column) (value : Value) (rest : Option (List Cell)) →
-    option_and_then (λ c. option_and_then (λ cell. option_and_then (λ cells. Some (cell ∷ cells)) rest) (cell_for c.cell value)) column
-    ≡ then_rest (option_and_then (λ c. cell_for c.cell value) column) rest
+    option_and_then (λ c. option_and_then (λ cell. option_and_then (λ cells. Some (cell ∷ cells)) rest) (cell_for c value)) column
+    ≡ then_rest (option_and_then (λ c. cell_for c value) column) rest
 within_column None value rest = refl
 within_column (Some c) value rest = refl
 

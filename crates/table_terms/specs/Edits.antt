@@ -11,12 +11,13 @@ use Rattle.table_terms.specs.Values.{◌>>=◌, cell_for, column_cell}
 
 -- the cell that a field is in the column of its name
 abbrev pub field_cell : List Column → Field → Option Cell
-field_cell columns field = option_and_then (λ column. cell_for column.cell field.value) (find (λ column. bytes_eq column.name field.name) columns)
+field_cell columns field = option_and_then (λ column. cell_for column field.value) (find (λ column. bytes_eq column.name field.name) columns)
 
 abbrev pub sets_cell : List Column → Field → Bool
 sets_cell columns field = is_some (field_cell columns field)
 
 abbrev pub is_int : Cell → Bool
+is_int cells.Null = false
 is_int (cells.Int n) = true
 is_int (cells.Text s) = false
 is_int (cells.Bool b) = false
@@ -47,8 +48,10 @@ is_i64 (negsuc n) = nat_lt n (2 ^ 63)
 abbrev pub checked_sum : ℤ → ℤ → Option ℤ
 checked_sum a b = if is_i64 (a +ℤ b) then Some (a +ℤ b) else None
 
--- a whole number with another added to it; any other cell as it is
+-- a whole number with another added to it; any other cell, null among them, as it is
 abbrev pub sum_of : Cell → Cell → Option Cell
+sum_of cells.Null number = Some cells.Null
+sum_of (cells.Int a) cells.Null = Some (cells.Int a)
 sum_of (cells.Int a) (cells.Int b) = option_map (λ n. cells.Int n) (checked_sum a b)
 sum_of (cells.Int a) (cells.Text s) = Some (cells.Int a)
 sum_of (cells.Int a) (cells.Bool b) = Some (cells.Int a)

@@ -16,8 +16,9 @@ use Rattle.table_schema.specs.declared.column.IndexSpec.{IndexSpec}
 abbrev pub max_text : ℕ
 max_text = 4096
 
--- whether a cell is of the type, and no longer than a cell may be
+-- whether a cell is of the type, and no longer than a cell may be; null is of none
 abbrev pub is_cell_of : CellKind → Cell → Bool
+is_cell_of kind cells.Null = false
 is_cell_of kinds.Int (cells.Int n) = true
 is_cell_of kinds.Int (cells.Text s) = false
 is_cell_of kinds.Int (cells.Bool b) = false
@@ -28,10 +29,19 @@ is_cell_of kinds.Bool (cells.Int n) = false
 is_cell_of kinds.Bool (cells.Text s) = false
 is_cell_of kinds.Bool (cells.Bool b) = true
 
--- the cell that a value is in a column of the type
-abbrev pub cell_for : CellKind → Value → Option Cell
-cell_for kind values.Other = None
-cell_for kind (values.Cell c) = if is_cell_of kind c then Some c else None
+-- whether a cell is null
+abbrev pub is_null : Cell → Bool
+is_null cells.Null = true
+is_null other = false
+
+-- whether a column can hold a cell: one of its type, or null where it may be null
+abbrev pub can_hold : Column → Cell → Bool
+can_hold column c = (column.null && is_null c) || is_cell_of column.cell c
+
+-- the cell that a value is in a column
+abbrev pub cell_for : Column → Value → Option Cell
+cell_for column values.Other = None
+cell_for column (values.Cell c) = if can_hold column c then Some c else None
 
 -- the value under a name
 abbrev pub value_named : List ℕ → List Field → Option Value
@@ -39,7 +49,7 @@ value_named name fields = option_map (λ f. f.value) (find (λ f. bytes_eq f.nam
 
 -- the cell that the fields give a column
 abbrev pub column_cell : Column → List Field → Option Cell
-column_cell column fields = option_and_then (cell_for column.cell) (value_named column.name fields)
+column_cell column fields = option_and_then (cell_for column) (value_named column.name fields)
 
 infixl 10 ◌>>=◌
 abbrev pub ◌>>=◌ : {A B : Type 0} → Option A → (A → Option B) → Option B
@@ -64,7 +74,7 @@ part_cells columns parts [] = Some []
 part_cells columns [] (value ∷ values) = None
 part_cells columns (part ∷ parts) (value ∷ values) = do
   column ← slice_get columns part.column
-  cell ← cell_for column.cell value
+  cell ← cell_for column value
   cells ← part_cells columns parts values
   Some (cell ∷ cells)
 

@@ -28,7 +28,7 @@ fn field_cell<'a>(columns: &[Column], field: &'a Field) -> Option<&'a Cell>
     ensures { option_copied result ≡ field_cell columns.now field.now }
 {
     let column = column_named(field.name.as_str(), columns)?;
-    cell_for(column.cell, &field.value)
+    cell_for(column, &field.value)
 }
 
 fn sets_cell(columns: &[Column], field: &Field) -> bool
@@ -96,7 +96,7 @@ fn checked_sum(a: i64, b: i64) -> Option<i64>
     a.checked_add(b)
 }
 
-// A whole number with another added to it, if the sum has 64 bits; any other cell as it is.
+// A whole number with another added to it, if the sum has 64 bits; any other cell, null among them, as it is.
 fn sum_of(cell: &Cell, number: &Cell) -> Result<Option<Cell>, AllocError>
     ensures { IfOk result (λ sum. sum ≡ sum_of cell.now number.now) }
 {

@@ -2,7 +2,7 @@
 
 ghost use Rattle.std.specs.Prelude.{◌≡◌, IfOk, option_and_then, slice_get, length};
 ghost use Rattle.std.specs.Option.{option_copied};
-ghost use Rattle.table_terms.specs.Values.{is_cell_of, cell_for, value_named, column_cell, row_from, are_enough, parts_of, probe_from};
+ghost use Rattle.table_terms.specs.Values.{is_cell_of, is_null, can_hold, cell_for, value_named, column_cell, row_from, are_enough, parts_of, probe_from};
 
 use key_extract::{Cell, Part, Probe, Row};
 use std::alloc::{AllocError, Global};
@@ -12,7 +12,7 @@ use table_schema::{CellKind, Column, IndexSpec, Kind};
 /// The longest text of a cell, in bytes.
 const MAX_TEXT: usize = 4096;
 
-// Whether the cell is of the type, and no longer than a cell may be.
+// Whether the cell is of the type, and no longer than a cell may be; null is of none.
 fn is_cell_of(kind: CellKind, cell: &Cell) -> bool
     ensures { result ≡ is_cell_of kind cell.now }
 {
@@ -23,12 +23,25 @@ fn is_cell_of(kind: CellKind, cell: &Cell) -> bool
     }
 }
 
-// The cell that a value is in a column of the type.
-pub(crate) fn cell_for(kind: CellKind, value: &Value) -> Option<&Cell>
-    ensures { option_copied result ≡ cell_for kind value.now }
+fn is_null(cell: &Cell) -> bool
+    ensures { result ≡ is_null cell.now }
+{
+    matches!(cell, Cell::Null)
+}
+
+// Whether the column can hold the cell: one of its type, or null where it may be null.
+fn can_hold(column: &Column, cell: &Cell) -> bool
+    ensures { result ≡ can_hold column.now cell.now }
+{
+    column.null && is_null(cell) || is_cell_of(column.cell, cell)
+}
+
+// The cell that a value is in a column.
+pub(crate) fn cell_for<'a>(column: &Column, value: &'a Value) -> Option<&'a Cell>
+    ensures { option_copied result ≡ cell_for column.now value.now }
 {
     match value {
-        Value::Cell(cell) if is_cell_of(kind, cell) => Some(cell),
+        Value::Cell(cell) if can_hold(column, cell) => Some(cell),
         _ => None,
     }
 }
@@ -50,7 +63,7 @@ pub(crate) fn column_cell<'a>(column: &Column, fields: &'a [Field]) -> Option<&'
     ensures { option_copied result ≡ column_cell column.now fields.now }
 {
     let value = value_named(column.name.as_str(), fields)?;
-    cell_for(column.cell, value)
+    cell_for(column, value)
 }
 
 /// The row that the fields are: a cell for each column, in the columns' order, and no field beyond them.
@@ -100,12 +113,12 @@ fn part_cell<'a>(
     place: usize,
     value: &'a Value,
 ) -> Option<&'a Cell>
-    ensures { option_copied result ≡ option_and_then (λ part. option_and_then (λ column. cell_for column.cell value.now) (slice_get columns.now part.column)) (slice_get parts.now place) }
+    ensures { option_copied result ≡ option_and_then (λ part. option_and_then (λ column. cell_for column value.now) (slice_get columns.now part.column)) (slice_get parts.now place) }
 {
     if place < parts.len() {
         let part = parts[place];
         if part.column < columns.len() {
-            return cell_for(columns[part.column].cell, value);
+            return cell_for(&columns[part.column], value);
         }
     }
     None
