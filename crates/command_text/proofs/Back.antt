@@ -31,6 +31,7 @@ int_back (pos n) h = ap (λ b. int_or_other (cond b (Some (pos n)) None)) (lt-lt
 int_back (negsuc n) h = refl
 
 value_back : (v : Value) → ValueFits v → value_of (value_data v) ≡ v
+value_back (values.Cell cells.Null) h = refl
 value_back (values.Cell (cells.Int z)) h = int_back z h
 value_back (values.Cell (cells.Text s)) h = refl
 value_back (values.Cell (cells.Bool b)) h = refl

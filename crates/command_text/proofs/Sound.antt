@@ -38,6 +38,7 @@ int_sound (pos n) h = (omega arith, omega arith)
 int_sound (negsuc n) h = (h, omega arith)
 
 value_sound : (v : Value) → ValueFits v → IsSoundWithin 1 (value_data v)
+value_sound (values.Cell cells.Null) h = (tt, omega arith)
 value_sound (values.Cell (cells.Int z)) h = int_sound z h
 value_sound (values.Cell (cells.Text s)) h = (h, omega arith)
 value_sound (values.Cell (cells.Bool b)) h = (tt, omega arith)

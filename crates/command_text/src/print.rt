@@ -121,6 +121,7 @@ fn push_value(out: &mut Out, value: &Value) -> Result<(), OutOfRoom>
     ensures { Adds result out.old out.new (compact_text (value_data value.now)) }
 {
     match value {
+        Value::Cell(Cell::Null) => out.try_push(b"null"),
         Value::Cell(Cell::Int(number)) => { out.try_push(Buffer::new().format(*number).as_bytes()) }
         Value::Cell(Cell::Text(text)) => push_quoted(out, text.as_str()),
         Value::Cell(Cell::Bool(true)) => out.try_push(b"true"),
