@@ -6,7 +6,7 @@
 //! - `row V ..`: how this row stands to each row so far, and with which of them it shares its hash.
 //! - `probe V ..`: whether the key can be searched so, how each row stands to the search, and which rows have its hash.
 //!
-//! A value is a whole number, `true`, `false` or a text between two `'`. Signs are `<`, `=` and `>`, and `!` where two
+//! A value is `null`, a whole number, `true`, `false` or a text between two `'`. Signs are `<`, `=` and `>`, and `!` where two
 //! ways to ask have different answers; a shared hash is `=`, and another one `.`.
 
 mod cells;

@@ -16,6 +16,7 @@ fn cell_of(alloc: Global, word: &str) -> Result<Option<Cell>, AllocError> {
         return Ok(Some(Cell::Text(Text::copy_of(alloc, text)?)));
     }
     Ok(match word {
+        "null" => Some(Cell::Null),
         "true" => Some(Cell::Bool(true)),
         "false" => Some(Cell::Bool(false)),
         _ => match word.parse::<i64>() {

@@ -27,6 +27,7 @@ fn push_columns(line: &mut String, columns: &[Column]) -> Result<(), AllocError>
         line.push_str(column.name.as_str())?;
         line.push_str(" ")?;
         line.push_str(cell_name(column.cell))?;
+        line.push_str(if column.null { " null" } else { "" })?;
     }
     Ok(())
 }
