@@ -2,7 +2,7 @@
 import json
 import random
 
-from plain_machine import BOUNDS, ENDED, MORE_KEYS, OPS, Machine
+from plain_machine import BOUNDS, ENDED, MORE_KEYS, OPS, Column, Machine
 
 # How often each op is drawn; the others once.
 WEIGHTS = {"insert": 12, "replace": 6, "modify": 6, "modify_key": 3, "range": 3, "erase": 3, "move": 3, "list": 2, "clear": 0.05, "erase_key": 0.5}
@@ -19,21 +19,23 @@ class Drawer:
     def one_in(self, times):
         return self.draw.randrange(times) == 0
 
-    def cell(self, cell):
+    def cell(self, column):
+        if column.null and self.one_in(4):
+            return None
         wide = self.draw.choice((3, 8, 40))
         drawn = {"int": self.draw.randrange(wide) - 1, "text": "ab\u00e9"[self.draw.randrange(3)] * self.draw.randrange(3), "bool": self.one_in(2)}
-        return self.draw.choice((1.5, None, True, "1", 7)) if self.one_in(60) else drawn[cell]
+        return self.draw.choice((1.5, None, True, "1", 7)) if self.one_in(60) else drawn[column.cell]
 
     def row(self, table):
-        return {name: self.cell(cell) for name, cell in table.columns.items() if not self.one_in(80)}
+        return {name: self.cell(column) for name, column in table.columns.items() if not self.one_in(80)}
 
     def key(self, table, index, whole=False):
-        parts = [table.columns[name] for name, _ in index.parts] or ["int"]
+        parts = [table.columns[name] for name, _ in index.parts] or [Column("int")]
         count = len(parts) if whole and not self.one_in(8) else self.draw.randint(0 if self.one_in(20) else 1, len(parts))
         return [self.cell(it) for it in parts[:count]]
 
     def terms(self, table):
-        numbers = [name for name, cell in table.columns.items() if cell == "int" or self.one_in(40)]
+        numbers = [name for name, column in table.columns.items() if column.cell == "int" or self.one_in(40)]
         return {it: self.draw.choice((-1, 1, 3, 2**63 - 1, 0.5 if self.one_in(9) else 2)) for it in numbers if self.one_in(2)}
 
     def cells(self, table):
