@@ -56,7 +56,7 @@ fn are_same_indices(a: &[IndexSpec], b: &[IndexSpec]) -> bool
 fn is_same_column(a: &Column, b: &Column) -> bool
     ensures { IsTrue result ↔ (a.now ≡ b.now) }
 {
-    a.cell == b.cell && a.name.as_str() == b.name.as_str()
+    a.cell == b.cell && a.null == b.null && a.name.as_str() == b.name.as_str()
 }
 
 fn is_same_index(a: &IndexSpec, b: &IndexSpec) -> bool
