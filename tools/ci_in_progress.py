@@ -37,7 +37,7 @@ class CiInProgress:
         return re.findall(rf"(?m)^fn ({crate.name}::\S+): proved", self.lines())
 
     def lanes(self, most):
-        """How many checks may run beside it: while it runs, half of the cores, where the memory is there."""
+        """How many checks may run beside it: while it runs, one for each core but one, where the memory is there."""
         if not self.is_running():
             return most
-        return max(1, most // 2) if rtlib.fits(ROOM) else 0
+        return max(1, most - 1) if rtlib.fits(ROOM) else 0
