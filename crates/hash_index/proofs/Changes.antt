@@ -1,7 +1,6 @@
 -- A node goes into a bucket, and out of it.
 use Rattle.std.proofs.Common.{◌≡◌, ◌≢◌, ℕ, ◌+◌, ◌-◌, ◌<◌, ◌≤◌, List, [], ◌∷◌, ◌++◌, length, get_or, set, Option, Some, None, refl, sym, ap, ◌∙◌, subst, arith, append_assoc}
 use Rattle.std.specs.Prelude.{IsPermutation}
-use Rattle.std.specs.Vec.{vec_len}
 use Rattle.std.proofs.lemmas.List.Sorted.{IsPermutation-sym, IsPermutation-middle}
 use Rattle.std.specs.List.{AllByRecursion}
 use Rattle.std.specs.Option.{option_map}
@@ -12,7 +11,8 @@ use Rattle.node_store.specs.ByNode.{same_node}
 use Rattle.list_model.specs.Walk.{without}
 use Rattle.seq_index.proofs.Walks.{without_at}
 use Rattle.hash_index.specs.declared.HashIndex.{HashIndex}
-use Rattle.hash_index.specs.Spelled.{Spells, IsSound, spelled, leads_to, Holds}
+use Rattle.hash_index.specs.Buckets.{bucket_of}
+use Rattle.hash_index.specs.Spelled.{heads_of, Spells, IsSound, spelled, leads_to, Holds}
 use Rattle.node_store.specs.Nodes.{Lacks, AreApart, IsDistinct, IsSameAt, first_or, last_or}
 use Rattle.node_store.proofs.NodeLists.{Lacks-front, Lacks-back, IsDistinct-parts, IsSameAt-others, IsSameAt-trans, AreApart-sym, AreApart-append, AreApart-head}
 use Rattle.list_model.proofs.Lists.{All-join}
@@ -113,18 +113,26 @@ head_lacks c to b heads xs at m lacks = λ e.
     let l = Lacks-front at.chain at.back m (Lacks-back at.front (at.chain ++ at.back) m (subst (λ z. Lacks z m) at.whole lacks)) in
     lacks_first at.chain m l (sym at.here.first ∙ e)
 
-module _ (cs ds : ℕ → Column) (d : Column) (i j : HashIndex) (n : Node) (b : ℕ) (h : IsSound cs i) (within : b < vec_len i.buckets) where
-  -- what a bucket's new first node makes of the index
-  abbrev Puts : Option Node → Type 0
-  Puts head = (ys : List Node) → Hangs (ds i.col) (leads_to i) 0 (set i.buckets.items b head) ys → Hangs (ds j.col) (leads_to j) 0 j.buckets.items ys
+-- the new index has another first node in one bucket, and as many buckets
+pub record PutsHead (i j : HashIndex) (b : ℕ) (head : Option Node) : Type 0 where
+  pub col : j.col ≡ i.col
+  pub level : j.level ≡ i.level
+  pub count : j.buckets.len ≡ i.buckets.len
+  pub heads : heads_of j ≡ set (heads_of i) b head
 
-  module _ (hash : ℕ) (head : Option Node) (puts : Puts (Some n)) (len : j.len ≡ i.len + 1) (load : j.len ≤ vec_len j.buckets) (new : Lacks (spelled cs i) n) (bucket : b ≡ leads_to i hash) (first : head ≡ get_or i.buckets.items b None)
+hangs_kept : (ds : ℕ → Column) (i j : HashIndex) (b : ℕ) (head : Option Node) (ys : List Node) → PutsHead i j b head → Hangs (ds i.col) (leads_to i) 0 (set (heads_of i) b head) ys → Hangs (ds j.col) (leads_to j) 0 (heads_of j) ys
+hangs_kept ds i j b head ys puts h =
+    subst (λ c. Hangs (ds c) (leads_to j) 0 (heads_of j) ys) (sym puts.col) (subst (λ z. Hangs (ds i.col) (leads_to j) 0 z ys) (sym puts.heads)
+    (subst (λ l. Hangs (ds i.col) (bucket_of l j.buckets.len) 0 (set (heads_of i) b head) ys) (sym puts.level) (subst (λ k. Hangs (ds i.col) (bucket_of i.level k) 0 (set (heads_of i) b head) ys) (sym puts.count) h)))
+
+module _ (cs ds : ℕ → Column) (d : Column) (i j : HashIndex) (n : Node) (b : ℕ) (h : IsSound cs i) (within : b < i.buckets.len) where
+  module _ (hash : ℕ) (head : Option Node) (puts : PutsHead i j b (Some n)) (len : j.len ≡ i.len + 1) (load : j.len ≤ j.buckets.len) (new : Lacks (spelled cs i) n) (bucket : b ≡ leads_to i hash) (first : head ≡ get_or (heads_of i) b None)
       (put : IsPut (cs i.col) d n (record { a = None; b = head; up = None; tag = hash; height = 0 })) (prev : SetsPrev (untagged d) (untagged (ds i.col)) head (Some n)) (tags : KeepsTags d (ds i.col)) (same : KeepsOtherNodes d (ds i.col) head) where
     put_both : IsSound ds j × IsPermutation (n ∷ spelled cs i) (spelled ds j)
     put_both =
         let f = focus_of cs i (spelled cs i) b within h in
         let ys : List Node = f.front ++ n ∷ (f.chain ++ f.back) in
-        let hangs = puts ys (put_hangs (cs i.col) d (ds i.col) (leads_to i) b i.buckets.items (spelled cs i) n hash head f h.distinct new (sym bucket) first put prev tags same) in
+        let hangs = hangs_kept ds i j b (Some n) ys puts (put_hangs (cs i.col) d (ds i.col) (leads_to i) b (heads_of i) (spelled cs i) n hash head f h.distinct new (sym bucket) first put prev tags same) in
         let dist = Distinct-insert f.front n (f.chain ++ f.back) (subst IsDistinct f.whole h.distinct) (subst (λ z. Lacks z n) f.whole new) in
         let s = Spells_from ds j ys hangs dist (len ∙ (ap (λ k. k + 1) (h.len ∙ ap length f.whole) ∙ length-insert f.front n (f.chain ++ f.back))) load in
         let moved : IsPermutation (n ∷ (f.front ++ (f.chain ++ f.back))) ys = IsPermutation-sym _ _ (IsPermutation-middle f.front n (f.chain ++ f.back)) in
@@ -136,19 +144,19 @@ module _ (cs ds : ℕ → Column) (d : Column) (i j : HashIndex) (n : Node) (b :
     pub put_moved : IsPermutation (n ∷ spelled cs i) (spelled ds j)
     put_moved = put_both.1
 
-  pub out_done : (link : Link) (head : Option Node) → Puts head → head ≡ end_beside link.a (get_or i.buckets.items b None) link.b → j.len + 1 ≡ i.len → j.len ≤ vec_len j.buckets → Holds (spelled cs i) n → b ≡ leads_to i link.tag → cs i.col n ≡ Some link
+  pub out_done : (link : Link) (head : Option Node) → PutsHead i j b head → head ≡ end_beside link.a (get_or (heads_of i) b None) link.b → j.len + 1 ≡ i.len → j.len ≤ j.buckets.len → Holds (spelled cs i) n → b ≡ leads_to i link.tag → cs i.col n ≡ Some link
       → SetsNext (untagged (cs i.col)) (untagged d) link.a link.b → KeepsOtherNodes (cs i.col) d link.a → SetsPrev (untagged d) (untagged (ds i.col)) link.b link.a → KeepsOtherNodes d (ds i.col) link.b → KeepsTags (cs i.col) (ds i.col) → Spells ds j (without (same_node n) (spelled cs i))
   out_done link head puts first len load held bucket is next same_next prev same_prev tags =
       let f = focus_of cs i (spelled cs i) b within h in
       let here : IsIn (cs i.col) (leads_to i) b n = subst (λ k. IsIn (cs i.col) (leads_to i) k n) (sym bucket) (is_in (cs i.col) (leads_to i) n link is) in
-      let k = held_chain (cs i.col) (leads_to i) 0 b b i.buckets.items (spelled cs i) n f here held in
+      let k = held_chain (cs i.col) (leads_to i) 0 b b (heads_of i) (spelled cs i) n f here held in
       let split = split_at (spelled cs i) f.front f.chain f.back k.before n k.after f.whole k.is in
       let ys : List Node = (f.front ++ k.before) ++ (k.after ++ f.back) in
       let joins : f.front ++ ((k.before ++ k.after) ++ f.back) ≡ ys =
       ap (λ z. f.front ++ z) (append_assoc k.before k.after f.back) ∙ sym (append_assoc f.front k.before (k.after ++ f.back)) in
-      let hangs = subst (λ z. Hangs (ds i.col) (leads_to i) 0 (set i.buckets.items b (end_beside link.a (get_or i.buckets.items b None) link.b)) z) joins
-      (out_hangs (cs i.col) d (ds i.col) (leads_to i) b i.buckets.items (spelled cs i) n link k.before k.after f h.distinct k.is is next same_next prev same_prev tags) in
+      let hangs = subst (λ z. Hangs (ds i.col) (leads_to i) 0 (set (heads_of i) b (end_beside link.a (get_or (heads_of i) b None) link.b)) z) joins
+      (out_hangs (cs i.col) d (ds i.col) (leads_to i) b (heads_of i) (spelled cs i) n link k.before k.after f h.distinct k.is is next same_next prev same_prev tags) in
       let dist : IsDistinct ((f.front ++ k.before) ++ n ∷ (k.after ++ f.back)) = subst IsDistinct split h.distinct in
       let left : length ((f.front ++ k.before) ++ n ∷ (k.after ++ f.back)) - 1 ≡ length ys = length-remove (f.front ++ k.before) n (k.after ++ f.back) in
-      let s = Spells_from ds j ys (puts ys (subst (λ o. Hangs (ds i.col) (leads_to i) 0 (set i.buckets.items b o) ys) (sym first) hangs)) (Distinct-remove (f.front ++ k.before) n (k.after ++ f.back) dist) (omega (arith, left, len, h.len, ap length split)) load in
+      let s = Spells_from ds j ys (hangs_kept ds i j b head ys puts (subst (λ o. Hangs (ds i.col) (leads_to i) 0 (set (heads_of i) b o) ys) (sym first) hangs)) (Distinct-remove (f.front ++ k.before) n (k.after ++ f.back) dist) (omega (arith, left, len, h.len, ap length split)) load in
       subst (λ z. Spells ds j z) (sym (ap (λ z. without (same_node n) z) split ∙ without_at (f.front ++ k.before) n (k.after ++ f.back) dist)) s

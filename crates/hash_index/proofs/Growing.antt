@@ -3,7 +3,6 @@ use Rattle.std.proofs.Common.{◌≡◌, ◌≢◌, ℕ, Bool, true, false, cond
 use Rattle.std.specs.Prelude.{filter, IsPermutation}
 use Rattle.std.specs.List.{AllByRecursion}
 use Rattle.std.specs.Option.{option_map}
-use Rattle.std.specs.Vec.{vec_len}
 use Rattle.std.proofs.lemmas.Bool.{cases_eq}
 use Rattle.std.proofs.lemmas.List.{append-nil, length-set}
 use Rattle.std.proofs.lemmas.List.Elements.{filter-append}
@@ -19,7 +18,7 @@ use Rattle.hash_index.specs.declared.HashIndex.{HashIndex}
 use Rattle.hash_index.specs.declared.chain.Chain.{Chain}
 use Rattle.hash_index.specs.Buckets.{bucket_of}
 use Rattle.hash_index.specs.Chains.{tag_at, leads, members, IsIn, IsChain, AreChains, joined, KeepsTags}
-use Rattle.hash_index.specs.Spelled.{Spells, IsSound, spelled, leads_to}
+use Rattle.hash_index.specs.Spelled.{heads_of, Spells, IsSound, spelled, leads_to}
 use Rattle.hash_index.specs.Walks.{rest_of}
 use Rattle.hash_index.specs.Split.{Builds, IsSame, goes, left, taken}
 use Rattle.hash_index.proofs.Untagged.{leads_tag, leads_there, leads_elsewhere, in_tag}
@@ -35,9 +34,9 @@ use Rattle.hash_index.proofs.Cutting.{Distinct_filter, filters_apart, never_both
 pub same_spells : (cs : ℕ → Column) (i j : HashIndex) (xs : List Node) → IsSame i j → Spells cs i xs → Spells cs j xs
 same_spells cs i j xs same h =
     let k = hangs_of cs i xs h in
-    let into = chains_same (cs i.col) (cs i.col) (leads_to i) (leads_to j) 0 (λ b le hash e. same.leads hash ∙ e) i.buckets.items k.chains (IsSameAt-refl (cs i.col) (joined k.chains)) k.are in
-    let hangs : Hangs (cs i.col) (leads_to j) 0 i.buckets.items xs = record { chains = k.chains; are = into; whole = k.whole } in
-    Spells_from cs j xs (subst (λ b. Hangs (cs b) (leads_to j) 0 j.buckets.items xs) (sym same.col) (subst (λ z. Hangs (cs i.col) (leads_to j) 0 z xs) (sym same.buckets) hangs))
+    let into = chains_same (cs i.col) (cs i.col) (leads_to i) (leads_to j) 0 (λ b le hash e. same.leads hash ∙ e) (heads_of i) k.chains (IsSameAt-refl (cs i.col) (joined k.chains)) k.are in
+    let hangs : Hangs (cs i.col) (leads_to j) 0 (heads_of i) xs = record { chains = k.chains; are = into; whole = k.whole } in
+    Spells_from cs j xs (subst (λ b. Hangs (cs b) (leads_to j) 0 (heads_of j) xs) (sym same.col) (subst (λ z. Hangs (cs i.col) (leads_to j) 0 z xs) (sym same.buckets) hangs))
     h.distinct (same.len ∙ h.len) (omega (arith, same.len, h.load, i.buckets.ok, j.buckets.ok, ap length same.buckets))
 
 pub same_sound : (cs : ℕ → Column) (i j : HashIndex) → IsSame i j → IsSound cs i → IsSound cs j
@@ -47,9 +46,9 @@ pub same_spelled : (cs : ℕ → Column) (i j : HashIndex) → IsSame i j → Is
 same_spelled cs i j same h = spelled_is cs j (spelled cs i) (same_spells cs i j (spelled cs i) same h)
 
 -- the first bucket of all
-pub first_bucket : (cs : ℕ → Column) (i j : HashIndex) → vec_len i.buckets ≡ 0 → j.buckets.items ≡ i.buckets.items ++ None ∷ [] → j.len ≡ 0 → IsSound cs j
+pub first_bucket : (cs : ℕ → Column) (i j : HashIndex) → i.buckets.len ≡ 0 → (heads_of j) ≡ (heads_of i) ++ None ∷ [] → j.len ≡ 0 → IsSound cs j
 first_bucket cs i j none items len =
-    let one = ap (λ z. z ++ None ∷ []) (none_long i.buckets.items (omega (arith, i.buckets.ok, none))) in
+    let one = ap (λ z. z ++ None ∷ []) (none_long (heads_of i) (omega (arith, i.buckets.ok, none))) in
     empty_sound cs j (subst (AllByRecursion (λ o. o ≡ None)) (sym (items ∙ one)) (refl, tt)) len
 
 -- ---- a chain behind the others
@@ -149,32 +148,32 @@ gone_kept r p front chain back before after sub =
 
 -- ---- an index with one bucket more
 
-module _ (i j : HashIndex) (level : j.level ≡ i.level) (count : vec_len j.buckets ≡ vec_len i.buckets + 1) (some : 0 < vec_len i.buckets) where
-  into_is : (hash : ℕ) → leads_to j hash ≡ bucket_of i.level (vec_len i.buckets + 1) hash
-  into_is hash = ap (λ l. bucket_of l (vec_len j.buckets) hash) level ∙ ap (λ k. bucket_of i.level k hash) count
+module _ (i j : HashIndex) (level : j.level ≡ i.level) (count : j.buckets.len ≡ i.buckets.len + 1) (some : 0 < i.buckets.len) where
+  into_is : (hash : ℕ) → leads_to j hash ≡ bucket_of i.level (i.buckets.len + 1) hash
+  into_is hash = ap (λ l. bucket_of l (j.buckets.len) hash) level ∙ ap (λ k. bucket_of i.level k hash) count
 
-  into_goes : (hash : ℕ) → hash % (i.level * 2) ≡ vec_len i.buckets → leads_to j hash ≡ vec_len i.buckets
-  into_goes hash e = into_is hash ∙ goes_there i.level (vec_len i.buckets) hash e
+  into_goes : (hash : ℕ) → hash % (i.level * 2) ≡ i.buckets.len → leads_to j hash ≡ i.buckets.len
+  into_goes hash e = into_is hash ∙ goes_there i.level i.buckets.len hash e
 
-  into_stays : (hash : ℕ) → hash % (i.level * 2) ≢ vec_len i.buckets → leads_to j hash ≡ leads_to i hash
-  into_stays hash ne = into_is hash ∙ stays i.level (vec_len i.buckets) hash ne
+  into_stays : (hash : ℕ) → hash % (i.level * 2) ≢ i.buckets.len → leads_to j hash ≡ leads_to i hash
+  into_stays hash ne = into_is hash ∙ stays i.level i.buckets.len hash ne
 
-  from_goes : (hash : ℕ) → hash % (i.level * 2) ≡ vec_len i.buckets → leads_to i hash ≡ vec_len i.buckets - i.level
-  from_goes hash e = let le : i.level ≤ vec_len i.buckets = omega (arith, i.reached, some) in went i.level (vec_len i.buckets) hash i.some_level le e
+  from_goes : (hash : ℕ) → hash % (i.level * 2) ≡ i.buckets.len → leads_to i hash ≡ i.buckets.len - i.level
+  from_goes hash e = let le : i.level ≤ i.buckets.len = omega (arith, i.reached, some) in went i.level i.buckets.len hash i.some_level le e
 
-  others_stay : KeepsOtherBuckets (leads_to i) (leads_to j) (vec_len i.buckets - i.level)
+  others_stay : KeepsOtherBuckets (leads_to i) (leads_to j) (i.buckets.len - i.level)
   others_stay hash ne = into_stays hash (λ e. ne (from_goes hash e))
 
   -- the new bucket is the one that no hash led to
-  goes_only : (hash : ℕ) → leads_to j hash ≡ vec_len i.buckets → hash % (i.level * 2) ≢ vec_len i.buckets → ⊥
+  goes_only : (hash : ℕ) → leads_to j hash ≡ i.buckets.len → hash % (i.level * 2) ≢ i.buckets.len → ⊥
   goes_only hash e ne =
       let lt = leads_within i hash some in
-      let bad : leads_to i hash ≡ vec_len i.buckets = sym (into_stays hash ne) ∙ e in
+      let bad : leads_to i hash ≡ i.buckets.len = sym (into_stays hash ne) ∙ e in
       omega (arith, lt, bad)
 
-  module _ (cs ds : ℕ → Column) (stay moved : Chain) (head : Option Node) (from : ℕ) (h : IsSound cs i) (from_is : from ≡ vec_len i.buckets - i.level) (at : head ≡ get_or i.buckets.items from None)
+  module _ (cs ds : ℕ → Column) (stay moved : Chain) (head : Option Node) (from : ℕ) (h : IsSound cs i) (from_is : from ≡ i.buckets.len - i.level) (at : head ≡ get_or (heads_of i) from None)
       (stay_is : Builds (ds i.col) stay (left (cs i.col) i (rest_of cs i head))) (moved_is : Builds (ds i.col) moved (taken (cs i.col) i (rest_of cs i head))) (tags : KeepsTags (cs i.col) (ds i.col)) (same : (m : Node) → Lacks (rest_of cs i head) m → ds i.col m ≡ cs i.col m)
-      (col : j.col ≡ i.col) (len : j.len ≡ i.len) (items : j.buckets.items ≡ set i.buckets.items from stay.first ++ moved.first ∷ []) where
+      (col : j.col ≡ i.col) (len : j.len ≡ i.len) (items : (heads_of j) ≡ set (heads_of i) from stay.first ++ moved.first ∷ []) where
     abbrev c : Column
     c = cs i.col
 
@@ -182,12 +181,12 @@ module _ (i j : HashIndex) (level : j.level ≡ i.level) (count : vec_len j.buck
     d = ds i.col
 
     abbrev last : ℕ
-    last = vec_len i.buckets
+    last = i.buckets.len
 
     abbrev remainder : ℕ → ℕ
     remainder hash = hash % (i.level * 2)
 
-    focused : Focus c (leads_to i) 0 from from i.buckets.items (spelled cs i)
+    focused : Focus c (leads_to i) 0 from from (heads_of i) (spelled cs i)
     focused = focus_of cs i (spelled cs i) from (omega (arith, from_is, some, i.some_level)) h
 
     rest : rest_of cs i head ≡ focused.chain
@@ -196,7 +195,7 @@ module _ (i j : HashIndex) (level : j.level ≡ i.level) (count : vec_len j.buck
     stays_in : (n : Node) → IsIn c (leads_to i) from n → not (goes c i n) ≡ true → IsIn d (leads_to j) from n
     stays_in n inside kept =
         let t = in_tag c (leads_to i) from n inside in
-        let ne : t.0 % (i.level * 2) ≢ vec_len i.buckets = λ e. never_both (goes c i) n (leads_there c remainder last n t.0 t.1.0 e) kept in
+        let ne : t.0 % (i.level * 2) ≢ i.buckets.len = λ e. never_both (goes c i) n (leads_there c remainder last n t.0 t.1.0 e) kept in
         ap (option_map (leads_to j)) (tags n ∙ t.1.0) ∙ ap Some (into_stays t.0 ne ∙ t.1.1)
 
     goes_in : (n : Node) → goes c i n ≡ true → IsIn d (leads_to j) last n
@@ -224,17 +223,17 @@ module _ (i j : HashIndex) (level : j.level ≡ i.level) (count : vec_len j.buck
     abbrev new_list : List Node
     new_list = cut_list (goes c i) focused.front focused.chain focused.back
 
-    grown_hangs : Hangs d (leads_to j) 0 (set i.buckets.items from stay.first ++ moved.first ∷ []) new_list
+    grown_hangs : Hangs d (leads_to j) 0 (set (heads_of i) from stay.first ++ moved.first ∷ []) new_list
     grown_hangs =
         let a = apart_of focused.front focused.chain focused.back (subst IsDistinct focused.whole h.distinct) in
         let keeps = subst (KeepsOtherBuckets (leads_to i) (leads_to j)) (sym from_is) others_stay in
         let one = focused.with_chain d (leads_to j) keeps stay.first (left c i focused.chain) (same_apart focused.front (AreApart-sym focused.chain focused.front a.before)) (same_apart focused.back (AreApart-sym focused.chain focused.back a.after)) stay_chain in
-        let place : last ≡ length (set i.buckets.items from stay.first) = omega (arith, i.buckets.ok, length-set i.buckets.items from stay.first) in
-        hangs_last d (leads_to j) (set i.buckets.items from stay.first) (focused.front ++ (left c i focused.chain ++ focused.back)) moved.first (taken c i focused.chain) (subst (λ b. IsChain d (leads_to j) b moved.first (taken c i focused.chain)) place moved_chain) one
+        let place : last ≡ length (set (heads_of i) from stay.first) = omega (arith, i.buckets.ok, length-set (heads_of i) from stay.first) in
+        hangs_last d (leads_to j) (set (heads_of i) from stay.first) (focused.front ++ (left c i focused.chain ++ focused.back)) moved.first (taken c i focused.chain) (subst (λ b. IsChain d (leads_to j) b moved.first (taken c i focused.chain)) place moved_chain) one
 
     grown_spells : Spells ds j new_list
     grown_spells =
-        let hangs = subst (λ k. Hangs (ds k) (leads_to j) 0 j.buckets.items new_list) (sym col) (subst (λ z. Hangs d (leads_to j) 0 z new_list) (sym items) grown_hangs) in
+        let hangs = subst (λ k. Hangs (ds k) (leads_to j) 0 (heads_of j) new_list) (sym col) (subst (λ z. Hangs d (leads_to j) 0 z new_list) (sym items) grown_hangs) in
         let count_kept = length_permutation _ _ (cut_moved (goes c i) focused.front focused.chain focused.back) in
         Spells_from ds j new_list hangs (cut_distinct (goes c i) focused.front focused.chain focused.back (subst IsDistinct focused.whole h.distinct))
         (omega (arith, len, h.len, ap length focused.whole, count_kept)) (omega (arith, len, h.load, count))
@@ -247,10 +246,10 @@ module _ (i j : HashIndex) (level : j.level ≡ i.level) (count : vec_len j.buck
 
     -- ---- order
 
-    gone_hash : (n : Node) → leads c (leads_to j) last n ≡ true → (hash : ℕ) × ((tag_at c n ≡ Some hash) × (hash % (i.level * 2) ≡ vec_len i.buckets))
+    gone_hash : (n : Node) → leads c (leads_to j) last n ≡ true → (hash : ℕ) × ((tag_at c n ≡ Some hash) × (hash % (i.level * 2) ≡ i.buckets.len))
     gone_hash n there =
         let t = leads_tag c (leads_to j) last n there in
-        ⊎_elim (λ (e : t.0 % (i.level * 2) ≡ vec_len i.buckets). (t.0, (t.1.0, e))) (λ (ne : t.0 % (i.level * 2) ≢ vec_len i.buckets). absurd (goes_only t.0 t.1.1 ne)) (cases_eq (t.0 % (i.level * 2)) (vec_len i.buckets))
+        ⊎_elim (λ (e : t.0 % (i.level * 2) ≡ i.buckets.len). (t.0, (t.1.0, e))) (λ (ne : t.0 % (i.level * 2) ≢ i.buckets.len). absurd (goes_only t.0 t.1.1 ne)) (cases_eq (t.0 % (i.level * 2)) i.buckets.len)
 
     order_gone : members c (leads_to j) last new_list ≡ members c (leads_to j) last (focused.front ++ (focused.chain ++ focused.back))
     order_gone =

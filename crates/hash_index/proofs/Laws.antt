@@ -18,7 +18,7 @@ use Rattle.seq_index.specs.Spelled.{follow}
 use Rattle.seq_index.proofs.Walks.{without_at}
 use Rattle.hash_index.specs.declared.HashIndex.{HashIndex}
 use Rattle.hash_index.specs.Chains.{tag_at, KeepsTags, joined, untagged}
-use Rattle.hash_index.specs.Spelled.{Spells, IsSound, spelled, col_of, Holds}
+use Rattle.hash_index.specs.Spelled.{heads_of, Spells, IsSound, spelled, col_of, Holds}
 use Rattle.hash_index.specs.Hashed.{KeepsHash, IsHashed}
 use Rattle.hash_index.proofs.Spelling as spelling
 use Rattle.hash_index.proofs.Spelling.{nodes_at}
@@ -37,7 +37,7 @@ Spells_distinct cs i xs h = h.distinct
 -- an index stays as it is where its column stays
 pub spelled_kept : (cs ds : ℕ → Column) (i : HashIndex) → ds (col_of i) ≡ cs (col_of i) → spelled ds i ≡ spelled cs i
 unfolding spelled
-spelled_kept cs ds i e = ap (λ (c : Column). joined (map (λ head. follow (untagged c) head i.len) i.buckets.items)) e
+spelled_kept cs ds i e = ap (λ (c : Column). joined (map (λ head. follow (untagged c) head i.len) (heads_of i))) e
 
 pub Spells_kept : (cs ds : ℕ → Column) (i : HashIndex) (xs : List Node) → ds (col_of i) ≡ cs (col_of i) → Spells cs i xs → Spells ds i xs
 Spells_kept cs ds i xs e h = spelling.Spells_same cs ds i xs (IsSameAt-kept (cs (col_of i)) (ds (col_of i)) xs e) h

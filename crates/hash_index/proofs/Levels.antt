@@ -1,7 +1,6 @@
 -- Buckets that are added one at a time: which hashes lead elsewhere.
 use Rattle.std.proofs.Common.{◌≡◌, ◌≢◌, ℕ, ◌+◌, ◌-◌, ◌*◌, ◌%◌, ◌<◌, ◌≤◌, refl, sym, ap, ◌∙◌, subst, arith, ⊎_elim}
 use Rattle.std.specs.Prelude.{max}
-use Rattle.std.specs.Vec.{vec_len}
 use Rattle.std.proofs.lemmas.Bool.{cases_lt, cond_below, cond_above}
 use Rattle.std.proofs.Math.Nat.{mod-mod_of_dvd, mod-eq-sub-mod, mod-eq_of_lt, dvd-mul_right}
 use Rattle.hash_index.specs.declared.HashIndex.{HashIndex}
@@ -31,12 +30,12 @@ bucket_within level count hash some reached any =
     (λ le. let below : hash % level < level = omega (arith, some) in subst (λ b. b < count) (sym (high level count hash le)) (omega (arith, below, reached, any)))
     (cases_lt (hash % (level * 2)) count)
 
-pub leads_within : (i : HashIndex) (hash : ℕ) → 0 < vec_len i.buckets → leads_to i hash < vec_len i.buckets
-leads_within i hash any = bucket_within i.level (vec_len i.buckets) hash i.some_level i.reached any
+pub leads_within : (i : HashIndex) (hash : ℕ) → 0 < i.buckets.len → leads_to i hash < i.buckets.len
+leads_within i hash any = bucket_within i.level i.buckets.len hash i.some_level i.reached any
 
 -- where its bucket is not there yet, a hash leads `level` before it
-pub leads_upper : (i : HashIndex) (hash : ℕ) → 0 < vec_len i.buckets → vec_len i.buckets ≤ hash % (i.level * 2) → leads_to i hash ≡ hash % (i.level * 2) - i.level
-leads_upper i hash any le = high i.level (vec_len i.buckets) hash le ∙ upper_half i.level hash i.some_level (omega (arith, le, any, i.reached))
+pub leads_upper : (i : HashIndex) (hash : ℕ) → 0 < i.buckets.len → i.buckets.len ≤ hash % (i.level * 2) → leads_to i hash ≡ hash % (i.level * 2) - i.level
+leads_upper i hash any le = high i.level i.buckets.len hash le ∙ upper_half i.level hash i.some_level (omega (arith, le, any, i.reached))
 
 -- where all `level * 2` buckets are there, twice the level leads each hash where it did
 pub next_level : (level hash : ℕ) → 0 < level → bucket_of (level * 2) (level * 2) hash ≡ bucket_of level (level * 2) hash

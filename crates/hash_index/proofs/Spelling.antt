@@ -2,7 +2,6 @@
 use Rattle.std.proofs.Common.{◌≡◌, ◌≢◌, ℕ, ◌+◌, ◌<◌, ◌≤◌, List, [], ◌∷◌, ◌++◌, length, map, get_or, drop, Option, Some, None, refl, sym, ap, ◌∙◌, subst, arith, append_assoc, length-append}
 use Rattle.std.specs.List.{AllByRecursion}
 use Rattle.std.specs.Option.{option_map}
-use Rattle.std.specs.Vec.{vec_len}
 use Rattle.node_store.specs.declared.Node.{Node}
 use Rattle.node_store.specs.declared.Link.{Link}
 use Rattle.node_store.specs.Column.{Column, IsNode}
@@ -17,35 +16,35 @@ use Rattle.seq_index.proofs.Runs.{Runs-at, AreNodes-last, AreNodes-first}
 use Rattle.seq_index.proofs.Walks.{next_at}
 use Rattle.hash_index.specs.declared.HashIndex.{HashIndex}
 use Rattle.hash_index.specs.Chains.{untagged_link, untagged, tag_at, IsIn, AreChains, joined, first_head}
-use Rattle.hash_index.specs.Spelled.{Spells, IsSound, spelled, chains_of, leads_to, Holds}
+use Rattle.hash_index.specs.Spelled.{heads_of, Spells, IsSound, spelled, chains_of, leads_to, Holds}
 use Rattle.hash_index.specs.Walks.{Leads, rest_of, Ends, HasHash}
 use Rattle.hash_index.proofs.Levels.{leads_within}
 use Rattle.hash_index.proofs.Untagged.{tag_is, tagged_node}
 use Rattle.hash_index.proofs.OneBucket.{Hangs, Focus, IsElsewhere, focus, chains_are, chains_same, chains_nodes, heads_first, follow_leads, leads_runs}
 
 -- an index whose buckets hold these nodes spells them
-pub Spells_from : (cs : ℕ → Column) (i : HashIndex) (xs : List Node) → Hangs (cs i.col) (leads_to i) 0 i.buckets.items xs → IsDistinct xs → i.len ≡ length xs → i.len ≤ vec_len i.buckets → Spells cs i xs
+pub Spells_from : (cs : ℕ → Column) (i : HashIndex) (xs : List Node) → Hangs (cs i.col) (leads_to i) 0 (heads_of i) xs → IsDistinct xs → i.len ≡ length xs → i.len ≤ i.buckets.len → Spells cs i xs
 unfolding spelled
 Spells_from cs i xs h dist len load =
     let fits : length (joined h.chains) ≤ i.len = omega (arith, len, ap length h.whole) in
-    let e : chains_of cs i ≡ h.chains = chains_are (cs i.col) (leads_to i) 0 i.len i.buckets.items h.chains fits h.are in
+    let e : chains_of cs i ≡ h.chains = chains_are (cs i.col) (leads_to i) 0 i.len (heads_of i) h.chains fits h.are in
     record {
       is = sym (ap joined e ∙ h.whole);
-      chains = subst (λ z. AreChains (cs i.col) (leads_to i) 0 i.buckets.items z) (sym e) h.are;
+      chains = subst (λ z. AreChains (cs i.col) (leads_to i) 0 (heads_of i) z) (sym e) h.are;
       distinct = dist;
       len = len;
       load = load;
     }
 
-pub hangs_of : (cs : ℕ → Column) (i : HashIndex) (xs : List Node) → Spells cs i xs → Hangs (cs i.col) (leads_to i) 0 i.buckets.items xs
+pub hangs_of : (cs : ℕ → Column) (i : HashIndex) (xs : List Node) → Spells cs i xs → Hangs (cs i.col) (leads_to i) 0 (heads_of i) xs
 unfolding spelled
 hangs_of cs i xs h = record { chains = chains_of cs i; are = h.chains; whole = sym h.is }
 
 pub hangs_focus : (c : Column) (to : ℕ → ℕ) (b : ℕ) (heads : List (Option Node)) (xs : List Node) → b < length heads → Hangs c to 0 heads xs → Focus c to 0 b b heads xs
 hangs_focus c to b heads xs lt h = subst (λ z. Focus c to 0 b b heads z) h.whole (focus c to b heads h.chains lt h.are)
 
-pub focus_of : (cs : ℕ → Column) (i : HashIndex) (xs : List Node) (b : ℕ) → b < vec_len i.buckets → Spells cs i xs → Focus (cs i.col) (leads_to i) 0 b b i.buckets.items xs
-focus_of cs i xs b lt h = hangs_focus (cs i.col) (leads_to i) b i.buckets.items xs (omega (arith, i.buckets.ok, lt)) (hangs_of cs i xs h)
+pub focus_of : (cs : ℕ → Column) (i : HashIndex) (xs : List Node) (b : ℕ) → b < i.buckets.len → Spells cs i xs → Focus (cs i.col) (leads_to i) 0 b b (heads_of i) xs
+focus_of cs i xs b lt h = hangs_focus (cs i.col) (leads_to i) b (heads_of i) xs (omega (arith, i.buckets.ok, lt)) (hangs_of cs i xs h)
 
 pub spelled_is : (cs : ℕ → Column) (i : HashIndex) (xs : List Node) → Spells cs i xs → spelled cs i ≡ xs
 spelled_is cs i xs h = sym h.is
@@ -57,13 +56,13 @@ pub Spells_same : (cs ds : ℕ → Column) (i : HashIndex) (xs : List Node) → 
 Spells_same cs ds i xs s h =
     let k = hangs_of cs i xs h in
     Spells_from ds i xs
-    (record { chains = k.chains; are = chains_same (cs i.col) (ds i.col) (leads_to i) (leads_to i) 0 (λ b le hash e. e) i.buckets.items k.chains (subst (λ z. IsSameAt (cs i.col) (ds i.col) z) (sym k.whole) s) k.are; whole = k.whole })
+    (record { chains = k.chains; are = chains_same (cs i.col) (ds i.col) (leads_to i) (leads_to i) 0 (λ b le hash e. e) (heads_of i) k.chains (subst (λ z. IsSameAt (cs i.col) (ds i.col) z) (sym k.whole) s) k.are; whole = k.whole })
     h.distinct h.len h.load
 
 pub Spells_nodes : (cs : ℕ → Column) (i : HashIndex) (xs : List Node) → Spells cs i xs → AllNodes (cs i.col) xs
 Spells_nodes cs i xs h =
     let k = hangs_of cs i xs h in
-    subst (λ z. AllNodes (cs i.col) z) k.whole (chains_nodes (cs i.col) (leads_to i) 0 i.buckets.items k.chains k.are)
+    subst (λ z. AllNodes (cs i.col) z) k.whole (chains_nodes (cs i.col) (leads_to i) 0 (heads_of i) k.chains k.are)
 
 -- an index of no nodes
 pub empty_hangs : (c : Column) (to : ℕ → ℕ) (k : ℕ) (heads : List (Option Node)) → AllByRecursion (λ o. o ≡ None) heads → Hangs c to k heads []
@@ -72,8 +71,8 @@ empty_hangs c to k (head ∷ heads) h =
     let r = empty_hangs c to (k + 1) heads h.1 in
     record { chains = [] ∷ r.chains; are = (record { first = h.0; runs = tt; members = tt }, r.are); whole = r.whole }
 
-pub empty_sound : (cs : ℕ → Column) (i : HashIndex) → AllByRecursion (λ o. o ≡ None) i.buckets.items → i.len ≡ 0 → IsSound cs i
-empty_sound cs i h e = IsSound_from cs i [] (Spells_from cs i [] (empty_hangs (cs i.col) (leads_to i) 0 i.buckets.items h) tt e (omega (arith, e)))
+pub empty_sound : (cs : ℕ → Column) (i : HashIndex) → AllByRecursion (λ o. o ≡ None) (heads_of i) → i.len ≡ 0 → IsSound cs i
+empty_sound cs i h e = IsSound_from cs i [] (Spells_from cs i [] (empty_hangs (cs i.col) (leads_to i) 0 (heads_of i) h) tt e (omega (arith, e)))
 
 -- ---- nodes of a list
 
@@ -127,13 +126,13 @@ pub some_node : (cs : ℕ → Column) (i : HashIndex) (xs : List Node) (n : Node
 some_node cs i xs n h k = omega (arith, h.len, ap length k.is, length-append k.before (n ∷ k.after))
 
 -- an index that has a node has a bucket
-pub some_bucket : (cs : ℕ → Column) (i : HashIndex) (xs : List Node) (n : Node) → Spells cs i xs → Holds xs n → 0 < vec_len i.buckets
+pub some_bucket : (cs : ℕ → Column) (i : HashIndex) (xs : List Node) (n : Node) → Spells cs i xs → Holds xs n → 0 < i.buckets.len
 some_bucket cs i xs n h k = omega (arith, h.len, h.load, ap length k.is, length-append k.before (n ∷ k.after))
 
-pub first_spelled : (cs : ℕ → Column) (i : HashIndex) → IsSound cs i → first_head i.buckets.items ≡ first_or (spelled cs i) None
+pub first_spelled : (cs : ℕ → Column) (i : HashIndex) → IsSound cs i → first_head (heads_of i) ≡ first_or (spelled cs i) None
 first_spelled cs i h =
     let k = hangs_of cs i (spelled cs i) h in
-    heads_first (cs i.col) (leads_to i) 0 i.buckets.items k.chains k.are ∙ ap (λ z. first_or z None) k.whole
+    heads_first (cs i.col) (leads_to i) 0 (heads_of i) k.chains k.are ∙ ap (λ z. first_or z None) k.whole
 
 -- ---- walks
 
@@ -163,7 +162,7 @@ pub record HasNeighbours (c : Column) (link : Link) : Type 0 where
 pub has_neighbours : (cs : ℕ → Column) (i : HashIndex) (xs : List Node) (n : Node) (link : Link) → Spells cs i xs → Holds xs n → cs i.col n ≡ Some link → HasNeighbours (cs i.col) link
 has_neighbours cs i xs n link h k is =
     let f = focus_of cs i xs (leads_to i link.tag) (leads_within i link.tag (some_bucket cs i xs n h k)) h in
-    let held = held_chain (cs i.col) (leads_to i) 0 (leads_to i link.tag) (leads_to i link.tag) i.buckets.items xs n f (is_in (cs i.col) (leads_to i) n link is) k in
+    let held = held_chain (cs i.col) (leads_to i) 0 (leads_to i link.tag) (leads_to i link.tag) (heads_of i) xs n f (is_in (cs i.col) (leads_to i) n link is) k in
     let runs = subst (λ z. Runs (untagged (cs i.col)) None z None) held.is f.here.runs in
     let near = neighbours (cs i.col) held.before n held.after link runs is in
     let past = subst (λ z. Runs (untagged (cs i.col)) None z None) (sym (append_assoc held.before (n ∷ []) held.after)) runs in
@@ -185,10 +184,10 @@ pub record After (to : ℕ → ℕ) (heads : List (Option Node)) (link : Link) (
   pub some : (m : Node) → link.b ≡ Some m → Some m ≡ first_or ys None
   pub none : link.b ≡ None → first_head (drop (to link.tag + 1) heads) ≡ first_or ys None
 
-pub after_node : (cs : ℕ → Column) (i : HashIndex) (xs : List Node) (n : Node) (ys : List Node) (link : Link) → leads_to i link.tag < vec_len i.buckets → Spells cs i (xs ++ n ∷ ys) → cs i.col n ≡ Some link → After (leads_to i) i.buckets.items link ys
+pub after_node : (cs : ℕ → Column) (i : HashIndex) (xs : List Node) (n : Node) (ys : List Node) (link : Link) → leads_to i link.tag < i.buckets.len → Spells cs i (xs ++ n ∷ ys) → cs i.col n ≡ Some link → After (leads_to i) (heads_of i) link ys
 after_node cs i xs n ys link lt h is =
     let f = focus_of cs i (xs ++ n ∷ ys) (leads_to i link.tag) lt h in
-    let held = held_chain (cs i.col) (leads_to i) 0 (leads_to i link.tag) (leads_to i link.tag) i.buckets.items (xs ++ n ∷ ys) n f (is_in (cs i.col) (leads_to i) n link is) (record { before = xs; after = ys; is = refl }) in
+    let held = held_chain (cs i.col) (leads_to i) 0 (leads_to i link.tag) (leads_to i link.tag) (heads_of i) (xs ++ n ∷ ys) n f (is_in (cs i.col) (leads_to i) n link is) (record { before = xs; after = ys; is = refl }) in
     let near = neighbours (cs i.col) held.before n held.after link (subst (λ z. Runs (untagged (cs i.col)) None z None) held.is f.here.runs) is in
     let split = split_at (xs ++ n ∷ ys) f.front f.chain f.back held.before n held.after f.whole held.is in
     let e : first_or ys None ≡ first_or held.after (first_or f.back None) =
@@ -200,22 +199,22 @@ after_node cs i xs n ys link lt h is =
 
 -- ---- the chain of a hash
 
-pub rest_is : (cs : ℕ → Column) (i : HashIndex) (xs : List Node) (b : ℕ) (f : Focus (cs i.col) (leads_to i) 0 b b i.buckets.items xs) → i.len ≡ length xs → Leads (untagged (cs i.col)) (get_or i.buckets.items b None) f.chain × (rest_of cs i (get_or i.buckets.items b None) ≡ f.chain)
+pub rest_is : (cs : ℕ → Column) (i : HashIndex) (xs : List Node) (b : ℕ) (f : Focus (cs i.col) (leads_to i) 0 b b (heads_of i) xs) → i.len ≡ length xs → Leads (untagged (cs i.col)) (get_or (heads_of i) b None) f.chain × (rest_of cs i (get_or (heads_of i) b None) ≡ f.chain)
 rest_is cs i xs b f len =
     let leads = subst (λ o. Leads (untagged (cs i.col)) o f.chain) (sym f.here.first) (leads_runs (cs i.col) None f.chain f.here.runs) in
     let fits : length f.chain ≤ i.len = omega (arith, len, ap length f.whole, length-append f.front (f.chain ++ f.back), length-append f.chain f.back) in
-    (leads, follow_leads (untagged (cs i.col)) (get_or i.buckets.items b None) f.chain i.len fits leads)
+    (leads, follow_leads (untagged (cs i.col)) (get_or (heads_of i) b None) f.chain i.len fits leads)
 
 -- from a bucket's first node there is a chain of distinct nodes
-pub head_ends : (cs : ℕ → Column) (i : HashIndex) (b : ℕ) (head : Option Node) → b < vec_len i.buckets → head ≡ get_or i.buckets.items b None → IsSound cs i → Ends cs i head × IsDistinct (rest_of cs i head)
+pub head_ends : (cs : ℕ → Column) (i : HashIndex) (b : ℕ) (head : Option Node) → b < i.buckets.len → head ≡ get_or (heads_of i) b None → IsSound cs i → Ends cs i head × IsDistinct (rest_of cs i head)
 head_ends cs i b head lt at h =
     let f = focus_of cs i (spelled cs i) b lt h in
     let r = rest_is cs i (spelled cs i) b f h.len in
     let back = IsDistinct-parts f.front (f.chain ++ f.back) (subst IsDistinct f.whole h.distinct) in
-    let ends : Ends cs i (get_or i.buckets.items b None) = subst (λ z. Leads (untagged (cs i.col)) (get_or i.buckets.items b None) z) (sym r.1) r.0 in
+    let ends : Ends cs i (get_or (heads_of i) b None) = subst (λ z. Leads (untagged (cs i.col)) (get_or (heads_of i) b None) z) (sym r.1) r.0 in
     (subst (Ends cs i) (sym at) ends, subst IsDistinct (sym (ap (λ o. rest_of cs i o) at ∙ r.1)) (IsDistinct-parts f.chain f.back back.back).front)
 
-pub has_hash : (cs : ℕ → Column) (i : HashIndex) (hash : ℕ) (head : Option Node) → leads_to i hash < vec_len i.buckets → head ≡ get_or i.buckets.items (leads_to i hash) None → IsSound cs i → HasHash cs i hash head
+pub has_hash : (cs : ℕ → Column) (i : HashIndex) (hash : ℕ) (head : Option Node) → leads_to i hash < i.buckets.len → head ≡ get_or (heads_of i) (leads_to i hash) None → IsSound cs i → HasHash cs i hash head
 has_hash cs i hash head lt at h =
     let to = leads_to i in
     let f = focus_of cs i (spelled cs i) (leads_to i hash) lt h in
@@ -224,7 +223,7 @@ has_hash cs i hash head lt at h =
       front = f.front;
       back = f.back;
       whole = f.whole ∙ ap (λ z. f.front ++ (z ++ f.back)) (sym r.1);
-      ends = subst (λ z. Leads (untagged (cs i.col)) (get_or i.buckets.items (leads_to i hash) None) z) (sym r.1) r.0;
+      ends = subst (λ z. Leads (untagged (cs i.col)) (get_or (heads_of i) (leads_to i hash) None) z) (sym r.1) r.0;
       before = All-map (IsElsewhere (cs i.col) to (to hash)) (λ n. tag_at (cs i.col) n ≢ Some hash) (λ n e k. e (ap (option_map to) k)) f.front f.before;
       after = All-map (IsElsewhere (cs i.col) to (to hash)) (λ n. tag_at (cs i.col) n ≢ Some hash) (λ n e k. e (ap (option_map to) k)) f.back f.after;
     })
@@ -243,7 +242,7 @@ chains_end cs i k (head ∷ heads) h =
     (subst (λ o. Leads (untagged (cs i.col)) o (rest_of cs i head)) (sym h.0.first) (leads_runs (cs i.col) None (rest_of cs i head) h.0.runs), chains_end cs i (k + 1) heads h.1)
 
 -- an index of no buckets has no node
-pub has_none : (cs : ℕ → Column) (i : HashIndex) (hash : ℕ) → vec_len i.buckets ≡ 0 → IsSound cs i → HasHash cs i hash None
+pub has_none : (cs : ℕ → Column) (i : HashIndex) (hash : ℕ) → i.buckets.len ≡ 0 → IsSound cs i → HasHash cs i hash None
 has_none cs i hash none h =
     let rest : rest_of cs i None ≡ [] = follow_leads (untagged (cs i.col)) None [] i.len (omega arith) refl in
     record {

@@ -1,4 +1,5 @@
 pub mod Mask
+pub mod Segments
 pub mod Buckets
 pub mod Chains
 pub mod Spelled

@@ -1,6 +1,5 @@
 -- The nodes that a hashed index has, bucket by bucket.
-use Rattle.std.specs.Prelude.{◌≡◌, ℕ, ◌+◌, ◌<◌, ◌≤◌, List, length, map, if◌then◌else◌, nat_lt}
-use Rattle.std.specs.Vec.{vec_len}
+use Rattle.std.specs.Prelude.{◌≡◌, ℕ, ◌+◌, ◌<◌, ◌≤◌, List, length, map, Option, if◌then◌else◌, nat_lt}
 use Rattle.node_store.specs.declared.Node.{Node}
 use Rattle.node_store.specs.Column.{Column}
 pub use Rattle.node_store.specs.Column.{KeepsOthers}
@@ -9,6 +8,7 @@ use Rattle.hash_index.specs.declared.HashIndex.{HashIndex}
 pub use Rattle.seq_index.specs.Spelled.{Holds}
 use Rattle.seq_index.specs.Spelled.{follow}
 pub use Rattle.hash_index.specs.Chains.{KeepsTags}
+use Rattle.hash_index.specs.Segments.{heads_in}
 use Rattle.hash_index.specs.Buckets.{bucket_of}
 use Rattle.hash_index.specs.Chains.{AreChains, joined, untagged}
 
@@ -20,9 +20,13 @@ col_of i = i.col
 abbrev pub index_of : HashIndex → ℕ
 index_of i = i.index
 
+-- the first node of each bucket
+abbrev pub heads_of : HashIndex → List (Option Node)
+heads_of i = heads_in i.buckets.segments.items
+
 -- how many buckets it has
 abbrev pub buckets_of : HashIndex → ℕ
-buckets_of i = vec_len i.buckets
+buckets_of i = i.buckets.len
 
 -- how many buckets have room for one node more: as many as there are, or one more where there are no more than nodes
 abbrev pub grown : ℕ → ℕ → ℕ
@@ -30,11 +34,11 @@ grown nodes buckets = if nat_lt nodes buckets then buckets else buckets + 1
 
 -- the bucket that a hash leads to
 abbrev pub leads_to : HashIndex → ℕ → ℕ
-leads_to i hash = bucket_of i.level (vec_len i.buckets) hash
+leads_to i hash = bucket_of i.level (i.buckets.len) hash
 
 -- the chain from each bucket's first node
 abbrev pub chains_of : (ℕ → Column) → HashIndex → List (List Node)
-chains_of cs i = map (λ head. follow (untagged (cs i.col)) head i.len) i.buckets.items
+chains_of cs i = map (λ head. follow (untagged (cs i.col)) head i.len) (heads_of i)
 
 -- the nodes of the chains, in the order of the buckets
 unfoldable pub spelled : (ℕ → Column) → HashIndex → List Node
@@ -43,10 +47,10 @@ spelled cs i = joined (chains_of cs i)
 -- the index has these nodes, at most one a bucket on average, each in the bucket of the hash that the column keeps of it
 pub record Spells (cs : ℕ → Column) (i : HashIndex) (xs : List Node) : Type 0 where
   pub is : xs ≡ spelled cs i
-  pub chains : AreChains (cs i.col) (leads_to i) 0 i.buckets.items (chains_of cs i)
+  pub chains : AreChains (cs i.col) (leads_to i) 0 (heads_of i) (chains_of cs i)
   pub distinct : IsDistinct xs
   pub len : i.len ≡ length xs
-  pub load : i.len ≤ vec_len i.buckets
+  pub load : i.len ≤ i.buckets.len
 
 -- the index is chains of distinct nodes
 abbrev pub IsSound : (ℕ → Column) → HashIndex → Type 0
@@ -54,4 +58,4 @@ IsSound cs i = Spells cs i (spelled cs i)
 
 -- one more node needs no more buckets
 abbrev pub HasRoom : HashIndex → Type 0
-HasRoom i = i.len < vec_len i.buckets
+HasRoom i = i.len < i.buckets.len

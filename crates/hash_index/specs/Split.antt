@@ -1,6 +1,5 @@
 -- A chain that is cut in two when a bucket is added.
 use Rattle.std.specs.Prelude.{◌≡◌, ℕ, ◌*◌, ◌%◌, List, filter, Bool, not, None}
-use Rattle.std.specs.Vec.{vec_len}
 use Rattle.node_store.specs.declared.Node.{Node}
 use Rattle.node_store.specs.Column.{Column}
 use Rattle.node_store.specs.Nodes.{first_or, last_or}
@@ -8,7 +7,7 @@ use Rattle.seq_index.specs.Links.{Runs}
 use Rattle.hash_index.specs.declared.HashIndex.{HashIndex}
 use Rattle.hash_index.specs.declared.chain.Chain.{Chain}
 use Rattle.hash_index.specs.Chains.{untagged, leads}
-use Rattle.hash_index.specs.Spelled.{leads_to}
+use Rattle.hash_index.specs.Spelled.{heads_of, leads_to}
 
 -- the chain has these nodes
 pub record Builds (c : Column) (chain : Chain) (xs : List Node) : Type 0 where
@@ -18,7 +17,7 @@ pub record Builds (c : Column) (chain : Chain) (xs : List Node) : Type 0 where
 
 -- whether the node goes to the bucket after the last
 abbrev pub goes : Column → HashIndex → Node → Bool
-goes c i n = leads c (λ hash. hash % (i.level * 2)) (vec_len i.buckets) n
+goes c i n = leads c (λ hash. hash % (i.level * 2)) (i.buckets.len) n
 
 -- the nodes that stay
 abbrev pub left : Column → HashIndex → List Node → List Node
@@ -30,7 +29,7 @@ taken c i xs = filter (goes c i) xs
 
 -- the new index has the same buckets, and each hash leads where it did
 pub record IsSame (old new : HashIndex) : Type 0 where
-  pub buckets : new.buckets.items ≡ old.buckets.items
+  pub buckets : heads_of new ≡ heads_of old
   pub len : new.len ≡ old.len
   pub col : new.col ≡ old.col
   pub index : new.index ≡ old.index

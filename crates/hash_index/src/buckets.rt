@@ -1,11 +1,11 @@
 //! Buckets, and walks over all nodes.
-ghost use Rattle.std.specs.Prelude.{◌≡◌, ℕ, ◌+◌, ◌*◌, ◌%◌, ◌<◌, ◌≤◌, List, ◌∷◌, ◌++◌, length, Some, None, vec_len, drop, slice_get};
+ghost use Rattle.std.specs.Prelude.{◌≡◌, ℕ, ◌+◌, ◌*◌, ◌%◌, ◌<◌, ◌≤◌, List, ◌∷◌, ◌++◌, length, Some, None, drop, slice_get};
 ghost use Rattle.node_store.specs.declared.Node.{Node};
 ghost use Rattle.node_store.specs.Column.{Column};
 ghost use Rattle.node_store.specs.Nodes.{first_or};
 ghost use Rattle.node_store.specs.ByNode.{column_of, same_node};
 ghost use Rattle.list_model.specs.Walk.{next as the_next};
-ghost use Rattle.hash_index.specs.Spelled.{Spells, chains_of, buckets_of, leads_to};
+ghost use Rattle.hash_index.specs.Spelled.{Spells, chains_of, buckets_of, heads_of, leads_to};
 ghost use Rattle.hash_index.specs.Stored.{nodes_of, AreBucketsOf, HasNode};
 ghost use Rattle.hash_index.specs.Chains.{first_head, longest};
 ghost use Rattle.hash_index.specs.Walks.{rest_of, Ends};
@@ -35,8 +35,10 @@ impl HashIndex {
         ensures { result ≡ longest (chains_of (column_of store.now) self.now) }
     {
         let mut longest = 0;
-        for head in &self.buckets {
-            longest = self.chain_length(store, *head).max(longest);
+        for bucket in 0..self.buckets.len() {
+            longest = self
+                .chain_length(store, self.buckets.get(bucket))
+                .max(longest);
         }
         longest
     }
@@ -75,7 +77,7 @@ impl HashIndex {
 
     // The node after the one that has this link.
     pub(crate) fn after(&self, link: Link) -> Option<Node>
-        requires { 0 < vec_len self.now.buckets }
+        requires { 0 < self.now.buckets.len }
         ensures { (cs : ℕ → Column) (xs : List Node) (n : Node) (ys : List Node) →
             Spells cs self.now (xs ++ n ∷ ys) → cs self.now.col n ≡ Some link →
             result ≡ first_or ys None }
@@ -88,12 +90,13 @@ impl HashIndex {
 
     // The first node of this bucket or a later one.
     pub(crate) fn first_from(&self, bucket: usize) -> Option<Node>
-        requires { bucket ≤ vec_len self.now.buckets }
-        ensures { result ≡ first_head (drop bucket self.now.buckets.items) }
+        requires { bucket ≤ self.now.buckets.len }
+        ensures { result ≡ first_head (drop bucket (heads_of self.now)) }
     {
-        for head in &self.buckets[bucket..] {
+        for later in bucket..self.buckets.len() {
+            let head = self.buckets.get(later);
             if head.is_some() {
-                return *head;
+                return head;
             }
         }
         None
@@ -101,9 +104,9 @@ impl HashIndex {
 
     // The bucket of a hash.
     pub(crate) fn bucket(&self, hash: u64) -> usize
-        requires { 0 < vec_len self.now.buckets }
+        requires { 0 < self.now.buckets.len }
         ensures is { result ≡ leads_to self.now hash }
-        ensures within { result < vec_len self.now.buckets }
+        ensures within { result < self.now.buckets.len }
     {
         let bucket = self.remainder(hash);
         if bucket < self.buckets.len() {

@@ -1,5 +1,5 @@
 //! Growth of the buckets, one at a time.
-ghost use Rattle.std.specs.Prelude.{◌≡◌, ℕ, ◌+◌, ◌*◌, ◌<◌, OnOk, OnErr, IsPermutation, length, vec_len, vec_capacity};
+ghost use Rattle.std.specs.Prelude.{◌≡◌, ℕ, ◌+◌, ◌*◌, ◌<◌, OnOk, OnErr, IsPermutation, length, true};
 ghost use Rattle.node_store.specs.declared.Node.{Node};
 ghost use Rattle.node_store.specs.ByNode.{column_of, contents};
 ghost use Rattle.node_store.specs.Column.{KeepsOthers};
@@ -8,34 +8,18 @@ ghost use Rattle.hash_index.specs.Spelled.{col_of, buckets_of, grown, leads_to, 
 ghost use Rattle.hash_index.specs.Stored.{nodes_of, AreBucketsOf, KeepsRest};
 ghost use Rattle.hash_index.specs.Walks.{rest_of, Ends};
 ghost use Rattle.hash_index.specs.Chains.{members};
+ghost use Rattle.hash_index.specs.Segments.{has_spare};
 ghost use Rattle.hash_index.specs.Split.{Builds, IsSame, left, taken};
 
 use crate::HashIndex;
 use crate::chain::Chain;
 use node_store::{Node, NodeStore};
-use std::alloc::{AllocError, Global};
-
-// Moves the buckets into a larger block where theirs is full. Where memory is refused, they are as before.
-fn make_room(alloc: Global, buckets: &mut Vec<Option<Node>>) -> Result<(), AllocError>
-    ensures room { OnOk result (vec_len buckets.new < vec_capacity buckets.new) }
-    ensures same { buckets.new.items ≡ buckets.old.items }
-    ensures unchanged { OnErr result (buckets.new ≡ buckets.old) }
-{
-    let count = buckets.len();
-    if count < buckets.capacity() {
-        return Ok(());
-    }
-    let mut larger = Vec::with_capacity(alloc, (count * 2).max(8))?;
-    larger.extend_from_slice(buckets)?;
-    *buckets = larger;
-    Ok(())
-}
+use std::alloc::AllocError;
 
 impl HashIndex {
     /// Makes room for one more node: where there are as many nodes as buckets, it adds one bucket, and moves those
     /// nodes of one other bucket into it whose hashes lead there. Each chain keeps its order. Where memory is refused,
-    /// everything is as before. Expected O(1), but for the block of the buckets, which is copied where it is full:
-    /// O(1) on average over many insertions.
+    /// everything is as before. Expected O(1): buckets that are there are not moved.
     pub fn reserve_one<R>(&mut self, store: &mut NodeStore<R>) -> Result<(), AllocError>
         requires { AreBucketsOf self.old store.old }
         ensures chain { AreBucketsOf self.new store.new }
@@ -67,15 +51,15 @@ impl HashIndex {
         Ok(())
     }
 
-    // Makes room for one more bucket, in the block and below twice the level. Where memory is refused, everything is as
+    // Makes room for one more bucket, in the segments and below twice the level. Where memory is refused, everything is as
     // before.
     fn reserve_bucket(&mut self) -> Result<(), AllocError>
         ensures same { IsSame self.old self.new }
-        ensures room { OnOk result (vec_len self.new.buckets < vec_capacity self.new.buckets) }
-        ensures level { OnOk result (vec_len self.new.buckets < self.new.level * 2) }
+        ensures room { OnOk result (has_spare self.new.buckets.segments.items ≡ true) }
+        ensures level { OnOk result (self.new.buckets.len < self.new.level * 2) }
         ensures unchanged { OnErr result (self.new ≡ self.old) }
     {
-        make_room(self.alloc, &mut self.buckets)?;
+        self.buckets.reserve_one(self.alloc)?;
         if self.buckets.len() == self.level * 2 {
             self.level *= 2;
         }
@@ -85,9 +69,9 @@ impl HashIndex {
     // Adds a bucket, for which there is room, with the nodes that it takes over from the one `level` before it.
     fn add_bucket<R>(&mut self, store: &mut NodeStore<R>)
         requires chain { AreBucketsOf self.old store.old }
-        requires some { 0 < vec_len self.old.buckets }
-        requires room { vec_len self.old.buckets < vec_capacity self.old.buckets }
-        requires level { vec_len self.old.buckets < self.old.level * 2 }
+        requires some { 0 < self.old.buckets.len }
+        requires room { has_spare self.old.buckets.segments.items ≡ true }
+        requires level { self.old.buckets.len < self.old.level * 2 }
         ensures chain { AreBucketsOf self.new store.new }
         ensures list { IsPermutation (nodes_of self.old store.old) (nodes_of self.new store.new) }
         ensures order { (b : ℕ) →
@@ -102,8 +86,8 @@ impl HashIndex {
         ensures rest { KeepsRest self.old self.new store.old store.new }
     {
         let from = self.buckets.len() - self.level;
-        let (stay, moved) = self.cut(store, self.buckets[from]);
-        self.buckets[from] = stay.first;
+        let (stay, moved) = self.cut(store, self.buckets.get(from));
+        self.buckets.set(from, stay.first);
         self.buckets.push_reserved(moved.first);
     }
 

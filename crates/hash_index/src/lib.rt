@@ -4,7 +4,7 @@
 //! stand in one index of each column at once.
 #![tactic(auto)]
 
-ghost use Rattle.std.specs.Prelude.{◌≡◌, ◌≢◌, ℕ, ◌+◌, ◌*◌, ◌<◌, ◌≤◌, max, List, [], ◌∷◌, ◌++◌, length, Option, Some, None, IsPermutation, vec_len};
+ghost use Rattle.std.specs.Prelude.{◌≡◌, ◌≢◌, ℕ, ◌+◌, ◌*◌, ◌<◌, ◌≤◌, max, List, [], ◌∷◌, ◌++◌, length, Option, Some, None, IsPermutation};
 ghost use Rattle.node_store.specs.declared.Node.{Node};
 ghost use Rattle.node_store.specs.Column.{Column, IsNode};
 ghost use Rattle.node_store.specs.Store.{IsNodeOf};
@@ -17,11 +17,13 @@ mod buckets;
 mod chain;
 mod grow;
 mod search;
+mod segments;
 mod settle;
 
 use chain::{first_beside, set_next, set_prev};
 use key_extract::Extract;
 use node_store::{Link, Node, NodeStore};
+use segments::Segments;
 use std::alloc::Global;
 
 /// Nodes in buckets by the hashes of their keys, at most one a bucket on average. The `tag` of a node's link is the
@@ -32,14 +34,14 @@ pub struct HashIndex {
     alloc: Global,
     col: usize,
     index: usize,
-    buckets: Vec<Option<Node>>,
+    buckets: Segments,
     level: usize,
     len: usize,
     ghost col_exists: { col < 8 },
     ghost some_level: { 0 < level },
     ghost masked: { HasMask (level * 2) } by { HasMask_prop (level * 2) },
-    ghost reached: { level ≤ max 1 (vec_len buckets) },
-    ghost covered: { vec_len buckets ≤ level * 2 },
+    ghost reached: { level ≤ max 1 buckets.len },
+    ghost covered: { buckets.len ≤ level * 2 },
 }
 
 impl HashIndex {
@@ -60,7 +62,7 @@ impl HashIndex {
             alloc,
             col,
             index,
-            buckets: Vec::new(alloc),
+            buckets: Segments::new(alloc),
             level: 1,
             len: 0,
         }
@@ -106,7 +108,8 @@ impl HashIndex {
         let bucket = self.bucket(tag);
         set_next(store, self.col, before, after);
         set_prev(store, self.col, after, before);
-        self.buckets[bucket] = first_beside(before, self.buckets[bucket], after);
+        let head = first_beside(before, self.buckets.get(bucket), after);
+        self.buckets.set(bucket, head);
         self.len -= 1;
     }
 
@@ -129,7 +132,7 @@ impl HashIndex {
         ensures rest { KeepsRest self.old self.new store.old store.new }
     {
         let bucket = self.bucket(hash);
-        let head = self.buckets[bucket];
+        let head = self.buckets.get(bucket);
         let link = Link {
             a: None,
             b: head,
@@ -139,7 +142,7 @@ impl HashIndex {
         };
         store.set_link(n, self.col, link);
         set_prev(store, self.col, head, Some(n));
-        self.buckets[bucket] = Some(n);
+        self.buckets.set(bucket, Some(n));
         self.len += 1;
     }
 }

@@ -198,6 +198,6 @@ impl HashIndex {
         if self.buckets.is_empty() {
             return None;
         }
-        self.buckets[self.bucket(hash)]
+        self.buckets.get(self.bucket(hash))
     }
 }

@@ -1,4 +1,5 @@
 use Rattle.std.proofs.Common.{◌+◌, ◌∙◌, ap, drop}
+use Rattle.hash_index.specs.Spelled.{heads_of}
 use Rattle.hash_index.specs.Chains.{first_head}
 use Rattle.hash_index.proofs.Levels.{leads_within}
 use Rattle.hash_index.proofs.Spelling.{after_node}
@@ -16,4 +17,4 @@ returns-in-None c = λ cs xs n ys h is.
     let i = c.args.self.now in
     let some = c.requires in
     let within = leads_within i c.args.link.tag some in
-    c.first_from.ensures ∙ (ap (λ b. first_head (drop (b + 1) i.buckets.items)) c.bucket.ensures.is ∙ (after_node cs i xs n ys c.args.link within h is).none c.in-None.is)
+    c.first_from.ensures ∙ (ap (λ b. first_head (drop (b + 1) (heads_of i))) c.bucket.ensures.is ∙ (after_node cs i xs n ys c.args.link within h is).none c.in-None.is)

@@ -1,6 +1,7 @@
 use Rattle.std.proofs.Common.{◌≡◌, drop}
+use Rattle.hash_index.specs.Spelled.{heads_of}
 use Rattle.hash_index.specs.Chains.{first_head}
 use Rattle.hash_index.proofs.HashIndex.first_from.Given as goal
 
-abbrev pub invariant-loop-head : goal.invariant-loop-head
-invariant-loop-head l = first_head (drop l.head-index l.head-items) ≡ first_head (drop l.bucket l.self.buckets.items)
+abbrev pub invariant-loop-later : goal.invariant-loop-later
+invariant-loop-later l = first_head (drop l.later (heads_of l.self)) ≡ first_head (drop l.bucket (heads_of l.self))

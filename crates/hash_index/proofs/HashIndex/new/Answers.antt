@@ -6,4 +6,4 @@ use Rattle.hash_index.proofs.HashIndex.new.Goals as goal
 
 pub returns-clause-empty : goal.returns-clause-empty
 returns-clause-empty c = λ cs.
-    Spells_from cs _ _ (empty_hangs _ _ 0 _ (subst (λ z. AllByRecursion (λ o. o ≡ None) z) (sym c.new.ensures.items) tt)) tt refl (omega arith)
+    Spells_from cs _ _ (empty_hangs _ _ 0 _ (subst (λ z. AllByRecursion (λ o. o ≡ None) z) (sym c.new.ensures) tt)) tt refl (omega arith)

@@ -1,6 +1,4 @@
-use Rattle.std.proofs.Common.{◌+◌, ◌≤◌, None, refl, sym, ◌∙◌, arith}
-use Rattle.std.specs.Vec.{vec_len}
-use Rattle.std.proofs.lemmas.List.{get_or_read}
+use Rattle.std.proofs.Common.{◌+◌, ◌≤◌, refl, sym, ◌∙◌, arith}
 use Rattle.node_store.specs.ByNode.{column_of}
 use Rattle.hash_index.specs.Spelled.{spelled}
 use Rattle.hash_index.proofs.Spelling.{focus_of}
@@ -10,31 +8,31 @@ use Rattle.hash_index.proofs.HashIndex.put.Goals as goal
 pub set_prev-requires-clause-node : goal.set_prev-requires-clause-node
 set_prev-requires-clause-node g c =
     let i = c.args.self.now in
-    let first = get_or_read i.buckets.items c.bucket-bucket.result c.index-head.result.now (omega (arith, i.buckets.ok, c.bucket-bucket.ensures.within)) c.index-head.ensures None in
+    let first = c.get-head.ensures in
     let at = focus_of (column_of c.args.store.now) i (spelled (column_of c.args.store.now) i) c.bucket-bucket.result c.bucket-bucket.ensures.within c.requires.chain in
     λ m e. c.set_link.ensures.put.nodes m (head_node _ _ _ _ _ at m (sym first ∙ e))
 
 pub returns-clause-chain : goal.returns-clause-chain
 returns-clause-chain g c =
     let i = c.args.self.now in
-    let first = get_or_read i.buckets.items c.bucket-bucket.result c.index-head.result.now (omega (arith, i.buckets.ok, c.bucket-bucket.ensures.within)) c.index-head.ensures None in
-    let load : i.len + 1 ≤ vec_len i.buckets = omega (arith, c.requires.room) in
+    let first = c.get-head.ensures in
+    let load : i.len + 1 ≤ c.set.new.self.len = omega (arith, c.requires.room, c.set.ensures.len) in
     put_sound (column_of c.args.store.now) (column_of c.set_prev.new.store) _ i _ c.args.n c.bucket-bucket.result c.requires.chain c.bucket-bucket.ensures.within
-    c.args.hash c.index-head.result.now (λ ys h. h) refl load c.requires.new c.bucket-bucket.ensures.is first
+    c.args.hash c.get-head.result (record { col = refl; level = refl; count = c.set.ensures.len; heads = c.set.ensures.heads }) refl load c.requires.new c.bucket-bucket.ensures.is first
     c.set_link.ensures.put c.set_prev.ensures.ends c.set_prev.ensures.tags c.set_prev.ensures.same
 
 pub returns-clause-list : goal.returns-clause-list
 returns-clause-list g c =
     let i = c.args.self.now in
-    let first = get_or_read i.buckets.items c.bucket-bucket.result c.index-head.result.now (omega (arith, i.buckets.ok, c.bucket-bucket.ensures.within)) c.index-head.ensures None in
-    let load : i.len + 1 ≤ vec_len i.buckets = omega (arith, c.requires.room) in
+    let first = c.get-head.ensures in
+    let load : i.len + 1 ≤ c.set.new.self.len = omega (arith, c.requires.room, c.set.ensures.len) in
     put_moved (column_of c.args.store.now) (column_of c.set_prev.new.store) _ i _ c.args.n c.bucket-bucket.result c.requires.chain c.bucket-bucket.ensures.within
-    c.args.hash c.index-head.result.now (λ ys h. h) refl load c.requires.new c.bucket-bucket.ensures.is first
+    c.args.hash c.get-head.result (record { col = refl; level = refl; count = c.set.ensures.len; heads = c.set.ensures.heads }) refl load c.requires.new c.bucket-bucket.ensures.is first
     c.set_link.ensures.put c.set_prev.ensures.ends c.set_prev.ensures.tags c.set_prev.ensures.same
 
 pub returns-clause-same : goal.returns-clause-same
 returns-clause-same g c =
     let i = c.args.self.now in
-    let first = get_or_read i.buckets.items c.bucket-bucket.result c.index-head.result.now (omega (arith, i.buckets.ok, c.bucket-bucket.ensures.within)) c.index-head.ensures None in
+    let first = c.get-head.ensures in
     let at = focus_of (column_of c.args.store.now) i (spelled (column_of c.args.store.now) i) c.bucket-bucket.result c.bucket-bucket.ensures.within c.requires.chain in
     λ m ne lacks. c.set_prev.ensures.same m (λ e. head_lacks _ _ _ _ _ at m lacks (sym first ∙ e)) ∙ c.set_link.ensures.put.others m ne

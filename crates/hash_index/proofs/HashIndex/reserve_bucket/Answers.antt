@@ -1,5 +1,4 @@
-use Rattle.std.proofs.Common.{◌≡◌, ◌<◌, ◌*◌, length, refl, ap, sym, ◌∙◌, arith}
-use Rattle.std.specs.Vec.{vec_len}
+use Rattle.std.proofs.Common.{◌≡◌, ◌<◌, ◌*◌, refl, ap, sym, ◌∙◌, arith}
 use Rattle.hash_index.specs.Buckets.{bucket_of}
 use Rattle.hash_index.proofs.Masks.{doubled}
 use Rattle.hash_index.proofs.Levels.{next_level}
@@ -13,12 +12,11 @@ invariant_of-self-then-len-self-clause-masked c =
 pub returns-then-len-self-clause-same : goal.returns-then-len-self-clause-same
 returns-then-len-self-clause-same c =
     let i = c.args.self.now in
-    let new = c.make_room.new.buckets in
-    let same = c.make_room.ensures.same in
-    let full : vec_len new ≡ i.level * 2 = omega (arith, c.if-len-self.true, c.len.ensures) in
-    let was : vec_len i.buckets ≡ i.level * 2 = omega (arith, full, ap length same, new.ok, i.buckets.ok) in
+    let new = c.reserve_one.new.self in
+    let full : new.len ≡ i.level * 2 = omega (arith, c.if-len-self.true, c.len.ensures) in
+    let was : i.buckets.len ≡ i.level * 2 = omega (arith, full, c.reserve_one.ensures.len) in
     record {
-      buckets = same;
+      buckets = c.reserve_one.ensures.heads;
       len = refl;
       col = refl;
       index = refl;

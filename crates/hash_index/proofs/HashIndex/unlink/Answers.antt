@@ -1,7 +1,5 @@
-use Rattle.std.proofs.Common.{◌≡◌, ◌+◌, ◌-◌, ◌≤◌, None, ap, ◌∙◌, arith}
-use Rattle.std.specs.Vec.{vec_len}
+use Rattle.std.proofs.Common.{◌≡◌, ◌+◌, ◌-◌, ◌≤◌, refl, ap, ◌∙◌, arith}
 use Rattle.seq_index.specs.Links.{end_beside}
-use Rattle.std.proofs.lemmas.List.{get_or_read}
 use Rattle.node_store.specs.ByNode.{column_of}
 use Rattle.hash_index.proofs.Untagged.{tagged_node, untagged_node}
 use Rattle.hash_index.proofs.Spelling.{held_node, has_neighbours, some_bucket, some_node}
@@ -26,8 +24,8 @@ returns-clause-list g c =
     let i = c.args.self.now in
     let some = some_node _ i _ c.args.n c.requires.chain c.requires.held in
     let len : (i.len - 1) + 1 ≡ i.len = omega arith in
-    let load : i.len - 1 ≤ vec_len i.buckets = omega (arith, c.requires.chain.load) in
-    let first = get_or_read i.buckets.items c.bucket-bucket.result c.index.result.now (omega (arith, i.buckets.ok, c.bucket-bucket.ensures.within)) c.index.ensures None in
+    let load : i.len - 1 ≤ c.set.new.self.len = omega (arith, c.requires.chain.load, c.set.ensures.len) in
+    let first = c.get.ensures in
     out_done (column_of c.args.store.now) (column_of c.set_prev.new.store) _ i _ c.args.n c.bucket-bucket.result c.requires.chain c.bucket-bucket.ensures.within
-    c.link-before.result c.first_beside.result (λ ys h. h) (c.first_beside.ensures ∙ ap (λ o. end_beside c.link-before.result.a o c.link-before.result.b) first) len load c.requires.held c.bucket-bucket.ensures.is c.link-before.ensures
+    c.link-before.result c.first_beside-head.result (record { col = refl; level = refl; count = c.set.ensures.len; heads = c.set.ensures.heads }) (c.first_beside-head.ensures ∙ ap (λ o. end_beside c.link-before.result.a o c.link-before.result.b) first) len load c.requires.held c.bucket-bucket.ensures.is c.link-before.ensures
     c.set_next.ensures.ends c.set_next.ensures.same c.set_prev.ensures.ends c.set_prev.ensures.same (λ m. c.set_prev.ensures.tags m ∙ c.set_next.ensures.tags m)

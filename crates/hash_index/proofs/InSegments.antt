@@ -1,0 +1,218 @@
+-- Buckets in segments: where each stands, and what changes one, adds one or adds a segment.
+use Rattle.std.proofs.Common.{◌≡◌, ◌⊎◌, inl, inr, ℕ, zero, suc, ◌+◌, ◌-◌, ◌*◌, ◌^◌, ◌<◌, ◌≤◌, true, false, nat_lt, List, [], ◌∷◌, ◌++◌, length, get_or, set, Option, Some, None, refl, sym, ap, ◌∙◌, subst, arith, append_assoc, length-append, pow_mono, pow-add, pow-suc, lt_of_not-le}
+use Rattle.std.specs.List.{slice_get}
+use Rattle.std.specs.Vec.{vec_len, vec_capacity}
+use Rattle.std.proofs.lemmas.Nat.{pow_pos}
+use Rattle.std.proofs.lemmas.List.{append-nil, get_or-append-add, get_or_append_left, set-append_left, set-append_right}
+use Rattle.std.proofs.Math.Seq.{get_or-append_seam, set-append_seam}
+use Rattle.node_store.specs.declared.Node.{Node}
+use Rattle.hash_index.specs.Segments.{Segment, heads_in, AreSegments, has_spare}
+
+-- ---- the highest bit
+
+module _ (n top : ℕ) (low : 2 ^ top ≤ n) (high : n < 2 * 2 ^ top) (some : 8 ≤ n) where
+  pub top_above : 3 ≤ top
+  top_above = lt_of_not-le (λ (le : top ≤ 2). let p : 2 ^ top ≤ 4 = pow_mono le in omega arith)
+
+  pub eight_times : 8 * 2 ^ (top - 3) ≡ 2 ^ top
+  eight_times = let e : 3 + (top - 3) ≡ top = omega (arith, top_above) in sym (pow-add 2 3 (top - 3)) ∙ ap (λ (k : ℕ). 2 ^ k) e
+
+-- ---- one segment among all
+
+pub record Part (ss : List Segment) (k j b : ℕ) : Type 0 where
+  pub front : List Segment
+  pub segment : Segment
+  pub back : List Segment
+  pub whole : ss ≡ front ++ segment ∷ back
+  pub count : k ≡ length front
+  pub within : j < length segment.items
+  pub place : b ≡ length (heads_in front) + j
+
+-- a segment further on starts past this one
+twice : (size k : ℕ) → (size * 2 ^ suc k ≡ (size * 2) * 2 ^ k) × (size * 2 ≤ (size * 2) * 2 ^ k)
+twice size k =
+    let p = pow_pos k in
+    let q : 2 ^ suc k ≡ 2 ^ k * 2 = pow-suc 2 k in
+    (ap (λ z. size * z) q ∙ grind arith, grind (arith, p))
+
+first_part : (s : Segment) (ss : List Segment) (size j b : ℕ) → size ≤ length s.items ⊎ (b < length s.items) → b + size ≡ size * 2 ^ zero + j → j < size * 2 ^ zero → Part (s ∷ ss) zero j b
+first_part s ss size j b h at lt = record { front = []; segment = s; back = ss; whole = refl; count = refl; within = grind (arith, h, at, lt); place = omega (arith, at) }
+
+pub part_at : (size : ℕ) (ss : List Segment) (k j b : ℕ) → AreSegments size ss → b < length (heads_in ss) → b + size ≡ size * 2 ^ k + j → j < size * 2 ^ k → Part ss k j b
+part_at size [] k j b h lt at within = absurd (omega (arith, lt))
+part_at size (s ∷ []) zero j b h lt at within = first_part s [] size j b (inr (omega (arith, lt, ap length (append-nil s.items)))) at within
+part_at size (s ∷ []) (suc k) j b h lt at within =
+    let t = twice size k in
+    absurd (omega (arith, lt, ap length (append-nil s.items), at, t.0, t.1, h, s.ok.0, s.ok.1))
+part_at size (s ∷ (t ∷ ss)) zero j b h lt at within = first_part s (t ∷ ss) size j b (inl (omega (arith, h.0, s.ok.0))) at within
+part_at size (s ∷ (t ∷ ss)) (suc k) j b h lt at within =
+    let w = twice size k in
+    let both = length-append s.items (heads_in (t ∷ ss)) in
+    let r = part_at (size * 2) (t ∷ ss) k j (b - size) h.1 (omega (arith, lt, both, h.0, s.ok.0, at, w.0, w.1)) (omega (arith, at, w.0, w.1)) (omega (arith, within, w.0)) in
+    let more = length-append s.items (heads_in r.front) in
+    record { front = s ∷ r.front; segment = r.segment; back = r.back; whole = ap (λ z. s ∷ z) r.whole; count = ap suc r.count; within = r.within; place = omega (arith, more, r.place, h.0, s.ok.0, at, w.0, w.1) }
+
+pub heads_parts : (front : List Segment) (s : Segment) (back : List Segment) → heads_in (front ++ s ∷ back) ≡ heads_in front ++ (s.items ++ heads_in back)
+heads_parts [] s back = refl
+heads_parts (f ∷ front) s back = ap (λ z. f.items ++ z) (heads_parts front s back) ∙ sym (append_assoc f.items (heads_in front) (s.items ++ heads_in back))
+
+module _ (ss : List Segment) (k j b : ℕ) (p : Part ss k j b) where
+  pub part_is : (s : Segment) → s ≡ get_or ss k s → s ≡ p.segment
+  part_is s e = e ∙ (ap (λ z. get_or z k s) p.whole ∙ (ap (λ m. get_or (p.front ++ p.segment ∷ p.back) m s) p.count ∙ get_or-append_seam p.front p.segment p.back s))
+
+  pub part_below : k < length ss
+  part_below = omega (arith, ap length p.whole, length-append p.front (p.segment ∷ p.back), p.count)
+
+  pub part_get : get_or (heads_in ss) b None ≡ get_or p.segment.items j None
+  part_get =
+      ap (λ z. get_or (heads_in z) b None) p.whole ∙ (ap (λ z. get_or z b None) (heads_parts p.front p.segment p.back)
+      ∙ (ap (λ m. get_or (heads_in p.front ++ (p.segment.items ++ heads_in p.back)) m None) p.place
+      ∙ (get_or-append-add (heads_in p.front) (p.segment.items ++ heads_in p.back) j None ∙ get_or_append_left p.segment.items (heads_in p.back) None j p.within)))
+
+  pub part_put : (s : Segment) → set ss k s ≡ p.front ++ s ∷ p.back
+  part_put s = ap (λ z. set z k s) p.whole ∙ (ap (λ m. set (p.front ++ p.segment ∷ p.back) m s) p.count ∙ set-append_seam p.front p.segment p.back s)
+
+  pub part_set : (s : Segment) (head : Option Node) → s.items ≡ set p.segment.items j head → heads_in (set ss k s) ≡ set (heads_in ss) b head
+  part_set s head e =
+      let past : b - length (heads_in p.front) ≡ j = omega (arith, p.place) in
+      let old : set (heads_in ss) b head ≡ heads_in p.front ++ (set p.segment.items j head ++ heads_in p.back) =
+      ap (λ z. set (heads_in z) b head) p.whole ∙ (ap (λ z. set z b head) (heads_parts p.front p.segment p.back)
+      ∙ (set-append_right (heads_in p.front) (p.segment.items ++ heads_in p.back) (length (heads_in p.front)) b head refl (omega (arith, p.place))
+      ∙ (ap (λ m. heads_in p.front ++ set (p.segment.items ++ heads_in p.back) m head) past
+      ∙ ap (λ z. heads_in p.front ++ z) (set-append_left p.segment.items (heads_in p.back) j head p.within)))) in
+      ap heads_in (part_put s) ∙ (heads_parts p.front s p.back ∙ (ap (λ z. heads_in p.front ++ (z ++ heads_in p.back)) e ∙ sym old))
+
+-- ---- another segment of the same length and capacity in the place of one
+
+swapped_shape : (size : ℕ) (front : List Segment) (s t : Segment) (back : List Segment) → vec_len t ≡ vec_len s → vec_capacity t ≡ vec_capacity s → AreSegments size (front ++ s ∷ back) → AreSegments size (front ++ t ∷ back)
+swapped_shape size [] s t [] len cap h = cap ∙ h
+swapped_shape size [] s t (b ∷ back) len cap h = (len ∙ h.0, h.1)
+swapped_shape size (f ∷ []) s t back len cap h = (h.0, swapped_shape (size * 2) [] s t back len cap h.1)
+swapped_shape size (f ∷ (g ∷ front)) s t back len cap h = (h.0, swapped_shape (size * 2) (g ∷ front) s t back len cap h.1)
+
+swapped_spare : (front : List Segment) (s t : Segment) (back : List Segment) → vec_len t ≡ vec_len s → vec_capacity t ≡ vec_capacity s → has_spare (front ++ t ∷ back) ≡ has_spare (front ++ s ∷ back)
+swapped_spare [] s t [] len cap = ap (λ k. nat_lt k (vec_capacity t)) len ∙ ap (λ k. nat_lt (vec_len s) k) cap
+swapped_spare [] s t (b ∷ back) len cap = refl
+swapped_spare (f ∷ []) s t back len cap = swapped_spare [] s t back len cap
+swapped_spare (f ∷ (g ∷ front)) s t back len cap = swapped_spare (g ∷ front) s t back len cap
+
+module _ (ss : List Segment) (k j b : ℕ) (p : Part ss k j b) (s : Segment) (len : vec_len s ≡ vec_len p.segment) (cap : vec_capacity s ≡ vec_capacity p.segment) where
+  pub put_shape : (size : ℕ) → AreSegments size ss → AreSegments size (set ss k s)
+  put_shape size h = subst (AreSegments size) (sym (part_put ss k j b p s)) (swapped_shape size p.front p.segment s p.back len cap (subst (AreSegments size) p.whole h))
+
+  pub put_spare : has_spare (set ss k s) ≡ has_spare ss
+  put_spare = ap has_spare (part_put ss k j b p s) ∙ (swapped_spare p.front p.segment s p.back len cap ∙ ap has_spare (sym p.whole))
+
+-- ---- one bucket more in the last segment
+
+pub record Last (ss : List Segment) : Type 0 where
+  pub front : List Segment
+  pub segment : Segment
+  pub whole : ss ≡ front ++ segment ∷ []
+  pub spare : has_spare ss ≡ nat_lt (vec_len segment) (vec_capacity segment)
+
+pub last_of : (s : Segment) (ss : List Segment) → Last (s ∷ ss)
+last_of s [] = record { front = []; segment = s; whole = refl; spare = refl }
+last_of s (t ∷ ss) = let r = last_of t ss in record { front = s ∷ r.front; segment = r.segment; whole = ap (λ z. s ∷ z) r.whole; spare = r.spare }
+
+spare_at : (ss : List Segment) (k : ℕ) (s : Segment) → k + 1 ≡ length ss → slice_get ss k ≡ Some s → nat_lt (vec_len s) (vec_capacity s) ≡ has_spare ss
+spare_at [] k s count e = absurd (omega (arith, count))
+spare_at (x ∷ []) zero s count e = cc
+spare_at (x ∷ []) (suc k) s count e = absurd (omega (arith, count))
+spare_at (x ∷ (y ∷ ss)) zero s count e = absurd (omega (arith, count))
+spare_at (x ∷ (y ∷ ss)) (suc k) s count e = spare_at (y ∷ ss) k s (omega (arith, count)) e
+
+pub spare_is : (ss : List Segment) (s : Segment) → Some s ≡ slice_get ss (length ss - 1) → nat_lt (vec_len s) (vec_capacity s) ≡ has_spare ss
+spare_is [] s e = cc
+spare_is (x ∷ ss) s e = let below : length (x ∷ ss) - 1 ≡ length ss = omega arith in spare_at (x ∷ ss) (length ss) s (omega arith) (sym (e ∙ ap (λ k. slice_get (x ∷ ss) k) below))
+
+pub spare_last : (ss : List Segment) → has_spare ss ≡ true → Last ss
+spare_last [] e = cc
+spare_last (s ∷ ss) e = last_of s ss
+
+last_shape : (size : ℕ) (front : List Segment) (s t : Segment) → vec_capacity t ≡ vec_capacity s → AreSegments size (front ++ s ∷ []) → AreSegments size (front ++ t ∷ [])
+last_shape size [] s t cap h = cap ∙ h
+last_shape size (f ∷ []) s t cap h = (h.0, cap ∙ h.1)
+last_shape size (f ∷ (g ∷ front)) s t cap h = (h.0, last_shape (size * 2) (g ∷ front) s t cap h.1)
+
+module _ (ss : List Segment) (p : Last ss) where
+  pub last_count : 0 < length ss
+  last_count = omega (arith, ap length p.whole, length-append p.front (p.segment ∷ []))
+
+  pub last_room : has_spare ss ≡ true → vec_len p.segment < vec_capacity p.segment
+  last_room e = let is : nat_lt (vec_len p.segment) (vec_capacity p.segment) ≡ true = sym p.spare ∙ e in grind (arith, is)
+
+  pub last_is : (k : ℕ) (s : Segment) → k + 1 ≡ length ss → s ≡ get_or ss k s → s ≡ p.segment
+  last_is k s count e =
+      let at : k ≡ length p.front = omega (arith, count, ap length p.whole, length-append p.front (p.segment ∷ [])) in
+      e ∙ (ap (λ z. get_or z k s) p.whole ∙ (ap (λ m. get_or (p.front ++ p.segment ∷ []) m s) at ∙ get_or-append_seam p.front p.segment [] s))
+
+  last_put : (k : ℕ) (s : Segment) → k + 1 ≡ length ss → set ss k s ≡ p.front ++ s ∷ []
+  last_put k s count =
+      let at : k ≡ length p.front = omega (arith, count, ap length p.whole, length-append p.front (p.segment ∷ [])) in
+      ap (λ z. set z k s) p.whole ∙ (ap (λ m. set (p.front ++ p.segment ∷ []) m s) at ∙ set-append_seam p.front p.segment [] s)
+
+  pub last_fits : (size k : ℕ) (s : Segment) → k + 1 ≡ length ss → vec_capacity s ≡ vec_capacity p.segment → AreSegments size ss → AreSegments size (set ss k s)
+  last_fits size k s count cap h = subst (AreSegments size) (sym (last_put k s count)) (last_shape size p.front p.segment s cap (subst (AreSegments size) p.whole h))
+
+  pub last_heads : (k : ℕ) (s : Segment) (head : Option Node) → k + 1 ≡ length ss → s.items ≡ p.segment.items ++ head ∷ [] → heads_in (set ss k s) ≡ heads_in ss ++ head ∷ []
+  last_heads k s head count e =
+      ap heads_in (last_put k s count) ∙ (heads_parts p.front s [] ∙ (ap (λ z. heads_in p.front ++ z) (append-nil s.items ∙ e)
+      ∙ (sym (append_assoc (heads_in p.front) p.segment.items (head ∷ []))
+      ∙ ap (λ z. z ++ head ∷ []) (sym (ap heads_in p.whole ∙ (heads_parts p.front p.segment [] ∙ ap (λ z. heads_in p.front ++ z) (append-nil p.segment.items)))))))
+
+-- ---- one segment more
+
+pub heads_more : (ss : List Segment) (new : Segment) → new.items ≡ [] → heads_in (ss ++ new ∷ []) ≡ heads_in ss
+heads_more ss new e = heads_parts ss new [] ∙ (ap (λ z. heads_in ss ++ (z ++ [])) e ∙ append-nil (heads_in ss))
+
+pub spare_more : (ss : List Segment) (new : Segment) → nat_lt (vec_len new) (vec_capacity new) ≡ true → has_spare (ss ++ new ∷ []) ≡ true
+spare_more [] new e = e
+spare_more (s ∷ []) new e = e
+spare_more (s ∷ (t ∷ ss)) new e = spare_more (t ∷ ss) new e
+
+full : (s : Segment) → nat_lt (vec_len s) (vec_capacity s) ≡ false → vec_len s ≡ vec_capacity s
+full s e = grind (arith, e, s.ok.1)
+
+pub shape_more : (size : ℕ) (ss : List Segment) (new : Segment) → has_spare ss ≡ false → vec_capacity new ≡ length (heads_in ss) + size → AreSegments size ss → AreSegments size (ss ++ new ∷ [])
+shape_more size [] new e room h = omega (arith, room)
+shape_more size (s ∷ []) new e room h =
+    let is = full s e in
+    (is ∙ h, omega (arith, room, ap length (append-nil s.items), s.ok.0, is, h))
+shape_more size (s ∷ (t ∷ ss)) new e room h =
+    let both = length-append s.items (heads_in (t ∷ ss)) in
+    (h.0, shape_more (size * 2) (t ∷ ss) new e (omega (arith, room, both, s.ok.0, h.0)) h.1)
+
+-- the last segment is no larger than a block may be, and so there are fewer of them than bits
+count_fits : (size : ℕ) (s : Segment) (ss : List Segment) → AreSegments size (s ∷ ss) → size * 2 ^ length ss < 2 ^ 63
+count_fits size s [] h = omega (arith, h, s.small)
+count_fits size s (t ∷ ss) h =
+    let w = twice size (length ss) in
+    let r = count_fits (size * 2) t ss h.1 in
+    omega (arith, w.0, r)
+
+under_sixty : (k : ℕ) → 8 * 2 ^ k < 9223372036854775808 → k < 60
+under_sixty k fits = lt_of_not-le (λ (le : 60 ≤ k). let p : 1152921504606846976 ≤ 2 ^ k = pow_mono le in omega (arith, p, fits))
+
+pub count_small : (ss : List Segment) → AreSegments 8 ss → length ss < 64
+count_small [] h = omega arith
+count_small (s ∷ ss) h =
+    let below = under_sixty (length ss) (count_fits 8 s ss h) in
+    omega (arith, below)
+
+heads_count : (size : ℕ) (ss : List Segment) → AreSegments size ss → length (heads_in ss) + size ≤ size * 2 ^ length ss
+heads_count size [] h = omega arith
+heads_count size (s ∷ []) h = omega (arith, ap length (append-nil s.items), s.ok.0, s.ok.1, h)
+heads_count size (s ∷ (t ∷ ss)) h =
+    let w = twice size (length (t ∷ ss)) in
+    let both = length-append s.items (heads_in (t ∷ ss)) in
+    let r = heads_count (size * 2) (t ∷ ss) h.1 in
+    omega (arith, both, r, h.0, s.ok.0, w.0)
+
+pub heads_small : (ss : List Segment) → AreSegments 8 ss → length (heads_in ss) + 8 ≤ 2 ^ 63
+heads_small [] h = omega arith
+heads_small (s ∷ ss) h =
+    let below = under_sixty (length ss) (count_fits 8 s ss h) in
+    let le : length (s ∷ ss) ≤ 60 = omega (arith, below) in
+    let p : 2 ^ length (s ∷ ss) ≤ 1152921504606846976 = pow_mono le in
+    omega (arith, heads_count 8 (s ∷ ss) h, p)

@@ -1,0 +1,37 @@
+use Rattle.std.proofs.Common.{◌≡◌, ◌+◌, false, true, nat_lt, length, ap, sym, ◌∙◌, subst, arith}
+use Rattle.std.specs.Vec.{vec_len, vec_capacity}
+use Rattle.hash_index.specs.Segments.{heads_in, has_spare, AreSegments}
+use Rattle.hash_index.proofs.InSegments.{count_small, heads_more, spare_more, shape_more}
+use Rattle.hash_index.proofs.segments.Segments.reserve_one.Goals as goal
+
+pub push_reserved-requires : goal.push_reserved-requires
+push_reserved-requires c =
+    let r = c.reserve_segments.new.self in
+    let few = count_small r.segments.items r.shape in
+    omega (arith, few, r.segments.ok.0, c.in_ok-reserve_segments.ensures.room)
+
+pub invariant_of-self : goal.invariant_of-self
+invariant_of-self c =
+    let r = c.reserve_segments.new.self in
+    let new = c.in_ok-segment.segment in
+    let is = c.push_reserved.ensures.items in
+    let heads : heads_in c.push_reserved.new.self.items ≡ heads_in r.segments.items = ap heads_in is ∙ heads_more r.segments.items new c.in_ok-segment.ensures.items in
+    let full : has_spare r.segments.items ≡ false = ap has_spare c.reserve_segments.ensures.same ∙ (sym c.has_spare.ensures ∙ c.if-has_spare.false) in
+    let size : vec_capacity new ≡ length (heads_in r.segments.items) + 8 = omega (arith, c.in_ok-segment.ensures.exact, c.reserve_segments.ensures.len, r.ok) in
+    record {
+      ok = r.ok ∙ ap length (sym heads);
+      never_moved = omega (arith, c.in_ok-reserve_segments.ensures.room, c.push_reserved.ensures.capacity);
+      small = r.small;
+      shape = subst (AreSegments 8) (sym is) (shape_more 8 r.segments.items new full size r.shape);
+    }
+
+pub returns-clause-heads : goal.returns-clause-heads
+returns-clause-heads c =
+    ap heads_in c.push_reserved.ensures.items
+    ∙ (heads_more c.reserve_segments.new.self.segments.items c.in_ok-segment.segment c.in_ok-segment.ensures.items ∙ ap heads_in c.reserve_segments.ensures.same)
+
+pub returns-clause-room : goal.returns-clause-room
+returns-clause-room c =
+    let new = c.in_ok-segment.segment in
+    let some : nat_lt (vec_len new) (vec_capacity new) ≡ true = grind (arith, c.in_ok-segment.ensures.len, c.in_ok-segment.ensures.exact) in
+    ap has_spare c.push_reserved.ensures.items ∙ spare_more c.reserve_segments.new.self.segments.items new some

@@ -1,0 +1,132 @@
+//! The buckets, in segments that are never moved.
+ghost use Rattle.std.specs.Prelude.{◌≡◌, ◌==◌, ℕ, ◌+◌, ◌*◌, ◌<◌, ◌≤◌, ◌^◌, min, vec_len, vec_capacity, [], ◌∷◌, ◌++◌, length, get_or, set, true, None, OnOk, OnErr};
+ghost use Rattle.hash_index.specs.Segments.{heads_in, has_spare, AreSegments, AreSegments_prop, IsAt};
+
+use node_store::Node;
+use std::alloc::{AllocError, Global};
+
+// How many buckets the first segment has.
+const FIRST: usize = 8;
+
+// More segments than memory has room for.
+const SEGMENTS: usize = 64;
+
+// The first nodes of the buckets. Each segment has room for twice as many as the one before it, which is full.
+#[derive(Drop)]
+pub(crate) struct Segments {
+    segments: Vec<Vec<Option<Node>>>,
+    len: usize,
+    ghost ok: { len ≡ length (heads_in segments.items) },
+    ghost never_moved: { min 1 (vec_len segments) * 64 ≤ vec_capacity segments },
+    ghost small: { len + 8 ≤ 2 ^ 63 },
+    ghost shape: { AreSegments 8 segments.items } by { AreSegments_prop 8 segments.items },
+}
+
+// The segment of a bucket, and its place there: the highest bit of its number counts the segments before it.
+fn locate(bucket: usize) -> (usize, usize)
+    requires { bucket + 8 < 2 ^ 64 }
+    ensures { IsAt bucket result.0 result.1 }
+{
+    let number = bucket + FIRST;
+    let top = number.ilog2();
+    ((top - 3) as usize, number - (1 << top))
+}
+
+impl Segments {
+    // No buckets. It allocates nothing.
+    pub(crate) fn new(alloc: Global) -> Segments
+        ensures { heads_in result.segments.items ≡ [] }
+    {
+        Segments {
+            segments: Vec::new(alloc),
+            len: 0,
+        }
+    }
+
+    pub(crate) fn len(&self) -> usize
+        ensures { result ≡ self.now.len }
+    {
+        self.len
+    }
+
+    pub(crate) fn is_empty(&self) -> bool
+        ensures { result ≡ (self.now.len == 0) }
+    {
+        self.len == 0
+    }
+
+    // The first node of a bucket. O(1).
+    pub(crate) fn get(&self, bucket: usize) -> Option<Node>
+        requires { bucket < self.now.len }
+        ensures { result ≡ get_or (heads_in self.now.segments.items) bucket None }
+    {
+        let (segment, place) = locate(bucket);
+        self.segments[segment][place]
+    }
+
+    // Makes another node the first of a bucket. O(1).
+    pub(crate) fn set(&mut self, bucket: usize, head: Option<Node>)
+        requires { bucket < self.old.len }
+        ensures heads { heads_in self.new.segments.items ≡
+            set (heads_in self.old.segments.items) bucket head }
+        ensures len { self.new.len ≡ self.old.len }
+        ensures room { has_spare self.new.segments.items ≡
+            has_spare self.old.segments.items }
+    {
+        let (segment, place) = locate(bucket);
+        self.segments[segment][place] = head;
+    }
+
+    // Makes room for one more bucket. Where all segments are full it takes the next one whole, and moves no bucket.
+    // Where memory is refused, everything is as before.
+    pub(crate) fn reserve_one(&mut self, alloc: Global) -> Result<(), AllocError>
+        ensures heads { heads_in self.new.segments.items ≡ heads_in self.old.segments.items }
+        ensures len { self.new.len ≡ self.old.len }
+        ensures room { OnOk result (has_spare self.new.segments.items ≡ true) }
+        ensures unchanged { OnErr result (self.new ≡ self.old) }
+    {
+        if self.has_spare() {
+            return Ok(());
+        }
+        let segment = Vec::with_capacity(alloc, self.len + FIRST)?;
+        self.reserve_segments(alloc)?;
+        self.segments.push_reserved(segment);
+        Ok(())
+    }
+
+    // Makes room for as many segments as there can be, where there are none yet. Where memory is refused, everything
+    // is as before.
+    fn reserve_segments(&mut self, alloc: Global) -> Result<(), AllocError>
+        ensures same { self.new.segments.items ≡ self.old.segments.items }
+        ensures len { self.new.len ≡ self.old.len }
+        ensures room { OnOk result (64 ≤ vec_capacity self.new.segments) }
+        ensures unchanged { OnErr result (self.new ≡ self.old) }
+    {
+        if self.segments.is_empty() {
+            self.segments = Vec::with_capacity(alloc, SEGMENTS)?;
+        }
+        Ok(())
+    }
+
+    // Whether there is room for one more bucket.
+    fn has_spare(&self) -> bool
+        ensures { result ≡ has_spare self.now.segments.items }
+    {
+        match self.segments.last() {
+            Some(last) => last.len() < last.capacity(),
+            None => false,
+        }
+    }
+
+    // Adds a bucket behind the others, in room that was reserved. O(1).
+    pub(crate) fn push_reserved(&mut self, head: Option<Node>)
+        requires { has_spare self.old.segments.items ≡ true }
+        ensures heads { heads_in self.new.segments.items ≡
+            heads_in self.old.segments.items ++ head ∷ [] }
+        ensures len { self.new.len ≡ self.old.len + 1 }
+    {
+        let last = self.segments.len() - 1;
+        self.segments[last].push_reserved(head);
+        self.len += 1;
+    }
+}
