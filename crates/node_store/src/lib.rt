@@ -161,6 +161,7 @@ fn first_between(prev: Option<Node>, next: Option<Node>, first: Option<Node>) ->
 impl<R> NodeStore<R> {
     ghost use Rattle.node_store.specs.Lends.{lends_record};
     ghost use Rattle.node_store.specs.declared.Node.{Node};
+    ghost use Rattle.node_store.specs.declared.Link.{Link};
 
     /// A store with no node, which allocates nothing until the first `add`.
     pub fn new(alloc: Global) -> NodeStore<R>
@@ -255,6 +256,21 @@ impl<R> NodeStore<R> {
     {
         let changed = self.heap.get_mut(n.number, n.place);
         changed.links[col] = Stored::of(link, n);
+    }
+
+    /// Replaces the tag of the node's links in a column, which it does not read. The links themselves, the node's record,
+    /// its other columns and all other nodes stay as they were.
+    pub fn set_tag(&mut self, n: Node, col: usize, tag: u64)
+        requires node { IsNode (column_of self.old col) n }
+        requires col { col < 8 }
+        ensures put { (link : Link) → column_of self.old col n ≡ Some link →
+            IsPut (column_of self.old col) (column_of self.new col) n
+            (record link { tag = tag }) }
+        ensures others { KeepsOthers (column_of self.old) (column_of self.new) col }
+        ensures contents { contents self.new ≡ contents self.old }
+    {
+        let changed = self.heap.get_mut(n.number, n.place);
+        changed.links[col].set_tag(tag);
     }
 }
 

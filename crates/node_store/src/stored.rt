@@ -41,6 +41,13 @@ impl Stored {
         }
     }
 
+    /// Keeps another tag, and the same links and height.
+    pub(crate) fn set_tag(&mut self, tag: u64)
+        ensures { link_of self.new ≡ record (link_of self.old) { tag = tag } }
+    {
+        self.tag = tag;
+    }
+
     /// The links that were stored.
     pub(crate) fn link(self) -> Link
         ensures { result ≡ link_of self }
