@@ -19,7 +19,7 @@ use Rattle.list_model.proofs.Lists.{All-join}
 use Rattle.list_model.proofs.InOrder.{All-map}
 use Rattle.list_model.proofs.Kept.{All-split}
 use Rattle.seq_index.specs.Links.{Runs, chain_link, SetsNext, SetsPrev, end_beside}
-use Rattle.seq_index.proofs.Runs.{Runs-insert, Runs-remove, SetsNext-none, IsSameAt-end, LacksEnd-first, LacksEnd-last, EndsWith-last, AreNodes-first, Distinct-insert, Distinct-remove}
+use Rattle.seq_index.proofs.Runs.{Runs-insert, Runs-remove, SetsNext-none, IsSameAt-end, LacksEnd-first, LacksEnd-last, Lacks-first, Lacks-last, AreNodes-first, Distinct-insert, Distinct-remove}
 use Rattle.seq_index.proofs.ChainLists.{first-remove, length-insert, length-remove}
 use Rattle.hash_index.specs.Chains.{untagged_link, untagged, tag_at, KeepsTags, KeepsOtherNodes, IsIn}
 use Rattle.hash_index.proofs.Untagged.{put_untagged, tag_put, tag_other, tagged_node}
@@ -68,13 +68,6 @@ put_hangs c d f to b heads xs n hash head at dist new bucket first put prev tags
       );
     })
 
-pub lacks_last : (xs : List Node) (n : Node) → Lacks xs n → last_or xs None ≢ Some n
-lacks_last xs n h = λ e. let r = EndsWith-last xs n e in (Lacks-back r.front (n ∷ []) n (subst (λ z. Lacks z n) r.is h)).0 refl
-
-lacks_first : (xs : List Node) (n : Node) → Lacks xs n → first_or xs None ≢ Some n
-lacks_first [] n h = λ e. cc
-lacks_first (x ∷ xs) n h = λ e. h.0 cc
-
 pub out_hangs : (c d f : Column) (to : ℕ → ℕ) (b : ℕ) (heads : List (Option Node)) (xs : List Node) (n : Node) (link : Link) (ps qs : List Node) (at : Focus c to 0 b b heads xs) → IsDistinct xs → at.chain ≡ ps ++ n ∷ qs → c n ≡ Some link
     → SetsNext (untagged c) (untagged d) link.a link.b → KeepsOtherNodes c d link.a → SetsPrev (untagged d) (untagged f) link.b link.a → KeepsOtherNodes d f link.b → KeepsTags c f → Hangs f to 0 (set heads b (end_beside link.a (get_or heads b None) link.b)) (at.front ++ ((ps ++ qs) ++ at.back))
 out_hangs c d f to b heads xs n link ps qs at dist is link_is next same_next prev same_prev tags =
@@ -90,7 +83,7 @@ out_hangs c d f to b heads xs n link ps qs at dist is link_is next same_next pre
     let kept : (zs : List Node) → AreApart at.chain zs → IsSameAt c f zs = λ zs a.
     let q = AreApart-append ps (n ∷ qs) zs (subst (λ z. AreApart z zs) is a) in
     IsSameAt-trans c d f zs (IsSameAt-end c d (last_or ps None) same_next2 zs (LacksEnd-last ps zs q.0)) (IsSameAt-end d f (first_or qs None) same_prev2 zs (LacksEnd-first zs qs (AreApart-sym qs zs q.1.1))) in
-    let here : f n ≡ Some link = same_prev2 n (lacks_first qs n parts.back.0) ∙ (same_next2 n (lacks_last ps n (AreApart-head ps qs n parts.apart)) ∙ link_is) in
+    let here : f n ≡ Some link = same_prev2 n (Lacks-first qs n parts.back.0) ∙ (same_next2 n (Lacks-last ps n (AreApart-head ps qs n parts.apart)) ∙ link_is) in
     let stays : IsPut (untagged f) (untagged f) n (untagged_link link) = record { at = ap (option_map untagged_link) here; others = λ m ne. refl; nodes = λ m h. h } in
     let members = All-split (IsIn c to b) ps (n ∷ qs) (subst (AllByRecursion (IsIn c to b)) is at.here.members) in
     at.with_chain f to (λ k ne. refl) (end_beside link.a (get_or heads b None) link.b) (ps ++ qs) (kept at.front p.before) (kept at.back p.after)
@@ -111,7 +104,7 @@ head_node c to b heads xs at m e = tagged_node c m (AreNodes-first (untagged c) 
 pub head_lacks : (c : Column) (to : ℕ → ℕ) (b : ℕ) (heads : List (Option Node)) (xs : List Node) (at : Focus c to 0 b b heads xs) (m : Node) → Lacks xs m → get_or heads b None ≢ Some m
 head_lacks c to b heads xs at m lacks = λ e.
     let l = Lacks-front at.chain at.back m (Lacks-back at.front (at.chain ++ at.back) m (subst (λ z. Lacks z m) at.whole lacks)) in
-    lacks_first at.chain m l (sym at.here.first ∙ e)
+    Lacks-first at.chain m l (sym at.here.first ∙ e)
 
 -- the new index has another first node in one bucket, and as many buckets
 pub record PutsHead (i j : HashIndex) (b : ℕ) (head : Option Node) : Type 0 where

@@ -11,7 +11,7 @@ use Rattle.node_store.specs.Nodes.{Lacks, AreApart, IsDistinct, IsSameAt, first_
 use Rattle.node_store.proofs.NodeLists.{Lacks-front, Lacks-back, IsDistinct-parts, IsSameAt-others, AreApart-head, last_or-append}
 use Rattle.list_model.proofs.Kept.{All-passed}
 use Rattle.seq_index.specs.Links.{Runs, AreNodes, SetsNext, chain_link, end_beside}
-use Rattle.seq_index.proofs.Runs.{Runs-same, Runs-append, Runs-node, EndsWith-last, EndsWith-lacks, LacksEnd, LacksEnd-last, Distinct-insert}
+use Rattle.seq_index.proofs.Runs.{Runs-same, Runs-append, Runs-node, EndsWith-last, EndsWith-lacks, LacksEnd, LacksEnd-last, Lacks-last, Distinct-insert}
 use Rattle.seq_index.proofs.ChainLists.{first-insert}
 use Rattle.hash_index.specs.declared.HashIndex.{HashIndex}
 use Rattle.hash_index.specs.declared.chain.Chain.{Chain}
@@ -19,7 +19,6 @@ use Rattle.hash_index.specs.Chains.{untagged, KeepsTags}
 use Rattle.hash_index.specs.Split.{Builds}
 use Rattle.hash_index.specs.Walks.{rest_of, Ends}
 use Rattle.hash_index.proofs.Untagged.{put_untagged, same_untagged, tagged_node}
-use Rattle.hash_index.proofs.Changes.{lacks_last}
 use Rattle.hash_index.proofs.Matching.{walk_rest, walk_step}
 
 -- ---- one node more
@@ -37,7 +36,7 @@ module _ (c d f : Column) (last : Option Node) (n : Node) (hash : ℕ) (put : Is
       let put2 = put_untagged c d n (record { a = last; b = None; up = None; tag = hash; height = 0 }) put in
       let kept = Runs-same (untagged c) (untagged d) None xs None (IsSameAt-others (untagged c) (untagged d) n put2.others xs lacks) runs in
       let front = next.runs xs None None (IsDistinct-parts xs (n ∷ []) dist).front is kept in
-      let apart : last ≢ Some n = λ e. lacks_last xs n lacks (sym is ∙ e) in
+      let apart : last ≢ Some n = λ e. Lacks-last xs n lacks (sym is ∙ e) in
       let here : untagged f n ≡ Some (chain_link (last_or xs None) None) = next.others n apart ∙ (put2.at ∙ ap (λ o. Some (chain_link o None)) is) in
       Runs-append (untagged f) None xs (n ∷ []) None front (here, tt)
 
@@ -128,7 +127,7 @@ halves_step c d f p q never zs n rest one new other dist h passes fails builds t
       tags = λ m. tags m ∙ h.tags m;
       kept = λ m l.
           let was = Lacks-front h.done (n ∷ []) m l in
-          same m (Lacks-back h.done (n ∷ []) m l).0 (λ e. lacks_last (filter p h.done) m (Lacks_filter p h.done m was) (sym h.one_is.last ∙ e)) ∙ h.kept m was;
+          same m (Lacks-back h.done (n ∷ []) m l).0 (λ e. Lacks-last (filter p h.done) m (Lacks_filter p h.done m was) (sym h.one_is.last ∙ e)) ∙ h.kept m was;
       nodes = λ m k. nodes m (h.nodes m k);
     }
 

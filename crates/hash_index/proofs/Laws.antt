@@ -9,7 +9,8 @@ use Rattle.node_store.specs.Column.{Column}
 use Rattle.node_store.specs.Nodes.{AllNodes, Lacks, IsDistinct}
 use Rattle.node_store.specs.Store.{Store, IsNodeOf}
 use Rattle.node_store.specs.ByNode.{column_of, record_of, contents, same_node, AddsNode, RemovesNode}
-use Rattle.node_store.proofs.ByNode.{lacks_added, same_added, same_removed, node_of_column, records_kept, same_node-refl, same_node-true}
+use Rattle.node_store.proofs.ByNode.{lacks_added, same_added, same_removed, node_of_column, records_kept, same_node-true}
+use Rattle.node_store.proofs.Members.{differ}
 use Rattle.node_store.proofs.NodeLists.{IsSameAt-kept}
 use Rattle.list_model.specs.Walk.{without}
 use Rattle.list_model.proofs.Lists.{All-moved}
@@ -22,14 +23,7 @@ use Rattle.hash_index.specs.Spelled.{heads_of, Spells, IsSound, spelled, col_of,
 use Rattle.hash_index.specs.Hashed.{KeepsHash, IsHashed}
 use Rattle.hash_index.proofs.Spelling as spelling
 use Rattle.hash_index.proofs.Spelling.{nodes_at}
-
--- an index spells one list
-pub spelled_is : (cs : ℕ → Column) (i : HashIndex) (xs : List Node) → Spells cs i xs → spelled cs i ≡ xs
-spelled_is = spelling.spelled_is
-
--- an index that spells a list is sound
-pub IsSound_from : (cs : ℕ → Column) (i : HashIndex) (xs : List Node) → Spells cs i xs → IsSound cs i
-IsSound_from = spelling.IsSound_from
+pub use Rattle.hash_index.proofs.Spelling.{spelled_is, IsSound_from}
 
 pub Spells_distinct : (cs : ℕ → Column) (i : HashIndex) (xs : List Node) → Spells cs i xs → IsDistinct xs
 Spells_distinct cs i xs h = h.distinct
@@ -46,9 +40,6 @@ pub IsSound_kept : (cs ds : ℕ → Column) (i : HashIndex) → ds (col_of i) �
 IsSound_kept cs ds i e h = IsSound_from ds i (spelled cs i) (Spells_kept cs ds i (spelled cs i) e h)
 
 -- ---- nodes that calls take out
-
-differ : (n x : Node) → same_node n x ≡ false → n ≢ x
-differ n x e k = let bad : true ≡ false = sym (same_node-refl n) ∙ (ap (same_node n) k ∙ e) in cc
 
 without_by : (xs : List Node) (n x : Node) (b : Bool) → same_node n x ≡ b → Lacks (without (same_node n) xs) n → Lacks (cond (not b) (x ∷ without (same_node n) xs) (without (same_node n) xs)) n
 without_by xs n x true e h = h

@@ -18,6 +18,7 @@ use Rattle.node_store.specs.ByNode.{column_of, record_of, same_node}
 use Rattle.node_store.proofs.ByNode.{same_node-refl}
 use Rattle.list_model.specs.Walk.{next}
 use Rattle.list_model.proofs.Counts.{count_by-cons, count_by_none}
+use Rattle.list_model.proofs.Orders.{eq_is_equal}
 use Rattle.list_model.proofs.Permuted.{count_by-append}
 use Rattle.list_model.proofs.Kept.{All-split, All-filter, All-passed}
 use Rattle.list_model.proofs.Settled.{next-middle, first}
@@ -246,12 +247,7 @@ module _ {R : Type 0} (hash : R → ℕ) (s : Store R) (col : ℕ) where
   -- the hash of a node with a key
   hash_by : (o : Option R) (tag key_hash : ℕ) (side : R → Ordering) (agree : (a : R) → side a ≡ Equal → hash a ≡ key_hash) → is_eq (option_map_or side o Less) ≡ true → Some tag ≡ option_map hash o → tag ≡ key_hash
   hash_by None tag key_hash side agree e t = cc
-  hash_by (Some a) tag key_hash side agree e t = let q : tag ≡ hash a = cc in q ∙ agree a (equal_by (side a) e)
-    where
-      equal_by : (o : Ordering) → is_eq o ≡ true → o ≡ Equal
-      equal_by Less e = cc
-      equal_by Equal e = refl
-      equal_by Greater e = cc
+  hash_by (Some a) tag key_hash side agree e t = let q : tag ≡ hash a = cc in q ∙ agree a (eq_is_equal (side a) e)
 
 -- ---- the same for an index
 

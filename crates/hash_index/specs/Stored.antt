@@ -63,7 +63,7 @@ module _ {E R P : Type 0} (X : Ghosts E R P) where
     pub has_key : HasKey i keys
     pub hashed : HaveTheirHash i s keys (others except (nodes_of i s))
 
-  -- the links of all nodes do, and the probe is a whole key
+  -- the links of all nodes have the hashes of their records' keys, and the probe is a whole key
   pub record CanSearch (i : HashIndex) (s : Store R) (keys : E) (probe : P) : Type 0 where
     pub chain : AreBucketsOf i s
     pub has_key : HasKey i keys

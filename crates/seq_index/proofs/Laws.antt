@@ -2,7 +2,7 @@
 use Rattle.std.proofs.Common.{◌≡◌, ℕ, ◌+◌, List, [], ◌∷◌, length, Some, None, ap, sym, subst, slice_get}
 use Rattle.node_store.specs.declared.Node.{Node}
 use Rattle.node_store.specs.Column.{Column}
-use Rattle.node_store.specs.Nodes.{AllNodes, Lacks, IsDistinct, IsSameAt}
+use Rattle.node_store.specs.Nodes.{AllNodes, Lacks, IsDistinct}
 use Rattle.node_store.specs.Store.{Store, IsNodeOf}
 use Rattle.node_store.specs.ByNode.{same_node, column_of, AddsNode, RemovesNode}
 use Rattle.node_store.proofs.ByNode.{lacks_added, same_added, same_removed, node_of_column}
@@ -15,15 +15,7 @@ use Rattle.seq_index.specs.declared.SeqIndex.{SeqIndex}
 use Rattle.seq_index.specs.Links.{Runs}
 use Rattle.seq_index.specs.Spelled.{Spells, IsSound, spelled, col_of, follow, Holds}
 use Rattle.seq_index.proofs.Runs.{Runs-node, Runs-nodes}
-use Rattle.seq_index.proofs.ChainLists as chain
-
--- an index spells one list
-pub spelled_is : (cs : ℕ → Column) (i : SeqIndex) (xs : List Node) → Spells cs i xs → spelled cs i ≡ xs
-spelled_is = chain.spelled_is
-
--- it depends on the blocks of its own nodes in its own column alone
-pub Spells_same : (cs ds : ℕ → Column) (i : SeqIndex) (xs : List Node) → IsSameAt (cs (col_of i)) (ds (col_of i)) xs → Spells cs i xs → Spells ds i xs
-Spells_same = chain.Spells_same
+pub use Rattle.seq_index.proofs.ChainLists.{spelled_is, Spells_same}
 
 pub Spells_distinct : (cs : ℕ → Column) (i : SeqIndex) (xs : List Node) → Spells cs i xs → IsDistinct xs
 Spells_distinct cs i xs h = h.distinct

@@ -11,6 +11,7 @@ use Rattle.seq_index.proofs.Walks.{without_at, place_at}
 use Rattle.node_store.specs.Column.{Column}
 use Rattle.seq_index.specs.declared.SeqIndex.{SeqIndex}
 use Rattle.seq_index.specs.Spelled.{Spells, Holds}
+use Rattle.seq_index.proofs.Runs.{Lacks-first, Lacks-last}
 use Rattle.seq_index.proofs.ChainLists.{length-insert}
 
 -- a node put before place p, counted with the node at place j still in
@@ -47,15 +48,6 @@ drop_on [] ys r = let e : 0 + r ≡ r = omega arith in ap (λ (k : ℕ). drop k 
 drop_on (x ∷ xs) ys r =
     let e : length (x ∷ xs) + r ≡ suc (length xs + r) = omega arith in
     ap (λ (k : ℕ). drop k (x ∷ (xs ++ ys))) e ∙ drop_on xs ys r
-
-lacks_first : (xs : List Node) (n : Node) → Lacks xs n → first_or xs None ≢ Some n
-lacks_first [] n h e = cc
-lacks_first (x ∷ xs) n h e = h.0 cc
-
-lacks_last : (xs : List Node) (n : Node) → Lacks xs n → last_or xs None ≢ Some n
-lacks_last [] n h e = cc
-lacks_last (x ∷ []) n h e = h.0 cc
-lacks_last (x ∷ y ∷ xs) n h e = lacks_last (y ∷ xs) n h.1 e
 
 lacks_take : (xs : List Node) (k : ℕ) (n : Node) → Lacks xs n → Lacks (take k xs) n
 lacks_take [] zero n h = tt
@@ -154,7 +146,7 @@ low_stays xs n ys p before after h le e =
 
 low_not_before : (xs : List Node) (n : Node) (ys : List Node) (p : ℕ) (before after : Option Node) → Beside xs n ys p before after → p ≤ length xs → before ≢ Some n
 low_not_before xs n ys p before after h le e =
-    lacks_last (take p xs) n (lacks_take xs p n (lacks_front xs n ys h.distinct)) (sym (h.before_is ∙ low_before xs n ys p le) ∙ e)
+    Lacks-last (take p xs) n (lacks_take xs p n (lacks_front xs n ys h.distinct)) (sym (h.before_is ∙ low_before xs n ys p le) ∙ e)
 
 -- ---- a place past the node's own
 
@@ -180,7 +172,7 @@ high_lands xs n ys p r before after h past apart =
 
 last_own : (xs : List Node) (n : Node) (ys : List Node) → Lacks ys n → last_or (xs ++ n ∷ ys) None ≡ Some n → length ys ≡ 0
 last_own xs n [] h e = omega arith
-last_own xs n (y ∷ ys) h e = absurd (lacks_last (y ∷ ys) n h (sym (last_or-append xs (n ∷ y ∷ ys) None) ∙ e))
+last_own xs n (y ∷ ys) h e = absurd (Lacks-last (y ∷ ys) n h (sym (last_or-append xs (n ∷ y ∷ ys) None) ∙ e))
 
 high_stays : (xs : List Node) (n : Node) (ys : List Node) (p r : ℕ) (before after : Option Node) → Beside xs n ys p before after → p ≡ length xs + 1 + r → before ≡ Some n → relocated (same_node n) n p (xs ++ n ∷ ys) ≡ xs ++ n ∷ ys
 high_stays xs n ys p r before after h past e =
@@ -193,7 +185,7 @@ high_stays xs n ys p r before after h past e =
 
 high_not_after : (xs : List Node) (n : Node) (ys : List Node) (p r : ℕ) (before after : Option Node) → Beside xs n ys p before after → p ≡ length xs + 1 + r → after ≢ Some n
 high_not_after xs n ys p r before after h past e =
-    lacks_first (drop r ys) n (lacks_drop ys r n (lacks_back xs n ys h.distinct)) (sym (h.after_is ∙ high_after xs n ys p r past) ∙ e)
+    Lacks-first (drop r ys) n (lacks_drop ys r n (lacks_back xs n ys h.distinct)) (sym (h.after_is ∙ high_after xs n ys p r past) ∙ e)
 
 -- ---- both together
 

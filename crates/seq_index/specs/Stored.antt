@@ -35,7 +35,7 @@ module _ {R : Type 0} where
     pub others : KeepsOthers (column_of before) (column_of after) (col_of old)
     pub contents : contents after ≡ contents before
 
-  -- it has, and its room is as before
+  -- the same, and where there was room for one more node there still is
   pub record ReordersChain (old new : SeqIndex) (before after : Store R) (xs : List Node) : Type 0 where
     pub chain : BecomesChain old new before after xs
     pub room : HasRoom old → HasRoom new

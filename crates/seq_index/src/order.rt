@@ -1,5 +1,5 @@
 //! Changes of the order of a sequence.
-ghost use Rattle.std.specs.Prelude.{◌≡◌, ◌≤◌, length, reverse as the_reverse, IsPermutation};
+ghost use Rattle.std.specs.Prelude.{◌≤◌, length, reverse as the_reverse, IsPermutation};
 ghost use Rattle.node_store.specs.ByNode.{same_node};
 ghost use Rattle.list_model.specs.Walk.{relocated};
 ghost use Rattle.seq_index.specs.Stored.{nodes_of, IsChainOf, HasNode, ReordersChain};
