@@ -23,6 +23,7 @@ use Rattle.node_store.specs.Store.{Store, IsNodeOf, number_of, nodes}
 use Rattle.node_store.specs.ByNode.{same_node}
 use Rattle.node_store.proofs.ByNode.{same_node-refl, same_node-true}
 use Rattle.node_store.proofs.Members.{same_node-false, IsDistinct_moved, each_held}
+use Rattle.hash_index.proofs.Cutting.{Distinct_filter}
 use Rattle.any_index.specs.Spelled.{number_cmp, by_number}
 
 -- the numbers rise
@@ -93,17 +94,6 @@ lacks_all : (n : Node) (xs : List Node) → Lacks xs n → AllByRecursion (λ x.
 lacks_all n [] h = tt
 lacks_all n (x ∷ xs) h = (h.0, lacks_all n xs h.1)
 
-pairs_of : (xs : List Node) → IsDistinct xs → EachPair (λ x y. x ≢ y) xs
-pairs_of [] h = tt
-pairs_of (x ∷ xs) h = (lacks_all x xs h.0, pairs_of xs h.1)
-
-of_pairs : (xs : List Node) → EachPair (λ x y. x ≢ y) xs → IsDistinct xs
-of_pairs [] h = tt
-of_pairs (x ∷ xs) h = (all_lacks x xs h.0, of_pairs xs h.1)
-
-pub distinct_filter : (q : Node → Bool) (xs : List Node) → IsDistinct xs → IsDistinct (filter q xs)
-distinct_filter q xs h = of_pairs (filter q xs) (EachPair-filter (λ x y. x ≢ y) q xs (pairs_of xs h))
-
 -- ---- nodes of one store
 
 module _ {R : Type 0} (s : Store R) where
@@ -147,7 +137,7 @@ module _ {R : Type 0} (s : Store R) where
   -- the nodes that pass
   pub by_number_filter : (q : Node → Bool) (xs : List Node) → IsDistinct xs → AllByRecursion (IsNodeOf s) xs → by_number (filter q xs) ≡ filter q (by_number xs)
   by_number_filter q xs distinct of =
-      by_number_is (filter q xs) (filter q (by_number xs)) (distinct_filter q xs distinct) (All-filter (IsNodeOf s) q xs of)
+      by_number_is (filter q xs) (filter q (by_number xs)) (Distinct_filter q xs distinct) (All-filter (IsNodeOf s) q xs of)
       (IsPermutation-filter same_node same_node-true same_node-refl q xs (by_number xs) (IsPermutation-stable_sorted number_cmp xs))
       (EachPair-filter (λ x y. is_gt (number_cmp x y) ≡ false) q (by_number xs) (IsInOrder-stable_sorted number_cmp number_total xs))
 

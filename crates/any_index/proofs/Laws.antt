@@ -22,6 +22,7 @@ use Rattle.node_store.specs.Store.{Store, IsNodeOf, number_of, IsStore}
 use Rattle.node_store.specs.ByNode.{column_of, record_of, same_node, AddsNode, RemovesNode}
 use Rattle.node_store.proofs.Members.{IsDistinct_moved, each_held}
 use Rattle.seq_index.proofs.Laws as seq
+pub use Rattle.seq_index.proofs.Walks.{without_at}
 use Rattle.row_index.proofs.Laws as row
 use Rattle.ord_tree.specs.Side.{order_at}
 use Rattle.ord_tree.proofs.Laws as ord
@@ -32,6 +33,7 @@ use Rattle.hash_index.specs.Chains.{tag_at}
 use Rattle.hash_index.specs.Hashed.{IsHashed}
 use Rattle.hash_index.specs.Spelled as buckets
 use Rattle.hash_index.proofs.Laws as hash
+pub use Rattle.hash_index.proofs.Laws.{Lacks_without}
 use Rattle.any_index.specs.declared.index.AnyIndex.{AnyIndex}
 use Rattle.any_index.specs.declared.index.AnyIndex.TheVariants.{Sequenced, Random, Ordered, Ranked, Hashed}
 use Rattle.any_index.specs.Keyed.{HasItsKey, Accepts, AreKeyed, IsKeyed, IsKeyedBut}
@@ -219,9 +221,6 @@ module _ {R : Type 0} (order : ℕ → R → R → Ordering) (hash_of : ℕ → 
       (AreKeyed_alike old new n a b i (list_of (column_of old) i) links had has records one h)
 
 -- ---- the nodes of the lists that changes leave
-
-pub Lacks_left : (xs : List Node) (n : Node) → Lacks (without (same_node n) xs) n
-Lacks_left = hash.Lacks_without
 
 -- in a hashed index a node that was added after all others goes last
 pub entered_last : (compare : Node → Node → Ordering) (at : Option ℕ) (n : Node) (xs : List Node) → AllByRecursion (λ m. number_of m < number_of n) xs → entry_place kind.Hashed compare at n xs ≡ length xs

@@ -1,7 +1,6 @@
 //! Changes of the order of a sequence.
 ghost use Rattle.std.specs.Prelude.{◌≡◌, ◌≤◌, IsTrue, length, reverse as reversed, IsPermutation};
 ghost use Rattle.std.specs.Ordering.{is_eq};
-ghost use Rattle.container_model.specs.declared.handle.Kind.TheVariants.{Random};
 ghost use Rattle.container_model.specs.State.{is_sequence_kind};
 ghost use Rattle.list_model.specs.Walk.{relocated};
 ghost use Rattle.node_store.specs.ByNode.{record_of, same_node};
@@ -14,7 +13,7 @@ use key_extract::Extract;
 use node_store::{Node, NodeStore};
 
 impl AnyIndex {
-    ghost use Rattle.any_index.specs.Stored.{nodes_of, IsIn, HasNode, KeepsRest};
+    ghost use Rattle.any_index.specs.Stored.{nodes_of, IsIn, HasNode, KeepsRest, CanSink};
 
     /// Moves `n` before the node at the place, or last. The place counts with `n` still in. It takes no memory. In a
     /// chain O(the distance of the place from the nearer end), in a row O(the nodes from the lower of both places on).
@@ -68,8 +67,8 @@ impl AnyIndex {
         }
     }
 
-    /// Puts the nodes of a row whose records have the key of index `index` behind all others, which keep their order. It takes
-    /// no memory. O(nodes + k log k) for k that have the key. Others have no such call.
+    /// Puts the nodes of a row whose records have the key of index `index` behind all others, which keep their order.
+    /// It takes no memory. O(nodes + k log k) for k that have the key. Others have no such call.
     pub fn sink<R, E: Extract<R>>(
         &mut self,
         store: &mut NodeStore<R>,
@@ -77,10 +76,7 @@ impl AnyIndex {
         index: usize,
         probe: &E::Probe,
     )
-        requires sound { IsIn self.old store.old }
-        requires kind { kind_of self.old ≡ Random }
-        requires key { IsTrue (E.has_key keys.now index) }
-        requires fits { IsTrue (E.does_fit keys.now index probe.now) }
+        requires { CanSink E.Extract self.old store.old keys.now index probe.now }
         ensures sound { IsIn self.new store.new }
         ensures sunk { IsSunk (λ n. is_eq (side_of (record_of store.old)
             (λ a. E.probe_order_of keys.now index a probe.now) n))

@@ -7,7 +7,8 @@ use Rattle.ord_tree.specs.Side.{side_of}
 use Rattle.ord_tree.proofs.Laws.{Holds_first, Holds_next}
 use Rattle.any_index.specs.Earliest.{earliest_of}
 use Rattle.any_index.specs.Spelled.{by_number}
-use Rattle.any_index.proofs.ByNumber.{by_number_filter, distinct_filter}
+use Rattle.hash_index.proofs.Cutting.{Distinct_filter}
+use Rattle.any_index.proofs.ByNumber.{by_number_filter}
 use Rattle.any_index.proofs.First.{rest_from, rest_first, rest_held, rest_next, first_by_number}
 use Rattle.any_index.proofs.Hashed.{nodes_of}
 use Rattle.any_index.proofs.Same.{find_first}
@@ -18,7 +19,7 @@ loop-at-init g c =
     let side = side_of (record_of c.args.store.now) (λ a. g.E.Extract.probe_order_of c.args.keys.now (index_of c.args.buckets.now) a c.args.probe.now) in
     let xs = spelled (column_of c.args.store.now) c.args.buckets.now in
     let ms = matches side xs in
-    let distinct = distinct_filter (λ n. is_eq (side n)) xs c.requires.sound.distinct in
+    let distinct = Distinct_filter (λ n. is_eq (side n)) xs c.requires.sound.distinct in
     record {
       held = λ n e. Holds_first ms n (sym c.first_of-at.ensures ∙ e);
       least = ap (earliest_of _) (ap (λ o. rest_from o ms) c.first_of-at.ensures ∙ rest_first ms distinct);
@@ -29,7 +30,7 @@ loop-at-smaller g c =
     let side = side_of (record_of c.args.store.now) (λ a. g.E.Extract.probe_order_of c.args.keys.now (index_of c.args.buckets.now) a c.args.probe.now) in
     let xs = spelled (column_of c.args.store.now) c.args.buckets.now in
     let ms = matches side xs in
-    let distinct = distinct_filter (λ n. is_eq (side n)) xs c.requires.sound.distinct in
+    let distinct = Distinct_filter (λ n. is_eq (side n)) xs c.requires.sound.distinct in
     let h = c.loop-at.invariant.held c.in-Some.n c.in-Some.is in
     let here = ap (λ o. rest_from o ms) c.in-Some.is ∙ rest_held ms c.in-Some.n h distinct in
     let next = ap (λ o. rest_from o ms) c.next_of-at.ensures ∙ rest_next ms c.in-Some.n h distinct in
@@ -40,7 +41,7 @@ loop-at-preserved g c =
     let side = side_of (record_of c.args.store.now) (λ a. g.E.Extract.probe_order_of c.args.keys.now (index_of c.args.buckets.now) a c.args.probe.now) in
     let xs = spelled (column_of c.args.store.now) c.args.buckets.now in
     let ms = matches side xs in
-    let distinct = distinct_filter (λ n. is_eq (side n)) xs c.requires.sound.distinct in
+    let distinct = Distinct_filter (λ n. is_eq (side n)) xs c.requires.sound.distinct in
     let h = c.loop-at.invariant.held c.in-Some.n c.in-Some.is in
     let here = ap (λ o. rest_from o ms) c.in-Some.is ∙ rest_held ms c.in-Some.n h distinct in
     let next = ap (λ o. rest_from o ms) c.next_of-at.ensures ∙ rest_next ms c.in-Some.n h distinct in
