@@ -41,4 +41,4 @@ module _ {R E : Type 0} (order : E → ℕ → R → R → Ordering) (old new : 
 -- a node that was taken out of each list is in none
 pub lacks_left : (lists : List (List Node)) (n : Node) → LackIt (map (without (same_node n)) lists) n
 lacks_left [] n = tt
-lacks_left (list ∷ lists) n = (any.Lacks_left list n, lacks_left lists n)
+lacks_left (list ∷ lists) n = (any.Lacks_without list n, lacks_left lists n)

@@ -25,6 +25,12 @@ use Rattle.index_set.proofs.ByKind.{Accepts_from}
 abbrev pub some_spec : Spec
 some_spec = record { kind = Sequenced; unique = false }
 
+-- the number of an index of a kind that has a key has one among the keys
+pub has_its_key : {R E : Type 0} {has_key : E → ℕ → Bool} (s : IndexSet R E) → IsSound has_key s → (k : ℕ) → k < length s.specs.items → IsTrue (has_key_kind (kind_at s k)) → IsTrue (has_key s.keys k)
+has_its_key s sound k lt key =
+    sound.keys.keyed k some_spec lt
+    ∙ (ap (λ (o : Option Spec). has_key_kind (option_map_or (λ (d : Spec). d.kind) o Sequenced)) (sym (slice_get_at s.specs.items k some_spec lt)) ∙ key)
+
 module _ {R E : Type 0} {has_key : E → ℕ → Bool} (s : IndexSet R E) (sound : IsSound has_key s) (k : ℕ) (lt : k < length s.specs.items) (i : AnyIndex) (e : i ≡ get_or s.indices.items k i) where
   pub sound_here : any.IsSound (column_of s.store) i
   sound_here = subst (λ (z : AnyIndex). any.IsSound (column_of s.store) z) (sym e) (sound.placed.each k some_spec i lt).sound

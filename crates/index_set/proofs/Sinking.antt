@@ -1,26 +1,23 @@
 -- A row whose nodes that have a key of an index come last.
-use Rattle.std.proofs.Common.{◌≡◌, ℕ, ◌<◌, Bool, List, [], length, get_or, set, Option, sym, ap, ◌∙◌, subst, refl, arith}
+use Rattle.std.proofs.Common.{◌≡◌, ℕ, ◌<◌, Bool, List, [], length, get_or, set, sym, ap, ◌∙◌, subst, refl, arith}
 use Rattle.std.specs.Prelude.{IsTrue}
-use Rattle.std.specs.Option.{option_map_or}
 use Rattle.std.proofs.lemmas.List.{get_or-set_same}
 use Rattle.node_store.specs.declared.Node.{Node}
 use Rattle.node_store.specs.ByNode.{column_of}
 use Rattle.node_store.specs.Store.{Store}
 use Rattle.container_model.specs.declared.handle.Kind.{Kind}
 use Rattle.container_model.specs.declared.handle.Kind.TheVariants.{Sequenced, Random, Ordered, Ranked, Hashed}
-use Rattle.container_model.specs.declared.handle.Spec.{Spec}
 use Rattle.container_model.specs.State.{has_key_kind, is_hashed_kind, is_sorted_kind}
-use Rattle.list_model.proofs.Lists.{slice_get_at}
 use Rattle.any_index.specs.declared.index.AnyIndex.{AnyIndex}
 use Rattle.any_index.specs.Spelled as any
 use Rattle.index_set.specs.declared.set.IndexSet.{IndexSet}
 use Rattle.index_set.specs.Indices.{lists_in}
 use Rattle.index_set.specs.Lists.{IsSunk}
-use Rattle.index_set.specs.Set.{IsSound, kind_at, list_of, lists_of}
+use Rattle.index_set.specs.Set.{IsSound, list_of, lists_of}
 use Rattle.index_set.proofs.Frame.{Steps}
 use Rattle.index_set.proofs.Members.{one_list_each}
 use Rattle.index_set.proofs.Moving.{lists_moved}
-use Rattle.index_set.proofs.Reading.{some_spec, list_here}
+use Rattle.index_set.proofs.Reading.{list_here}
 
 -- an index of a kind that has a key is in order or hashed
 pub by_key_kind : {A : Type 0} (kind : Kind) → IsTrue (has_key_kind kind) → (IsTrue (is_sorted_kind kind) → A) → (IsTrue (is_hashed_kind kind) → A) → A
@@ -31,13 +28,6 @@ by_key_kind Ranked key sorted hashed = sorted refl
 by_key_kind Hashed key sorted hashed = hashed refl
 
 module _ {R E : Type 0} {has_key : E → ℕ → Bool} (s : IndexSet R E) (sound : IsSound has_key s) where
-  -- and its number has one among the keys
-  pub has_its_key : (k : ℕ) → k < length s.specs.items → IsTrue (has_key_kind (kind_at s k)) → IsTrue (has_key s.keys k)
-  has_its_key k lt key =
-      sound.keys.keyed k some_spec lt
-      ∙ ap (λ (o : Option Spec). has_key_kind (option_map_or (λ (spec : Spec). spec.kind) o Sequenced)) (sym (slice_get_at s.specs.items k some_spec lt))
-      ∙ key
-
   module _ (k : ℕ) (lt : k < length s.specs.items) (i new : AnyIndex) (e : i ≡ get_or s.indices.items k i) (t : Store R) (step : Steps (column_of s.store) (column_of t) i new) where
     abbrev lists : List (List Node)
     lists = lists_in (column_of t) (set s.indices.items k new)

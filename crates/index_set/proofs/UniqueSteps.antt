@@ -13,18 +13,14 @@ use Rattle.list_model.specs.Order.{EachPair}
 use Rattle.list_model.specs.Walk.{without}
 use Rattle.list_model.proofs.Kept.{EachPair-filter, EachPair-map, All-filter, All-passed}
 use Rattle.list_model.proofs.Lists.{find_none, All-at}
-use Rattle.list_model.proofs.Settled.{without-middle}
 use Rattle.node_store.specs.declared.Node.{Node}
 use Rattle.node_store.specs.Nodes.{Lacks, Holds, IsDistinct}
 use Rattle.node_store.specs.ByNode.{same_node}
-use Rattle.node_store.proofs.ByNode.{same_node-refl}
-use Rattle.node_store.proofs.Members.{others_differ}
-use Rattle.node_store.proofs.NodeLists.{IsDistinct-parts, AreApart-head}
 use Rattle.container_model.specs.declared.handle.Spec.{Spec}
 use Rattle.container_model.specs.State.{is_sorted_kind}
 use Rattle.container_model.specs.Insert.{At}
 use Rattle.any_index.specs.Side.{side_of, order_at, is_kept, equal_but}
-use Rattle.any_index.proofs.Laws.{Lacks_left}
+use Rattle.any_index.proofs.Laws.{Lacks_without, without_at}
 use Rattle.index_set.specs.Each.{changed_from, list_at}
 use Rattle.index_set.specs.Indices.{LackIt}
 use Rattle.index_set.specs.Lists.{entered_at, settled_at, ban_from}
@@ -51,12 +47,6 @@ module _ {X : Type 0} (P : X → X → Type 0) (x : X) where
   EachPair-insert xs k before after each =
       let whole : xs ≡ take k xs ++ drop k xs = sym (take-append-drop k xs) in
       EachPair-with (take k xs) (drop k xs) (subst (AllByRecursion (λ y. P y x)) whole before) (subst (AllByRecursion (λ y. P x y)) whole after) (subst (EachPair P) whole each)
-
--- the list without a node that it has
-without_held : (front : List Node) (n : Node) (back : List Node) → IsDistinct (front ++ n ∷ back) → without (same_node n) (front ++ n ∷ back) ≡ front ++ back
-without_held front n back distinct =
-    let p = IsDistinct-parts front (n ∷ back) distinct in
-    without-middle (same_node n) front n back (others_differ n front (AreApart-head front back n p.apart)) (same_node-refl n) (others_differ n back p.back.0)
 
 -- ---- what no ban says
 
@@ -160,7 +150,7 @@ module _ {R : Type 0} (order : ℕ → R → R → Ordering) (specs : List Spec)
     -- a record was written
     pub unique_written : AreUnique order old specs lists None → AreUnique order new specs lists (Some n)
     unique_written h j lt unique =
-        pairs_kept (order j) old new n others (without (same_node n) (list_at lists j)) (Lacks_left (list_at lists j) n) (EachPair-filter _ _ (list_at lists j) (h j lt unique))
+        pairs_kept (order j) old new n others (without (same_node n) (list_at lists j)) (Lacks_without (list_at lists j) n) (EachPair-filter _ _ (list_at lists j) (h j lt unique))
 
     module _ (total : (j : ℕ) → j < length specs → IsTrue (get_or specs j some_spec).unique → IsTotalOrder (order j)) (row : R) (has : new n ≡ Some row) where
       -- a node that nothing bans was added and entered everywhere
@@ -192,7 +182,7 @@ module _ {R : Type 0} (order : ℕ → R → R → Ordering) (specs : List Spec)
           anywhere xs hold dist bans each sorted fits k = by sorted fits
             where
               rest : without (same_node n) xs ≡ hold.before ++ hold.after
-              rest = ap (without (same_node n)) hold.is ∙ without_held hold.before n hold.after (subst IsDistinct hold.is dist)
+              rest = ap (without (same_node n)) hold.is ∙ without_at hold.before n hold.after (subst IsDistinct hold.is dist)
 
               cleared : AllByRecursion (λ m. is_eq (side_of old (λ a. order j a row) m) ≡ false) (without (same_node n) xs)
               cleared = clear (without (same_node n) xs) (All-passed (λ m. not (same_node n m)) xs) (All-filter _ (λ m. not (same_node n m)) xs bans)
@@ -200,11 +190,11 @@ module _ {R : Type 0} (order : ℕ → R → R → Ordering) (specs : List Spec)
               stays : EachPair (λ a b. is_eq (order_at new (order j) a b) ≡ false) xs
               stays =
                   subst (EachPair (λ a b. is_eq (order_at new (order j) a b) ≡ false)) (sym hold.is)
-                  (pairs_with (order j) old new n others (total j lt unique) row has hold.before hold.after (subst (λ z. Lacks z n) rest (Lacks_left xs n))
+                  (pairs_with (order j) old new n others (total j lt unique) row has hold.before hold.after (subst (λ z. Lacks z n) rest (Lacks_without xs n))
                   (subst (AllByRecursion (λ m. is_eq (side_of old (λ a. order j a row) m) ≡ false)) rest cleared) (subst (EachPair (λ a b. is_eq (order_at old (order j) a b) ≡ false)) rest each))
 
               moves : EachPair (λ a b. is_eq (order_at new (order j) a b) ≡ false) (insert (without (same_node n) xs) k n)
-              moves = pairs_inserted (order j) old new n others (total j lt unique) row has (without (same_node n) xs) k (Lacks_left xs n) cleared each
+              moves = pairs_inserted (order j) old new n others (total j lt unique) row has (without (same_node n) xs) k (Lacks_without xs n) cleared each
 
               by : (b c : Bool) → EachPair (λ a b. is_eq (order_at new (order j) a b) ≡ false) (cond b (cond c xs (insert (without (same_node n) xs) k n)) xs)
               by false c = stays

@@ -1,7 +1,6 @@
 -- What stays of a set whose record of one node was written.
 use Rattle.std.proofs.Common.{◌≡◌, ◌≢◌, ℕ, ◌<◌, Bool, length, get_or, Option, Some, None, sym, ap, ◌∙◌, subst, arith, ⊎_elim, cond, option_and_then}
 use Rattle.std.specs.Prelude.{IsTrue}
-use Rattle.std.specs.Option.{option_map_or}
 use Rattle.std.specs.Cmp.{IsTotalOrder}
 use Rattle.std.specs.declared.cmp.Ordering.{Ordering}
 use Rattle.std.specs.declared.cmp.Ordering.TheVariants.{Equal}
@@ -15,9 +14,6 @@ use Rattle.node_store.specs.ByNode.{column_of, record_of, of_node, same_node}
 use Rattle.node_store.proofs.ByNode.{node_cases, record_of-at, column_of_with_record}
 use Rattle.node_store.proofs.Members.{same_node-false}
 use Rattle.node_store.proofs.StoreLemmas.{nodes_with_record, added_with_record, Rewrites-with_record}
-use Rattle.list_model.proofs.Lists.{slice_get_at}
-use Rattle.container_model.specs.declared.handle.Spec.{Spec}
-use Rattle.container_model.specs.declared.handle.Kind.TheVariants.{Sequenced}
 use Rattle.container_model.specs.State.{has_key_kind}
 use Rattle.any_index.specs.declared.index.AnyIndex.{AnyIndex}
 use Rattle.any_index.specs.Side.{order_at}
@@ -27,7 +23,7 @@ use Rattle.any_index.proofs.Laws.{IsKeyedBut_rewritten, IsKeyed_restored, IsKeye
 use Rattle.index_set.specs.declared.set.IndexSet.{IndexSet}
 use Rattle.index_set.specs.Indices.{ArePlaced, lists_in}
 use Rattle.index_set.specs.Set.{IsSound, IsKeyed, IsKeyedBut, HasKeysOf, IsRestored, lists_of, kind_at, with_record}
-use Rattle.index_set.proofs.Reading.{some_spec, kind_here, number_here}
+use Rattle.index_set.proofs.Reading.{has_its_key, kind_here, number_here}
 use Rattle.index_set.proofs.Stores.{IsStore_same}
 
 module _ {R : Type 0} (s : Store R) (n : Node) (r : R) where
@@ -118,22 +114,16 @@ module _ {R E : Type 0} (s : IndexSet R E) (n : Node) (r w : R) (had : record_of
 -- the record of a node has the keys that it had before it was written
 module _ {R E : Type 0} {has_key : E → ℕ → Bool} (order : E → ℕ → R → R → Ordering) (total : (keys : E) (index : ℕ) → IsTrue (has_key keys index) → IsTotalOrder (order keys index))
     (s : IndexSet R E) (sound : IsSound has_key s) (n : Node) (before : R) (is : IsNodeOf s.store n) (keys : HasKeysOf order s n before) where
-  -- an index of a kind that has a key has it
-  has_here : (j : ℕ) → j < length s.specs.items → IsTrue (has_key_kind (kind_at s j)) → IsTrue (has_key s.keys j)
-  has_here j lt key =
-      sound.keys.keyed j some_spec lt
-      ∙ (ap (λ (o : Option Spec). has_key_kind (option_map_or (λ (d : Spec). d.kind) o Sequenced)) (sym (slice_get_at s.specs.items j some_spec lt)) ∙ key)
-
-  -- so at each index with a key all nodes stand to one another as they did
+  -- at each index with a key all nodes stand to one another as they did
   pub order_restored : (j : ℕ) → j < length s.specs.items → IsTrue (has_key_kind (kind_at s j)) → order_at (record_of s.store) (order s.keys j) ≡ order_at (record_of (store.with_record s.store n before)) (order s.keys j)
   order_restored j lt key =
       order_alike (record_of (store.with_record s.store n before)) (record_of s.store) n before keys.row (record_written s.store n before is) keys.is (λ m ne. sym (others_written s.store n before is m ne))
-      (order s.keys j) (total s.keys j (has_here j lt key)) (keys.equal j lt key)
+      (order s.keys j) (total s.keys j (has_its_key s sound j lt key)) (keys.equal j lt key)
 
   module _ (hash_of : E → ℕ → R → ℕ) (alike : (keys : E) (index : ℕ) (a b : R) → IsTrue (has_key keys index) → order keys index a b ≡ Equal → hash_of keys index a ≡ hash_of keys index b) where
     one_key : (j : ℕ) → j < length s.specs.items → IsTrue (has_key_kind (kind_at s j)) → HasOneKey (order s.keys j) (hash_of s.keys j) before keys.row
     one_key j lt key =
-        let has = has_here j lt key in
+        let has = has_its_key s sound j lt key in
         record { total = total s.keys j has; equal = keys.equal j lt key; same_hash = alike s.keys j keys.row before has (keys.equal j lt key) }
 
     one_key_at : (j : ℕ) (lt : j < length s.specs.items) (i : AnyIndex) → i ≡ get_or s.indices.items j i → IsTrue (has_key_kind (kind_of i)) → HasOneKey (order s.keys (index_of i)) (hash_of s.keys (index_of i)) before keys.row

@@ -68,8 +68,9 @@ impl<R, E: Extract<R>> IndexSet<R, E> {
         self.indices[index].reverse(&mut self.store);
     }
 
-    /// Puts the nodes of a row whose records have the key of index `index` behind all others, which keep their order. It takes
-    /// no memory. O(nodes + k log k) for k that have the key. A row is a sequence with places, and others have no such call.
+    /// Puts the nodes of a row whose records have the key of index `index` behind all others, which keep their order.
+    /// It takes no memory. O(nodes + k log k) for k that have the key. A row is a sequence with places, and others have
+    /// no such call.
     pub fn sink(&mut self, row: usize, index: usize, probe: &E::Probe)
         requires at { HasIndex E.Extract self.old row }
         requires kind { kind_at self.old row ≡ Random }

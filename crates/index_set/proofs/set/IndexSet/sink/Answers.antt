@@ -3,26 +3,25 @@ use Rattle.std.specs.Prelude.{IsTrue}
 use Rattle.container_model.specs.State.{is_sequence_kind}
 use Rattle.index_set.specs.Set.{kind_at}
 use Rattle.index_set.proofs.Frame.{steps_of}
-use Rattle.index_set.proofs.Reading.{sound_here, kind_here}
+use Rattle.index_set.proofs.Reading.{sound_here, kind_here, has_its_key}
 use Rattle.index_set.proofs.Moving.{placed_moved, room_moved, keyed_moved}
 use Rattle.index_set.proofs.Stores.{IsStore_kept}
-use Rattle.index_set.proofs.Sinking.{by_key_kind, has_its_key, lists_sunk, list_sunk}
+use Rattle.index_set.proofs.Sinking.{by_key_kind, lists_sunk, list_sunk}
 use Rattle.index_set.proofs.set.IndexSet.sink.Goals as goal
 
-pub sink-requires-clause-sound : goal.sink-requires-clause-sound
-sink-requires-clause-sound g c = sound_here c.args.self.now c.requires.at.sound c.args.row c.requires.at.index c.index_mut.result.now c.index_mut.ensures.value
-
-pub sink-requires-clause-kind : goal.sink-requires-clause-kind
-sink-requires-clause-kind g c = kind_here c.args.self.now c.requires.at.sound c.args.row c.requires.at.index c.index_mut.result.now c.index_mut.ensures.value ∙ c.requires.kind
-
-pub sink-requires-clause-key : goal.sink-requires-clause-key
-sink-requires-clause-key g c = has_its_key c.args.self.now c.requires.at.sound c.args.index c.requires.key.index c.requires.key.kind
-
-pub sink-requires-clause-fits : goal.sink-requires-clause-fits
-sink-requires-clause-fits g c =
+pub sink-requires : goal.sink-requires
+sink-requires g c =
+    let set = c.args.self.now in
+    let sound = c.requires.at.sound in
     let asked = c.requires.key in
-    by_key_kind (kind_at c.args.self.now c.args.index) asked.kind asked.fits
-    (λ hashed. g.met.E.Extract.whole_fits c.args.self.now.keys c.args.index c.args.probe.now (has_its_key c.args.self.now asked.sound c.args.index asked.index asked.kind) (asked.whole hashed))
+    let has = has_its_key set sound c.args.index asked.index asked.kind in
+    record {
+      sound = sound_here set sound c.args.row c.requires.at.index c.index_mut.result.now c.index_mut.ensures.value;
+      kind = kind_here set sound c.args.row c.requires.at.index c.index_mut.result.now c.index_mut.ensures.value ∙ c.requires.kind;
+      key = has;
+      fits = by_key_kind (kind_at set c.args.index) asked.kind asked.fits
+          (λ hashed. g.met.E.Extract.whole_fits set.keys c.args.index c.args.probe.now has (asked.whole hashed));
+    }
 
 pub returns-clause-sound : goal.returns-clause-sound
 returns-clause-sound g c =
