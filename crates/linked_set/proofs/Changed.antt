@@ -30,6 +30,7 @@ use Rattle.index_set.proofs.StaysUnique.{unique_after_remove}
 use Rattle.index_set.proofs.Written.{lists_written}
 use Rattle.modify_ops.proofs.Held.{node_of_all}
 use Rattle.modify_ops.proofs.Others.{ban_written}
+use Rattle.linked_set.specs.ByRow.{has_by_row, order_by_row, hash_by_row}
 use Rattle.linked_set.specs.declared.by_row.ByRow.{ByRow}
 use Rattle.linked_set.specs.LeadsTo.{LeadsTo}
 use Rattle.linked_set.specs.Linked.{handle_of, entries_in, handles_in}
@@ -69,18 +70,12 @@ module _ {E R : Type 0} {has_key : E → ℕ → Bool} {order : E → ℕ → R 
   abbrev entry : Entry R
   entry = record { handle = h; row = row }
 
-  abbrev orders : ByRow E → ℕ → Entry R → Entry R → Ordering
-  orders by index a b = order by.keys index a.row b.row
-
-  abbrev hashes : ByRow E → ℕ → Entry R → ℕ
-  hashes by index a = hash by.keys index a.row
-
   -- what bans the changed record beside its node bans its row beside its handle
-  pub ban_changed : (result : Option (ℕ × Node)) → result ≡ ban_from (orders (keys_of old)) (set.record_of (set.with_record old n entry)) (lists_of (set.with_record old n entry)) (Some n) entry 0 (specs_of old) →
+  pub ban_changed : (result : Option (ℕ × Node)) → result ≡ ban_from (order_by_row order (keys_of old)) (set.record_of (set.with_record old n entry)) (lists_of (set.with_record old n entry)) (Some n) entry 0 (specs_of old) →
       (max writes : ℕ) → option_map (λ at. (at.0, handle_of (set.record_of old) at.1)) result ≡ ban order (seen old max writes) (Some h) row
   ban_changed result found max writes =
       let told = told_some (store_of old) slots w.linked.leads n w.is (lists_of old) (nodes_held old w.linked.sound) in
-      let here : result ≡ ban_from (orders (keys_of old)) (set.record_of old) (lists_of old) (Some n) entry 0 (specs_of old) = found ∙ ban_written old n entry w.is (orders (keys_of old)) entry in
+      let here : result ≡ ban_from (order_by_row order (keys_of old)) (set.record_of old) (lists_of old) (Some n) entry 0 (specs_of old) = found ∙ ban_written old n entry w.is (order_by_row order (keys_of old)) entry in
       ap (option_map (λ at. (at.0, handle_of (set.record_of old) at.1))) here
       ∙ (sym (ban_known (order (keys_of old).keys) (set.record_of old) (entries_in (set.contents old)) (lists_of old) (Some n) (known_all old slots w.linked) told entry 0 (specs_of old))
       ∙ ap (λ g. ban order (seen old max writes) (Some g) row) w.own)
@@ -98,7 +93,7 @@ module _ {E R : Type 0} {has_key : E → ℕ → Bool} {order : E → ℕ → R 
   record_changed = its_record (store_of old) (store_of mid) n h row slots w.linked.sound.nodes w.linked.leads w.linked.apart w.is w.own w.after
 
   -- a set that is sound again is linked as before
-  pub IsLinked_changed : IsSound (λ by. has_key by.keys) mid → IsKeyed orders hashes mid → IsUniqueExcept orders mid None → IsLinked has_key order hash mid slots
+  pub IsLinked_changed : IsSound (has_by_row has_key) mid → IsKeyed (order_by_row order) (hash_by_row hash) mid → IsUniqueExcept (order_by_row order) mid None → IsLinked has_key order hash mid slots
   IsLinked_changed sound keyed unique = record {
     sound = sound;
     keyed = keyed;
@@ -108,14 +103,14 @@ module _ {E R : Type 0} {has_key : E → ℕ → Bool} {order : E → ℕ → R 
   }
 
   module _ (result : Option (ℕ × Node)) (listed : lists_of mid ≡ option_map_or (λ by. map (without (same_node n)) (lists_of (set.with_record old n entry))) result
-      (changed_from (settled_at (orders (keys_of old)) (set.record_of (set.with_record old n entry)) n) 0 (specs_of old) (lists_of (set.with_record old n entry)))) where
+      (changed_from (settled_at (order_by_row order (keys_of old)) (set.record_of (set.with_record old n entry)) n) 0 (specs_of old) (lists_of (set.with_record old n entry)))) where
     abbrev listed_by : Option (ℕ × Node) → List (List Node)
     listed_by o =
         option_map_or (λ by. map (without (same_node n)) (lists_of (set.with_record old n entry))) o
-        (changed_from (settled_at (orders (keys_of old)) (set.record_of (set.with_record old n entry)) n) 0 (specs_of old) (lists_of (set.with_record old n entry)))
+        (changed_from (settled_at (order_by_row order (keys_of old)) (set.record_of (set.with_record old n entry)) n) 0 (specs_of old) (lists_of (set.with_record old n entry)))
 
     -- its node settles where nothing bans it
-    pub settled_then : result ≡ None → lists_of mid ≡ changed_from (settled_at (orders (keys_of old)) (set.record_of (set.with_record old n entry)) n) 0 (specs_of old) (lists_of (set.with_record old n entry))
+    pub settled_then : result ≡ None → lists_of mid ≡ changed_from (settled_at (order_by_row order (keys_of old)) (set.record_of (set.with_record old n entry)) n) 0 (specs_of old) (lists_of (set.with_record old n entry))
     settled_then none = listed ∙ ap listed_by none
 
     -- and leaves where something does
@@ -123,11 +118,11 @@ module _ {E R : Type 0} {has_key : E → ℕ → Bool} {order : E → ℕ → R 
     taken_then at some = listed ∙ (ap listed_by some ∙ ap (map (without (same_node n))) (lists_written old n entry))
 
   -- where it settled
-  module _ (settled : lists_of mid ≡ changed_from (settled_at (orders (keys_of old)) (set.record_of (set.with_record old n entry)) n) 0 (specs_of old) (lists_of (set.with_record old n entry))) where
+  module _ (settled : lists_of mid ≡ changed_from (settled_at (order_by_row order (keys_of old)) (set.record_of (set.with_record old n entry)) n) 0 (specs_of old) (lists_of (set.with_record old n entry))) where
     lists_settled : handles_in (set.record_of mid) (lists_of mid) ≡ settled_from (order (keys_of old).keys) (entries_in (set.contents old)) h row 0 (specs_of old) (handles_in (set.record_of old) (lists_of old))
     lists_settled =
         ap (handles_in (set.record_of mid))
-        (settled ∙ (λ i. changed_from (settled_at (orders (keys_of old)) (sym (records_kept (store_of (set.with_record old n entry)) (store_of mid) w.after) i) n) 0 (specs_of old) (lists_written old n entry i)))
+        (settled ∙ (λ i. changed_from (settled_at (order_by_row order (keys_of old)) (sym (records_kept (store_of (set.with_record old n entry)) (store_of mid) w.after) i) n) 0 (specs_of old) (lists_written old n entry i)))
         ∙ lists_rewritten (store_of old) (store_of mid) n h row slots w.linked.sound.nodes w.linked.leads w.linked.apart w.is w.own w.after (order (keys_of old).keys) (specs_of old) (lists_of old) w.held (distinct old w.linked.sound) (nodes_held old w.linked.sound)
 
     pub seen_settled : (max writes : ℕ) → seen mid max (writes + 1) ≡ with_replaced order (seen old max writes) h row
@@ -152,7 +147,7 @@ module _ {E R : Type 0} {has_key : E → ℕ → Bool} {order : E → ℕ → R 
   pub slot_taken : item_at slots h.slot ≢ None
   slot_taken free = let bad = sym (leads_mid.node_at n is_mid) ∙ (ap (λ (g : Handle). item_at slots g.slot) own_mid ∙ free) in cc
 
-  module _ (new : IndexSet (Entry R) (ByRow E)) (taken : lists_of mid ≡ map (without (same_node n)) (lists_of old)) (sound : IsSound (λ by. has_key by.keys) mid)
+  module _ (new : IndexSet (Entry R) (ByRow E)) (taken : lists_of mid ≡ map (without (same_node n)) (lists_of old)) (sound : IsSound (has_by_row has_key) mid)
       (kept : IsOfSame mid new) (listed : lists_of new ≡ lists_of mid) (removes : RemovesNode (store_of mid) (store_of new) n) (count : (store_of new).added ≡ (store_of mid).added) where
     entries_taken : entries_in (set.contents new) ≡ filter (λ x. not (is_handle h x.handle)) (entries_in (set.contents old))
     entries_taken =
@@ -170,11 +165,11 @@ module _ {E R : Type 0} {has_key : E → ℕ → Bool} {order : E → ℕ → R 
     pub seen_taken : (max writes : ℕ) → seen new max (writes + 1) ≡ with_erased (seen old max writes) h
     seen_taken max writes = seen_only old new (λ g. not (is_handle h g)) max writes (record { keys = kept.keys ∙ w.same.keys; specs = kept.specs ∙ w.same.specs }) entries_taken lists_taken
 
-    pub IsLinked_taken : IsSound (λ by. has_key by.keys) new → IsKeyed orders hashes new → IsUniqueExcept orders mid None → IsLinked has_key order hash new (with_item slots h.slot None)
+    pub IsLinked_taken : IsSound (has_by_row has_key) new → IsKeyed (order_by_row order) (hash_by_row hash) new → IsUniqueExcept (order_by_row order) mid None → IsLinked has_key order hash new (with_item slots h.slot None)
     IsLinked_taken sound_new keyed unique = record {
       sound = sound_new;
       keyed = keyed;
-      unique = unique_after_remove orders mid new sound kept n listed removes (subst (λ lists. LackIt lists n) (sym taken) (lacks_left (lists_of old) n)) unique;
+      unique = unique_after_remove (order_by_row order) mid new sound kept n listed removes (subst (λ lists. LackIt lists n) (sym taken) (lacks_left (lists_of old) n)) unique;
       apart = subst (EachPair _) (sym entries_taken) (EachPair-filter _ _ (entries_in (set.contents old)) w.linked.apart);
       leads = subst (λ (g : Handle). LeadsTo (store_of new) (with_item slots g.slot None)) own_mid (leads_left (store_of mid) (store_of new) slots sound.nodes leads_mid n is_mid removes);
     }

@@ -26,6 +26,7 @@ use Rattle.index_set.proofs.Keys.{unique_kept}
 use Rattle.index_set.proofs.StaysUnique.{unique_after_enter}
 use Rattle.index_set.specs.Each.{changed_from}
 use Rattle.index_set.specs.Lists.{entered_at, ban_from}
+use Rattle.linked_set.specs.ByRow.{has_by_row, order_by_row, hash_by_row}
 use Rattle.linked_set.specs.declared.by_row.ByRow.{ByRow}
 use Rattle.linked_set.specs.Seen.{IsLinked}
 use Rattle.linked_set.specs.Linked.{handle_of, entries_in, handles_in, IsKnown}
@@ -83,16 +84,13 @@ module _ {R : Type 0} (order : ℕ → R → R → Ordering) (specs : List Spec)
   allowed_joined allowed = none_before (λ at. (at.0, handle_of (record_of s) at.1)) _ (sym (ban_known order (record_of s) (entries_in (contents s)) lists None known_before (told_none (record_of s) lists) e 0 specs) ∙ allowed)
 
 module _ {E R : Type 0} (has_key : E → ℕ → Bool) (order : E → ℕ → R → R → Ordering) (hash : E → ℕ → R → ℕ) where
-  abbrev orders : ByRow E → ℕ → Entry R → Entry R → Ordering
-  orders by index a b = order by.keys index a.row b.row
-
   -- a set with the same nodes and lists is linked as the old one is
-  pub IsLinked_kept : (old new : IndexSet (Entry R) (ByRow E)) (slots : List (Option Node)) → IsOfSame old new → set.contents new ≡ set.contents old → lists_of new ≡ lists_of old → IsSound (λ by. has_key by.keys) new →
-      IsKeyed orders (λ by index a. hash by.keys index a.row) new → IsLinked has_key order hash old slots → IsLinked has_key order hash new slots
+  pub IsLinked_kept : (old new : IndexSet (Entry R) (ByRow E)) (slots : List (Option Node)) → IsOfSame old new → set.contents new ≡ set.contents old → lists_of new ≡ lists_of old → IsSound (has_by_row has_key) new →
+      IsKeyed (order_by_row order) (hash_by_row hash) new → IsLinked has_key order hash old slots → IsLinked has_key order hash new slots
   IsLinked_kept old new slots same contents lists sound keyed linked = record {
     sound = sound;
     keyed = keyed;
-    unique = unique_kept orders old new None same lists contents linked.unique;
+    unique = unique_kept (order_by_row order) old new None same lists contents linked.unique;
     apart = subst (EachPair _) (sym (entries_kept (store_of old) (store_of new) contents)) linked.apart;
     leads = leads_kept (store_of old) (store_of new) slots contents linked.leads;
   }
@@ -100,10 +98,10 @@ module _ {E R : Type 0} (has_key : E → ℕ → Bool) (order : E → ℕ → R 
   -- a set whose store a node has joined, and then each list
   module _ (total : (keys : E) (i : ℕ) → IsTrue (has_key keys i) → IsTotalOrder (order keys i)) (old mid new : IndexSet (Entry R) (ByRow E)) (slots : List (Option Node)) (at : At) (n : Node) (e : Entry R) (linked : IsLinked has_key order hash old slots)
       (same : IsOfSame old mid) (before : lists_of mid ≡ lists_of old) (adds : AddsNode (store_of old) (store_of mid) n e) (number : number_of n ≡ (store_of old).added) (count : (store_of mid).added ≡ (store_of old).added + 1)
-      (kept : IsOfSame mid new) (entered : lists_of new ≡ changed_from (entered_at (orders (keys_of mid)) (set.record_of mid) at n) 0 (specs_of mid) (lists_of mid)) (after : set.contents new ≡ set.contents mid)
+      (kept : IsOfSame mid new) (entered : lists_of new ≡ changed_from (entered_at (order_by_row order (keys_of mid)) (set.record_of mid) at n) 0 (specs_of mid) (lists_of mid)) (after : set.contents new ≡ set.contents mid)
       (slot : e.handle.slot ≡ first_free slots) where
-    new_lists : lists_of new ≡ changed_from (entered_at (orders (keys_of old)) (set.record_of mid) at n) 0 (specs_of old) (lists_of old)
-    new_lists = entered ∙ (λ i. changed_from (entered_at (orders (same.keys i)) (set.record_of mid) at n) 0 (same.specs i) (before i))
+    new_lists : lists_of new ≡ changed_from (entered_at (order_by_row order (keys_of old)) (set.record_of mid) at n) 0 (specs_of old) (lists_of old)
+    new_lists = entered ∙ (λ i. changed_from (entered_at (order_by_row order (same.keys i)) (set.record_of mid) at n) 0 (same.specs i) (before i))
 
     pub entries_grown : entries_in (set.contents new) ≡ entries_in (set.contents old) ++ e ∷ []
     entries_grown =
@@ -116,14 +114,14 @@ module _ {E R : Type 0} (has_key : E → ℕ → Bool) (order : E → ℕ → R 
         ∙ lists_joined (order (keys_of old).keys) (specs_of old) at (store_of old) (store_of mid) (store_of new) (lists_of old) n e slots linked.sound.nodes linked.apart linked.leads
         (nodes_held old linked.sound) (older old linked.sound) adds number count after slot
 
-    pub IsLinked_grown : LackIt (lists_of mid) n → IsSound (λ by. has_key by.keys) new → IsKeyed orders (λ by index a. hash by.keys index a.row) new →
+    pub IsLinked_grown : LackIt (lists_of mid) n → IsSound (has_by_row has_key) new → IsKeyed (order_by_row order) (hash_by_row hash) new →
         ban_of_handles (order (keys_of old).keys) (entries_in (set.contents old)) (handles_in (set.record_of old) (lists_of old)) None e.row 0 (specs_of old) ≡ None →
         IsLinked has_key order hash new (with_item slots (first_free slots) (Some n))
     IsLinked_grown loose sound keyed allowed = record {
       sound = sound;
       keyed = keyed;
       unique =
-          unique_after_enter orders (λ keys index has. on_total (λ (x : Entry R). x.row) (total keys.keys index has)) old mid new linked.sound same kept n e at before adds loose entered after
+          unique_after_enter (order_by_row order) (λ keys index has. on_total (λ (x : Entry R). x.row) (total keys.keys index has)) old mid new linked.sound same kept n e at before adds loose entered after
           (allowed_joined (order (keys_of old).keys) (specs_of old) at (store_of old) (store_of mid) (store_of new) (lists_of old) n e slots linked.sound.nodes linked.apart linked.leads
           (nodes_held old linked.sound) (older old linked.sound) adds number count after slot allowed)
           linked.unique;

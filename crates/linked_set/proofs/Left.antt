@@ -31,6 +31,7 @@ use Rattle.index_set.specs.Indices.{HoldIt, LackIt}
 use Rattle.index_set.proofs.Members.{nodes_held}
 use Rattle.index_set.proofs.Keys.{but_from, lacks_left}
 use Rattle.index_set.proofs.StaysUnique.{unique_except, unique_after_leave, unique_after_remove}
+use Rattle.linked_set.specs.ByRow.{has_by_row, order_by_row, hash_by_row}
 use Rattle.linked_set.specs.declared.by_row.ByRow.{ByRow}
 use Rattle.linked_set.specs.Held.{AreHeld}
 use Rattle.linked_set.specs.LeadsTo.{LeadsTo}
@@ -123,15 +124,9 @@ module _ {R : Type 0} (s t : Store (Entry R)) (slots : List (Option Node)) (stor
           (cases_eq k its.slot)
 
 module _ {E R : Type 0} (has_key : E → ℕ → Bool) (order : E → ℕ → R → R → Ordering) (hash : E → ℕ → R → ℕ) where
-  abbrev orders : ByRow E → ℕ → Entry R → Entry R → Ordering
-  orders by index a b = order by.keys index a.row b.row
-
-  abbrev hashes : ByRow E → ℕ → Entry R → ℕ
-  hashes by index a = hash by.keys index a.row
-
   -- a set from whose lists a node was taken, and then its record from the store
   module _ (old mid new : IndexSet (Entry R) (ByRow E)) (slots : List (Option Node)) (linked : IsLinked has_key order hash old slots) (n : Node) (is : IsNodeOf (store_of old) n) (e : Entry R) (has : set.record_of mid n ≡ Some e)
-      (same : IsOfSame old mid) (taken : lists_of mid ≡ map (without (same_node n)) (lists_of old)) (after : set.contents mid ≡ set.contents old) (sound : IsSound (λ by. has_key by.keys) mid)
+      (same : IsOfSame old mid) (taken : lists_of mid ≡ map (without (same_node n)) (lists_of old)) (after : set.contents mid ≡ set.contents old) (sound : IsSound (has_by_row has_key) mid)
       (kept : IsOfSame mid new) (listed : lists_of new ≡ lists_of mid) (removes : RemovesNode (store_of mid) (store_of new) n) (count : (store_of new).added ≡ (store_of mid).added) where
     leads_mid : LeadsTo (store_of mid) slots
     leads_mid = leads_kept (store_of old) (store_of mid) slots after linked.leads
@@ -170,13 +165,13 @@ module _ {E R : Type 0} (has_key : E → ℕ → Bool) (order : E → ℕ → R 
           subst (λ lists. HoldIt lists m) (sym (listed ∙ taken)) (held_by_each n m was.0 (lists_of old) (held.each m (IsNodeOf_kept (store_of mid) (store_of old) m (sym after) was.1)));
     }
 
-    pub IsLinked_shrunk : IsSound (λ by. has_key by.keys) new → (IsKeyedBut orders hashes old n → IsKeyed orders hashes mid) → (IsKeyed orders hashes mid → IsKeyed orders hashes new) → IsLinked has_key order hash new (with_item slots e.handle.slot None)
+    pub IsLinked_shrunk : IsSound (has_by_row has_key) new → (IsKeyedBut (order_by_row order) (hash_by_row hash) old n → IsKeyed (order_by_row order) (hash_by_row hash) mid) → (IsKeyed (order_by_row order) (hash_by_row hash) mid → IsKeyed (order_by_row order) (hash_by_row hash) new) → IsLinked has_key order hash new (with_item slots e.handle.slot None)
     IsLinked_shrunk sound_new keyed_taken keyed_removed = record {
       sound = sound_new;
-      keyed = keyed_removed (keyed_taken (but_from orders hashes old n linked.keyed));
+      keyed = keyed_removed (keyed_taken (but_from (order_by_row order) (hash_by_row hash) old n linked.keyed));
       unique =
-          unique_after_remove orders mid new sound kept n listed removes (subst (λ lists. LackIt lists n) (sym taken) (lacks_left (lists_of old) n))
-          (unique_after_leave orders old mid linked.sound same n taken after (unique_except orders old linked.sound n linked.unique));
+          unique_after_remove (order_by_row order) mid new sound kept n listed removes (subst (λ lists. LackIt lists n) (sym taken) (lacks_left (lists_of old) n))
+          (unique_after_leave (order_by_row order) old mid linked.sound same n taken after (unique_except (order_by_row order) old linked.sound n linked.unique));
       apart = subst (EachPair _) (sym entries_shrunk) (EachPair-filter _ _ (entries_in (set.contents old)) linked.apart);
       leads = subst (λ (h : Handle). LeadsTo (store_of new) (with_item slots h.slot None)) own (leads_left (store_of mid) (store_of new) slots sound.nodes leads_mid n is_mid removes);
     }

@@ -15,6 +15,7 @@ use Rattle.node_store.specs.declared.Node.{Node}
 use Rattle.index_set.specs.declared.set.IndexSet.{IndexSet}
 use Rattle.index_set.specs.Set.{store_of, keys_of, specs_of, contents, record_of, list_of, lists_of, probe_side}
 use Rattle.index_set.proofs.Members.{nodes_held, one_list_each}
+use Rattle.linked_set.specs.ByRow.{probe_by_row}
 use Rattle.linked_set.specs.declared.by_row.ByRow.{ByRow}
 use Rattle.linked_set.specs.Linked.{handle_of, entries_in, handles_in, IsKnown}
 use Rattle.linked_set.specs.Seen.{seen, IsLinked}
@@ -36,7 +37,7 @@ module _ {E R : Type 0} {has_key : E → ℕ → Bool} {order : E → ℕ → R 
 
     module _ {P : Type 0} (probe_order : E → ℕ → R → P → Ordering) (probe : P) (max writes : ℕ) (key : has_key_kind (kind_at (seen set max writes) index) ≡ true) where
       -- what a search answers
-      pub found_seen : (o : Option Node) → o ≡ find_equal (probe_side (λ by i (a : Entry R). probe_order by.keys i a.row) set index probe) (list_of set index) → Ok (option_map (handle_of (record_of set)) o) ≡ found probe_order (seen set max writes) index probe
+      pub found_seen : (o : Option Node) → o ≡ find_equal (probe_side (probe_by_row probe_order) set index probe) (list_of set index) → Ok (option_map (handle_of (record_of set)) o) ≡ found probe_order (seen set max writes) index probe
       found_seen o e =
           let side : R → Ordering = λ a. probe_order (keys_of set).keys index a probe in
           let found_here = find_equal (side_of side (entries_in (contents set))) in
@@ -45,7 +46,7 @@ module _ {E R : Type 0} {has_key : E → ℕ → Bool} {order : E → ℕ → R 
           ∙ ap (λ b. cond b (Ok (found_here (list_at (handles_in (record_of set) (lists_of set)) index))) (Err WrongKind)) (sym key))
 
       -- and what a count
-      pub counted_seen : (n : ℕ) → n ≡ count_equal (probe_side (λ by i (a : Entry R). probe_order by.keys i a.row) set index probe) (list_of set index) → Ok n ≡ counted probe_order (seen set max writes) index probe
+      pub counted_seen : (n : ℕ) → n ≡ count_equal (probe_side (probe_by_row probe_order) set index probe) (list_of set index) → Ok n ≡ counted probe_order (seen set max writes) index probe
       counted_seen n e =
           let side : R → Ordering = λ a. probe_order (keys_of set).keys index a probe in
           let counted_here = count_equal (side_of side (entries_in (contents set))) in

@@ -12,7 +12,7 @@ use Rattle.list_model.specs.Order.{EachPair}
 use Rattle.list_model.specs.Walk.{last}
 use Rattle.list_model.proofs.Counts.{count_by-cons}
 use Rattle.list_model.proofs.InOrder.{All-map}
-use Rattle.list_model.proofs.Kept.{All-passed, All-split, map-filter}
+use Rattle.list_model.proofs.Kept.{All-passed, All-split, filter_none, map-filter}
 use Rattle.list_model.proofs.Lists.{All-at, slice_get_at}
 use Rattle.list_model.proofs.Permuted.{count_by-append, count_by-permutation, none_passes}
 use Rattle.node_store.specs.declared.Node.{Node}
@@ -35,6 +35,7 @@ use Rattle.index_set.specs.Set as set
 use Rattle.index_set.specs.Set.{store_of, keys_of, specs_of, contents, record_of, list_of, lists_of, kind_at, IsSound, IsKeyed, IsOfSame}
 use Rattle.index_set.proofs.Members.{nodes_held_at, one_list_each}
 use Rattle.index_set.proofs.StaysUnique.{unique_after_move}
+use Rattle.linked_set.specs.ByRow.{has_by_row, order_by_row, hash_by_row, probe_by_row}
 use Rattle.linked_set.specs.declared.by_row.ByRow.{ByRow}
 use Rattle.linked_set.specs.Held.{AreHeld, has_other_key}
 use Rattle.linked_set.specs.Linked.{handle_of, entries_in, handles_in}
@@ -47,10 +48,6 @@ use Rattle.linked_set.proofs.Thinned.{Thinned, filter_all, other_key}
 filter_alike : {X : Type 0} (p q : X → Bool) (xs : List X) → AllByRecursion (λ x. p x ≡ q x) xs → filter p xs ≡ filter q xs
 filter_alike p q [] all = refl
 filter_alike p q (x ∷ xs) all = λ i. cond (all.0 i) (x ∷ filter_alike p q xs all.1 i) (filter_alike p q xs all.1 i)
-
-none_left : {X : Type 0} (p : X → Bool) (xs : List X) → AllByRecursion (λ x. p x ≡ false) xs → filter p xs ≡ []
-none_left p [] all = refl
-none_left p (x ∷ xs) all = ap (λ b. cond b (x ∷ filter p xs) (filter p xs)) all.0 ∙ none_left p xs all.1
 
 counted_by : {X : Type 0} (p : X → Bool) (x : X) (l xs : List X) (b : Bool) → p x ≡ b → count_by p l ≡ count_by p xs → count_by p (cond b (x ∷ l) l) ≡ count_by p (x ∷ xs)
 counted_by p x l xs true e h = omega (arith, count_by-cons p x l, count_by-cons p x xs, h)
@@ -70,7 +67,7 @@ others_kept {X} has_key old new sunk =
     let none : count_by p sunk.tail ≡ 0 = omega (arith, many, parts, count_kept p old) in
     ap (filter p) sunk.is
     ∙ (filter-append p (filter p old) sunk.tail
-    ∙ ((λ i. filter_all p (filter p old) (All-passed p old) i ++ none_left p sunk.tail (none_passes p sunk.tail none) i) ∙ append-nil (filter p old)))
+    ∙ ((λ i. filter_all p (filter p old) (All-passed p old) i ++ filter_none p sunk.tail (none_passes p sunk.tail none) i) ∙ append-nil (filter p old)))
 
 filter_mapped : {X Y : Type 0} (f : X → Y) (keep : Y → Bool) (q : X → Bool) (xs : List X) → AllByRecursion (λ x. keep (f x) ≡ q x) xs → filter keep (map f xs) ≡ map f (filter q xs)
 filter_mapped f keep q xs all = sym (map-filter f keep xs) ∙ ap (map f) (filter_alike (λ x. keep (f x)) q xs all)
@@ -102,11 +99,11 @@ module _ {E R P : Type 0} {has_key : E → ℕ → Bool} {order : E → ℕ → 
   keep = has_other_key probe_order old index probe
 
   abbrev has : Node → Bool
-  has n = is_eq (set.probe_side (λ by i (a : Entry R). probe_order by.keys i a.row) now index probe n)
+  has n = is_eq (set.probe_side (probe_by_row probe_order) now index probe n)
 
-  module _ (row : ℕ) (lt : row < length (specs_of now)) (kind : kind_at now row ≡ Random) (sound : IsSound (λ by. has_key by.keys) new) (same : IsOfSame now new)
+  module _ (row : ℕ) (lt : row < length (specs_of now)) (kind : kind_at now row ≡ Random) (sound : IsSound (has_by_row has_key) new) (same : IsOfSame now new)
       (lists : lists_of new ≡ set (lists_of now) row (list_of new row)) (sunk : IsSunk has (list_of now row) (list_of new row))
-      (keyed : IsKeyed (λ by i a b. order by.keys i a.row b.row) (λ by i a. hash by.keys i a.row) new) (kept : contents new ≡ contents now) where
+      (keyed : IsKeyed (order_by_row order) (hash_by_row hash) new) (kept : contents new ≡ contents now) where
     still : (n : Node) → IsNodeOf (store_of new) n → IsNodeOf (store_of now) n
     still n is = IsNodeOf_kept (store_of new) (store_of now) n (sym kept) is
 
@@ -126,7 +123,7 @@ module _ {E R P : Type 0} {has_key : E → ℕ → Bool} {order : E → ℕ → 
         sound = sound;
         keyed = keyed;
         unique =
-            unique_after_move (λ by i a b. order by.keys i a.row b.row) now new was.linked.sound same row (list_of new row) None lt (subst (λ k. IsTrue (is_sequence_kind k)) (sym kind) refl) lists kept
+            unique_after_move (order_by_row order) now new was.linked.sound same row (list_of new row) None lt (subst (λ k. IsTrue (is_sequence_kind k)) (sym kind) refl) lists kept
             was.linked.unique;
         apart = subst (EachPair _) (sym (entries_kept (store_of now) (store_of new) kept)) was.linked.apart;
         leads = leads_kept (store_of now) (store_of new) slots kept was.linked.leads;

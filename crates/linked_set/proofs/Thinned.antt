@@ -29,6 +29,7 @@ use Rattle.index_set.specs.declared.set.IndexSet.{IndexSet}
 use Rattle.index_set.specs.Set as set
 use Rattle.index_set.specs.Set.{store_of, keys_of, specs_of, contents, record_of, list_of, lists_of, IsOfSame}
 use Rattle.index_set.proofs.Members.{nodes_held, nodes_held_at, one_list_each}
+use Rattle.linked_set.specs.ByRow.{probe_by_row}
 use Rattle.linked_set.specs.declared.by_row.ByRow.{ByRow}
 use Rattle.linked_set.specs.Held.{AreHeld, has_other_key}
 use Rattle.linked_set.specs.Linked.{handle_of, entries_in, handles_in, IsKnown}
@@ -170,7 +171,7 @@ module _ {E R : Type 0} {has_key : E → ℕ → Bool} {order : E → ℕ → R 
 module _ {E R P : Type 0} {has_key : E → ℕ → Bool} {order : E → ℕ → R → R → Ordering} {hash : E → ℕ → R → ℕ} (probe_order : E → ℕ → R → P → Ordering) (index : ℕ) (probe : P) (old now : IndexSet (Entry R) (ByRow E)) (slots : List (Option Node))
     (was : Thinned has_key order hash (has_other_key probe_order old index probe) old now slots) (within : index < length (specs_of old)) where
   abbrev side : Node → Ordering
-  side = set.probe_side (λ by i (a : Entry R). probe_order by.keys i a.row) now index probe
+  side = set.probe_side (probe_by_row probe_order) now index probe
 
   pub here : index < length (specs_of now)
   here = subst (λ specs. index < length specs) (sym was.same.specs) within

@@ -16,6 +16,7 @@ use Rattle.index_set.specs.Lists.{ban_from}
 use Rattle.index_set.specs.Set as set
 use Rattle.index_set.specs.Set.{store_of, keys_of, specs_of, lists_of}
 use Rattle.modify_ops.proofs.Undone.{undone_is}
+use Rattle.linked_set.specs.ByRow.{order_by_row}
 use Rattle.linked_set.specs.declared.by_row.ByRow.{ByRow}
 use Rattle.linked_set.specs.Linked.{handle_of, entries_in, handles_in}
 use Rattle.linked_set.specs.Seen.{seen, IsLinked}
@@ -50,17 +51,14 @@ module _ {E R : Type 0} {has_key : E → ℕ → Bool} {order : E → ℕ → R 
   abbrev entry : Entry R
   entry = record { handle = h; row = row }
 
-  abbrev orders : ByRow E → ℕ → Entry R → Entry R → Ordering
-  orders by index a b = order by.keys index a.row b.row
-
   -- what keeps the changed record of a node from staying keeps its row
   pub why_changed : (result : Option Why) (max writes : ℕ) →
       result
       ≡ refused_by (handle_of (set.record_of mid))
-      (ban_from (orders (keys_of old)) (set.record_of (set.with_record old n entry)) (lists_of (set.with_record old n entry)) (Some n) entry 0 (specs_of old)) (cond (writes == 2 ^ 64 - 1) (Some Spent) None) →
+      (ban_from (order_by_row order (keys_of old)) (set.record_of (set.with_record old n entry)) (lists_of (set.with_record old n entry)) (Some n) entry 0 (specs_of old)) (cond (writes == 2 ^ 64 - 1) (Some Spent) None) →
       result ≡ option_map_or (λ (at : ℕ × Handle). Some (Banned at.0 at.1)) (ban order (seen old max writes) (Some h) row) (spent (seen old max writes))
   why_changed result max writes found =
-      let bans = ban_from (orders (keys_of old)) (set.record_of (set.with_record old n entry)) (lists_of (set.with_record old n entry)) (Some n) entry 0 (specs_of old) in
+      let bans = ban_from (order_by_row order (keys_of old)) (set.record_of (set.with_record old n entry)) (lists_of (set.with_record old n entry)) (Some n) entry 0 (specs_of old) in
       found
       ∙ (refused_alike (handle_of (set.record_of mid)) (handle_of (set.record_of old)) (handle_changed w) bans (spent (seen old max writes))
       ∙ ap (λ o. option_map_or (λ (at : ℕ × Handle). Some (Banned at.0 at.1)) o (spent (seen old max writes))) (ban_changed w bans refl max writes))

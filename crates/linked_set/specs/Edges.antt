@@ -12,6 +12,7 @@ use Rattle.container_model.specs.declared.handle.Entry.{Entry}
 use Rattle.index_set.specs.declared.set.IndexSet.{IndexSet}
 use Rattle.index_set.specs.Set.{probe_side}
 use Rattle.linked_set.specs.declared.by_row.ByRow.{ByRow}
+use Rattle.linked_set.specs.ByRow.{probe_by_row}
 
 -- the bound, where `side` says how a member stands to a key
 abbrev pub edge_of : {P X : Type 0} → (P → X → Ordering) → Bound P → Edge X
@@ -21,7 +22,7 @@ edge_of side Unbounded = Open
 
 -- the bound among the nodes of an index
 abbrev pub node_edge : {E R P : Type 0} → (E → ℕ → R → P → Ordering) → IndexSet (Entry R) (ByRow E) → ℕ → Bound P → Edge Node
-node_edge {E} {R} order set index bound = edge_of (probe_side (λ (by : ByRow E) i (a : Entry R) probe. order by.keys i a.row probe) set index) bound
+node_edge {E} {R} order set index bound = edge_of (probe_side (probe_by_row order) set index) bound
 
 -- the key of the bound, if it has one, fits
 abbrev pub KeyFits : {P : Type 0} → (P → Bool) → Bound P → Type 0

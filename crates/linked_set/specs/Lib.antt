@@ -1,3 +1,5 @@
+pub mod Asked
+pub mod ByRow
 pub mod Edges
 pub mod Held
 pub mod LeadsTo

@@ -6,6 +6,7 @@ ghost use Rattle.node_store.specs.ByNode.{same_node};
 ghost use Rattle.container_model.specs.State.{is_handle, is_hashed_kind};
 ghost use Rattle.index_set.specs.Indices.{HoldIt};
 ghost use Rattle.index_set.specs.Set.{store_of, contents, record_of, lists_of, list_of, specs_of, kind_at, IsSound, IsOfSame};
+ghost use Rattle.linked_set.specs.ByRow.{has_by_row};
 ghost use Rattle.linked_set.specs.Linked.{handle_of, entries_in, handles_in};
 ghost use Rattle.linked_set.specs.Seen.{IsLinked};
 ghost use Rattle.linked_set.specs.Held.{AreHeld};
@@ -25,10 +26,12 @@ pub fn next_at<R, E: Extract<R>>(
     index: Option<usize>,
     node: Node,
 ) -> Option<Handle>
-    requires sound { IsSound (λ by. E.has_key by.keys) set.now }
-    requires index { IfSome index (λ i. (i < length (specs_of set.now)) × IsTrue (not (is_hashed_kind (kind_at set.now i)))) }
+    requires sound { IsSound (has_by_row E.has_key) set.now }
+    requires index { IfSome index (λ i. (i < length (specs_of set.now)) ×
+        IsTrue (not (is_hashed_kind (kind_at set.now i)))) }
     requires held { HoldIt (lists_of set.now) node }
-    ensures { result ≡ option_and_then (λ i. option_map (handle_of (record_of set.now)) (the_next (same_node node) (list_of set.now i))) index }
+    ensures { result ≡ option_and_then (λ i. option_map (handle_of (record_of set.now))
+        (the_next (same_node node) (list_of set.now i))) index }
 {
     let next = set.next(index?, node)?;
     Some(handle_at(set, next))
@@ -48,8 +51,11 @@ pub fn take_out<R: Drop, E: Extract<R>>(
     ensures held { AreHeld set.new }
     ensures same { IsOfSame set.old set.new }
     ensures record { record_of set.old node ≡ Some result }
-    ensures entries { entries_in (contents set.new) ≡ filter (λ e. not (is_handle result.handle e.handle)) (entries_in (contents set.old)) }
-    ensures lists { handles_in (record_of set.new) (lists_of set.new) ≡ map (λ list. filter (λ g. not (is_handle result.handle g)) list) (handles_in (record_of set.old) (lists_of set.old)) }
+    ensures entries { entries_in (contents set.new) ≡
+        filter (λ e. not (is_handle result.handle e.handle)) (entries_in (contents set.old)) }
+    ensures lists { handles_in (record_of set.new) (lists_of set.new) ≡
+        map (λ list. filter (λ g. not (is_handle result.handle g)) list)
+        (handles_in (record_of set.old) (lists_of set.old)) }
     ensures count { (store_of set.new).added ≡ (store_of set.old).added }
     ensures len { len_of (store_of set.new) + 1 ≡ len_of (store_of set.old) }
 {

@@ -4,9 +4,9 @@ ghost use Rattle.std.specs.declared.cmp.Ordering.TheVariants.{Equal};
 ghost use Rattle.list_model.specs.Place.{find_equal};
 ghost use Rattle.node_store.specs.Nodes.{Holds};
 ghost use Rattle.node_store.specs.Store.{IsNodeOf, len_of};
-ghost use Rattle.container_model.specs.State.{has_key_kind, is_hashed_kind, is_sorted_kind};
-ghost use Rattle.index_set.specs.Set.{kind_at as kind_in, probe_side};
-ghost use Rattle.index_set.specs.Set.{store_of, keys_of, specs_of, contents, record_of, list_of, lists_of, IsSound, IsOfSame};
+ghost use Rattle.index_set.specs.Set.{probe_side, store_of, keys_of, contents, record_of, list_of, lists_of, IsSound, IsOfSame};
+ghost use Rattle.linked_set.specs.Asked.{CanTakeKey};
+ghost use Rattle.linked_set.specs.ByRow.{has_by_row, probe_by_row};
 ghost use Rattle.linked_set.specs.Held.{AreHeld, has_other_key};
 ghost use Rattle.linked_set.specs.Linked.{entries_in, handles_in};
 ghost use Rattle.linked_set.specs.Seen.{IsLinked};
@@ -32,16 +32,15 @@ pub fn take_key<R: Drop, E: Extract<R>>(
     index: usize,
     probe: &E::Probe,
 ) -> u64
-    requires linked { IsLinked E.has_key E.order_of E.hash_of set.old slots.old.items }
-    requires held { AreHeld set.old }
-    requires index { index < length (specs_of set.old) }
-    requires kind { IsTrue (has_key_kind (kind_in set.old index)) }
-    requires fits { IsTrue (is_sorted_kind (kind_in set.old index)) → IsTrue (E.does_fit (keys_of set.old).keys index probe.now) }
-    requires whole { IsTrue (is_hashed_kind (kind_in set.old index)) → IsTrue (E.is_whole (keys_of set.old).keys index probe.now) }
+    requires { CanTakeKey E.Extract set.old slots.old.items index probe.now }
     ensures linked { IsLinked E.has_key E.order_of E.hash_of set.new slots.new.items }
     ensures same { IsOfSame set.old set.new }
-    ensures entries { entries_in (contents set.new) ≡ filter (λ e. has_other_key E.probe_order_of set.old index probe.now e.handle) (entries_in (contents set.old)) }
-    ensures lists { handles_in (record_of set.new) (lists_of set.new) ≡ map (λ list. filter (has_other_key E.probe_order_of set.old index probe.now) list) (handles_in (record_of set.old) (lists_of set.old)) }
+    ensures entries { entries_in (contents set.new) ≡
+        filter (λ e. has_other_key E.probe_order_of set.old index probe.now e.handle)
+        (entries_in (contents set.old)) }
+    ensures lists { handles_in (record_of set.new) (lists_of set.new) ≡
+        map (λ list. filter (has_other_key E.probe_order_of set.old index probe.now) list)
+        (handles_in (record_of set.old) (lists_of set.old)) }
     ensures added { (store_of set.new).added ≡ (store_of set.old).added }
     ensures count { result + len_of (store_of set.new) ≡ len_of (store_of set.old) }
 {
@@ -58,16 +57,15 @@ fn take_each<R: Drop, E: Extract<R>>(
     index: usize,
     probe: &E::Probe,
 ) -> u64
-    requires linked { IsLinked E.has_key E.order_of E.hash_of set.old slots.old.items }
-    requires held { AreHeld set.old }
-    requires index { index < length (specs_of set.old) }
-    requires kind { IsTrue (has_key_kind (kind_in set.old index)) }
-    requires fits { IsTrue (is_sorted_kind (kind_in set.old index)) → IsTrue (E.does_fit (keys_of set.old).keys index probe.now) }
-    requires whole { IsTrue (is_hashed_kind (kind_in set.old index)) → IsTrue (E.is_whole (keys_of set.old).keys index probe.now) }
+    requires { CanTakeKey E.Extract set.old slots.old.items index probe.now }
     ensures linked { IsLinked E.has_key E.order_of E.hash_of set.new slots.new.items }
     ensures same { IsOfSame set.old set.new }
-    ensures entries { entries_in (contents set.new) ≡ filter (λ e. has_other_key E.probe_order_of set.old index probe.now e.handle) (entries_in (contents set.old)) }
-    ensures lists { handles_in (record_of set.new) (lists_of set.new) ≡ map (λ list. filter (has_other_key E.probe_order_of set.old index probe.now) list) (handles_in (record_of set.old) (lists_of set.old)) }
+    ensures entries { entries_in (contents set.new) ≡
+        filter (λ e. has_other_key E.probe_order_of set.old index probe.now e.handle)
+        (entries_in (contents set.old)) }
+    ensures lists { handles_in (record_of set.new) (lists_of set.new) ≡
+        map (λ list. filter (has_other_key E.probe_order_of set.old index probe.now) list)
+        (handles_in (record_of set.old) (lists_of set.old)) }
     ensures added { (store_of set.new).added ≡ (store_of set.old).added }
     ensures count { result + len_of (store_of set.new) ≡ len_of (store_of set.old) }
 {
@@ -85,17 +83,15 @@ fn sink_key<R, E: Extract<R>>(
     index: usize,
     probe: &E::Probe,
 )
-    requires linked { IsLinked E.has_key E.order_of E.hash_of set.old slots.now.items }
-    requires held { AreHeld set.old }
-    requires index { index < length (specs_of set.old) }
-    requires kind { IsTrue (has_key_kind (kind_in set.old index)) }
-    requires fits { IsTrue (is_sorted_kind (kind_in set.old index)) → IsTrue (E.does_fit (keys_of set.old).keys index probe.now) }
-    requires whole { IsTrue (is_hashed_kind (kind_in set.old index)) → IsTrue (E.is_whole (keys_of set.old).keys index probe.now) }
+    requires { CanTakeKey E.Extract set.old slots.now.items index probe.now }
     ensures linked { IsLinked E.has_key E.order_of E.hash_of set.new slots.now.items }
     ensures held { AreHeld set.new }
     ensures same { IsOfSame set.old set.new }
     ensures contents { contents set.new ≡ contents set.old }
-    ensures lists { map (λ list. filter (has_other_key E.probe_order_of set.old index probe.now) list) (handles_in (record_of set.new) (lists_of set.new)) ≡ map (λ list. filter (has_other_key E.probe_order_of set.old index probe.now) list) (handles_in (record_of set.old) (lists_of set.old)) }
+    ensures lists { map (λ list. filter (has_other_key E.probe_order_of set.old index probe.now)
+        list) (handles_in (record_of set.new) (lists_of set.new)) ≡
+        map (λ list. filter (has_other_key E.probe_order_of set.old index probe.now) list)
+        (handles_in (record_of set.old) (lists_of set.old)) }
 {
     for row in 0..set.specs().len() {
         if let Kind::Random = set.specs()[row].kind {
@@ -112,14 +108,12 @@ fn last_or_any<R, E: Extract<R>>(
     index: usize,
     probe: &E::Probe,
 ) -> Option<Node>
-    requires linked { IsLinked E.has_key E.order_of E.hash_of set.now slots.now.items }
-    requires held { AreHeld set.now }
-    requires index { index < length (specs_of set.now) }
-    requires kind { IsTrue (has_key_kind (kind_in set.now index)) }
-    requires fits { IsTrue (is_sorted_kind (kind_in set.now index)) → IsTrue (E.does_fit (keys_of set.now).keys index probe.now) }
-    requires whole { IsTrue (is_hashed_kind (kind_in set.now index)) → IsTrue (E.is_whole (keys_of set.now).keys index probe.now) }
-    ensures found { IfSome result (λ n. Holds (list_of set.now index) n × (probe_side (λ by i a. E.probe_order_of by.keys i a.row) set.now index probe.now n ≡ Equal)) }
-    ensures none { result ≡ None → find_equal (probe_side (λ by i a. E.probe_order_of by.keys i a.row) set.now index probe.now) (list_of set.now index) ≡ None }
+    requires { CanTakeKey E.Extract set.now slots.now.items index probe.now }
+    ensures found { IfSome result (λ n. Holds (list_of set.now index) n ×
+        (probe_side (probe_by_row E.probe_order_of) set.now index probe.now n ≡ Equal)) }
+    ensures none { result ≡ None →
+        find_equal (probe_side (probe_by_row E.probe_order_of) set.now index probe.now)
+        (list_of set.now index) ≡ None }
 {
     let last = last_of_key(set, index, probe);
     if last.is_some() {
@@ -134,10 +128,11 @@ fn last_of_key<R, E: Extract<R>>(
     index: usize,
     probe: &E::Probe,
 ) -> Option<Node>
-    requires sound { IsSound (λ by. E.has_key by.keys) set.now }
+    requires sound { IsSound (has_by_row E.has_key) set.now }
     requires has { IsTrue (E.has_key (keys_of set.now).keys index) }
     requires fits { IsTrue (E.does_fit (keys_of set.now).keys index probe.now) }
-    ensures { IfSome result (λ n. IsNodeOf (store_of set.now) n × (probe_side (λ by i a. E.probe_order_of by.keys i a.row) set.now index probe.now n ≡ Equal)) }
+    ensures { IfSome result (λ n. IsNodeOf (store_of set.now) n ×
+        (probe_side (probe_by_row E.probe_order_of) set.now index probe.now n ≡ Equal)) }
 {
     for row in 0..set.specs().len() {
         if let Kind::Random = set.specs()[row].kind {

@@ -46,8 +46,10 @@ pub fn node_at<R, E: Extract<R>>(
     handle: Handle,
 ) -> Option<Node>
     requires { (k : ℕ) → AreNodesOf (store_of set.now) (item_at slots.now.items k) }
-    ensures found { (n : Node) → result ≡ Some n → (item_at slots.now.items handle.slot ≡ Some n) × IsTrue (is_handle handle (handle_of (record_of set.now) n)) }
-    ensures none { (n : Node) → result ≡ None → item_at slots.now.items handle.slot ≡ Some n → IsTrue (not (is_handle handle (handle_of (record_of set.now) n))) }
+    ensures found { (n : Node) → result ≡ Some n → (item_at slots.now.items handle.slot ≡ Some n) ×
+        IsTrue (is_handle handle (handle_of (record_of set.now) n)) }
+    ensures none { (n : Node) → result ≡ None → item_at slots.now.items handle.slot ≡ Some n →
+        IsTrue (not (is_handle handle (handle_of (record_of set.now) n))) }
 {
     let node = slots.get(handle.slot as usize)?;
     if handle == handle_at(set, node) {
@@ -67,7 +69,9 @@ pub fn first_ban<R, E: Extract<R>>(
 ) -> Option<(usize, Handle)>
     requires linked { IsLinked E.has_key E.order_of E.hash_of set.now slots.now.items }
     requires except { AreNodesOf (store_of set.now) except }
-    ensures { result ≡ ban_from (E.order_of (keys_of set.now).keys) (entries_in (contents set.now)) (handles_in (record_of set.now) (lists_of set.now)) (option_map (handle_of (record_of set.now)) except) entry.now.row 0 (specs_of set.now) }
+    ensures { result ≡ ban_from (E.order_of (keys_of set.now).keys) (entries_in (contents set.now))
+        (handles_in (record_of set.now) (lists_of set.now))
+        (option_map (handle_of (record_of set.now)) except) entry.now.row 0 (specs_of set.now) }
 {
     let (index, node) = set.bans(entry, except)?;
     Some((index, handle_at(set, node)))
@@ -104,15 +108,23 @@ pub fn put_in<R: Drop, E: Extract<R>>(
     requires count { (store_of set.old).added + 1 < 2 ^ 64 }
     requires slot { entry.handle.slot ≡ first_free slots.old.items }
     requires place { (j p : ℕ) → at ≡ Some (j, p) → p ≤ length (list_of set.old j) }
-    requires allowed { ban_from (E.order_of (keys_of set.old).keys) (entries_in (contents set.old)) (handles_in (record_of set.old) (lists_of set.old)) None entry.row 0 (specs_of set.old) ≡ None }
+    requires allowed { ban_from (E.order_of (keys_of set.old).keys) (entries_in (contents set.old))
+        (handles_in (record_of set.old) (lists_of set.old)) None entry.row 0
+        (specs_of set.old) ≡ None }
     ensures linked { IsLinked E.has_key E.order_of E.hash_of set.new slots.new.items }
     ensures same { IsOfSame set.old set.new }
-    ensures entries { OnOk result (entries_in (contents set.new) ≡ entries_in (contents set.old) ++ entry ∷ []) }
-    ensures lists { OnOk result (handles_in (record_of set.new) (lists_of set.new) ≡ entered_from (E.order_of (keys_of set.old).keys) (entries_in (contents set.old)) at entry.row entry.handle 0 (specs_of set.old) (handles_in (record_of set.old) (lists_of set.old))) }
+    ensures entries { OnOk result (entries_in (contents set.new) ≡
+        entries_in (contents set.old) ++ entry ∷ []) }
+    ensures lists { OnOk result (handles_in (record_of set.new) (lists_of set.new) ≡
+        entered_from (E.order_of (keys_of set.old).keys) (entries_in (contents set.old)) at
+        entry.row entry.handle 0 (specs_of set.old)
+        (handles_in (record_of set.old) (lists_of set.old))) }
     ensures count { OnOk result ((store_of set.new).added ≡ (store_of set.old).added + 1) }
     ensures returned { IfErr result (λ refused. refused.value ≡ entry) }
-    ensures same_entries { OnErr result (entries_in (contents set.new) ≡ entries_in (contents set.old)) }
-    ensures same_lists { OnErr result (handles_in (record_of set.new) (lists_of set.new) ≡ handles_in (record_of set.old) (lists_of set.old)) }
+    ensures same_entries { OnErr result (entries_in (contents set.new) ≡
+        entries_in (contents set.old)) }
+    ensures same_lists { OnErr result (handles_in (record_of set.new) (lists_of set.new) ≡
+        handles_in (record_of set.old) (lists_of set.old)) }
     ensures same_count { OnErr result ((store_of set.new).added ≡ (store_of set.old).added) }
 {
     if reserve_one(set, slots).is_err() {

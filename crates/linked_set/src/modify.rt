@@ -39,11 +39,15 @@ pub fn change<R: Drop, E: Extract<R>, T: Edit<R>>(
     requires held { HoldIt (lists_of set.old) node }
     ensures linked { IsLinked E.has_key E.order_of E.hash_of set.new slots.new.items }
     ensures count { (store_of set.new).added ≡ (store_of set.old).added }
-    ensures left { (r : R) (max writes : ℕ) → option_map (λ e. e.row) (record_of set.old node) ≡ Some r →
-        seen set.new max (writes + 1) ≡ with_modified E.order_of (seen set.old max writes) (handle_of (record_of set.old) node) (T.applied edit.old r) }
-    ensures answer { (r : R) (max writes : ℕ) → option_map (λ e. e.row) (record_of set.old node) ≡ Some r →
-        result ≡ told (ban E.order_of (seen set.old max writes) (Some (handle_of (record_of set.old) node)) (T.applied edit.old r)) (T.applied edit.old r) }
-    ensures edit { (r : R) → option_map (λ e. e.row) (record_of set.old node) ≡ Some r → edit.new ≡ T.after_apply edit.old r }
+    ensures left { (r : R) (max writes : ℕ) → option_map (λ e. e.row) (record_of set.old node) ≡
+        Some r → seen set.new max (writes + 1) ≡ with_modified E.order_of (seen set.old max writes)
+        (handle_of (record_of set.old) node) (T.applied edit.old r) }
+    ensures answer { (r : R) (max writes : ℕ) → option_map (λ e. e.row) (record_of set.old node) ≡
+        Some r → result ≡
+        told (ban E.order_of (seen set.old max writes) (Some (handle_of (record_of set.old) node))
+        (T.applied edit.old r)) (T.applied edit.old r) }
+    ensures edit { (r : R) → option_map (λ e. e.row) (record_of set.old node) ≡ Some r → edit.new ≡
+        T.after_apply edit.old r }
 {
     edit.apply(&mut set.get_mut(node).row);
     let Some((index, by)) = settle_or_leave(set, node) else {

@@ -10,6 +10,7 @@ ghost use Rattle.container_model.specs.Change.{spent, with_replaced, with_row};
 ghost use Rattle.index_set.specs.Indices.{HoldIt};
 ghost use Rattle.index_set.specs.Lists.{ban_from};
 ghost use Rattle.index_set.specs.Set.{store_of, keys_of, specs_of, kind_at, contents, record_of, lists_of, IsSound, IsKeyedBut, IsUniqueExcept};
+ghost use Rattle.linked_set.specs.ByRow.{has_by_row, order_by_row, hash_by_row};
 ghost use Rattle.linked_set.specs.Linked.{entries_in, handle_of};
 ghost use Rattle.linked_set.specs.Seen.{seen, IsLinked};
 
@@ -35,18 +36,29 @@ pub fn change_or_undo<R, E: Extract<R>, T: Edit<R>>(
 ) -> Option<Why>
     requires linked { IsLinked E.has_key E.order_of E.hash_of set.old slots.now.items }
     requires held { HoldIt (lists_of set.old) node }
-    requires undone { (index : ℕ) (r : R) → index < length (specs_of set.old) → IsTrue (has_key_kind (kind_at set.old index)) → option_map (λ e. e.row) (record_of set.old node) ≡ Some r →
-        E.order_of (keys_of set.old).keys index (T.undone (T.after_apply edit.old r) (T.applied edit.old r)) r ≡ Equal }
+    requires undone { (index : ℕ) (r : R) → index < length (specs_of set.old) →
+        IsTrue (has_key_kind (kind_at set.old index)) → option_map (λ e. e.row)
+        (record_of set.old node) ≡ Some r → E.order_of (keys_of set.old).keys index
+        (T.undone (T.after_apply edit.old r) (T.applied edit.old r)) r ≡ Equal }
     ensures linked { IsLinked E.has_key E.order_of E.hash_of set.new slots.now.items }
     ensures count { (store_of set.new).added ≡ (store_of set.old).added }
     ensures why { (r : R) (max : ℕ) → option_map (λ e. e.row) (record_of set.old node) ≡ Some r →
-        result ≡ option_map_or (λ at. Some (Why.Banned at.0 at.1)) (ban E.order_of (seen set.old max writes) (Some (handle_of (record_of set.old) node)) (T.applied edit.old r)) (spent (seen set.old max writes)) }
+        result ≡ option_map_or (λ at. Some (Why.Banned at.0 at.1))
+        (ban E.order_of (seen set.old max writes) (Some (handle_of (record_of set.old) node))
+        (T.applied edit.old r)) (spent (seen set.old max writes)) }
     ensures left { (r : R) (max : ℕ) → option_map (λ e. e.row) (record_of set.old node) ≡ Some r →
         seen set.new max (option_map_or (λ why. writes) result (writes + 1)) ≡
-        option_map_or (λ why. record (seen set.old max writes) { entries = with_row (handle_of (record_of set.old) node) (T.undone (T.after_apply edit.old r) (T.applied edit.old r)) (entries_in (contents set.old)) })
-        result (with_replaced E.order_of (seen set.old max writes) (handle_of (record_of set.old) node) (T.applied edit.old r)) }
-    ensures edit { (r : R) → option_map (λ e. e.row) (record_of set.old node) ≡ Some r →
-        edit.new ≡ option_map_or (λ why. T.after_undo (T.after_apply edit.old r) (T.applied edit.old r)) result (T.after_apply edit.old r) }
+        option_map_or
+        (λ why. record (seen set.old max writes) {
+          entries = with_row
+              (handle_of (record_of set.old) node) (T.undone (T.after_apply edit.old r)
+              (T.applied edit.old r)) (entries_in (contents set.old));
+        }) result
+        (with_replaced E.order_of (seen set.old max writes) (handle_of (record_of set.old) node)
+        (T.applied edit.old r)) }
+    ensures edit { (r : R) → option_map (λ e. e.row) (record_of set.old node) ≡ Some r → edit.new ≡
+        option_map_or (λ why. T.after_undo (T.after_apply edit.old r) (T.applied edit.old r)) result
+        (T.after_apply edit.old r) }
 {
     edit.apply(&mut set.get_mut(node).row);
     let Some(why) = changed_refusal(set, writes, node) else {
@@ -64,14 +76,14 @@ fn changed_refusal<R, E: Extract<R>>(
     writes: u64,
     node: Node,
 ) -> Option<Why>
-    requires sound { IsSound (λ by. E.has_key by.keys) set.now }
+    requires sound { IsSound (has_by_row E.has_key) set.now }
     requires node { IsNodeOf (store_of set.now) node }
-    requires keyed { IsKeyedBut (λ by index a b. E.order_of by.keys index a.row b.row) (λ by index a. E.hash_of by.keys index a.row) set.now node }
-    requires unique { IsUniqueExcept (λ by index a b. E.order_of by.keys index a.row b.row) set.now (Some node) }
-    ensures { (e : Entry R) → record_of set.now node ≡ Some e →
-        result ≡ option_map_or (λ at. Some (Why.Banned at.0 (handle_of (record_of set.now) at.1)))
-        (ban_from (λ index a b. E.order_of (keys_of set.now).keys index a.row b.row) (record_of set.now) (lists_of set.now) (Some node) e 0 (specs_of set.now))
-        (cond (writes == 2 ^ 64 - 1) (Some Why.Spent) None) }
+    requires keyed { IsKeyedBut (order_by_row E.order_of) (hash_by_row E.hash_of) set.now node }
+    requires unique { IsUniqueExcept (order_by_row E.order_of) set.now (Some node) }
+    ensures { (e : Entry R) → record_of set.now node ≡ Some e → result ≡
+        option_map_or (λ at. Some (Why.Banned at.0 (handle_of (record_of set.now) at.1)))
+        (ban_from (order_by_row E.order_of (keys_of set.now)) (record_of set.now) (lists_of set.now)
+        (Some node) e 0 (specs_of set.now)) (cond (writes == 2 ^ 64 - 1) (Some Why.Spent) None) }
 {
     if let Some((index, by)) = set.bans(set.get(node), Some(node)) {
         return Some(Why::Banned {

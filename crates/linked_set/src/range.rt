@@ -8,6 +8,7 @@ ghost use Rattle.container_model.specs.State.{is_sorted_kind};
 ghost use Rattle.container_model.specs.Find.{kind_at};
 ghost use Rattle.index_set.specs.Set as nodes;
 ghost use Rattle.index_set.specs.Set.{store_of, keys_of, specs_of, record_of, list_of, IsSound, IsKeyed};
+ghost use Rattle.linked_set.specs.ByRow.{has_by_row, order_by_row, hash_by_row};
 ghost use Rattle.linked_set.specs.Edges.{node_edge, KeyFits, Rises};
 ghost use Rattle.linked_set.specs.Linked.{handle_of};
 
@@ -29,15 +30,22 @@ pub fn between<R, E: Extract<R>>(
     low: Bound<&E::Probe>,
     high: Bound<&E::Probe>,
 ) -> Result<Vec<Handle>, AllocError>
-    requires sound { IsSound (λ by. E.has_key by.keys) set.now }
+    requires sound { IsSound (has_by_row E.has_key) set.now }
     requires index { index < length (specs_of set.now) }
     requires kind { IsTrue (is_sorted_kind (nodes.kind_at set.now index)) }
-    requires low_fits { KeyFits (E.does_fit (keys_of set.now).keys index) (bound_map (λ p. p.now) low) }
-    requires high_fits { KeyFits (E.does_fit (keys_of set.now).keys index) (bound_map (λ p. p.now) high) }
-    requires keyed { IsKeyed (λ by i a b. E.order_of by.keys i a.row b.row) (λ by i a. E.hash_of by.keys i a.row) set.now }
-    requires low_rises { Rises (node_edge E.probe_order_of set.now index (bound_map (λ p. p.now) low)) (list_of set.now index) }
-    requires high_rises { Rises (node_edge E.probe_order_of set.now index (bound_map (λ p. p.now) high)) (list_of set.now index) }
-    ensures { IfOk result (λ handles. handles.items ≡ map (handle_of (record_of set.now)) (members_between (node_edge E.probe_order_of set.now index (bound_map (λ p. p.now) low.entry)) (node_edge E.probe_order_of set.now index (bound_map (λ p. p.now) high.entry)) (list_of set.now index))) }
+    requires low_fits { KeyFits (E.does_fit (keys_of set.now).keys index)
+        (bound_map (λ p. p.now) low) }
+    requires high_fits { KeyFits (E.does_fit (keys_of set.now).keys index)
+        (bound_map (λ p. p.now) high) }
+    requires keyed { IsKeyed (order_by_row E.order_of) (hash_by_row E.hash_of) set.now }
+    requires low_rises { Rises (node_edge E.probe_order_of set.now index
+        (bound_map (λ p. p.now) low)) (list_of set.now index) }
+    requires high_rises { Rises (node_edge E.probe_order_of set.now index
+        (bound_map (λ p. p.now) high)) (list_of set.now index) }
+    ensures { IfOk result (λ handles. handles.items ≡ map (handle_of (record_of set.now))
+        (members_between (node_edge E.probe_order_of set.now index
+        (bound_map (λ p. p.now) low.entry)) (node_edge E.probe_order_of set.now index
+        (bound_map (λ p. p.now) high.entry)) (list_of set.now index))) }
 {
     let mut handles = Vec::new(alloc);
     let mut next = up_to(set, index, first_from(set, index, low), high);
@@ -54,12 +62,16 @@ fn first_from<R, E: Extract<R>>(
     index: usize,
     low: Bound<&E::Probe>,
 ) -> Option<Node>
-    requires sound { IsSound (λ by. E.has_key by.keys) set.now }
+    requires sound { IsSound (has_by_row E.has_key) set.now }
     requires index { index < length (specs_of set.now) }
     requires kind { IsTrue (is_sorted_kind (nodes.kind_at set.now index)) }
     requires fits { KeyFits (E.does_fit (keys_of set.now).keys index) (bound_map (λ p. p.now) low) }
-    requires keyed { IsKeyed (λ by i a b. E.order_of by.keys i a.row b.row) (λ by i a. E.hash_of by.keys i a.row) set.now }
-    ensures { result ≡ slice_get (list_of set.now index) (count_by (λ n. not (is_from (node_edge E.probe_order_of set.now index (bound_map (λ p. p.now) low.entry)) n)) (list_of set.now index)) }
+    requires keyed { IsKeyed (order_by_row E.order_of) (hash_by_row E.hash_of) set.now }
+    ensures { result ≡ slice_get (list_of set.now index)
+        (count_by
+        (λ n. not
+        (is_from (node_edge E.probe_order_of set.now index (bound_map (λ p. p.now) low.entry)) n))
+        (list_of set.now index)) }
 {
     match low {
         Bound::Included(probe) => set.lower(index, probe),
@@ -76,11 +88,15 @@ fn up_to<R, E: Extract<R>>(
     high: Bound<&E::Probe>,
 ) -> Option<Node>
     requires node { AreNodesOf (store_of set.now) node }
-    requires sound { IsSound (λ by. E.has_key by.keys) set.now }
+    requires sound { IsSound (has_by_row E.has_key) set.now }
     requires index { index < length (specs_of set.now) }
     requires kind { IsTrue (is_sorted_kind (nodes.kind_at set.now index)) }
-    requires fits { KeyFits (E.does_fit (keys_of set.now).keys index) (bound_map (λ p. p.now) high) }
-    ensures { result ≡ option_and_then (λ n. cond (is_to (node_edge E.probe_order_of set.now index (bound_map (λ p. p.now) high.entry)) n) (Some n) None) node }
+    requires fits { KeyFits (E.does_fit (keys_of set.now).keys index)
+        (bound_map (λ p. p.now) high) }
+    ensures { result ≡ option_and_then
+        (λ n. cond
+        (is_to (node_edge E.probe_order_of set.now index (bound_map (λ p. p.now) high.entry)) n)
+        (Some n) None) node }
 {
     let node = node?;
     if is_up_to(set, index, node, high) {
@@ -98,11 +114,13 @@ fn is_up_to<R, E: Extract<R>>(
     high: Bound<&E::Probe>,
 ) -> bool
     requires node { IsNodeOf (store_of set.now) node }
-    requires sound { IsSound (λ by. E.has_key by.keys) set.now }
+    requires sound { IsSound (has_by_row E.has_key) set.now }
     requires index { index < length (specs_of set.now) }
     requires kind { IsTrue (is_sorted_kind (nodes.kind_at set.now index)) }
-    requires fits { KeyFits (E.does_fit (keys_of set.now).keys index) (bound_map (λ p. p.now) high) }
-    ensures { result ≡ is_to (node_edge E.probe_order_of set.now index (bound_map (λ p. p.now) high.entry)) node }
+    requires fits { KeyFits (E.does_fit (keys_of set.now).keys index)
+        (bound_map (λ p. p.now) high) }
+    ensures { result ≡ is_to (node_edge E.probe_order_of set.now index
+        (bound_map (λ p. p.now) high.entry)) node }
 {
     match high {
         Bound::Included(probe) => set.keys().order_probe(index, set.get(node), probe).is_le(),

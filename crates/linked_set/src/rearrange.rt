@@ -6,6 +6,7 @@ ghost use Rattle.container_model.specs.Find.{is_live};
 ghost use Rattle.container_model.specs.Sequence.{has_each_once};
 ghost use Rattle.node_store.specs.Store.{IsNodeOf};
 ghost use Rattle.index_set.specs.Set.{store_of, contents, record_of, IsSound};
+ghost use Rattle.linked_set.specs.ByRow.{has_by_row};
 ghost use Rattle.linked_set.specs.Linked.{handle_of, entries_in};
 ghost use Rattle.linked_set.specs.Seen.{seen, IsLinked};
 
@@ -58,10 +59,12 @@ pub fn has_each_once<R, E: Extract<R>>(
     set: &IndexSet<Entry<R>, ByRow<E>>,
     handles: &[Handle],
 ) -> Result<bool, AllocError>
-    requires sound { IsSound (λ by. E.has_key by.keys) set.now }
-    requires apart { EachPair (λ a b. (b.handle.slot == a.handle.slot) ≡ false) (entries_in (contents set.now)) }
+    requires sound { IsSound (has_by_row E.has_key) set.now }
+    requires apart { EachPair (λ a b. (b.handle.slot == a.handle.slot) ≡ false)
+        (entries_in (contents set.now)) }
     requires live { IsTrue (list_all (λ h. is_live (seen set.now 0 0) h) handles.now) }
-    ensures { IfOk result (λ once. once ≡ has_each_once (entries_in (contents set.now)) handles.now) }
+    ensures { IfOk result (λ once. once ≡ has_each_once (entries_in (contents set.now))
+        handles.now) }
 {
     if handles.len() != set.len() {
         return Ok(false);
@@ -71,8 +74,10 @@ pub fn has_each_once<R, E: Extract<R>>(
 
 // Whether no two of the handles have one slot.
 fn are_apart(alloc: Global, handles: &[Handle]) -> Result<bool, AllocError>
-    ensures apart { IfOk result (λ apart. IsTrue apart → IsDistinct nat_eq (map (λ h. h.slot) handles.now)) }
-    ensures twice { IfOk result (λ apart. apart ≡ false → ¬ IsDistinct nat_eq (map (λ h. h.slot) handles.now)) }
+    ensures apart { IfOk result (λ apart. IsTrue apart →
+        IsDistinct nat_eq (map (λ h. h.slot) handles.now)) }
+    ensures twice { IfOk result (λ apart. apart ≡ false →
+        ¬ IsDistinct nat_eq (map (λ h. h.slot) handles.now)) }
 {
     let mut seen = BTreeSet::new(alloc);
     for handle in handles {
@@ -92,8 +97,10 @@ pub fn nodes_of<R, E: Extract<R>>(
 ) -> Result<Vec<Node>, AllocError>
     requires linked { IsLinked E.has_key E.order_of E.hash_of set.now slots.now.items }
     requires live { IsTrue (list_all (λ h. is_live (seen set.now 0 0) h) handles.now) }
-    ensures nodes { IfOk result (λ nodes. AllByRecursion (IsNodeOf (store_of set.now)) nodes.items) }
-    ensures handles { IfOk result (λ nodes. map (handle_of (record_of set.now)) nodes.items ≡ handles.now) }
+    ensures nodes { IfOk result (λ nodes. AllByRecursion (IsNodeOf (store_of set.now))
+        nodes.items) }
+    ensures handles { IfOk result (λ nodes. map (handle_of (record_of set.now)) nodes.items ≡
+        handles.now) }
 {
     let mut nodes = Vec::with_capacity(alloc, handles.len())?;
     for handle in handles {

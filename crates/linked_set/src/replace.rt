@@ -26,12 +26,18 @@ pub fn rewrite<R, E: Extract<R>>(
     requires linked { IsLinked E.has_key E.order_of E.hash_of set.old slots.now.items }
     requires held { HoldIt (lists_of set.old) node }
     requires handle { handle_of (record_of set.old) node ≡ entry.handle }
-    requires allowed { ban_from (E.order_of (keys_of set.old).keys) (entries_in (contents set.old)) (handles_in (record_of set.old) (lists_of set.old)) (Some entry.handle) entry.row 0 (specs_of set.old) ≡ None }
+    requires allowed { ban_from (E.order_of (keys_of set.old).keys) (entries_in (contents set.old))
+        (handles_in (record_of set.old) (lists_of set.old)) (Some entry.handle) entry.row 0
+        (specs_of set.old) ≡ None }
     ensures linked { IsLinked E.has_key E.order_of E.hash_of set.new slots.now.items }
     ensures same { IsOfSame set.old set.new }
     ensures old { option_map (λ e. e.row) (record_of set.old node) ≡ Some result }
-    ensures entries { entries_in (contents set.new) ≡ with_row entry.handle entry.row (entries_in (contents set.old)) }
-    ensures lists { handles_in (record_of set.new) (lists_of set.new) ≡ settled_from (E.order_of (keys_of set.old).keys) (entries_in (contents set.old)) entry.handle entry.row 0 (specs_of set.old) (handles_in (record_of set.old) (lists_of set.old)) }
+    ensures entries { entries_in (contents set.new) ≡ with_row entry.handle entry.row
+        (entries_in (contents set.old)) }
+    ensures lists { handles_in (record_of set.new) (lists_of set.new) ≡
+        settled_from (E.order_of (keys_of set.old).keys) (entries_in (contents set.old))
+        entry.handle entry.row 0 (specs_of set.old)
+        (handles_in (record_of set.old) (lists_of set.old)) }
     ensures count { (store_of set.new).added ≡ (store_of set.old).added }
 {
     let old = replace_node(set, node, entry);

@@ -2,6 +2,7 @@
 ghost use Rattle.std.specs.Prelude.{◌≡◌, ◌<◌, IfOk, IsTrue, length, map, not};
 ghost use Rattle.container_model.specs.State.{is_hashed_kind};
 ghost use Rattle.index_set.specs.Set.{contents, record_of, specs_of, list_of, kind_at, IsSound};
+ghost use Rattle.linked_set.specs.ByRow.{has_by_row};
 ghost use Rattle.linked_set.specs.Linked.{handle_of, nodes_in};
 
 use crate::by_row::ByRow;
@@ -17,10 +18,11 @@ pub fn in_order<R, E: Extract<R>>(
     set: &IndexSet<Entry<R>, ByRow<E>>,
     index: usize,
 ) -> Result<Vec<Handle>, AllocError>
-    requires sound { IsSound (λ by. E.has_key by.keys) set.now }
+    requires sound { IsSound (has_by_row E.has_key) set.now }
     requires index { index < length (specs_of set.now) }
     requires kind { IsTrue (not (is_hashed_kind (kind_at set.now index))) }
-    ensures { IfOk result (λ handles. handles.items ≡ map (handle_of (record_of set.now)) (list_of set.now index)) }
+    ensures { IfOk result (λ handles. handles.items ≡ map (handle_of (record_of set.now))
+        (list_of set.now index)) }
 {
     let mut handles = Vec::with_capacity(alloc, set.len())?;
     let mut next = set.first(index);
@@ -36,8 +38,9 @@ pub fn by_age<R, E: Extract<R>>(
     alloc: Global,
     set: &IndexSet<Entry<R>, ByRow<E>>,
 ) -> Result<Vec<Handle>, AllocError>
-    requires { IsSound (λ by. E.has_key by.keys) set.now }
-    ensures { IfOk result (λ handles. handles.items ≡ map (handle_of (record_of set.now)) (nodes_in (contents set.now))) }
+    requires { IsSound (has_by_row E.has_key) set.now }
+    ensures { IfOk result (λ handles. handles.items ≡ map (handle_of (record_of set.now))
+        (nodes_in (contents set.now))) }
 {
     let mut handles = Vec::with_capacity(alloc, set.len())?;
     let mut next = set.newest();

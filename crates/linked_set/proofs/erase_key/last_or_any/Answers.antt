@@ -1,5 +1,6 @@
 use Rattle.index_set.specs.Set.{kind_at}
-use Rattle.index_set.proofs.Sinking.{by_key_kind, has_its_key}
+use Rattle.index_set.proofs.Reading.{has_its_key}
+use Rattle.index_set.proofs.Sinking.{by_key_kind}
 use Rattle.linked_set.proofs.Sinking.{each_held, if_some}
 use Rattle.linked_set.proofs.erase_key.last_or_any.Goals as goal
 

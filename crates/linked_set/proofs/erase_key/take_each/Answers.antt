@@ -8,25 +8,21 @@ use Rattle.linked_set.proofs.erase_key.take_each.Goals as goal
 pub loop-node-init : goal.loop-node-init
 loop-node-init g c = none_thinned (has_other_key g.E.Extract.probe_order_of c.args.set.now c.args.index c.args.probe.now) c.args.set.now c.args.slots.now.items c.requires.linked c.requires.held
 
-pub last_or_any-requires-clause-index : goal.last_or_any-requires-clause-index
-last_or_any-requires-clause-index g c = here g.E.Extract.probe_order_of c.args.index c.args.probe.now c.args.set.now c.loop-node.set c.loop-node.slots.items c.loop-node.invariant c.requires.index
-
-pub last_or_any-requires-clause-kind : goal.last_or_any-requires-clause-kind
-last_or_any-requires-clause-kind g c = subst (λ kind. IsTrue (has_key_kind kind)) (sym (kind_kept c.args.set.now c.loop-node.set c.args.index c.loop-node.invariant.same)) c.requires.kind
-
-pub last_or_any-requires-clause-fits : goal.last_or_any-requires-clause-fits
-last_or_any-requires-clause-fits g c =
-    λ sorted.
+pub last_or_any-requires : goal.last_or_any-requires
+last_or_any-requires g c =
+    let old = c.args.set.now in
+    let now = c.loop-node.set in
+    let index = c.args.index in
     let same = c.loop-node.invariant.same in
-    subst (λ by. IsTrue (g.E.Extract.does_fit by.keys c.args.index c.args.probe.now)) (sym same.keys)
-    (c.requires.fits (subst (λ kind. IsTrue (is_sorted_kind kind)) (kind_kept c.args.set.now c.loop-node.set c.args.index same) sorted))
-
-pub last_or_any-requires-clause-whole : goal.last_or_any-requires-clause-whole
-last_or_any-requires-clause-whole g c =
-    λ hashed.
-    let same = c.loop-node.invariant.same in
-    subst (λ by. IsTrue (g.E.Extract.is_whole by.keys c.args.index c.args.probe.now)) (sym same.keys)
-    (c.requires.whole (subst (λ kind. IsTrue (is_hashed_kind kind)) (kind_kept c.args.set.now c.loop-node.set c.args.index same) hashed))
+    let kind = kind_kept old now index same in
+    record {
+      linked = c.loop-node.invariant.linked;
+      held = c.loop-node.invariant.held;
+      index = here g.E.Extract.probe_order_of index c.args.probe.now old now c.loop-node.slots.items c.loop-node.invariant c.requires.index;
+      kind = subst (λ k. IsTrue (has_key_kind k)) (sym kind) c.requires.kind;
+      fits = λ sorted. subst (λ by. IsTrue (g.E.Extract.does_fit by.keys index c.args.probe.now)) (sym same.keys) (c.requires.fits (subst (λ k. IsTrue (is_sorted_kind k)) kind sorted));
+      whole = λ hashed. subst (λ by. IsTrue (g.E.Extract.is_whole by.keys index c.args.probe.now)) (sym same.keys) (c.requires.whole (subst (λ k. IsTrue (is_hashed_kind k)) kind hashed));
+    }
 
 pub take_out-requires-clause-linked : goal.take_out-requires-clause-linked
 take_out-requires-clause-linked g c = c.loop-node.invariant.linked

@@ -3,6 +3,7 @@ use Rattle.std.specs.Prelude.{option_map}
 use Rattle.node_store.specs.Store.{IsNodeOf}
 use Rattle.index_set.specs.Set.{store_of, keys_of, specs_of, contents, record_of, lists_of}
 use Rattle.index_set.proofs.Members.{nodes_held}
+use Rattle.linked_set.specs.ByRow.{order_by_row, hash_by_row}
 use Rattle.linked_set.specs.Linked.{handle_of, entries_in}
 use Rattle.linked_set.proofs.Bans.{ban_known, ban_of}
 use Rattle.linked_set.proofs.Excepted.{told_of, keyed_except, unique_but}
@@ -11,11 +12,11 @@ use Rattle.linked_set.proofs.linked.first_ban.Goals as goal
 
 pub bans-requires-clause-keyed : goal.bans-requires-clause-keyed
 bans-requires-clause-keyed g c =
-    keyed_except (λ by index a b. g.E.Extract.order_of by.keys index a.row b.row) c.args.set.now (λ by index a. g.E.Extract.hash_of by.keys index a.row) c.args.except c.requires.linked.keyed
+    keyed_except (order_by_row g.E.Extract.order_of) c.args.set.now (hash_by_row g.E.Extract.hash_of) c.args.except c.requires.linked.keyed
 
 pub bans-requires-clause-unique : goal.bans-requires-clause-unique
 bans-requires-clause-unique g c =
-    unique_but (λ by index a b. g.E.Extract.order_of by.keys index a.row b.row) c.args.set.now c.args.except c.requires.linked.sound c.requires.linked.unique
+    unique_but (order_by_row g.E.Extract.order_of) c.args.set.now c.args.except c.requires.linked.sound c.requires.linked.unique
 
 pub returns-in_err-index : goal.returns-in_err-index
 returns-in_err-index g c =

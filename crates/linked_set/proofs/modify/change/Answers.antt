@@ -15,6 +15,7 @@ use Rattle.index_set.proofs.Members.{nodes_held}
 use Rattle.index_set.proofs.StaysUnique.{unique_after_write}
 use Rattle.index_set.proofs.Written.{lists_written, sound_written, keyed_but_written, record_written}
 use Rattle.modify_ops.proofs.Held.{node_of_all}
+use Rattle.linked_set.specs.ByRow.{has_by_row, order_by_row, hash_by_row}
 use Rattle.linked_set.specs.Linked.{handle_of}
 use Rattle.linked_set.specs.Modified.{told}
 use Rattle.linked_set.specs.declared.modify.Modified.TheVariants.{Erased}
@@ -28,15 +29,15 @@ get_mut-requires g c = node_of_all c.args.set.now c.args.node c.requires.linked.
 
 pub settle_or_leave-requires-clause-filed : goal.settle_or_leave-requires-clause-filed
 settle_or_leave-requires-clause-filed g c = record {
-  sound = sound_written c.args.set.now c.args.node (record { handle = c.get_mut.result.now.handle; row = c.apply.new.row }) (λ by. g.E.Extract.has_key by.keys) c.requires.linked.sound;
+  sound = sound_written c.args.set.now c.args.node (record { handle = c.get_mut.result.now.handle; row = c.apply.new.row }) (has_by_row g.E.Extract.has_key) c.requires.linked.sound;
   keyed =
       let set = c.args.set.now in
       let is = node_of_all set c.args.node c.requires.linked.sound c.requires.held in
-      keyed_but_written set c.args.node (record { handle = c.get_mut.result.now.handle; row = c.apply.new.row }) is (λ by index a b. g.E.Extract.order_of by.keys index a.row b.row) (λ by index a. g.E.Extract.hash_of by.keys index a.row)
-      (but_from (λ by index a b. g.E.Extract.order_of by.keys index a.row b.row) (λ by index a. g.E.Extract.hash_of by.keys index a.row) set c.args.node c.requires.linked.keyed);
+      keyed_but_written set c.args.node (record { handle = c.get_mut.result.now.handle; row = c.apply.new.row }) is (order_by_row g.E.Extract.order_of) (hash_by_row g.E.Extract.hash_of)
+      (but_from (order_by_row g.E.Extract.order_of) (hash_by_row g.E.Extract.hash_of) set c.args.node c.requires.linked.keyed);
   unique =
       let set = c.args.set.now in
-      unique_after_write (λ by index a b. g.E.Extract.order_of by.keys index a.row b.row) set c.requires.linked.sound c.args.node (record { handle = c.get_mut.result.now.handle; row = c.apply.new.row })
+      unique_after_write (order_by_row g.E.Extract.order_of) set c.requires.linked.sound c.args.node (record { handle = c.get_mut.result.now.handle; row = c.apply.new.row })
       (node_of_all set c.args.node c.requires.linked.sound c.requires.held) c.requires.linked.unique;
 }
 

@@ -18,6 +18,7 @@ use Rattle.index_set.proofs.StaysUnique.{unique_after_write, unique_after_settle
 use Rattle.index_set.proofs.Written.{lists_written, sound_written, keyed_but_written, record_written, node_written}
 use Rattle.modify_ops.proofs.Held.{node_of_all}
 use Rattle.modify_ops.proofs.Undone.{keys_undone, restored_undone, unique_before}
+use Rattle.linked_set.specs.ByRow.{has_by_row, order_by_row, hash_by_row}
 use Rattle.linked_set.specs.Linked.{entries_in}
 use Rattle.linked_set.specs.Seen.{seen}
 use Rattle.linked_set.proofs.Changed.{changed_set, count_changed, seen_settled, IsLinked_changed}
@@ -29,7 +30,7 @@ get_mut-requires g c = node_of_all c.args.set.now c.args.node c.requires.linked.
 
 pub changed_refusal-requires-clause-sound : goal.changed_refusal-requires-clause-sound
 changed_refusal-requires-clause-sound g c =
-    sound_written c.args.set.now c.args.node (record { handle = c.get_mut.result.now.handle; row = c.apply.new.row }) (λ by. g.E.Extract.has_key by.keys) c.requires.linked.sound
+    sound_written c.args.set.now c.args.node (record { handle = c.get_mut.result.now.handle; row = c.apply.new.row }) (has_by_row g.E.Extract.has_key) c.requires.linked.sound
 
 pub changed_refusal-requires-clause-node : goal.changed_refusal-requires-clause-node
 changed_refusal-requires-clause-node g c =
@@ -39,17 +40,17 @@ pub changed_refusal-requires-clause-keyed : goal.changed_refusal-requires-clause
 changed_refusal-requires-clause-keyed g c =
     let set = c.args.set.now in
     keyed_but_written set c.args.node (record { handle = c.get_mut.result.now.handle; row = c.apply.new.row }) (node_of_all set c.args.node c.requires.linked.sound c.requires.held)
-    (λ by index a b. g.E.Extract.order_of by.keys index a.row b.row) (λ by index a. g.E.Extract.hash_of by.keys index a.row)
-    (but_from (λ by index a b. g.E.Extract.order_of by.keys index a.row b.row) (λ by index a. g.E.Extract.hash_of by.keys index a.row) set c.args.node c.requires.linked.keyed)
+    (order_by_row g.E.Extract.order_of) (hash_by_row g.E.Extract.hash_of)
+    (but_from (order_by_row g.E.Extract.order_of) (hash_by_row g.E.Extract.hash_of) set c.args.node c.requires.linked.keyed)
 
 pub changed_refusal-requires-clause-unique : goal.changed_refusal-requires-clause-unique
 changed_refusal-requires-clause-unique g c =
     let set = c.args.set.now in
-    unique_after_write (λ by index a b. g.E.Extract.order_of by.keys index a.row b.row) set c.requires.linked.sound c.args.node (record { handle = c.get_mut.result.now.handle; row = c.apply.new.row })
+    unique_after_write (order_by_row g.E.Extract.order_of) set c.requires.linked.sound c.args.node (record { handle = c.get_mut.result.now.handle; row = c.apply.new.row })
     (node_of_all set c.args.node c.requires.linked.sound c.requires.held) c.requires.linked.unique
 
 pub settle-requires-clause-sound : goal.settle-requires-clause-sound
-settle-requires-clause-sound g c = sound_written c.args.set.now c.args.node (record { handle = c.get_mut.result.now.handle; row = c.apply.new.row }) (λ by. g.E.Extract.has_key by.keys) c.requires.linked.sound
+settle-requires-clause-sound g c = sound_written c.args.set.now c.args.node (record { handle = c.get_mut.result.now.handle; row = c.apply.new.row }) (has_by_row g.E.Extract.has_key) c.requires.linked.sound
 
 pub settle-requires-clause-held : goal.settle-requires-clause-held
 settle-requires-clause-held g c = subst (λ ls. HoldIt ls c.args.node) (sym (lists_written c.args.set.now c.args.node (record { handle = c.get_mut.result.now.handle; row = c.apply.new.row }))) c.requires.held
@@ -58,8 +59,8 @@ pub settle-requires-clause-keyed : goal.settle-requires-clause-keyed
 settle-requires-clause-keyed g c =
     let set = c.args.set.now in
     keyed_but_written set c.args.node (record { handle = c.get_mut.result.now.handle; row = c.apply.new.row }) (node_of_all set c.args.node c.requires.linked.sound c.requires.held)
-    (λ by index a b. g.E.Extract.order_of by.keys index a.row b.row) (λ by index a. g.E.Extract.hash_of by.keys index a.row)
-    (but_from (λ by index a b. g.E.Extract.order_of by.keys index a.row b.row) (λ by index a. g.E.Extract.hash_of by.keys index a.row) set c.args.node c.requires.linked.keyed)
+    (order_by_row g.E.Extract.order_of) (hash_by_row g.E.Extract.hash_of)
+    (but_from (order_by_row g.E.Extract.order_of) (hash_by_row g.E.Extract.hash_of) set c.args.node c.requires.linked.keyed)
 
 pub returns-in_default-clause-linked : goal.returns-in_default-clause-linked
 returns-in_default-clause-linked g c =
@@ -70,11 +71,11 @@ returns-in_default-clause-linked g c =
     let there = record_written set.store node (record { handle = c.get_mut.result.now.handle; row = c.apply.new.row }) is in
     let w = changed_set set c.settle.new.self c.args.slots.now.items node c.get_mut.result.now c.apply.new.row c.requires.linked c.requires.held c.get_mut.ensures.value made.contents made.same in
     IsLinked_changed w made.sound made.keyed
-    (unique_after_settle (λ by index a b. g.E.Extract.order_of by.keys index a.row b.row) (λ keys index has. on_total (λ (x : Entry _). x.row) (g.met.E.Extract.order_total keys.keys index has))
-    (with_record set node (record { handle = c.get_mut.result.now.handle; row = c.apply.new.row })) c.settle.new.self (sound_written set node (record { handle = c.get_mut.result.now.handle; row = c.apply.new.row }) (λ by. g.E.Extract.has_key by.keys) c.requires.linked.sound) made.same node (record { handle = c.get_mut.result.now.handle; row = c.apply.new.row }) there
+    (unique_after_settle (order_by_row g.E.Extract.order_of) (λ keys index has. on_total (λ (x : Entry _). x.row) (g.met.E.Extract.order_total keys.keys index has))
+    (with_record set node (record { handle = c.get_mut.result.now.handle; row = c.apply.new.row })) c.settle.new.self (sound_written set node (record { handle = c.get_mut.result.now.handle; row = c.apply.new.row }) (has_by_row g.E.Extract.has_key) c.requires.linked.sound) made.same node (record { handle = c.get_mut.result.now.handle; row = c.apply.new.row }) there
     (subst (λ ls. HoldIt ls node) (sym (lists_written set node (record { handle = c.get_mut.result.now.handle; row = c.apply.new.row }))) c.requires.held) made.lists made.contents
     (none_bans _ _ _ (sym (c.changed_refusal.ensures (record { handle = c.get_mut.result.now.handle; row = c.apply.new.row }) there) ∙ c.in_default.is))
-    (unique_after_write (λ by index a b. g.E.Extract.order_of by.keys index a.row b.row) set c.requires.linked.sound node (record { handle = c.get_mut.result.now.handle; row = c.apply.new.row }) is c.requires.linked.unique))
+    (unique_after_write (order_by_row g.E.Extract.order_of) set c.requires.linked.sound node (record { handle = c.get_mut.result.now.handle; row = c.apply.new.row }) is c.requires.linked.unique))
 
 pub returns-in_default-clause-count : goal.returns-in_default-clause-count
 returns-in_default-clause-count g c =
@@ -109,8 +110,8 @@ get_mut-requires-2 g c =
 pub put_back-requires-clause-sound : goal.put_back-requires-clause-sound
 put_back-requires-clause-sound g c =
     let set = c.args.set.now in
-    sound_written (with_record set c.args.node (record { handle = c.get_mut.result.now.handle; row = c.apply.new.row })) c.args.node (record { handle = c.get_mut-2.result.now.handle; row = c.undo.new.row }) (λ by. g.E.Extract.has_key by.keys)
-    (sound_written set c.args.node (record { handle = c.get_mut.result.now.handle; row = c.apply.new.row }) (λ by. g.E.Extract.has_key by.keys) c.requires.linked.sound)
+    sound_written (with_record set c.args.node (record { handle = c.get_mut.result.now.handle; row = c.apply.new.row })) c.args.node (record { handle = c.get_mut-2.result.now.handle; row = c.undo.new.row }) (has_by_row g.E.Extract.has_key)
+    (sound_written set c.args.node (record { handle = c.get_mut.result.now.handle; row = c.apply.new.row }) (has_by_row g.E.Extract.has_key) c.requires.linked.sound)
 
 pub put_back-requires-clause-node : goal.put_back-requires-clause-node
 put_back-requires-clause-node g c =
@@ -126,9 +127,9 @@ put_back-requires-clause-restored g c =
     let had = c.get_mut.ensures.value in
     let again : c.get_mut-2.result.now ≡ (record { handle = c.get_mut.result.now.handle; row = c.apply.new.row }) = same_Some _ _ (sym c.get_mut-2.ensures.value ∙ record_written set.store node (record { handle = c.get_mut.result.now.handle; row = c.apply.new.row }) is) in
     let undone = c.undo.ensures.row ∙ (λ i. g.T.Edit.undone (c.apply.ensures.edit i) ((ap (λ (e : Entry _). e.row) again ∙ c.apply.ensures.row) i)) in
-    restored_undone set node (record { handle = c.get_mut.result.now.handle; row = c.apply.new.row }) (record { handle = c.get_mut-2.result.now.handle; row = c.undo.new.row }) c.get_mut.result.now had is (λ by index a b. g.E.Extract.order_of by.keys index a.row b.row)
+    restored_undone set node (record { handle = c.get_mut.result.now.handle; row = c.apply.new.row }) (record { handle = c.get_mut-2.result.now.handle; row = c.undo.new.row }) c.get_mut.result.now had is (order_by_row g.E.Extract.order_of)
     (λ index lt key. ap (λ u. g.E.Extract.order_of (keys_of set).keys index u c.get_mut.result.now.row) undone ∙ c.requires.undone index c.get_mut.result.now.row lt key (ap (option_map (λ (e : Entry _). e.row)) had))
-    (λ by index a. g.E.Extract.hash_of by.keys index a.row) c.requires.linked.keyed
+    (hash_by_row g.E.Extract.hash_of) c.requires.linked.keyed
 
 pub returns-clause-linked : goal.returns-clause-linked
 returns-clause-linked g c =
@@ -143,11 +144,11 @@ returns-clause-linked g c =
     let same : (index : ℕ) → index < length (specs_of set) → IsTrue (has_key_kind (kind_at set index)) → g.E.Extract.order_of (keys_of set).keys index c.undo.new.row before.row ≡ Equal =
     λ index lt key. ap (λ u. g.E.Extract.order_of (keys_of set).keys index u before.row) undone ∙ c.requires.undone index before.row lt key (ap (option_map (λ (e : Entry _). e.row)) had) in
     IsLinked_changed w
-    (subst (λ (s : IndexSet _ _). IsSound (λ by. g.E.Extract.has_key by.keys) s) (sym c.put_back.ensures.unchanged)
-    (sound_written (with_record set node (record { handle = c.get_mut.result.now.handle; row = c.apply.new.row })) node (record { handle = c.get_mut-2.result.now.handle; row = c.undo.new.row }) (λ by. g.E.Extract.has_key by.keys) (sound_written set node (record { handle = c.get_mut.result.now.handle; row = c.apply.new.row }) (λ by. g.E.Extract.has_key by.keys) c.requires.linked.sound)))
+    (subst (λ (s : IndexSet _ _). IsSound (has_by_row g.E.Extract.has_key) s) (sym c.put_back.ensures.unchanged)
+    (sound_written (with_record set node (record { handle = c.get_mut.result.now.handle; row = c.apply.new.row })) node (record { handle = c.get_mut-2.result.now.handle; row = c.undo.new.row }) (has_by_row g.E.Extract.has_key) (sound_written set node (record { handle = c.get_mut.result.now.handle; row = c.apply.new.row }) (has_by_row g.E.Extract.has_key) c.requires.linked.sound)))
     c.put_back.ensures.keyed
-    (c.put_back.ensures.unique before (keys_undone set node (record { handle = c.get_mut.result.now.handle; row = c.apply.new.row }) (record { handle = c.get_mut-2.result.now.handle; row = c.undo.new.row }) before had is (λ by index a b. g.E.Extract.order_of by.keys index a.row b.row) same)
-    (unique_before set node (record { handle = c.get_mut.result.now.handle; row = c.apply.new.row }) (record { handle = c.get_mut-2.result.now.handle; row = c.undo.new.row }) before had is (λ by index a b. g.E.Extract.order_of by.keys index a.row b.row) same c.requires.linked.sound c.requires.linked.unique))
+    (c.put_back.ensures.unique before (keys_undone set node (record { handle = c.get_mut.result.now.handle; row = c.apply.new.row }) (record { handle = c.get_mut-2.result.now.handle; row = c.undo.new.row }) before had is (order_by_row g.E.Extract.order_of) same)
+    (unique_before set node (record { handle = c.get_mut.result.now.handle; row = c.apply.new.row }) (record { handle = c.get_mut-2.result.now.handle; row = c.undo.new.row }) before had is (order_by_row g.E.Extract.order_of) same c.requires.linked.sound c.requires.linked.unique))
 
 pub returns-clause-count : goal.returns-clause-count
 returns-clause-count g c =

@@ -7,6 +7,7 @@ use Rattle.index_set.specs.Lists.{ban_from}
 use Rattle.index_set.specs.Set.{store_of, keys_of, specs_of, record_of, lists_of}
 use Rattle.index_set.proofs.Keys.{except_some}
 use Rattle.index_set.proofs.Members.{nodes_held}
+use Rattle.linked_set.specs.ByRow.{order_by_row, hash_by_row}
 use Rattle.linked_set.specs.Linked.{handle_of}
 use Rattle.linked_set.proofs.Bans.{ban_of}
 use Rattle.linked_set.proofs.Undoing.{refused_by}
@@ -17,7 +18,7 @@ bans-requires-clause-except g c m e = subst (IsNodeOf (store_of c.args.set.now))
 
 pub bans-requires-clause-keyed : goal.bans-requires-clause-keyed
 bans-requires-clause-keyed g c =
-    except_some (λ by index a b. g.E.Extract.order_of by.keys index a.row b.row) (λ by index a. g.E.Extract.hash_of by.keys index a.row) c.args.set.now c.args.node c.requires.keyed
+    except_some (order_by_row g.E.Extract.order_of) (hash_by_row g.E.Extract.hash_of) c.args.set.now c.args.node c.requires.keyed
 
 pub handle_at-requires : goal.handle_at-requires
 handle_at-requires g c =
