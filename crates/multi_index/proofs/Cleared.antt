@@ -13,6 +13,7 @@ use Rattle.container_model.specs.Change.{cleared}
 use Rattle.container_model.proofs.Erased.{IsState-cleared}
 use Rattle.index_set.specs.declared.set.IndexSet.{IndexSet}
 use Rattle.index_set.specs.Set.{store_of, specs_of, contents, record_of, lists_of, IsSound, IsKeyed, IsUniqueExcept, IsOfSame}
+use Rattle.linked_set.specs.ByRow.{has_by_row, order_by_row, hash_by_row}
 use Rattle.linked_set.specs.declared.by_row.ByRow.{ByRow}
 use Rattle.linked_set.specs.LeadsTo.{LeadsTo}
 use Rattle.linked_set.specs.Linked.{entries_in, handles_in}
@@ -41,7 +42,7 @@ module _ {E R : Type 0} (old new : IndexSet (Entry R) (ByRow E)) (max writes : �
       λ i. state_with max (writes + 1) (same.keys i).keys (same.specs i) (no_entries i) (handles i)
 
   pub IsContainer_cleared : (has_key : E → ℕ → Bool) (order : E → ℕ → R → R → Ordering) (hash : E → ℕ → R → ℕ) (slots : List (Option Node)) →
-      IsSound (λ by. has_key by.keys) new → IsKeyed (λ by index a b. order by.keys index a.row b.row) (λ by index a. hash by.keys index a.row) new → IsUniqueExcept (λ by index a b. order by.keys index a.row b.row) new None →
+      IsSound (has_by_row has_key) new → IsKeyed (order_by_row order) (hash_by_row hash) new → IsUniqueExcept (order_by_row order) new None →
       ((k : ℕ) → nodes (store_of new) k ≡ None) → (store_of new).added ≡ (store_of old).added → writes + 1 < 2 ^ 64 → IsContainer has_key order hash old slots max writes → IsContainer has_key order hash new [] max (writes + 1)
   IsContainer_cleared has_key order hash slots sound keyed unique empty count next was = record {
     linked = record {

@@ -13,6 +13,7 @@ use Rattle.index_set.specs.declared.set.IndexSet.{IndexSet}
 use Rattle.index_set.specs.Lists.{AreUniqueFrom}
 use Rattle.index_set.proofs.Keys.{unique_empty}
 use Rattle.index_set.specs.Set.{store_of, keys_of, specs_of, contents, record_of, lists_of, IsSound, IsKeyed}
+use Rattle.linked_set.specs.ByRow.{has_by_row, order_by_row, hash_by_row}
 use Rattle.linked_set.specs.declared.by_row.ByRow.{ByRow}
 use Rattle.linked_set.specs.LeadsTo.{LeadsTo}
 use Rattle.linked_set.specs.Linked.{entries_in, handles_in}
@@ -37,7 +38,7 @@ module _ {E R : Type 0} (set : IndexSet (Entry R) (ByRow E)) (keys : E) (specs :
       λ i. state_with max first_write (same_keys i) (same_specs i) (no_entries i) (handles i)
 
   pub IsContainer_made : (has_key : E → ℕ → Bool) (order : E → ℕ → R → R → Ordering) (hash : E → ℕ → R → ℕ) →
-      IsSound (λ by. has_key by.keys) set → IsKeyed (λ by index a b. order by.keys index a.row b.row) (λ by index a. hash by.keys index a.row) set →
+      IsSound (has_by_row has_key) set → IsKeyed (order_by_row order) (hash_by_row hash) set →
       KeysMatch (has_key keys) specs → max < 2 ^ 32 → first_write < 2 ^ 64 → IsContainer has_key order hash set [] max first_write
   IsContainer_made has_key order hash sound keyed match narrow numbered = record {
     linked = record {

@@ -8,8 +8,6 @@ use Rattle.list_model.proofs.InOrder.{All-map}
 use Rattle.list_model.proofs.Permuted.{split_at, count_by-permutation}
 use Rattle.container_model.specs.declared.handle.Entry.{Entry}
 use Rattle.container_model.specs.declared.handle.Handle.{Handle}
-use Rattle.container_model.specs.declared.handle.Kind.TheVariants.{Sequenced}
-use Rattle.container_model.specs.declared.handle.Spec.{Spec}
 use Rattle.container_model.specs.declared.refusal.Why.TheVariants.{Stale}
 use Rattle.container_model.specs.State.{State, AreIndices, is_handle, list_at}
 use Rattle.container_model.specs.Find.{is_live}
@@ -23,6 +21,7 @@ use Rattle.slot_table.specs.Slots.{item_at}
 use Rattle.index_set.specs.declared.set.IndexSet.{IndexSet}
 use Rattle.index_set.specs.Set.{store_of, keys_of, specs_of, contents, record_of, list_of, lists_of}
 use Rattle.index_set.proofs.Members.{nodes_held_at}
+use Rattle.index_set.proofs.Reading.{some_spec}
 use Rattle.linked_set.specs.declared.by_row.ByRow.{ByRow}
 use Rattle.linked_set.specs.Linked.{handle_of, entries_in, handles_in}
 use Rattle.linked_set.specs.Seen.{IsLinked}
@@ -85,7 +84,6 @@ module _ {E R : Type 0} {has_key : E → ℕ → Bool} {order : E → ℕ → R 
       -- each index has the node
       pub held_here : AreIndices (order (keys_of set).keys) entries 0 (specs_of set) (handles_in (record_of set) (lists_of set)) → Holds list n
       held_here indices =
-          let some_spec : Spec = record { kind = Sequenced; unique = false } in
           let members = (index_here (order (keys_of set).keys) entries 0 index (specs_of set) (handles_in (record_of set) (lists_of set)) some_spec indices within).1.members in
           let once : count_by (same_node n) list ≡ 1 =
           count_mapped handle (same_node n) (is_handle h) list named_all

@@ -17,8 +17,6 @@ use Rattle.node_store.specs.ByNode.{same_node}
 use Rattle.node_store.proofs.ByNode.{added_kept}
 use Rattle.container_model.specs.declared.handle.Handle.{Handle}
 use Rattle.container_model.specs.declared.handle.Entry.{Entry}
-use Rattle.container_model.specs.declared.handle.Spec.{Spec}
-use Rattle.container_model.specs.declared.handle.Kind.TheVariants.{Sequenced}
 use Rattle.container_model.specs.declared.refusal.Why.{Why}
 use Rattle.container_model.specs.declared.refusal.Why.TheVariants.{Kind, Stale, Place, Order, Spent}
 use Rattle.container_model.specs.State.{State, IsState, is_handle, is_sequence_kind, list_at}
@@ -30,6 +28,8 @@ use Rattle.index_set.specs.Set as set
 use Rattle.index_set.specs.Set.{store_of, keys_of, specs_of, contents, record_of, list_of, lists_of, IsSound, IsKeyed, IsOfSame}
 use Rattle.index_set.proofs.Members.{nodes_held_at}
 use Rattle.index_set.proofs.StaysUnique.{unique_after_move}
+use Rattle.index_set.proofs.Reading.{some_spec}
+use Rattle.linked_set.specs.ByRow.{has_by_row, order_by_row, hash_by_row}
 use Rattle.linked_set.specs.declared.by_row.ByRow.{ByRow}
 use Rattle.linked_set.specs.LeadsTo.{LeadsTo}
 use Rattle.linked_set.specs.Linked.{handle_of, entries_in, handles_in}
@@ -69,9 +69,6 @@ stands_for f (x ∷ xs) (z ∷ front) y back e = let rest : map f xs ≡ front +
     one_before : {X Y : Type 0} {f : X → Y} {xs : List X} {y : Y} (x : X) → StandsFor f xs y → StandsFor f (x ∷ xs) y
     one_before x p = record { member = p.member; before = x ∷ p.before; after = p.after; whole = ap (λ l. x ∷ l) p.whole; image = p.image }
 
-some_spec : Spec
-some_spec = record { kind = Sequenced; unique = false }
-
 -- ---- nodes and their handles
 
 module _ {R : Type 0} (s : Store (Entry R)) (slots : List (Option Node)) (leads : LeadsTo s slots) where
@@ -102,13 +99,13 @@ module _ {E R : Type 0} (old new : IndexSet (Entry R) (ByRow E)) (index max writ
   -- and stays one
   pub IsContainer_listed : (has_key : E → ℕ → Bool) (order : E → ℕ → R → R → Ordering) (hash : E → ℕ → R → ℕ) (slots : _) → IsContainer has_key order hash old slots max writes →
       index < length (specs_of old) → IsTrue (is_sequence_kind (set.kind_at old index)) → (writes == 2 ^ 64 - 1) ≡ false → IsState has_key order (with_list (seen old max writes) index list) →
-      IsSound (λ by. has_key by.keys) new → IsKeyed (λ by index a b. order by.keys index a.row b.row) (λ by index a. hash by.keys index a.row) new →
+      IsSound (has_by_row has_key) new → IsKeyed (order_by_row order) (hash_by_row hash) new →
       IsContainer has_key order hash new slots max (writes + 1)
   IsContainer_listed has_key order hash slots was within sequence more state sound keyed = record {
     linked = record {
       sound = sound;
       keyed = keyed;
-      unique = unique_after_move (λ by index a b. order by.keys index a.row b.row) old new was.linked.sound same index xs None within sequence lists kept was.linked.unique;
+      unique = unique_after_move (order_by_row order) old new was.linked.sound same index xs None within sequence lists kept was.linked.unique;
       apart = subst (EachPair _) (sym (entries_kept (store_of old) (store_of new) kept)) was.linked.apart;
       leads = leads_kept (store_of old) (store_of new) slots kept was.linked.leads;
     };

@@ -20,6 +20,7 @@ use Rattle.container_model.specs.Find.{at_kinds, at_position, kind_at}
 use Rattle.node_store.specs.declared.Node.{Node}
 use Rattle.index_set.specs.declared.set.IndexSet.{IndexSet}
 use Rattle.index_set.specs.Set.{keys_of, specs_of, contents, record_of, list_of, lists_of, probe_side}
+use Rattle.linked_set.specs.ByRow.{probe_by_row}
 use Rattle.linked_set.specs.declared.by_row.ByRow.{ByRow}
 use Rattle.linked_set.specs.Linked.{handle_of, entries_in, handles_in, IsKnown}
 use Rattle.linked_set.specs.Seen.{IsLinked}
@@ -77,7 +78,7 @@ module _ {E R : Type 0} {has_key : E → ℕ → Bool} {order : E → ℕ → R 
     side a = probe_order (keys_of set).keys index a probe
 
     abbrev node_side : Node → Ordering
-    node_side = probe_side (λ by i (a : Entry R). probe_order by.keys i a.row) set index probe
+    node_side = probe_side (probe_by_row probe_order) set index probe
 
     abbrev handle_side : Handle → Ordering
     handle_side = side_of side (entries_in (contents set))

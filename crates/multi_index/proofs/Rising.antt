@@ -15,7 +15,6 @@ use Rattle.list_model.proofs.Kept.{EachPair-map}
 use Rattle.list_model.proofs.Lists.{All-in_map}
 use Rattle.container_model.specs.declared.handle.Entry.{Entry}
 use Rattle.container_model.specs.declared.handle.Handle.{Handle}
-use Rattle.container_model.specs.declared.handle.Kind.TheVariants.{Sequenced}
 use Rattle.container_model.specs.declared.handle.Spec.{Spec}
 use Rattle.container_model.specs.State.{AreIndices, IsIndex, IsState, compare_of, is_sorted_kind, list_at, side_of}
 use Rattle.container_model.specs.Find.{kind_at}
@@ -23,6 +22,8 @@ use Rattle.container_model.proofs.Keys.{has_key-of_sorted, kind_at_is}
 use Rattle.node_store.specs.declared.Node.{Node}
 use Rattle.index_set.specs.declared.set.IndexSet.{IndexSet}
 use Rattle.index_set.specs.Set.{keys_of, specs_of, contents, record_of, list_of, lists_of, probe_side}
+use Rattle.index_set.proofs.Reading.{some_spec}
+use Rattle.linked_set.specs.ByRow.{probe_by_row}
 use Rattle.linked_set.specs.declared.by_row.ByRow.{ByRow}
 use Rattle.linked_set.specs.Edges.{edge_of, node_edge, KeyFits, Rises}
 use Rattle.linked_set.specs.Linked.{handle_of, entries_in, handles_in, IsKnown}
@@ -72,7 +73,7 @@ module _ {E R : Type 0} {has_key : E → ℕ → Bool} {order : E → ℕ → R 
   side probe a = probe_order (keys_of set).keys index a probe
 
   abbrev node_side : P → Node → Ordering
-  node_side probe = probe_side (λ (by : ByRow E) i (a : Entry R) p. probe_order by.keys i a.row p) set index probe
+  node_side probe = probe_side (probe_by_row probe_order) set index probe
 
   known_here : AllByRecursion (IsKnown (record_of set) entries) list
   known_here = known_at set slots linked index within
@@ -91,9 +92,6 @@ module _ {E R : Type 0} {has_key : E → ℕ → Bool} {order : E → ℕ → R 
       (subst (λ o. ordering_index (side probe a) ≤ ordering_index o) (of y l.entry l.is) (cuts a b rows))
 
   module _ (max writes : ℕ) (state : IsState has_key order (seen set max writes)) (sorted : is_sorted_kind (kind_at (seen set max writes) index) ≡ true) where
-    some_spec : Spec
-    some_spec = record { kind = Sequenced; unique = false }
-
     sorted_here : IsTrue (is_sorted_kind (get_or (specs_of set) index some_spec).kind)
     sorted_here = ap is_sorted_kind (sym (kind_at_is (seen set max writes) index some_spec within)) ∙ sorted
 

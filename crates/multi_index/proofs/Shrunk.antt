@@ -23,6 +23,7 @@ use Rattle.linked_set.specs.Seen.{seen, IsLinked}
 use Rattle.multi_index.specs.Container.{IsContainer}
 use Rattle.multi_index.proofs.Named.{next_seen}
 use Rattle.linked_set.proofs.Seen.{seen_only}
+use Rattle.multi_index.proofs.Replaced.{not_spent}
 
 -- where nothing refuses to take a record out, it is there, and the last write has not the greatest number
 pub live_allowed : {E R : Type 0} (s : State E R) (h : Handle) (index : Option ℕ) → erase_refusal s h index ≡ None → (is_live s h ≡ true) × ((s.writes == 2 ^ 64 - 1) ≡ false)
@@ -45,11 +46,7 @@ key_allowed s index e = by_tests (has_key_kind (kind_at s index)) (s.writes == 2
 
 -- so where nothing refuses a write
 pub write_allowed : {E R : Type 0} (s : State E R) → spent s ≡ None → (s.writes == 2 ^ 64 - 1) ≡ false
-write_allowed s e = by_test (s.writes == 2 ^ 64 - 1) e
-  where
-    by_test : (last : Bool) → cond last (Some Spent) None ≡ None → last ≡ false
-    by_test true e = absurd (cc)
-    by_test false e = refl
+write_allowed s e = not_spent (s.writes == 2 ^ 64 - 1) e
 
 -- then there is a next write number
 pub next_number : (n : ℕ) → n < 2 ^ 64 → (n == 2 ^ 64 - 1) ≡ false → n + 1 < 2 ^ 64

@@ -13,7 +13,8 @@ impl<R: Drop, E: Extract<R> + Drop> MultiIndex<R, E> {
     /// such call, and answers `Kind`. O(log n).
     pub fn lower(&self, index: usize, probe: &E::Probe) -> Result<Option<Handle>, Why>
         requires in_range { index < length self.now.specs }
-        requires fits { IsTrue (is_sorted_kind (kind_at self.now index)) → IsTrue (E.does_fit self.now.keys index probe.now) }
+        requires fits { IsTrue (is_sorted_kind (kind_at self.now index)) →
+            IsTrue (E.does_fit self.now.keys index probe.now) }
         ensures { result ≡ found_lower E.probe_order_of self.now index probe.now }
     {
         if self.is_sorted(index) {
@@ -27,7 +28,8 @@ impl<R: Drop, E: Extract<R> + Drop> MultiIndex<R, E> {
     /// and answers `Kind`. O(log n).
     pub fn upper(&self, index: usize, probe: &E::Probe) -> Result<Option<Handle>, Why>
         requires in_range { index < length self.now.specs }
-        requires fits { IsTrue (is_sorted_kind (kind_at self.now index)) → IsTrue (E.does_fit self.now.keys index probe.now) }
+        requires fits { IsTrue (is_sorted_kind (kind_at self.now index)) →
+            IsTrue (E.does_fit self.now.keys index probe.now) }
         ensures { result ≡ found_upper E.probe_order_of self.now index probe.now }
     {
         if self.is_sorted(index) {
@@ -41,7 +43,8 @@ impl<R: Drop, E: Extract<R> + Drop> MultiIndex<R, E> {
     /// records; an index without ranks answers `Kind`. O(log n).
     pub fn find_rank(&self, index: usize, probe: &E::Probe) -> Result<u64, Why>
         requires in_range { index < length self.now.specs }
-        requires fits { IsTrue (is_ranked_kind (kind_at self.now index)) → IsTrue (E.does_fit self.now.keys index probe.now) }
+        requires fits { IsTrue (is_ranked_kind (kind_at self.now index)) →
+            IsTrue (E.does_fit self.now.keys index probe.now) }
         ensures { result ≡ found_rank E.probe_order_of self.now index probe.now }
     {
         if self.is_ranked(index) {
@@ -54,7 +57,8 @@ impl<R: Drop, E: Extract<R> + Drop> MultiIndex<R, E> {
     /// How many records of the index come before the key; an index without ranks answers `Kind`. O(log n).
     pub fn lower_rank(&self, index: usize, probe: &E::Probe) -> Result<u64, Why>
         requires in_range { index < length self.now.specs }
-        requires fits { IsTrue (is_ranked_kind (kind_at self.now index)) → IsTrue (E.does_fit self.now.keys index probe.now) }
+        requires fits { IsTrue (is_ranked_kind (kind_at self.now index)) →
+            IsTrue (E.does_fit self.now.keys index probe.now) }
         ensures { result ≡ the_lower_rank E.probe_order_of self.now index probe.now }
     {
         if self.is_ranked(index) {
@@ -67,7 +71,8 @@ impl<R: Drop, E: Extract<R> + Drop> MultiIndex<R, E> {
     /// How many records of the index do not come after the key; an index without ranks answers `Kind`. O(log n).
     pub fn upper_rank(&self, index: usize, probe: &E::Probe) -> Result<u64, Why>
         requires in_range { index < length self.now.specs }
-        requires fits { IsTrue (is_ranked_kind (kind_at self.now index)) → IsTrue (E.does_fit self.now.keys index probe.now) }
+        requires fits { IsTrue (is_ranked_kind (kind_at self.now index)) →
+            IsTrue (E.does_fit self.now.keys index probe.now) }
         ensures { result ≡ the_upper_rank E.probe_order_of self.now index probe.now }
     {
         if self.is_ranked(index) {

@@ -89,7 +89,8 @@ impl<R: Drop, E: Extract<R> + Drop> MultiIndex<R, E> {
         ensures ok { OnOk result (self.new ≡ with_inserted E.order_of self.old None row) }
 
         // Memory is refused only where nothing else is.
-        ensures why { IfErr result (λ refused. refused.why ≡ unwrap_or (insert_refusal E.order_of self.old row) Why.Memory) }
+        ensures why { IfErr result (λ refused. refused.why ≡
+            unwrap_or (insert_refusal E.order_of self.old row) Why.Memory) }
         ensures handed_back { IfErr result (λ refused. refused.row ≡ Some row) }
         ensures unchanged { OnErr result (self.new ≡ self.old) }
     {
@@ -110,11 +111,14 @@ impl<R: Drop, E: Extract<R> + Drop> MultiIndex<R, E> {
     pub fn insert_at(&mut self, index: usize, place: u64, row: R) -> Result<Handle, Refused<R>>
         requires { index < length self.old.specs }
         ensures handle { IfOk result (λ handle. handle ≡ new_handle self.old) }
-        ensures allowed { OnOk result (insert_at_refusal E.order_of self.old index place row ≡ None) }
-        ensures ok { OnOk result (self.new ≡ with_inserted E.order_of self.old (Some (index, place)) row) }
+        ensures allowed { OnOk result
+            (insert_at_refusal E.order_of self.old index place row ≡ None) }
+        ensures ok { OnOk result (self.new ≡ with_inserted E.order_of self.old
+            (Some (index, place)) row) }
 
         // Memory is refused only where nothing else is.
-        ensures why { IfErr result (λ refused. refused.why ≡ unwrap_or (insert_at_refusal E.order_of self.old index place row) Why.Memory) }
+        ensures why { IfErr result (λ refused. refused.why ≡
+            unwrap_or (insert_at_refusal E.order_of self.old index place row) Why.Memory) }
         ensures handed_back { IfErr result (λ refused. refused.row ≡ Some row) }
         ensures unchanged { OnErr result (self.new ≡ self.old) }
     {
@@ -145,8 +149,10 @@ impl<R: Drop, E: Extract<R> + Drop> MultiIndex<R, E> {
     /// index.
     pub fn find(&self, index: usize, probe: &E::Probe) -> Result<Option<Handle>, Why>
         requires in_range { index < length self.now.specs }
-        requires fits { IsTrue (has_key_kind (kind_at self.now index)) → IsTrue (E.does_fit self.now.keys index probe.now) }
-        requires whole { IsTrue (is_hashed_kind (kind_at self.now index)) → IsTrue (E.is_whole self.now.keys index probe.now) }
+        requires fits { IsTrue (has_key_kind (kind_at self.now index)) →
+            IsTrue (E.does_fit self.now.keys index probe.now) }
+        requires whole { IsTrue (is_hashed_kind (kind_at self.now index)) →
+            IsTrue (E.is_whole self.now.keys index probe.now) }
         ensures { result ≡ found E.probe_order_of self.now index probe.now }
     {
         if !self.has_key(index) {
@@ -162,8 +168,10 @@ impl<R: Drop, E: Extract<R> + Drop> MultiIndex<R, E> {
     /// many steps in an ordered index, O(log n) in a ranked one, expected O(1 + those records) in a hashed one.
     pub fn count(&self, index: usize, probe: &E::Probe) -> Result<u64, Why>
         requires in_range { index < length self.now.specs }
-        requires fits { IsTrue (has_key_kind (kind_at self.now index)) → IsTrue (E.does_fit self.now.keys index probe.now) }
-        requires whole { IsTrue (is_hashed_kind (kind_at self.now index)) → IsTrue (E.is_whole self.now.keys index probe.now) }
+        requires fits { IsTrue (has_key_kind (kind_at self.now index)) →
+            IsTrue (E.does_fit self.now.keys index probe.now) }
+        requires whole { IsTrue (is_hashed_kind (kind_at self.now index)) →
+            IsTrue (E.is_whole self.now.keys index probe.now) }
         ensures { result ≡ counted E.probe_order_of self.now index probe.now }
     {
         if self.has_key(index) {
@@ -218,7 +226,8 @@ impl<R: Drop, E: Extract<R> + Drop> MultiIndex<R, E> {
     // The record with the handle that it gets where it may go in.
     fn entry(&self, row: R) -> Entry<R>
         ensures row { result.row ≡ row }
-        ensures handle { (self.now.writes == 2 ^ 64 - 1) ≡ false → result.handle ≡ new_handle self.now }
+        ensures handle { (self.now.writes == 2 ^ 64 - 1) ≡ false → result.handle ≡
+            new_handle self.now }
     {
         let handle = Handle {
             slot: self.slots.least_free() as u32,
@@ -231,7 +240,8 @@ impl<R: Drop, E: Extract<R> + Drop> MultiIndex<R, E> {
     fn put(&mut self, at: Option<(usize, u64)>, entry: Entry<R>) -> Result<Handle, Refused<R>>
         requires allowed { insert_refusal E.order_of self.old entry.row ≡ None }
         requires handle { entry.handle ≡ new_handle self.old }
-        requires within { IfSome at (λ at. (at.0 < length self.old.specs) × (at.1 ≤ length self.old.entries)) }
+        requires within { IfSome at (λ at. (at.0 < length self.old.specs) ×
+            (at.1 ≤ length self.old.entries)) }
         ensures handle { IfOk result (λ handle. handle ≡ new_handle self.old) }
         ensures ok { OnOk result (self.new ≡ with_inserted E.order_of self.old at entry.row) }
         ensures why { IfErr result (λ refused. refused.why ≡ Why.Memory) }

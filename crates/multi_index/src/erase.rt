@@ -24,10 +24,12 @@ impl<R: Drop, E: Extract<R> + Drop> MultiIndex<R, E> {
     pub fn erase(&mut self, handle: Handle, index: Option<usize>) -> Result<Erased<R>, Refused<R>>
         requires { IfSome index (λ i. i < length self.old.specs) }
         ensures row { IfOk result (λ erased. row_of self.old.entries handle ≡ Some erased.row) }
-        ensures next { IfOk result (λ erased. erased.next ≡ option_and_then (λ i. next_in self.old i handle) index) }
+        ensures next { IfOk result (λ erased. erased.next ≡
+            option_and_then (λ i. next_in self.old i handle) index) }
         ensures allowed { OnOk result (erase_refusal self.old handle index ≡ None) }
         ensures ok { OnOk result (self.new ≡ with_erased self.old handle) }
-        ensures why { IfErr result (λ refused. Some refused.why ≡ erase_refusal self.old handle index) }
+        ensures why { IfErr result (λ refused. Some refused.why ≡
+            erase_refusal self.old handle index) }
         ensures handed_back { IfErr result (λ refused. refused.row ≡ None) }
         ensures unchanged { OnErr result (self.new ≡ self.old) }
     {

@@ -16,13 +16,19 @@ impl<R: Drop, E: Extract<R> + Drop> MultiIndex<R, E> {
     /// for each index; and where there are more than a few, O(n) for each index whose places can be counted.
     pub fn erase_key(&mut self, index: usize, probe: &E::Probe) -> Result<u64, Refused<R>>
         requires in_range { index < length self.old.specs }
-        requires fits { IsTrue (has_key_kind (kind_at self.old index)) → IsTrue (E.does_fit self.old.keys index probe.now) }
-        requires whole { IsTrue (is_hashed_kind (kind_at self.old index)) → IsTrue (E.is_whole self.old.keys index probe.now) }
-        ensures count { IfOk result (λ count. count ≡ erased_count E.probe_order_of self.old index probe.now) }
-        ensures one { IsTrue (is_unique_at self.old index) → IsTrue (E.is_whole self.old.keys index probe.now) → IfOk result (λ count. count ≤ 1) }
+        requires fits { IsTrue (has_key_kind (kind_at self.old index)) →
+            IsTrue (E.does_fit self.old.keys index probe.now) }
+        requires whole { IsTrue (is_hashed_kind (kind_at self.old index)) →
+            IsTrue (E.is_whole self.old.keys index probe.now) }
+        ensures count { IfOk result (λ count. count ≡ erased_count E.probe_order_of self.old index
+            probe.now) }
+        ensures one { IsTrue (is_unique_at self.old index) →
+            IsTrue (E.is_whole self.old.keys index probe.now) → IfOk result (λ count. count ≤ 1) }
         ensures allowed { OnOk result (erase_key_refusal self.old index ≡ None) }
-        ensures ok { OnOk result (self.new ≡ with_key_erased E.probe_order_of self.old index probe.now) }
-        ensures why { IfErr result (λ refused. Some refused.why ≡ erase_key_refusal self.old index) }
+        ensures ok { OnOk result (self.new ≡ with_key_erased E.probe_order_of self.old index
+            probe.now) }
+        ensures why { IfErr result (λ refused. Some refused.why ≡
+            erase_key_refusal self.old index) }
         ensures handed_back { IfErr result (λ refused. refused.row ≡ None) }
         ensures unchanged { OnErr result (self.new ≡ self.old) }
     {

@@ -23,9 +23,15 @@ impl<R: Drop, E: Extract<R> + Drop> MultiIndex<R, E> {
         edit: &mut T,
     ) -> Result<Modified<R>, Refused<R>>
         ensures allowed { OnOk result (modify_refusal self.old handle ≡ None) }
-        ensures ok { (r : R) → row_of self.old.entries handle ≡ Some r → OnOk result (self.new ≡ with_modified E.order_of self.old handle (T.applied edit.old r)) }
-        ensures answer { (r : R) → row_of self.old.entries handle ≡ Some r → IfOk result (λ told_of. told_of ≡ told (ban E.order_of self.old (Some handle) (T.applied edit.old r)) (T.applied edit.old r)) }
-        ensures edit { (r : R) → row_of self.old.entries handle ≡ Some r → OnOk result (edit.new ≡ T.after_apply edit.old r) }
+        ensures ok { (r : R) → row_of self.old.entries handle ≡ Some r →
+            OnOk result (self.new ≡ with_modified E.order_of self.old handle
+            (T.applied edit.old r)) }
+        ensures answer { (r : R) → row_of self.old.entries handle ≡ Some r →
+            IfOk result (λ told_of. told_of ≡
+            told (ban E.order_of self.old (Some handle) (T.applied edit.old r))
+            (T.applied edit.old r)) }
+        ensures edit { (r : R) → row_of self.old.entries handle ≡ Some r →
+            OnOk result (edit.new ≡ T.after_apply edit.old r) }
         ensures why { IfErr result (λ refused. Some refused.why ≡ modify_refusal self.old handle) }
         ensures nothing_handed_in { IfErr result (λ refused. refused.row ≡ None) }
         ensures not_applied { OnErr result (edit.new ≡ edit.old) }

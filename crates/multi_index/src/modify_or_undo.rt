@@ -19,13 +19,20 @@ impl<R: Drop, E: Extract<R> + Drop> MultiIndex<R, E> {
         handle: Handle,
         edit: &mut T,
     ) -> Result<(), Refused<R>>
-        requires undone { KeepsKeys E.order_of self.old handle (λ r. T.undone (T.after_apply edit.old r) (T.applied edit.old r)) }
-        ensures allowed { OnOk result (modify_or_undo_refusal E.order_of self.old handle (T.applied edit.old) ≡ None) }
-        ensures why { IfErr result (λ refused. Some refused.why ≡ modify_or_undo_refusal E.order_of self.old handle (T.applied edit.old)) }
+        requires undone { KeepsKeys E.order_of self.old handle
+            (λ r. T.undone (T.after_apply edit.old r) (T.applied edit.old r)) }
+        ensures allowed { OnOk result (modify_or_undo_refusal E.order_of self.old handle
+            (T.applied edit.old) ≡ None) }
+        ensures why { IfErr result (λ refused. Some refused.why ≡
+            modify_or_undo_refusal E.order_of self.old handle (T.applied edit.old)) }
         ensures nothing_handed_in { IfErr result (λ refused. refused.row ≡ None) }
-        ensures left { self.new ≡ with_modified_or_undone E.order_of self.old handle (T.applied edit.old) (λ r. T.undone (T.after_apply edit.old r) (T.applied edit.old r)) }
-        ensures kept_edit { (r : R) → row_of self.old.entries handle ≡ Some r → OnOk result (edit.new ≡ T.after_apply edit.old r) }
-        ensures undone_edit { (r : R) → row_of self.old.entries handle ≡ Some r → OnErr result (edit.new ≡ T.after_undo (T.after_apply edit.old r) (T.applied edit.old r)) }
+        ensures left { self.new ≡ with_modified_or_undone E.order_of self.old handle
+            (T.applied edit.old) (λ r. T.undone (T.after_apply edit.old r) (T.applied edit.old r)) }
+        ensures kept_edit { (r : R) → row_of self.old.entries handle ≡ Some r →
+            OnOk result (edit.new ≡ T.after_apply edit.old r) }
+        ensures undone_edit { (r : R) → row_of self.old.entries handle ≡ Some r →
+            OnErr result (edit.new ≡ T.after_undo (T.after_apply edit.old r)
+            (T.applied edit.old r)) }
         ensures not_applied { row_of self.old.entries handle ≡ None → edit.new ≡ edit.old }
     {
         let Some(node) = node_at(&self.set, &self.slots, handle) else {

@@ -25,7 +25,8 @@ impl<R: Drop, E: Extract<R> + Drop> MultiIndex<R, E> {
         requires { index < length self.old.specs }
         ensures allowed { OnOk result (relocate_refusal self.old index place handle ≡ None) }
         ensures ok { OnOk result (self.new ≡ with_relocated self.old index place handle) }
-        ensures why { IfErr result (λ refused. Some refused.why ≡ relocate_refusal self.old index place handle) }
+        ensures why { IfErr result (λ refused. Some refused.why ≡
+            relocate_refusal self.old index place handle) }
         ensures handed_back { IfErr result (λ refused. refused.row ≡ None) }
         ensures unchanged { OnErr result (self.new ≡ self.old) }
     {
@@ -97,10 +98,12 @@ fn movable<R, E: Extract<R>>(
 ) -> Result<Node, Why>
     requires linked { IsLinked E.has_key E.order_of E.hash_of set.now slots.now.items }
     requires index { index < length (specs_of set.now) }
-    ensures allowed { OnOk result (relocate_refusal (seen set.now 0 writes) index place handle ≡ None) }
+    ensures allowed { OnOk result (relocate_refusal (seen set.now 0 writes) index place
+        handle ≡ None) }
     ensures node { IfOk result (λ n. IsNodeOf (store_of set.now) n) }
     ensures handle { IfOk result (λ n. handle_of (record_of set.now) n ≡ handle) }
-    ensures why { IfErr result (λ why. Some why ≡ relocate_refusal (seen set.now 0 writes) index place handle) }
+    ensures why { IfErr result (λ why. Some why ≡ relocate_refusal (seen set.now 0 writes) index
+        place handle) }
 {
     if !is_sequence(set, index) {
         return Err(Why::Kind);

@@ -95,7 +95,8 @@ impl<R: Drop, E: Extract<R> + Drop> MultiIndex<R, E> {
     fn place_at(&self, index: usize, handle: Handle) -> Result<u64, Why>
         requires in_range { index < length self.now.specs }
         requires kind { IsTrue (has_places_kind (kind_at self.now index)) }
-        ensures { result ≡ cond (is_live self.now handle) (Ok (walk.place_of (is_handle handle) (list_at self.now.lists index))) (Err Why.Stale) }
+        ensures { result ≡ cond (is_live self.now handle)
+            (Ok (walk.place_of (is_handle handle) (list_at self.now.lists index))) (Err Why.Stale) }
     {
         match node_at(&self.set, &self.slots, handle) {
             Some(node) => Ok(self.set.place_of(index, node)),
@@ -107,7 +108,8 @@ impl<R: Drop, E: Extract<R> + Drop> MultiIndex<R, E> {
     fn next_at(&self, index: usize, handle: Handle) -> Result<Option<Handle>, Why>
         requires in_range { index < length self.now.specs }
         requires kind { IsTrue (not (is_hashed_kind (kind_at self.now index))) }
-        ensures { result ≡ cond (is_live self.now handle) (Ok (walk.next (is_handle handle) (list_at self.now.lists index))) (Err Why.Stale) }
+        ensures { result ≡ cond (is_live self.now handle)
+            (Ok (walk.next (is_handle handle) (list_at self.now.lists index))) (Err Why.Stale) }
     {
         match node_at(&self.set, &self.slots, handle) {
             Some(node) => Ok(position_at(&self.set, self.set.next(index, node))),
@@ -119,7 +121,8 @@ impl<R: Drop, E: Extract<R> + Drop> MultiIndex<R, E> {
     fn prev_at(&self, index: usize, handle: Handle) -> Result<Option<Handle>, Why>
         requires in_range { index < length self.now.specs }
         requires kind { IsTrue (not (is_hashed_kind (kind_at self.now index))) }
-        ensures { result ≡ cond (is_live self.now handle) (Ok (walk.prev (is_handle handle) (list_at self.now.lists index))) (Err Why.Stale) }
+        ensures { result ≡ cond (is_live self.now handle)
+            (Ok (walk.prev (is_handle handle) (list_at self.now.lists index))) (Err Why.Stale) }
     {
         match node_at(&self.set, &self.slots, handle) {
             Some(node) => Ok(position_at(&self.set, self.set.prev(index, node))),

@@ -23,12 +23,19 @@ impl<R: Drop, E: Extract<R> + Drop> MultiIndex<R, E> {
         high: Bound<&E::Probe>,
     ) -> Result<Vec<Handle>, Why>
         requires in_range { index < length self.now.specs }
-        requires low_fits { IsTrue (is_sorted_kind (kind_at self.now index)) → KeyFits (E.does_fit self.now.keys index) (bound_map (λ p. p.now) low) }
-        requires high_fits { IsTrue (is_sorted_kind (kind_at self.now index)) → KeyFits (E.does_fit self.now.keys index) (bound_map (λ p. p.now) high) }
-        ensures ok { IfOk result (λ handles. found_range self.now index (edge_of (probe_side E.probe_order_of self.now index) (bound_map (λ p. p.now) low.entry)) (edge_of (probe_side E.probe_order_of self.now index) (bound_map (λ p. p.now) high.entry)) ≡ Ok handles.items) }
+        requires low_fits { IsTrue (is_sorted_kind (kind_at self.now index)) →
+            KeyFits (E.does_fit self.now.keys index) (bound_map (λ p. p.now) low) }
+        requires high_fits { IsTrue (is_sorted_kind (kind_at self.now index)) →
+            KeyFits (E.does_fit self.now.keys index) (bound_map (λ p. p.now) high) }
+        ensures ok { IfOk result (λ handles. found_range self.now index
+            (edge_of (probe_side E.probe_order_of self.now index)
+            (bound_map (λ p. p.now) low.entry))
+            (edge_of (probe_side E.probe_order_of self.now index)
+            (bound_map (λ p. p.now) high.entry)) ≡ Ok handles.items) }
 
         // Memory is refused only where nothing else is.
-        ensures why { IfErr result (λ why. why ≡ cond (is_sorted_kind (kind_at self.now index)) Why.Memory Why.Kind) }
+        ensures why { IfErr result (λ why. why ≡ cond (is_sorted_kind (kind_at self.now index))
+            Why.Memory Why.Kind) }
     {
         if !self.is_sorted(index) {
             return Err(Why::Kind);

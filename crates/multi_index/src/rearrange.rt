@@ -27,7 +27,10 @@ impl<R: Drop, E: Extract<R> + Drop> MultiIndex<R, E> {
         requires { index < length self.old.specs }
         ensures allowed { OnOk result (rearrange_refusal self.old index handles.now ≡ None) }
         ensures ok { OnOk result (self.new ≡ with_list self.old index handles.now) }
-        ensures why { IfErr result (λ refused. (Some refused.why ≡ rearrange_refusal self.old index handles.now) ⊎ ((refused.why ≡ Why.Memory) × IsTrue (is_after_memory (rearrange_refusal self.old index handles.now)))) }
+        ensures why { IfErr result
+            (λ refused. (Some refused.why ≡ rearrange_refusal self.old index handles.now) ⊎
+            ((refused.why ≡ Why.Memory) ×
+            IsTrue (is_after_memory (rearrange_refusal self.old index handles.now)))) }
         ensures handed_back { IfErr result (λ refused. refused.row ≡ None) }
         ensures unchanged { OnErr result (self.new ≡ self.old) }
     {
@@ -60,10 +63,16 @@ fn arrangement<R, E: Extract<R>>(
 ) -> Result<Vec<Node>, Why>
     requires linked { IsLinked E.has_key E.order_of E.hash_of set.now slots.now.items }
     requires index { index < length (specs_of set.now) }
-    ensures allowed { OnOk result (rearrange_refusal (seen set.now 0 writes) index handles.now ≡ None) }
-    ensures nodes { IfOk result (λ nodes. AllByRecursion (IsNodeOf (store_of set.now)) nodes.items) }
-    ensures handles { IfOk result (λ nodes. map (handle_of (record_of set.now)) nodes.items ≡ handles.now) }
-    ensures why { IfErr result (λ why. (Some why ≡ rearrange_refusal (seen set.now 0 writes) index handles.now) ⊎ ((why ≡ Why.Memory) × IsTrue (is_after_memory (rearrange_refusal (seen set.now 0 writes) index handles.now)))) }
+    ensures allowed { OnOk result
+        (rearrange_refusal (seen set.now 0 writes) index handles.now ≡ None) }
+    ensures nodes { IfOk result (λ nodes. AllByRecursion (IsNodeOf (store_of set.now))
+        nodes.items) }
+    ensures handles { IfOk result (λ nodes. map (handle_of (record_of set.now)) nodes.items ≡
+        handles.now) }
+    ensures why { IfErr result
+        (λ why. (Some why ≡ rearrange_refusal (seen set.now 0 writes) index handles.now) ⊎
+        ((why ≡ Why.Memory) ×
+        IsTrue (is_after_memory (rearrange_refusal (seen set.now 0 writes) index handles.now)))) }
 {
     if !is_sequence(set, index) {
         return Err(Why::Kind);

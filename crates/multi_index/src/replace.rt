@@ -27,7 +27,8 @@ impl<R: Drop, E: Extract<R> + Drop> MultiIndex<R, E> {
         ensures old { IfOk result (λ old. row_of self.old.entries handle ≡ Some old) }
         ensures allowed { OnOk result (replace_refusal E.order_of self.old handle row ≡ None) }
         ensures ok { OnOk result (self.new ≡ with_replaced E.order_of self.old handle row) }
-        ensures why { IfErr result (λ refused. Some refused.why ≡ replace_refusal E.order_of self.old handle row) }
+        ensures why { IfErr result (λ refused. Some refused.why ≡
+            replace_refusal E.order_of self.old handle row) }
         ensures handed_back { IfErr result (λ refused. refused.row ≡ Some row) }
         ensures unchanged { OnErr result (self.new ≡ self.old) }
     {
@@ -61,8 +62,9 @@ fn keeps_out<R, E: Extract<R>>(
     requires node { IsNodeOf (store_of set.now) node }
     requires handle { handle_of (record_of set.now) node ≡ entry.now.handle }
     ensures { result ≡ option_map_or (λ at. Some (Why.Banned at.0 at.1))
-        (ban_from (E.order_of (keys_of set.now).keys) (entries_in (contents set.now)) (handles_in (record_of set.now) (lists_of set.now)) (Some entry.now.handle) entry.now.row 0 (specs_of set.now))
-        (cond (writes == 2 ^ 64 - 1) (Some Why.Spent) None) }
+        (ban_from (E.order_of (keys_of set.now).keys) (entries_in (contents set.now))
+        (handles_in (record_of set.now) (lists_of set.now)) (Some entry.now.handle) entry.now.row 0
+        (specs_of set.now)) (cond (writes == 2 ^ 64 - 1) (Some Why.Spent) None) }
 {
     if let Some((index, by)) = first_ban(set, slots, entry, Some(node)) {
         return Some(Why::Banned { index, by });

@@ -1,15 +1,14 @@
-use Rattle.std.proofs.Common.{◌≡◌, ◌+◌, ◌<◌, ◌≤◌, ◌∙◌, false, length, ap, sym, subst, arith}
+use Rattle.std.proofs.Common.{◌≡◌, ◌+◌, ◌<◌, ◌≤◌, ◌∙◌, false, length, ap, sym, subst, arith, rules}
 use Rattle.std.specs.Prelude.{filter}
 use Rattle.std.specs.Option.{option_map_or}
 use Rattle.list_model.proofs.Lists.{slice_get_at}
 use Rattle.node_store.specs.Store.{len_of}
-use Rattle.container_model.specs.declared.handle.Kind.TheVariants.{Sequenced}
-use Rattle.container_model.specs.declared.handle.Spec.{Spec}
 use Rattle.container_model.specs.State.{IsState}
 use Rattle.container_model.specs.Change.{erase_key_refusal, erased_count, with_key_erased}
 use Rattle.container_model.proofs.Keys.{has_key-of_unique}
 use Rattle.container_model.proofs.OneOfKey.{one_of_a_key}
 use Rattle.index_set.specs.Set.{store_of, specs_of, contents}
+use Rattle.index_set.proofs.Reading.{some_spec}
 use Rattle.linked_set.specs.Held.{has_other_key}
 use Rattle.linked_set.specs.Linked.{entries_in}
 use Rattle.linked_set.specs.Seen.{seen}
@@ -20,8 +19,15 @@ use Rattle.linked_set.proofs.Seen.{seen_only}
 use Rattle.linked_set.proofs.Thinned.{left_and_erased}
 use Rattle.multi_index.proofs.container.MultiIndex.erase_key.Goals as goal
 
-pub take_key-count-requires-clause-held : goal.take_key-count-requires-clause-held
-take_key-count-requires-clause-held g c = record { each = held_by_all c.self.inside.set c.self.inside.slots.items c.self.inside.max c.self.inside.writes c.self.invariant }
+pub take_key-count-requires : goal.take_key-count-requires
+take_key-count-requires g c = record {
+  linked = c.self.invariant.linked;
+  held = record { each = held_by_all c.self.inside.set c.self.inside.slots.items c.self.inside.max c.self.inside.writes c.self.invariant };
+  index = search rules;
+  kind = search rules;
+  fits = search rules;
+  whole = search rules;
+}
 
 pub invariant_of-self : goal.invariant_of-self
 invariant_of-self g c =
@@ -56,9 +62,6 @@ returns-clause-ok g c =
     let taken = c.take_key-count.ensures in
     seen_only inside.set c.take_key-count.new.set (has_other_key g.E.Extract.probe_order_of inside.set c.args.index c.args.probe.now) inside.max inside.writes taken.same taken.entries taken.lists
     ∙ ap (λ s. with_key_erased g.E.Extract.probe_order_of s c.args.index c.args.probe.now) c.self.view_is
-
-some_spec : Spec
-some_spec = record { kind = Sequenced; unique = false }
 
 -- records of one whole key have one key, and a unique index has one of them
 pub returns-clause-one : goal.returns-clause-one

@@ -1,11 +1,10 @@
-use Rattle.std.proofs.Common.{◌≡◌, ◌<◌, ◌∙◌, true, false, length, Result, Ok, Err, ap, sym, subst}
+use Rattle.std.proofs.Common.{◌≡◌, ◌<◌, ◌∙◌, true, length, Result, Ok, Err, ap, sym, subst}
 use Rattle.std.specs.Prelude.{IfOk}
-use Rattle.container_model.specs.declared.handle.Kind.TheVariants.{Sequenced}
-use Rattle.container_model.specs.declared.handle.Spec.{Spec}
 use Rattle.container_model.specs.State.{is_hashed_kind, list_at}
 use Rattle.container_model.specs.Find.{kind_at}
 use Rattle.container_model.proofs.Keys.{kind_at_is}
 use Rattle.index_set.specs.Set.{store_of, specs_of}
+use Rattle.index_set.proofs.Reading.{some_spec}
 use Rattle.linked_set.specs.Seen.{seen}
 use Rattle.linked_set.proofs.Contents.{handles_by_age}
 use Rattle.linked_set.proofs.Indices.{index_here}
@@ -22,7 +21,6 @@ returns-then-is_hashed-clause-ok g c =
     let set = c.self.inside.set in
     let s = seen set c.self.inside.max c.self.inside.writes in
     let within : c.args.index < length (specs_of set) = subst (λ t. c.args.index < length t.specs) (sym c.self.view_is) c.requires in
-    let some_spec : Spec = record { kind = Sequenced; unique = false } in
     let hashed : is_hashed_kind (kind_at s c.args.index) ≡ true = ap (λ t. is_hashed_kind (kind_at t c.args.index)) c.self.view_is ∙ (sym c.is_hashed.ensures ∙ c.if-is_hashed.true) in
     let here = (index_here (g.E.Extract.order_of s.keys) s.entries 0 c.args.index s.specs s.lists some_spec c.self.invariant.state.indices within).1 in
     let by_age = here.by_stamp (ap is_hashed_kind (sym (kind_at_is s c.args.index some_spec within)) ∙ hashed) in
