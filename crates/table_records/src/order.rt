@@ -15,8 +15,11 @@ impl Records {
     /// Moves a record before a place of a sequence, counted from 0. Costs what `MultiIndex::relocate` does.
     pub fn relocate(&mut self, index: usize, place: u64, handle: Handle) -> Result<(), Why>
         requires { index < length self.old.shape.indices }
-        ensures leaves { Leaves result self.old self.new (relocate_refusal self.old.records index place handle) (with_relocated self.old.records index place handle) }
-        ensures why { IfErr result (λ why. Some why ≡ relocate_refusal self.old.records index place handle) }
+        ensures leaves { Leaves result self.old self.new
+            (relocate_refusal self.old.records index place handle)
+            (with_relocated self.old.records index place handle) }
+        ensures why { IfErr result (λ why. Some why ≡
+            relocate_refusal self.old.records index place handle) }
     {
         let moved = self.container.relocate(index, place, handle);
         moved.map_err(|refused| refused.why)
@@ -25,8 +28,13 @@ impl Records {
     /// Puts the records of a sequence into the order of their handles. Costs what `MultiIndex::rearrange` does.
     pub fn rearrange(&mut self, index: usize, handles: &[Handle]) -> Result<(), Why>
         requires { index < length self.old.shape.indices }
-        ensures leaves { Leaves result self.old self.new (rearrange_refusal self.old.records index handles.now) (with_list self.old.records index handles.now) }
-        ensures why { IfErr result (λ why. (Some why ≡ rearrange_refusal self.old.records index handles.now) ⊎ ((why ≡ whys.Memory) × IsTrue (is_after_memory (rearrange_refusal self.old.records index handles.now)))) }
+        ensures leaves { Leaves result self.old self.new
+            (rearrange_refusal self.old.records index handles.now)
+            (with_list self.old.records index handles.now) }
+        ensures why { IfErr result
+            (λ why. (Some why ≡ rearrange_refusal self.old.records index handles.now) ⊎
+            ((why ≡ whys.Memory) ×
+            IsTrue (is_after_memory (rearrange_refusal self.old.records index handles.now)))) }
     {
         let rearranged = self.container.rearrange(index, handles);
         rearranged.map_err(|refused| refused.why)
@@ -36,8 +44,10 @@ impl Records {
     /// `MultiIndex::sort` does.
     pub fn sort(&mut self, index: usize, order: &RowSort) -> Result<(), Why>
         requires { index < length self.old.shape.indices }
-        ensures leaves { Leaves result self.old self.new (sequence_refusal self.old.records index) (with_sorted (key_cmp order.now) self.old.records index) }
-        ensures why { IfErr result (λ why. why ≡ unwrap_or (sequence_refusal self.old.records index) whys.Memory) }
+        ensures leaves { Leaves result self.old self.new (sequence_refusal self.old.records index)
+            (with_sorted (key_cmp order.now) self.old.records index) }
+        ensures why { IfErr result (λ why. why ≡ unwrap_or (sequence_refusal self.old.records index)
+            whys.Memory) }
     {
         match self.container.sort(index, order) {
             Ok(()) => Ok(()),
@@ -48,7 +58,8 @@ impl Records {
     /// Turns the order of a sequence round. Costs what `MultiIndex::reverse` does.
     pub fn reverse(&mut self, index: usize) -> Result<(), Why>
         requires { index < length self.old.shape.indices }
-        ensures leaves { Leaves result self.old self.new (sequence_refusal self.old.records index) (with_reversed self.old.records index) }
+        ensures leaves { Leaves result self.old self.new (sequence_refusal self.old.records index)
+            (with_reversed self.old.records index) }
         ensures why { IfErr result (λ why. Some why ≡ sequence_refusal self.old.records index) }
     {
         let reversed = self.container.reverse(index);

@@ -17,9 +17,13 @@ use table_terms::{Outcome, tell_why};
 /// Appends the line that tells why the container refused a call, which left the records. Takes no memory. O(1).
 pub fn tell_refusal(records: &Records, why: Why, out: &mut Out) -> Outcome
     requires { READY_ROOM ≤ out.old.room }
-    ensures answer { Steps result out.old.bytes out.new.bytes records.now records.now (refused_by records.now why) }
-    ensures unchanged { (old : TableState) → records.now ≡ old → (refusal : Option WhyValue) → (reply : Answer) → (after : State Keys Cells) → why ≡ unwrap_or refusal whys.Memory → Steps result out.old.bytes out.new.bytes old records.now (changed old refusal reply after) }
-    ensures memory { (old : TableState) → records.now ≡ old → why ≡ whys.Memory → (step : Step) → Steps result out.old.bytes out.new.bytes old records.now step }
+    ensures answer { Steps result out.old.bytes out.new.bytes records.now records.now
+        (refused_by records.now why) }
+    ensures unchanged { (old : TableState) → records.now ≡ old → (refusal : Option WhyValue) →
+        (reply : Answer) → (after : State Keys Cells) → why ≡ unwrap_or refusal whys.Memory →
+        Steps result out.old.bytes out.new.bytes old records.now (changed old refusal reply after) }
+    ensures memory { (old : TableState) → records.now ≡ old → why ≡ whys.Memory → (step : Step) →
+        Steps result out.old.bytes out.new.bytes old records.now step }
     ensures short { IsShort result out.old.bytes out.new.bytes }
     ensures kept { Keeps out.old out.new }
 {
