@@ -1,5 +1,5 @@
-pub mod Searches
 pub mod Reads
+pub mod Searches
 pub mod Positions
 pub mod Ranges
 pub mod Shown

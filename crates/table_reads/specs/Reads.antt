@@ -6,16 +6,12 @@ use Rattle.container_model.specs.declared.refusal.Why.{Why}
 use Rattle.container_model.specs.State.{row_of, list_at}
 use Rattle.table_reply.specs.Answer.{found, counted, listed, shown, Listed, named}
 use Rattle.table_cmd.specs.declared.command.HandleText.{HandleText}
-use Rattle.table_cmd.specs.declared.command.Value.{Value}
 use Rattle.table_reply.specs.declared.fault.Fault.TheVariants as faults
 use Rattle.table_terms.specs.declared.kinds.Kinds.TheVariants as kinds
-use Rattle.table_reads.specs.declared.search.Number.{Number}
-use Rattle.table_reads.specs.declared.search.Search.{Search}
 use Rattle.table_records.specs.Headings.{headings_of}
-use Rattle.table_reads.specs.Searches.{number_by, number_kinds, search_kinds, searched}
 use Rattle.table_terms.specs.Step.{Step, refused, refused_by, then_step, told}
 use Rattle.table_terms.specs.Table.{Cells, TableState}
-use Rattle.table_terms.specs.Words.{at_key, handle_for, place_for}
+use Rattle.table_terms.specs.Words.{handle_for, place_for}
 
 -- the record that the container answers, or why it refuses
 abbrev pub found_by : TableState → Result (Option Handle) Why → Step
@@ -26,20 +22,6 @@ found_by t (Err why) = refused_by t why
 abbrev pub counted_by : TableState → Result ℕ Why → Step
 counted_by t (Ok n) = told t (counted t.records.writes n)
 counted_by t (Err why) = refused_by t why
-
--- the record that a search finds by a search key
-unfoldable pub find_probe : TableState → Search → ℕ → Cells → Step
-find_probe t search place probe = found_by t (searched search t.records place probe)
-
-abbrev pub find_step : TableState → Search → List ℕ → List Value → Step
-find_step t search name values = at_key t (search_kinds search) name values (find_probe t search)
-
--- and the number
-unfoldable pub count_probe : TableState → Number → ℕ → Cells → Step
-count_probe t number place probe = counted_by t (number_by number t.records place probe)
-
-abbrev pub count_step : TableState → Number → List ℕ → List Value → Step
-count_step t number name values = at_key t (number_kinds number) name values (count_probe t number)
 
 -- the number of all records
 abbrev pub size_step : TableState → Step

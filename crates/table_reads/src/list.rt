@@ -19,7 +19,8 @@ use table_terms::{Kinds, Outcome, place_for, refuse, refuse_memory, tell_read};
 /// Tells the records of the named index, in its order.
 pub(crate) fn list(alloc: Global, records: &Records, name: &Text, out: &mut Out) -> Outcome
     requires { READY_ROOM ≤ out.old.room }
-    ensures answer { Steps result out.old.bytes out.new.bytes records.now records.now (list_step records.now name.now) }
+    ensures answer { Steps result out.old.bytes out.new.bytes records.now records.now
+        (list_step records.now name.now) }
     ensures short { IsShort result out.old.bytes out.new.bytes }
     ensures kept { Keeps out.old out.new }
 {
@@ -32,7 +33,8 @@ pub(crate) fn list(alloc: Global, records: &Records, name: &Text, out: &mut Out)
 fn list_in(alloc: Global, records: &Records, place: usize, out: &mut Out) -> Outcome
     requires room { READY_ROOM ≤ out.old.room }
     requires within { place < length records.now.shape.indices }
-    ensures answer { Steps result out.old.bytes out.new.bytes records.now records.now (list_in records.now place) }
+    ensures answer { Steps result out.old.bytes out.new.bytes records.now records.now
+        (list_in records.now place) }
     ensures short { IsShort result out.old.bytes out.new.bytes }
     ensures kept { Keeps out.old out.new }
 {
@@ -56,7 +58,8 @@ pub(crate) fn show_handles(
     requires room { READY_ROOM ≤ out.old.room }
     requires number { at ≡ records.now.records.writes }
     requires live { AllByRecursion (λ h. is_live records.now.records h ≡ true) handles.now }
-    ensures answer { Steps result out.old.bytes out.new.bytes records.now records.now (show_handles records.now handles.now) }
+    ensures answer { Steps result out.old.bytes out.new.bytes records.now records.now
+        (show_handles records.now handles.now) }
     ensures short { IsShort result out.old.bytes out.new.bytes }
     ensures kept { Keeps out.old out.new }
 {
@@ -78,7 +81,8 @@ fn shown<'a>(
     handles: &[Handle],
 ) -> Result<Vec<Record<'a>>, AllocError>
     requires { AllByRecursion (λ h. is_live container.now h ≡ true) handles.now }
-    ensures { IfOk result (λ shown. shown_entries shown.items ≡ entries_of container.now.entries handles.now) }
+    ensures { IfOk result (λ shown. shown_entries shown.items ≡
+        entries_of container.now.entries handles.now) }
 {
     let mut shown = Vec::with_capacity(alloc, handles.len())?;
     for handle in handles {

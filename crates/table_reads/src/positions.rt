@@ -26,7 +26,8 @@ enum Walk {
 /// Tells a place or a neighbour. A command that asks for neither is refused as `command`.
 pub(crate) fn read_position(records: &Records, command: &Command, out: &mut Out) -> Outcome
     requires { READY_ROOM ≤ out.old.room }
-    ensures answer { Steps result out.old.bytes out.new.bytes records.now records.now (position_step records.now command.now) }
+    ensures answer { Steps result out.old.bytes out.new.bytes records.now records.now
+        (position_step records.now command.now) }
     ensures short { IsShort result out.old.bytes out.new.bytes }
     ensures kept { Keeps out.old out.new }
 {
@@ -55,7 +56,8 @@ pub(crate) fn read_position(records: &Records, command: &Command, out: &mut Out)
 // Tells the record at a place of the named index.
 fn nth(records: &Records, name: &Text, n: u64, out: &mut Out) -> Outcome
     requires { READY_ROOM ≤ out.old.room }
-    ensures answer { Steps result out.old.bytes out.new.bytes records.now records.now (nth_step records.now name.now n) }
+    ensures answer { Steps result out.old.bytes out.new.bytes records.now records.now
+        (nth_step records.now name.now n) }
     ensures short { IsShort result out.old.bytes out.new.bytes }
     ensures kept { Keeps out.old out.new }
 {
@@ -68,7 +70,8 @@ fn nth(records: &Records, name: &Text, n: u64, out: &mut Out) -> Outcome
 // Tells the rank of a position in the named index.
 fn rank(records: &Records, name: &Text, text: Option<HandleText>, out: &mut Out) -> Outcome
     requires { READY_ROOM ≤ out.old.room }
-    ensures answer { Steps result out.old.bytes out.new.bytes records.now records.now (rank_step records.now name.now text) }
+    ensures answer { Steps result out.old.bytes out.new.bytes records.now records.now
+        (rank_step records.now name.now text) }
     ensures short { IsShort result out.old.bytes out.new.bytes }
     ensures kept { Keeps out.old out.new }
 {
@@ -84,7 +87,8 @@ fn rank(records: &Records, name: &Text, text: Option<HandleText>, out: &mut Out)
 // Tells the place of a record in the named index.
 fn place_of(records: &Records, name: &Text, text: HandleText, out: &mut Out) -> Outcome
     requires { READY_ROOM ≤ out.old.room }
-    ensures answer { Steps result out.old.bytes out.new.bytes records.now records.now (place_step records.now name.now text) }
+    ensures answer { Steps result out.old.bytes out.new.bytes records.now records.now
+        (place_step records.now name.now text) }
     ensures short { IsShort result out.old.bytes out.new.bytes }
     ensures kept { Keeps out.old out.new }
 {
@@ -106,7 +110,8 @@ fn neighbour(
     out: &mut Out,
 ) -> Outcome
     requires { READY_ROOM ≤ out.old.room }
-    ensures answer { Steps result out.old.bytes out.new.bytes records.now records.now (walk_step records.now walk name.now text) }
+    ensures answer { Steps result out.old.bytes out.new.bytes records.now records.now
+        (walk_step records.now walk name.now text) }
     ensures short { IsShort result out.old.bytes out.new.bytes }
     ensures kept { Keeps out.old out.new }
 {

@@ -24,7 +24,8 @@ pub(crate) fn range(
     out: &mut Out,
 ) -> Outcome
     requires { READY_ROOM ≤ out.old.room }
-    ensures answer { Steps result out.old.bytes out.new.bytes records.now records.now (range_step records.now name.now low.now high.now) }
+    ensures answer { Steps result out.old.bytes out.new.bytes records.now records.now
+        (range_step records.now name.now low.now high.now) }
     ensures short { IsShort result out.old.bytes out.new.bytes }
     ensures kept { Keeps out.old out.new }
 {
@@ -52,7 +53,8 @@ fn range_in(
     requires within { place < length records.now.shape.indices }
     requires low { IsBoundAt records.now.shape place low.now }
     requires high { IsBoundAt records.now.shape place high.now }
-    ensures answer { Steps result out.old.bytes out.new.bytes records.now records.now (range_in records.now place low.now high.now) }
+    ensures answer { Steps result out.old.bytes out.new.bytes records.now records.now
+        (range_in records.now place low.now high.now) }
     ensures short { IsShort result out.old.bytes out.new.bytes }
     ensures kept { Keeps out.old out.new }
 {

@@ -14,7 +14,8 @@ use table_terms::{Outcome, handle_for, refuse, tell_read};
 /// Tells the record of the handle that a text spells.
 pub(crate) fn get(records: &Records, text: HandleText, out: &mut Out) -> Outcome
     requires { READY_ROOM ≤ out.old.room }
-    ensures answer { Steps result out.old.bytes out.new.bytes records.now records.now (get_step records.now text) }
+    ensures answer { Steps result out.old.bytes out.new.bytes records.now records.now
+        (get_step records.now text) }
     ensures short { IsShort result out.old.bytes out.new.bytes }
     ensures kept { Keeps out.old out.new }
 {
@@ -27,7 +28,8 @@ pub(crate) fn get(records: &Records, text: HandleText, out: &mut Out) -> Outcome
 #[tactic(auto, unfolding(crate::specs::Reads::get_record))]
 fn get_record(records: &Records, handle: Handle, out: &mut Out) -> Outcome
     requires { READY_ROOM ≤ out.old.room }
-    ensures answer { Steps result out.old.bytes out.new.bytes records.now records.now (get_record records.now handle) }
+    ensures answer { Steps result out.old.bytes out.new.bytes records.now records.now
+        (get_record records.now handle) }
     ensures short { IsShort result out.old.bytes out.new.bytes }
     ensures kept { Keeps out.old out.new }
 {

@@ -8,7 +8,7 @@ ghost use Rattle.table_terms.specs.Step.{IsShort, Steps};
 use crate::list::list;
 use crate::positions::read_position;
 use crate::range::range;
-use crate::search::{Number, Search, count, find, size};
+use crate::search::{Search, find_by, size};
 use crate::show::get;
 use std::alloc::Global;
 use table_cmd::Command;
@@ -22,25 +22,32 @@ use table_terms::Outcome;
 /// A record is shown in O(columns) and a listing in O(records · columns), besides what the container's own call costs.
 pub fn read(alloc: Global, records: &Records, command: &Command, out: &mut Out) -> Outcome
     requires { READY_ROOM ≤ out.old.room }
-    ensures answer { Steps result out.old.bytes out.new.bytes records.now records.now (read_step records.now command.now) }
+    ensures answer { Steps result out.old.bytes out.new.bytes records.now records.now
+        (read_step records.now command.now) }
     ensures short { IsShort result out.old.bytes out.new.bytes }
     ensures kept { Keeps out.old out.new }
 {
     match command {
         Command::Get { handle, .. } => get(records, *handle, out),
         Command::Size { .. } => size(records, out),
-        Command::Find { index, key, .. } => find(alloc, records, Search::Find, index, key, out),
-        Command::Count { index, key, .. } => count(alloc, records, Number::Count, index, key, out),
-        Command::Lower { index, key, .. } => find(alloc, records, Search::Lower, index, key, out),
-        Command::Upper { index, key, .. } => find(alloc, records, Search::Upper, index, key, out),
+        Command::Find { index, key, .. } => find_by(alloc, records, Search::Find, index, key, out),
+        Command::Count { index, key, .. } => {
+            find_by(alloc, records, Search::Count, index, key, out)
+        }
+        Command::Lower { index, key, .. } => {
+            find_by(alloc, records, Search::Lower, index, key, out)
+        }
+        Command::Upper { index, key, .. } => {
+            find_by(alloc, records, Search::Upper, index, key, out)
+        }
         Command::FindRank { index, key, .. } => {
-            count(alloc, records, Number::FindRank, index, key, out)
+            find_by(alloc, records, Search::FindRank, index, key, out)
         }
         Command::LowerRank { index, key, .. } => {
-            count(alloc, records, Number::LowerRank, index, key, out)
+            find_by(alloc, records, Search::LowerRank, index, key, out)
         }
         Command::UpperRank { index, key, .. } => {
-            count(alloc, records, Number::UpperRank, index, key, out)
+            find_by(alloc, records, Search::UpperRank, index, key, out)
         }
         Command::Range {
             index,

@@ -17,7 +17,8 @@ pub(crate) fn tell_found(
     out: &mut Out,
 ) -> Outcome
     requires { READY_ROOM ≤ out.old.room }
-    ensures answer { Steps result out.old.bytes out.new.bytes records.now records.now (found_by records.now found) }
+    ensures answer { Steps result out.old.bytes out.new.bytes records.now records.now
+        (found_by records.now found) }
     ensures short { IsShort result out.old.bytes out.new.bytes }
     ensures kept { Keeps out.old out.new }
 {
@@ -31,7 +32,8 @@ pub(crate) fn tell_found(
 // Tells the number that the container answered, or why it refused.
 pub(crate) fn tell_number(records: &Records, number: Result<u64, Why>, out: &mut Out) -> Outcome
     requires { READY_ROOM ≤ out.old.room }
-    ensures answer { Steps result out.old.bytes out.new.bytes records.now records.now (counted_by records.now number) }
+    ensures answer { Steps result out.old.bytes out.new.bytes records.now records.now
+        (counted_by records.now number) }
     ensures short { IsShort result out.old.bytes out.new.bytes }
     ensures kept { Keeps out.old out.new }
 {
