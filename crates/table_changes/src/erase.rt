@@ -26,7 +26,8 @@ pub(crate) fn erase(
     out: &mut Out,
 ) -> Outcome
     requires { READY_ROOM ≤ out.old.room }
-    ensures answer { Steps result out.old.bytes out.new.bytes records.old records.new (erase_step records.old text (option_copied name.entry)) }
+    ensures answer { Steps result out.old.bytes out.new.bytes records.old records.new
+        (erase_step records.old text (option_copied name.entry)) }
     ensures short { IsShort result out.old.bytes out.new.bytes }
     ensures kept { Keeps out.old out.new }
 {
@@ -47,7 +48,8 @@ fn erase_text(
 ) -> Outcome
     requires room { READY_ROOM ≤ out.old.room }
     requires within { IfSome index (λ place. place < length records.old.shape.indices) }
-    ensures answer { Steps result out.old.bytes out.new.bytes records.old records.new (erase_text records.old text index) }
+    ensures answer { Steps result out.old.bytes out.new.bytes records.old records.new
+        (erase_text records.old text index) }
     ensures short { IsShort result out.old.bytes out.new.bytes }
     ensures kept { Keeps out.old out.new }
 {
@@ -66,7 +68,8 @@ fn erase_record(
 ) -> Outcome
     requires room { READY_ROOM ≤ out.old.room }
     requires within { IfSome index (λ place. place < length records.old.shape.indices) }
-    ensures answer { Steps result out.old.bytes out.new.bytes records.old records.new (erase_record records.old index handle) }
+    ensures answer { Steps result out.old.bytes out.new.bytes records.old records.new
+        (erase_record records.old index handle) }
     ensures short { IsShort result out.old.bytes out.new.bytes }
     ensures kept { Keeps out.old out.new }
 {
@@ -88,7 +91,8 @@ pub(crate) fn erase_key(
     out: &mut Out,
 ) -> Outcome
     requires { READY_ROOM ≤ out.old.room }
-    ensures answer { Steps result out.old.bytes out.new.bytes records.old records.new (erase_key_step records.old name.now key.now) }
+    ensures answer { Steps result out.old.bytes out.new.bytes records.old records.new
+        (erase_key_step records.old name.now key.now) }
     ensures short { IsShort result out.old.bytes out.new.bytes }
     ensures kept { Keeps out.old out.new }
 {
@@ -110,7 +114,8 @@ pub(crate) fn erase_key(
 fn erase_probe(records: &mut Records, place: usize, probe: &Probe, out: &mut Out) -> Outcome
     requires room { READY_ROOM ≤ out.old.room }
     requires key { IsKeyAt records.old.shape place probe.now }
-    ensures answer { Steps result out.old.bytes out.new.bytes records.old records.new (erase_probe records.old place probe.now) }
+    ensures answer { Steps result out.old.bytes out.new.bytes records.old records.new
+        (erase_probe records.old place probe.now) }
     ensures short { IsShort result out.old.bytes out.new.bytes }
     ensures kept { Keeps out.old out.new }
 {
@@ -124,7 +129,8 @@ fn erase_probe(records: &mut Records, place: usize, probe: &Probe, out: &mut Out
 #[tactic(auto, unfolding(crate::specs::Changes::clear_step))]
 pub(crate) fn clear(records: &mut Records, out: &mut Out) -> Outcome
     requires { READY_ROOM ≤ out.old.room }
-    ensures answer { Steps result out.old.bytes out.new.bytes records.old records.new (clear_step records.old) }
+    ensures answer { Steps result out.old.bytes out.new.bytes records.old records.new
+        (clear_step records.old) }
     ensures short { IsShort result out.old.bytes out.new.bytes }
     ensures kept { Keeps out.old out.new }
 {

@@ -22,7 +22,8 @@ pub(crate) fn insert(
     out: &mut Out,
 ) -> Outcome
     requires { READY_ROOM ≤ out.old.room }
-    ensures answer { Steps result out.old.bytes out.new.bytes records.old records.new (insert_step records.old fields.now (option_copied position.entry)) }
+    ensures answer { Steps result out.old.bytes out.new.bytes records.old records.new
+        (insert_step records.old fields.now (option_copied position.entry)) }
     ensures short { IsShort result out.old.bytes out.new.bytes }
     ensures kept { Keeps out.old out.new }
 {
@@ -51,7 +52,8 @@ fn insert_fields(
 ) -> Outcome
     requires room { READY_ROOM ≤ out.old.room }
     requires within { IfSome at (λ at. at.0 < length records.old.shape.indices) }
-    ensures answer { Steps result out.old.bytes out.new.bytes records.old records.new (insert_fields records.old at fields.now) }
+    ensures answer { Steps result out.old.bytes out.new.bytes records.old records.new
+        (insert_fields records.old at fields.now) }
     ensures short { IsShort result out.old.bytes out.new.bytes }
     ensures kept { Keeps out.old out.new }
 {
@@ -66,7 +68,8 @@ fn insert_fields(
 fn insert_row(records: &mut Records, at: Option<(usize, u64)>, row: Row, out: &mut Out) -> Outcome
     requires room { READY_ROOM ≤ out.old.room }
     requires within { IfSome at (λ at. at.0 < length records.old.shape.indices) }
-    ensures answer { Steps result out.old.bytes out.new.bytes records.old records.new (insert_row records.old at row) }
+    ensures answer { Steps result out.old.bytes out.new.bytes records.old records.new
+        (insert_row records.old at row) }
     ensures short { IsShort result out.old.bytes out.new.bytes }
     ensures kept { Keeps out.old out.new }
 {

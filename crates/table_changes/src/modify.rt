@@ -28,7 +28,8 @@ pub(crate) fn modify(
     out: &mut Out,
 ) -> Outcome
     requires { READY_ROOM ≤ out.old.room }
-    ensures answer { Steps result out.old.bytes out.new.bytes records.old records.new (modify_step records.old text (set_in changes.now) (added_in changes.now) rollback) }
+    ensures answer { Steps result out.old.bytes out.new.bytes records.old records.new
+        (modify_step records.old text (set_in changes.now) (added_in changes.now) rollback) }
     ensures short { IsShort result out.old.bytes out.new.bytes }
     ensures kept { Keeps out.old out.new }
 {
@@ -51,7 +52,8 @@ fn edit_record(
     out: &mut Out,
 ) -> Outcome
     requires { READY_ROOM ≤ out.old.room }
-    ensures answer { Steps result out.old.bytes out.new.bytes records.old records.new (edit_record records.old (set_in changes.now) (added_in changes.now) rollback handle) }
+    ensures answer { Steps result out.old.bytes out.new.bytes records.old records.new
+        (edit_record records.old (set_in changes.now) (added_in changes.now) rollback handle) }
     ensures short { IsShort result out.old.bytes out.new.bytes }
     ensures kept { Keeps out.old out.new }
 {
@@ -77,7 +79,8 @@ pub(crate) fn modify_key(
     out: &mut Out,
 ) -> Outcome
     requires { READY_ROOM ≤ out.old.room }
-    ensures answer { Steps result out.old.bytes out.new.bytes records.old records.new (modify_key_step records.old name.now text key.now rollback) }
+    ensures answer { Steps result out.old.bytes out.new.bytes records.old records.new
+        (modify_key_step records.old name.now text key.now rollback) }
     ensures short { IsShort result out.old.bytes out.new.bytes }
     ensures kept { Keeps out.old out.new }
 {
@@ -104,7 +107,8 @@ fn put_key(
 ) -> Outcome
     requires room { READY_ROOM ≤ out.old.room }
     requires within { place < length records.old.shape.indices }
-    ensures answer { Steps result out.old.bytes out.new.bytes records.old records.new (put_key records.old place key.now rollback handle) }
+    ensures answer { Steps result out.old.bytes out.new.bytes records.old records.new
+        (put_key records.old place key.now rollback handle) }
     ensures short { IsShort result out.old.bytes out.new.bytes }
     ensures kept { Keeps out.old out.new }
 {
@@ -126,7 +130,8 @@ fn change_row(
     out: &mut Out,
 ) -> Outcome
     requires { READY_ROOM ≤ out.old.room }
-    ensures answer { Steps result out.old.bytes out.new.bytes records.old records.new (change_row records.old rollback handle row) }
+    ensures answer { Steps result out.old.bytes out.new.bytes records.old records.new
+        (change_row records.old rollback handle row) }
     ensures short { IsShort result out.old.bytes out.new.bytes }
     ensures kept { Keeps out.old out.new }
 {
@@ -140,7 +145,8 @@ fn change_row(
 #[tactic(auto, unfolding(crate::specs::Modify::modify_row))]
 fn modify_row(records: &mut Records, handle: Handle, row: Row, out: &mut Out) -> Outcome
     requires { READY_ROOM ≤ out.old.room }
-    ensures answer { Steps result out.old.bytes out.new.bytes records.old records.new (modify_row records.old handle row) }
+    ensures answer { Steps result out.old.bytes out.new.bytes records.old records.new
+        (modify_row records.old handle row) }
     ensures short { IsShort result out.old.bytes out.new.bytes }
     ensures kept { Keeps out.old out.new }
 {

@@ -25,7 +25,8 @@ pub(crate) fn move_before(
     out: &mut Out,
 ) -> Outcome
     requires { READY_ROOM ≤ out.old.room }
-    ensures answer { Steps result out.old.bytes out.new.bytes records.old records.new (move_step records.old name.now text place) }
+    ensures answer { Steps result out.old.bytes out.new.bytes records.old records.new
+        (move_step records.old name.now text place) }
     ensures short { IsShort result out.old.bytes out.new.bytes }
     ensures kept { Keeps out.old out.new }
 {
@@ -50,7 +51,8 @@ fn move_record(
 ) -> Outcome
     requires room { READY_ROOM ≤ out.old.room }
     requires within { index < length records.old.shape.indices }
-    ensures answer { Steps result out.old.bytes out.new.bytes records.old records.new (move_record records.old index place handle) }
+    ensures answer { Steps result out.old.bytes out.new.bytes records.old records.new
+        (move_record records.old index place handle) }
     ensures short { IsShort result out.old.bytes out.new.bytes }
     ensures kept { Keeps out.old out.new }
 {
@@ -69,7 +71,8 @@ pub(crate) fn rearrange(
     out: &mut Out,
 ) -> Outcome
     requires { READY_ROOM ≤ out.old.room }
-    ensures answer { Steps result out.old.bytes out.new.bytes records.old records.new (rearrange_step records.old name.now texts.now) }
+    ensures answer { Steps result out.old.bytes out.new.bytes records.old records.new
+        (rearrange_step records.old name.now texts.now) }
     ensures short { IsShort result out.old.bytes out.new.bytes }
     ensures kept { Keeps out.old out.new }
 {
@@ -88,7 +91,8 @@ pub(crate) fn rearrange(
 fn rearrange_in(records: &mut Records, index: usize, handles: &[Handle], out: &mut Out) -> Outcome
     requires room { READY_ROOM ≤ out.old.room }
     requires within { index < length records.old.shape.indices }
-    ensures answer { Steps result out.old.bytes out.new.bytes records.old records.new (rearrange_in records.old index handles.now) }
+    ensures answer { Steps result out.old.bytes out.new.bytes records.old records.new
+        (rearrange_in records.old index handles.now) }
     ensures short { IsShort result out.old.bytes out.new.bytes }
     ensures kept { Keeps out.old out.new }
 {
@@ -101,7 +105,8 @@ fn rearrange_in(records: &mut Records, index: usize, handles: &[Handle], out: &m
 /// Puts the records of the named sequence into the order of the key whose parts the names are.
 pub(crate) fn sort(records: &mut Records, name: &Text, names: &Names, out: &mut Out) -> Outcome
     requires { READY_ROOM ≤ out.old.room }
-    ensures answer { Steps result out.old.bytes out.new.bytes records.old records.new (sort_step records.old name.now names.now) }
+    ensures answer { Steps result out.old.bytes out.new.bytes records.old records.new
+        (sort_step records.old name.now names.now) }
     ensures short { IsShort result out.old.bytes out.new.bytes }
     ensures kept { Keeps out.old out.new }
 {
@@ -114,7 +119,8 @@ pub(crate) fn sort(records: &mut Records, name: &Text, names: &Names, out: &mut 
 fn sort_named(records: &mut Records, index: usize, names: &[Text], out: &mut Out) -> Outcome
     requires room { READY_ROOM ≤ out.old.room }
     requires within { index < length records.old.shape.indices }
-    ensures answer { Steps result out.old.bytes out.new.bytes records.old records.new (sort_named records.old index names.now) }
+    ensures answer { Steps result out.old.bytes out.new.bytes records.old records.new
+        (sort_named records.old index names.now) }
     ensures short { IsShort result out.old.bytes out.new.bytes }
     ensures kept { Keeps out.old out.new }
 {
@@ -139,7 +145,8 @@ fn key_named(columns: &[Column], names: &[Text]) -> Option<KeySpec>
 fn sort_in(records: &mut Records, index: usize, order: &RowSort, out: &mut Out) -> Outcome
     requires room { READY_ROOM ≤ out.old.room }
     requires within { index < length records.old.shape.indices }
-    ensures answer { Steps result out.old.bytes out.new.bytes records.old records.new (sort_in records.old index order.now) }
+    ensures answer { Steps result out.old.bytes out.new.bytes records.old records.new
+        (sort_in records.old index order.now) }
     ensures short { IsShort result out.old.bytes out.new.bytes }
     ensures kept { Keeps out.old out.new }
 {
@@ -152,7 +159,8 @@ fn sort_in(records: &mut Records, index: usize, order: &RowSort, out: &mut Out) 
 /// Turns the order of the named sequence round.
 pub(crate) fn reverse(records: &mut Records, name: &Text, out: &mut Out) -> Outcome
     requires { READY_ROOM ≤ out.old.room }
-    ensures answer { Steps result out.old.bytes out.new.bytes records.old records.new (reverse_step records.old name.now) }
+    ensures answer { Steps result out.old.bytes out.new.bytes records.old records.new
+        (reverse_step records.old name.now) }
     ensures short { IsShort result out.old.bytes out.new.bytes }
     ensures kept { Keeps out.old out.new }
 {
@@ -166,7 +174,8 @@ pub(crate) fn reverse(records: &mut Records, name: &Text, out: &mut Out) -> Outc
 fn reverse_in(records: &mut Records, index: usize, out: &mut Out) -> Outcome
     requires room { READY_ROOM ≤ out.old.room }
     requires within { index < length records.old.shape.indices }
-    ensures answer { Steps result out.old.bytes out.new.bytes records.old records.new (reverse_in records.old index) }
+    ensures answer { Steps result out.old.bytes out.new.bytes records.old records.new
+        (reverse_in records.old index) }
     ensures short { IsShort result out.old.bytes out.new.bytes }
     ensures kept { Keeps out.old out.new }
 {

@@ -22,7 +22,8 @@ pub(crate) fn replace(
     out: &mut Out,
 ) -> Outcome
     requires { READY_ROOM ≤ out.old.room }
-    ensures answer { Steps result out.old.bytes out.new.bytes records.old records.new (replace_step records.old text fields.now) }
+    ensures answer { Steps result out.old.bytes out.new.bytes records.old records.new
+        (replace_step records.old text fields.now) }
     ensures short { IsShort result out.old.bytes out.new.bytes }
     ensures kept { Keeps out.old out.new }
 {
@@ -40,7 +41,8 @@ pub(crate) fn replace(
 #[tactic(auto, unfolding(crate::specs::Changes::replace_row))]
 pub(crate) fn replace_row(records: &mut Records, handle: Handle, row: Row, out: &mut Out) -> Outcome
     requires { READY_ROOM ≤ out.old.room }
-    ensures answer { Steps result out.old.bytes out.new.bytes records.old records.new (replace_row records.old handle row) }
+    ensures answer { Steps result out.old.bytes out.new.bytes records.old records.new
+        (replace_row records.old handle row) }
     ensures short { IsShort result out.old.bytes out.new.bytes }
     ensures kept { Keeps out.old out.new }
 {

@@ -43,7 +43,8 @@ pub fn is_change(command: &Command) -> bool
 /// An insertion, a replacement and a modification read their row in O(columns · fields), besides what the container's own call costs.
 pub fn change(alloc: Global, records: &mut Records, command: &Command, out: &mut Out) -> Outcome
     requires { READY_ROOM ≤ out.old.room }
-    ensures answer { Steps result out.old.bytes out.new.bytes records.old records.new (change_step records.old command.now) }
+    ensures answer { Steps result out.old.bytes out.new.bytes records.old records.new
+        (change_step records.old command.now) }
     ensures short { IsShort result out.old.bytes out.new.bytes }
     ensures kept { Keeps out.old out.new }
 {

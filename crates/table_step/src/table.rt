@@ -54,7 +54,8 @@ impl Table {
     #[tactic(auto, unfolding(crate::specs::Step::step_of))]
     pub fn step(&mut self, command: &Command, out: &mut Out) -> Outcome
         requires { READY_ROOM ≤ out.old.room }
-        ensures answer { Steps result out.old.bytes out.new.bytes self.old self.new (step_of self.old command.now) }
+        ensures answer { Steps result out.old.bytes out.new.bytes self.old self.new
+            (step_of self.old command.now) }
         ensures short { IsShort result out.old.bytes out.new.bytes }
         ensures kept { Keeps out.old out.new }
         ensures shape { self.new.shape ≡ self.old.shape }
