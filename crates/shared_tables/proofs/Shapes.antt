@@ -16,7 +16,8 @@ use Rattle.table_cmd.specs.declared.command.KeyBound.{KeyBound}
 use Rattle.table_reads.specs.Positions.{position_step}
 use Rattle.table_reads.specs.Ranges.{edge_at, range_in, range_step, shown_by}
 use Rattle.table_reads.specs.Read.{read_step}
-use Rattle.table_reads.specs.Reads.{count_probe, counted_by, find_probe, found_by, get_record, get_step, list_step, listed_row, show_handles}
+use Rattle.table_reads.specs.Reads.{counted_by, found_by, get_record, get_step, list_step, listed_row, show_handles}
+use Rattle.table_reads.specs.Searches.{search_probe}
 use Rattle.table_reply.specs.Answer.{Answer, shown}
 use Rattle.table_reply.specs.declared.fault.Fault.{Fault}
 use Rattle.table_reply.specs.declared.fault.Fault.TheVariants as faults
@@ -82,7 +83,7 @@ module _ (t : TableState) where
   position_same other = record { same = refl }
 
   read_same : (command : Command) → Leaves t (read_step t command)
-  unfolding find_probe count_probe
+  unfolding search_probe
   read_same (commands.Get table handle) = get_same handle
   read_same (commands.Size table) = record { same = refl }
   read_same (commands.Find table index key) = after_same (key_for t.shape kinds.Keyed index key) _ (λ at. found_same (found probe_order t.records at.0 at.1))
