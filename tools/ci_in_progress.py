@@ -1,4 +1,5 @@
 """A run of `rt ci` in progress, as the lines that it prints tell it."""
+import json
 import os
 import re
 
@@ -6,6 +7,16 @@ from crate_builds import rtlib
 
 # What one check of edits may take beside the run, in bytes.
 ROOM = 3_000_000_000
+
+
+def functions_in(library):
+    """The names of a built library's functions, and of the declarations of its traits."""
+    try:
+        with open(f"{library.rlib}/toolchain/mir.json", encoding="utf-8") as it:
+            return [name for name, *_ in json.load(it)]
+    except (OSError, ValueError):
+        # (a check of the whole crate tells them)
+        return []
 
 
 class CiInProgress:
@@ -28,13 +39,15 @@ class CiInProgress:
         return not re.search(r"(?m)^\d+ passed, \d+ failed$", self.lines())
 
     def has_proved(self, crate):
-        """Whether the crate and all below it are proved, so that their libraries are there."""
-        proved = {*re.findall(r"(?m)^rt: (\S+) proved$", self.lines())}
+        """Whether the crate and all below it are proved, by this run or by an earlier one whose work it took, so that their libraries are there."""
+        proved = {*re.findall(r"(?m)^rt: (\S+) (?:proved$|is kept: )", self.lines())}
         return all(it.name in proved for it in [crate, *crate.below()])
 
     def functions(self, crate):
-        """The names of the crate's functions, each of which it has proved."""
-        return re.findall(rf"(?m)^fn ({crate.name}::\S+): proved", self.lines())
+        """The names of the crate's functions, each of which is proved: as the run told them, or, where an earlier run proved the crate, as
+        its library has them. None of a program that an earlier run proved."""
+        told = re.findall(rf"(?m)^fn ({crate.name}::\S+): proved", self.lines())
+        return told or (functions_in(crate) if crate.makes_rlib() else [])
 
     def lanes(self, most):
         """How many checks may run beside it: while it runs, one for each core but one, where the memory is there."""
