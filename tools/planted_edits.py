@@ -55,12 +55,36 @@ PLANTS = [
 ]
 
 
+# A repository with one edit, and the changes after each of which a kept verdict of the edit counts for nothing.
+KEPT = {
+    "crates.txt": "below:\nplanted: below\n",
+    "HANDLES": "Handles allowed: none.\n",
+    "crates/below/src/lib.rt": "//! Nothing.\n",
+    "crates/planted/src/lib.rt": SOURCE,
+    "crates/planted/specs/Words.antt": "mod sums\n",
+    "crates/planted/proofs/sum/Answers.antt": "-- nothing\n",
+    "crates/planted/edits/wrong.edit": "file: src/lib.rt\nold: u64 = 7\nnew: u64 = 8\n",
+}
+CHANGES = [
+    ("crates.txt", "below:\nplanted: below arrayvec\n"),
+    ("crates/below/src/lib.rt", "//! Nothing more.\n"),
+    ("crates/below/specs/More.antt", "mod more\n"),
+    ("crates/planted/src/lib.rt", SOURCE.replace("once + once", "once + sum(a, b)")),
+    ("crates/planted/specs/Words.antt", "mod words\n"),
+    ("crates/planted/proofs/sum/Answers.antt", "-- something\n"),
+    ("crates/planted/edits/wrong.edit", "file: src/lib.rt\nold: u64 = 7\nnew: u64 = 9\n"),
+]
+
+
+def plant_files(top, write, files):
+    """Makes a repository of these files."""
+    for file, text in files.items():
+        os.makedirs(os.path.dirname(f"{top}/{file}"), exist_ok=True)
+        write(f"{top}/{file}", text)
+
+
 def plant(top, write):
     """Makes a repository of one crate with the planted edits."""
-    os.makedirs(f"{top}/crates/planted/src")
-    os.makedirs(f"{top}/crates/planted/edits")
-    write(f"{top}/crates.txt", "planted:\n")
-    write(f"{top}/HANDLES", "Handles allowed: none.\n")
-    write(f"{top}/crates/planted/src/lib.rt", SOURCE)
-    for name, old, new, *_ in PLANTS:
-        write(f"{top}/crates/planted/edits/{name}.edit", f"file: src/lib.rt\nold: {old}\nnew: {new}\n")
+    edits = {name: f"file: src/lib.rt\nold: {old}\nnew: {new}\n" for name, old, new, *_ in PLANTS}
+    files = {f"crates/planted/edits/{name}.edit": text for name, text in edits.items()}
+    plant_files(top, write, {"crates.txt": "planted:\n", "HANDLES": "Handles allowed: none.\n", "crates/planted/src/lib.rt": SOURCE, **files})
