@@ -68,9 +68,15 @@ def is_of_ci(crates):
         made, stamp = (it.rlib, f"{it.folder}/out/rlib/stamp") if it.makes_rlib() else (program_of(it), f"{program_of(it)}.stamp")
         if os.path.exists(stamp) or not os.path.exists(made):
             return False
-        if any(os.path.getmtime(file) > os.path.getmtime(made) for file in rtlib.files_of(it.folder)):
+        if any(changed_at(file) > os.path.getmtime(made) for file in rtlib.files_of(it.folder)):
             return False
     return True
+
+
+def changed_at(file):
+    """When the file was last written, or put where it is."""
+    found = os.stat(file)
+    return max(found.st_mtime, found.st_ctime)
 
 
 def build(crate, jobs):

@@ -1,5 +1,4 @@
-//! Tests of the program, and of its words and its connections.
+//! Tests of what the program asks of its libraries: words, and threads that end.
 
-mod runs;
 mod sockets;
 mod words;

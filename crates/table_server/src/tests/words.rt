@@ -1,24 +1,6 @@
-//! Words and what they ask for.
-use super::runs::words_of;
-use program_words::{Address, Asked, WordsFault, read_words};
+//! Words that ask for a service, and what they ask for.
+use program_words::{Address, Asked, read_words};
 use std::test::Fail;
-
-#[test]
-fn words_that_run(rt: HostRuntime) -> Result<(), Fail> {
-    let rows: [(&str, Option<&str>, Option<&str>); 5] = [
-        ("", None, None),
-        ("run", None, None),
-        ("run --commands c", None, Some("c")),
-        ("run --schema s --commands c", Some("s"), Some("c")),
-        ("run --commands=c --schema=s", Some("s"), Some("c")),
-    ];
-    for (text, schema, commands) in rows {
-        let words = words_of(&rt, text)?;
-        let asked = read_words(rt.alloc(), &words)?;
-        assert!(rt; asked == Asked::Run { schema, commands }, "{text}");
-    }
-    Ok(())
-}
 
 #[test]
 fn words_that_serve(rt: HostRuntime) -> Result<(), Fail> {
@@ -53,7 +35,10 @@ fn words_that_serve(rt: HostRuntime) -> Result<(), Fail> {
         ),
     ];
     for (text, listen, workers, each, journal) in rows {
-        let words = words_of(&rt, text)?;
+        let mut words = Vec::new(rt.alloc());
+        for word in text.split_whitespace() {
+            words.push(String::from_str(rt.alloc(), word)?)?;
+        }
         let served = Asked::Serve {
             schema: "s",
             listen,
@@ -62,72 +47,6 @@ fn words_that_serve(rt: HostRuntime) -> Result<(), Fail> {
             journal,
         };
         assert!(rt; read_words(rt.alloc(), &words)? == served, "{text}");
-    }
-    Ok(())
-}
-
-#[test]
-fn addresses_of_neither_form(rt: HostRuntime) -> Result<(), Fail> {
-    for text in [
-        "unix:",
-        "UNIX:/a",
-        "/a",
-        "tcp:",
-        "tcp:localhost:80",
-        "tcp:127.0.0.1",
-        "tcp:127.0.0.1:65536",
-        "tcp: 127.0.0.1:80",
-        "127.0.0.1:80",
-    ] {
-        let mut words = words_of(&rt, "serve --schema s --listen")?;
-        words.push(String::from_str(rt.alloc(), text)?)?;
-        match read_words(rt.alloc(), &words) {
-            Err(WordsFault::Listen) => {}
-            _ => assert!(rt; false, "{text}"),
-        }
-    }
-    Ok(())
-}
-
-#[test]
-fn words_that_are_refused(rt: HostRuntime) -> Result<(), Fail> {
-    let rows = [
-        ("fly", "fly"),
-        ("--schema s", "--schema"),
-        ("run --schema", "--schema"),
-        ("run --schema a --schema b", "--schema"),
-        ("run --fly", "--fly"),
-        ("run --listen unix:/a", "--listen"),
-        ("run c", "c"),
-        ("--help", "serve"),
-        ("run --help", "--commands"),
-        ("serve --help", "--workers"),
-        ("help", "help"),
-        ("--", "run"),
-        ("serve", "--schema"),
-        ("serve --schema s", "--listen"),
-        ("serve --listen unix:", "--schema"),
-        ("serve --schema s --listen unix: --workers 17", "17"),
-        ("serve --schema s --listen unix:/a --workers 0", "0"),
-        ("serve --schema s --listen unix:/a --each 0", "0"),
-        (
-            "serve --schema s --listen unix:/a --each 1000001",
-            "1000001",
-        ),
-        ("serve --schema s --listen unix:/a --each x", "x"),
-        (
-            "serve --schema s --listen unix:/a --commands c",
-            "--commands",
-        ),
-    ];
-    for (text, part) in rows {
-        let words = words_of(&rt, text)?;
-        match read_words(rt.alloc(), &words) {
-            Err(WordsFault::Words(said)) => {
-                assert!(rt; said.contains(part) && said.ends_with("\n"), "{text}");
-            }
-            _ => assert!(rt; false, "{text}"),
-        }
     }
     Ok(())
 }
