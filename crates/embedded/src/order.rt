@@ -37,7 +37,7 @@ impl Extract<Order> for Fields {
     ghost use Rattle.std.specs.Ordering.{nat_cmp};
     ghost use Rattle.std.proofs.lemmas.Cmp.{nat_cmp_total, on_total, tied_back};
     ghost use Rattle.std.proofs.lemmas.Map.Lookups.{exact_unsigned};
-    ghost use Rattle.ord_tree.specs.Laws.{cuts_at};
+    ghost use Rattle.key_extract.specs.Laws.{cuts_at};
     ghost use Rattle.embedded.specs.Fields.{field_of, by_field, to_field};
 
     type Probe = u64;
