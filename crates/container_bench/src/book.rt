@@ -12,8 +12,8 @@ use std::alloc::{AllocError, Global};
 use std::marker::Model;
 
 /// Seven indices, each with whether it is unique and what it compares. The fourth alone, and the third to the fifth, are
-/// the smaller containers.
-pub(crate) const INDICES: [(Kind, bool, Key); 7] = [
+/// the smaller containers. Behind them stand two that are a container of their own.
+pub(crate) const INDICES: [(Kind, bool, Key); 9] = [
     (Kind::Sequenced, false, Key::Nothing),
     (Kind::Random, false, Key::Nothing),
     (Kind::Ranked, false, Key::Price),
@@ -21,9 +21,11 @@ pub(crate) const INDICES: [(Kind, bool, Key); 7] = [
     (Kind::Hashed, false, Key::Owner),
     (Kind::Hashed, true, Key::Id),
     (Kind::Ordered, false, Key::OwnerAndPrice),
+    (Kind::Random, false, Key::Nothing),
+    (Kind::Hashed, false, Key::Owner),
 ];
 
-/// Records under some indices. Each call answers the number of the write that put the record in, or 0.
+/// Records under some indices. `insert` and `find` answer the number of the write that put the record in, or 0.
 #[derive(Drop)]
 pub(crate) struct Book {
     indices: usize,
@@ -104,6 +106,14 @@ impl Book {
             Ok(Some(handle)) => handle.stamp,
             _ => 0,
         }
+    }
+
+    /// Takes out all records that have the key at an index, and answers how many they were.
+    pub(crate) fn erase_key(&mut self, index: usize, probe: (u64, u64)) -> u64 {
+        if index >= self.indices {
+            return 0;
+        }
+        self.records.erase_key(index, &probe).unwrap_or(0)
     }
 
     /// The number of records in the list of an index.

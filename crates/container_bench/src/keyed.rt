@@ -2,6 +2,7 @@
 //! stand between its calls.
 
 mod buckets;
+mod insertions;
 mod maps;
 mod ranks;
 mod tree;
@@ -24,4 +25,15 @@ pub(crate) fn times<R: Runtime>(
     ranks::times(rt, alloc, report, count)?;
     buckets::times(rt, alloc, report, count)?;
     maps::hashed_times(rt, alloc, report, count)
+}
+
+/// The calls of the hashed index, and its longest single insertion.
+pub(crate) fn hashed_growth<R: Runtime>(
+    rt: &R,
+    alloc: Global,
+    report: &mut Report,
+    count: u64,
+) -> io::Result<()> {
+    buckets::times(rt, alloc, report, count)?;
+    insertions::times(rt, alloc, report, count)
 }

@@ -1,7 +1,8 @@
 //! Prints what the container and std's collections kept by hand answer to some finds, which is the same, the sizes of nodes
-//! and links, and sums of what the calls of the indices answer. With the words `times`, `times sequences` or `times keys`
-//! it prints the nanoseconds that each call takes in their place: of the container and of the collections, with the bytes
-//! of a record; of the store, a sequence and a row; of the indices that have keys, beside std's maps.
+//! and links, and sums of what the calls of the indices answer. With the words `times`, `times sequences`, `times keys` or
+//! `times growth` it prints the nanoseconds that each call takes in their place: of the container and of the collections,
+//! with the bytes of a record; of the store, a sequence and a row; of the indices that have keys, beside std's maps; of
+//! the calls that must not take longer with every record that is there.
 //!
 //! A line has the call, the size, the least time of several rounds, and its growth since the size before. Where a line
 //! names several calls, the time is that of all; lines for the first ones alone stand beside it.
@@ -12,6 +13,8 @@ mod book;
 mod by_hand;
 mod by_hand_times;
 mod container_times;
+mod erasures;
+mod growth;
 mod keyed;
 mod keys;
 mod memory;
@@ -26,6 +29,8 @@ use std::{env, io};
 // Sizes with their rounds.
 const UP_TO_A_MILLION: [(u64, u64); 3] = [(1_000, 9), (100_000, 3), (1_000_000, 1)];
 
+const GROWING: [(u64, u64); 3] = [(10_000, 5), (40_000, 5), (1_000_000, 1)];
+
 const UP_TO_100_000: [(u64, u64); 2] = [(1_000, 9), (100_000, 3)];
 
 // What is timed.
@@ -34,6 +39,7 @@ enum Part {
     Container,
     Sequences,
     Keys,
+    Growth,
 }
 
 impl Part {
@@ -42,6 +48,7 @@ impl Part {
         match word {
             Some("sequences") => Part::Sequences,
             Some("keys") => Part::Keys,
+            Some("growth") => Part::Growth,
             _ => Part::Container,
         }
     }
@@ -51,6 +58,7 @@ impl Part {
         match self {
             Part::Container | Part::Keys => &UP_TO_A_MILLION,
             Part::Sequences => &UP_TO_100_000,
+            Part::Growth => &GROWING,
         }
     }
 }
@@ -70,6 +78,7 @@ fn times<R: Runtime>(
         }
         Part::Sequences => sequences::times(rt, alloc, report, count),
         Part::Keys => keyed::times(rt, alloc, report, count),
+        Part::Growth => growth::times(rt, alloc, report, count),
     }
 }
 
@@ -93,7 +102,7 @@ fn print_bytes<R: Runtime>(rt: &R, alloc: Global, part: Part) -> io::Result<()> 
     match part {
         Part::Container => memory::record_bytes(rt, alloc, 100_000),
         Part::Sequences => sequences::record_bytes(rt, alloc, 100_000),
-        Part::Keys => Ok(()),
+        Part::Keys | Part::Growth => Ok(()),
     }
 }
 
@@ -121,7 +130,8 @@ fn main(rt: HostRuntime) -> io::Result<()> {
         answers::print_answers(&rt, alloc, 100)?;
         sequences::print_sizes(&rt)?;
         print_sum(&rt, alloc, Part::Sequences, "records")?;
-        return print_sum(&rt, alloc, Part::Keys, "words");
+        print_sum(&rt, alloc, Part::Keys, "words")?;
+        return print_sum(&rt, alloc, Part::Growth, "that grow");
     }
     let part = Part::named(words.get(1).map(|word| word.as_str()));
     print_part(&rt, alloc, part)

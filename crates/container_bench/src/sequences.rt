@@ -2,11 +2,13 @@
 
 mod chain;
 mod memory;
+mod moves;
 mod row;
 mod store;
 
 use bench_report::Report;
 pub(crate) use memory::record_bytes;
+pub(crate) use moves::times as near_moves;
 use node_store::{Link, Node};
 use std::alloc::Global;
 use std::io;

@@ -102,8 +102,8 @@ fn each(call: Call, store: &mut NodeStore<u64>, index: &mut HashIndex, from: u64
     met
 }
 
-// Adds a word and puts it in, if there is room.
-fn insert(store: &mut NodeStore<u64>, index: &mut HashIndex, word: u64) -> Option<Node>
+/// Adds a word and puts it in, if there is room.
+pub(super) fn insert(store: &mut NodeStore<u64>, index: &mut HashIndex, word: u64) -> Option<Node>
     requires { IsKeyed store.old index.old }
     ensures { IsKeyed store.new index.new }
 {

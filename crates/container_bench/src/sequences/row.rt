@@ -126,7 +126,8 @@ fn step(call: Call, store: &mut NodeStore<u64>, index: &mut RowIndex) -> Option<
     None
 }
 
-fn add_last(store: &mut NodeStore<u64>, index: &mut RowIndex)
+/// Adds a node and puts it last, if there is room.
+pub(super) fn add_last(store: &mut NodeStore<u64>, index: &mut RowIndex)
     requires { IsSound (column_of store.old) index.old }
     ensures { IsSound (column_of store.new) index.new }
 {
