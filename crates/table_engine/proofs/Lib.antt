@@ -4,5 +4,7 @@ pub mod Sessions
 pub mod Told
 pub mod Events
 pub mod Whole
+pub mod Added
+pub mod Quiet
 pub mod Serving
 pub mod Devices

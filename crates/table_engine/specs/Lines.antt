@@ -1,5 +1,5 @@
 -- Lines of a stream.
-use Rattle.std.specs.Prelude.{ℕ, List, [], ◌∷◌, ◌++◌, length, Bool, true, not, ◌&&◌, ◌||◌, ◌==◌, nat_lt, if◌then◌else◌}
+use Rattle.std.specs.Prelude.{ℕ, List, [], ◌∷◌, ◌++◌, length, Bool, true, false, not, ◌&&◌, ◌||◌, ◌==◌, nat_lt, if◌then◌else◌}
 use Rattle.table_engine.specs.declared.cutter.Cut.{Cut}
 use Rattle.table_engine.specs.declared.cutter.Cut.TheVariants.{Unended, Blank, Long, Line}
 
@@ -21,6 +21,17 @@ pub record Cutter : Type 0 where
 abbrev pub add : ℕ → Unfinished → Unfinished
 add b (short line) = if nat_lt (length line) max_line then short (line ++ b ∷ []) else long
 add b long = long
+
+-- a line with more bytes
+abbrev pub added : List ℕ → Unfinished → Unfinished
+added [] line = line
+added (b ∷ bs) line = added bs (add b line)
+
+-- whether a line has no byte
+abbrev pub is_empty : Unfinished → Bool
+is_empty (short []) = true
+is_empty (short (b ∷ bs)) = false
+is_empty long = false
 
 -- space, tab, carriage return
 abbrev pub is_space : ℕ → Bool

@@ -3,7 +3,7 @@ use Rattle.std.specs.Prelude.{◌≡◌, ℕ, ◌<◌, ◌==◌, List, [], ◌�
 use Rattle.std.specs.Bool.{MatchBool}
 use Rattle.table_reply.specs.Buffer.{Buffer, Keeps}
 use Rattle.table_step.specs.Step.{TableState}
-use Rattle.table_engine.specs.Lines.{Unfinished, short, long, add, has_answer}
+use Rattle.table_engine.specs.Lines.{Unfinished, short, long, add, is_empty, has_answer}
 use Rattle.table_engine.specs.Tables.{AnswersLine}
 
 -- ---- one session
@@ -16,12 +16,6 @@ AnswersByte old line b text new next =
 -- the same, appended to what was told before
 abbrev pub TakesByte : List TableState → Unfinished → ℕ → List ℕ → List ℕ → List TableState → Unfinished → Type 0
 TakesByte old line b told_before told new next = (text : List ℕ) × (told ≡ told_before ++ text) × AnswersByte old line b text new next
-
--- whether no byte stands after the last newline
-abbrev pub is_empty : Unfinished → Bool
-is_empty (short []) = true
-is_empty (short (b ∷ bs)) = false
-is_empty long = false
 
 -- the end of a stream completes the line so far, where it has a byte
 abbrev pub AnswersEnd : List TableState → Unfinished → List ℕ → List TableState → Unfinished → Type 0

@@ -1,7 +1,7 @@
 //! Cuts a stream into lines.
 
 ghost use Rattle.std.specs.Prelude.{◌≡◌, ◌==◌, [], if◌then◌else◌};
-ghost use Rattle.table_engine.specs.Lines.{short, add, is_blank, is_space, has_answer, cut_of, cut_at_end, Cutter};
+ghost use Rattle.table_engine.specs.Lines.{short, add, added, is_blank, is_empty, is_space, has_answer, cut_of, cut_at_end, Cutter};
 
 use arrayvec::ArrayVec;
 use std::marker::Model;
@@ -43,10 +43,6 @@ impl Model for LineCutter {
       unfinished = if c.is_ended then short [] else (if c.is_long then long else short c.buffer.items);
       line = c.buffer.items;
     } };
-
-    ghost use Rattle.std.specs.Prelude.{◌≡◌, length, true, IsTrue};
-
-    ghost invariant = { λ c. IsTrue c.is_long → length c.buffer.items ≡ 65536 };
 }
 
 impl LineCutter {
@@ -69,22 +65,33 @@ impl LineCutter {
             ≡ (if byte == 10 then short [] else add byte self.old.unfinished) }
         ensures line { result ≡ Cut.Line → self.old.unfinished ≡ short self.new.line }
     {
-        if self.is_ended {
-            self.buffer.clear();
-            self.is_long = false;
-            self.is_ended = false;
-        }
         if byte == b'\n' {
             let cut = self.completed();
             self.is_ended = true;
             return cut;
         }
-        if self.buffer.is_full() {
-            self.is_long = true;
+        if self.is_ended || self.buffer.is_full() {
+            self.extend(&[byte]);
         } else {
             self.buffer.push(byte);
         }
         Cut::Unended
+    }
+
+    /// Takes bytes as those of a line: no newline is looked for among them. O(n) for n bytes, and O(n) after a line of n bytes.
+    pub fn extend(&mut self, bytes: &[u8])
+        ensures { self.new.unfinished ≡ added bytes.now self.old.unfinished }
+    {
+        if self.is_ended {
+            self.buffer.clear();
+            self.is_long = false;
+            self.is_ended = false;
+        }
+        if bytes.len() > self.buffer.remaining_capacity() {
+            self.is_long = true;
+        } else {
+            self.buffer.try_extend_from_slice(bytes).unwrap();
+        }
     }
 
     /// Takes the end of the stream, and says what it completes: no line where no byte stands after the last newline.
@@ -110,7 +117,7 @@ impl LineCutter {
     pub fn pending(&self) -> Cut
         ensures { result ≡ cut_at_end self.now.unfinished }
     {
-        if self.is_ended || !self.is_long && self.buffer.is_empty() {
+        if self.is_empty() {
             return Cut::Unended;
         }
         self.completed()
@@ -128,6 +135,13 @@ impl LineCutter {
         ensures { result.now ≡ self.now.line }
     {
         self.buffer.as_slice()
+    }
+
+    /// Whether the line so far has no byte. O(1).
+    pub fn is_empty(&self) -> bool
+        ensures { result ≡ is_empty self.now.unfinished }
+    {
+        self.is_ended || !self.is_long && self.buffer.is_empty()
     }
 
     // What the line is, if it ends here.
@@ -154,8 +168,8 @@ fn is_space(byte: u8) -> bool
     byte == b' ' || byte == b'\t' || byte == b'\r'
 }
 
-// Whether a line holds nothing but spaces.
-fn is_blank(line: &[u8]) -> bool
+/// Whether a line holds nothing but spaces, tabs and carriage returns. O(n) for n bytes.
+pub fn is_blank(line: &[u8]) -> bool
     ensures { result ≡ is_blank line.now }
 {
     for byte in line {

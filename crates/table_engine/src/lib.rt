@@ -14,7 +14,7 @@ mod source;
 mod stream;
 mod waiting;
 
-pub use cutter::{Cut, LineCutter, MAX_LINE};
+pub use cutter::{Cut, LineCutter, MAX_LINE, is_blank};
 pub use engine::Engine;
 pub use event::{Event, Stop};
 pub use run::run_events;

@@ -9,6 +9,7 @@ ghost use Rattle.table_engine.specs.Run.{Run, bytes_of, end};
 use crate::engine::Engine;
 use crate::sink::{Sink, Unwritten};
 use crate::waiting::{make_room, write_out};
+use memchr::memchr;
 use std::alloc::Global;
 use std::io::Write;
 use table_reply::{Out, READY_ROOM};
@@ -104,7 +105,7 @@ fn line_length(rest: &[u8]) -> usize
     requires { 0 < length rest.now }
     ensures { (0 < result) × (result ≤ length rest.now) }
 {
-    match rest.iter().position(|byte| *byte == b'\n') {
+    match memchr(b'\n', rest) {
         Some(newline) => newline + 1,
         None => rest.len(),
     }

@@ -3,13 +3,14 @@
 ghost use Rattle.std.specs.Prelude.{◌≡◌, ◌≤◌, ◌<◌, ◌++◌, ◌==◌, ◌&&◌, List, ℕ, IsTrue, IsOk, OnOk, OnErr, IfErr, length, slice_get};
 ghost use Rattle.table_reply.specs.Buffer.{joined, Keeps};
 ghost use Rattle.table_engine.specs.Events.{taken_of};
-ghost use Rattle.table_engine.specs.Lines.{has_answer};
+ghost use Rattle.table_engine.specs.Lines.{added, has_answer};
 ghost use Rattle.table_engine.specs.Run.{Run, TakesByte, TakesEnd, Waits, bytes_of};
 ghost use Rattle.table_engine.specs.State.{machine};
 
 use crate::carry::answer_line;
-use crate::cutter::{Cut, LineCutter};
+use crate::cutter::{Cut, LineCutter, MAX_LINE, is_blank};
 use crate::event::Stop;
+use memchr::memchr;
 use std::alloc::Global;
 use table_reply::{Fault, Out, OutOfRoom, READY_ROOM};
 use table_step::{Table, refuse};
@@ -41,6 +42,30 @@ fn take_byte(
     Ok(())
 }
 
+// Takes bytes of a session and the newline after them, and answers the line that they complete. A line that stands in the
+// bytes as a whole is answered where it stands. Where there is no room for an answer, the newline is not taken.
+fn take_line(
+    alloc: Global,
+    tables: &mut [Table],
+    cutter: &mut LineCutter,
+    line: &[u8],
+    out: &mut Out,
+) -> Result<(), OutOfRoom>
+    ensures ok { OnOk result (TakesByte tables.old (added line.now cutter.old.unfinished) 10 out.old.bytes out.new.bytes tables.new cutter.new.unfinished) }
+    ensures err { OnErr result ((tables.new ≡ tables.old) × (cutter.new.unfinished ≡ added line.now cutter.old.unfinished) × (out.new ≡ out.old)) }
+    ensures waits { OnErr result (IsTrue (has_answer (added line.now cutter.old.unfinished)) × (out.old.room < READY_ROOM)) }
+    ensures kept { Keeps out.old out.new }
+{
+    if !cutter.is_empty() || line.len() > MAX_LINE || out.ready().is_err() {
+        cutter.extend(line);
+        return take_byte(alloc, tables, cutter, b'\n', out);
+    }
+    if !is_blank(line) {
+        answer_line(alloc, tables, line, out);
+    }
+    Ok(())
+}
+
 // Takes the end of a session's stream, and answers the line that it completes.
 // Where there is no room for an answer, the end is not taken.
 pub(crate) fn take_end(
@@ -68,7 +93,7 @@ pub(crate) fn take_end(
     Ok(())
 }
 
-// Takes the bytes of a piece one after another. At an `Err` as many were taken as it says.
+// Takes the bytes of a piece, line by line. At an `Err` as many bytes were taken as it says.
 pub(crate) fn take_piece(
     alloc: Global,
     tables: &mut [Table],
@@ -87,11 +112,19 @@ pub(crate) fn take_piece(
     ensures sessions { length cutters.new ≡ length cutters.old }
 {
     let mut taken = 0;
-    for byte in piece {
-        match take_byte(alloc, tables, &mut cutters[session], *byte, out) {
-            Ok(()) => taken += 1,
-            Err(_) => return Err(Stop { event: 0, taken }),
+    let mut rest = piece;
+    while let Some(length) = memchr(b'\n', rest) {
+        let (line, after) = rest.split_at(length);
+        match take_line(alloc, tables, &mut cutters[session], line, out) {
+            Ok(()) => taken += length + 1,
+            Err(_) => return Err(Stop {
+                event: 0,
+                taken: taken + length,
+            }),
         }
+        let (_, behind) = after.split_at(1);
+        rest = behind;
     }
+    cutters[session].extend(rest);
     Ok(())
 }
