@@ -1,21 +1,16 @@
 -- A walk that keeps the nodes that it meets.
-use Rattle.std.proofs.Common.{◌≡◌, ℕ, ◌+◌, suc, List, [], ◌∷◌, ◌++◌, Option, Some, None, refl, sym, ap, ◌∙◌, subst, arith, take, drop}
-use Rattle.std.specs.Prelude.{slice_get}
-use Rattle.std.proofs.lemmas.List.{take_all}
+use Rattle.std.proofs.Common.{◌≡◌, ℕ, ◌+◌, suc, List, [], ◌∷◌, ◌++◌, Option, Some, None, sym, ap, ◌∙◌, subst, arith, take, drop}
 use Rattle.node_store.specs.declared.Node.{Node}
 use Rattle.node_store.specs.Nodes.{IsDistinct, Holds, first_or}
 use Rattle.node_store.specs.ByNode.{same_node}
 use Rattle.list_model.specs.Walk.{next}
-use Rattle.seq_index.proofs.Walks.{next_at, first_at}
-use Rattle.seq_index.proofs.ChainLists.{cut_at, no_more}
+use Rattle.seq_index.proofs.Walks.{next_at}
+use Rattle.seq_index.proofs.ChainLists.{cut_at}
 
 -- after so many steps through the list, these were met, and this one comes
 pub record HasMet (xs : List Node) (steps : ℕ) (met : List Node) (at : Option Node) : Type 0 where
   pub met_is : met ≡ take steps xs
   pub at_is : at ≡ first_or (drop steps xs) None
-
-pub met_none : (xs : List Node) (at : Option Node) → at ≡ slice_get xs 0 → HasMet xs 0 [] at
-met_none xs at e = record { met_is = refl; at_is = e ∙ first_at xs }
 
 pub met_held : (xs : List Node) (steps : ℕ) (met : List Node) (at : Option Node) (n : Node) → at ≡ Some n → HasMet xs steps met at → Holds xs n
 met_held xs steps met at n e h =
@@ -33,6 +28,3 @@ met_next xs steps met at n new dist e f h =
           ∙ next_at (take steps xs) n c.rest (subst IsDistinct c.whole dist)
           ∙ ap (λ (z : List Node). first_or z None) (sym (ap (λ (z : ℕ). drop z xs) more ∙ c.dropped));
     }
-
-pub met_all : (xs : List Node) (steps : ℕ) (met : List Node) (at : Option Node) → at ≡ None → HasMet xs steps met at → met ≡ xs
-met_all xs steps met at e h = h.met_is ∙ take_all steps xs (no_more xs steps (sym h.at_is ∙ e))
