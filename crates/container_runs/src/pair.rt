@@ -72,8 +72,10 @@ fn new_container(
 ) -> Result<MultiIndex<Row, RowKeys>, AllocError>
     requires some { 1 ≤ length indices.now.specs.items }
     requires few { length indices.now.specs.items ≤ 8 }
-    requires keys { KeysMatch (λ i. is_some (key_at indices.now.keys.items i)) indices.now.specs.items }
-    ensures { IfOk result (λ made. made ≡ empty indices.now.keys.items indices.now.specs.items max first_write) }
+    requires keys { KeysMatch (λ i. is_some (key_at indices.now.keys.items i))
+        indices.now.specs.items }
+    ensures { IfOk result (λ made. made ≡ empty indices.now.keys.items indices.now.specs.items max
+        first_write) }
 {
     let specs = indices.specs.to_vec(alloc)?;
     let keys = RowKeys::new(alloc, &indices.keys)?;
@@ -139,8 +141,10 @@ impl Pair {
     // Whether the index can be searched by the probe; one that has no key refuses each.
     fn may_search(&self, index: usize, probe: &Probe) -> bool
         ensures in_range { IsTrue result → index < length self.now.specs }
-        ensures fits { IsTrue result → IsTrue (has_key_kind (kind_at self.now index)) → IsTrue (probe_fits (parts_at self.now.keys index) probe.now) }
-        ensures whole { IsTrue result → IsTrue (is_hashed_kind (kind_at self.now index)) → IsTrue (probe_is_whole (parts_at self.now.keys index) probe.now) }
+        ensures fits { IsTrue result → IsTrue (has_key_kind (kind_at self.now index)) →
+            IsTrue (probe_fits (parts_at self.now.keys index) probe.now) }
+        ensures whole { IsTrue result → IsTrue (is_hashed_kind (kind_at self.now index)) →
+            IsTrue (probe_is_whole (parts_at self.now.keys index) probe.now) }
     {
         if index >= self.specs.len() {
             return false;

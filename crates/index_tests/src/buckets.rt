@@ -19,11 +19,13 @@ fn insert_new<R: Drop, E: Extract<R>>(
     value: R,
 ) -> Option<Node>
     requires chain { IsSound (column_of store.old) index.old }
-    requires hashed { IsHashed (E.hash_of keys.now (index_of index.old)) store.old (col_of index.old) (spelled (column_of store.old) index.old) }
+    requires hashed { IsHashed (E.hash_of keys.now (index_of index.old)) store.old
+        (col_of index.old) (spelled (column_of store.old) index.old) }
     requires has_key { IsTrue (E.has_key keys.now (index_of index.old)) }
     requires count { store.old.added < 1000 }
     ensures chain { IsSound (column_of store.new) index.new }
-    ensures hashed { IsHashed (E.hash_of keys.now (index_of index.old)) store.new (col_of index.old) (spelled (column_of store.new) index.new) }
+    ensures hashed { IsHashed (E.hash_of keys.now (index_of index.old)) store.new (col_of index.old)
+        (spelled (column_of store.new) index.new) }
     ensures col { col_of index.new ≡ col_of index.old }
     ensures index { index_of index.new ≡ index_of index.old }
     ensures count { store.new.added ≤ store.old.added + 1 }

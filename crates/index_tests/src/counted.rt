@@ -33,7 +33,8 @@ fn said_by_tree(
     id: u64,
 ) -> u64
     requires sound { trees.IsSound (column_of store.now) tree.now }
-    requires order { IsInOrder (order_at (record_of store.now) nat_cmp) (trees.spelled (column_of store.now) tree.now) }
+    requires order { IsInOrder (order_at (record_of store.now) nat_cmp)
+        (trees.spelled (column_of store.now) tree.now) }
 {
     match call {
         Call::Find => tree.find_counted(store, keys, &id).1,
@@ -51,7 +52,8 @@ fn most_in_tree(
     keys: &Numbers,
 ) -> Option<u64>
     requires sound { trees.IsSound (column_of store.now) tree.now }
-    requires order { IsInOrder (order_at (record_of store.now) nat_cmp) (trees.spelled (column_of store.now) tree.now) }
+    requires order { IsInOrder (order_at (record_of store.now) nat_cmp)
+        (trees.spelled (column_of store.now) tree.now) }
 {
     let mut most = 0;
     for id in 0..2001u64 {
@@ -74,7 +76,8 @@ fn said_by_ranks(
     id: u64,
 ) -> u64
     requires sound { ranked.IsSound (column_of store.now) tree.now }
-    requires order { IsInOrder (order_at (record_of store.now) nat_cmp) (ranked.spelled (column_of store.now) tree.now) }
+    requires order { IsInOrder (order_at (record_of store.now) nat_cmp)
+        (ranked.spelled (column_of store.now) tree.now) }
 {
     match call {
         Call::Find => tree.find_counted(store, keys, &id).1,
@@ -86,7 +89,8 @@ fn said_by_ranks(
 // The same of a ranked tree.
 fn most_in_ranks(call: Call, store: &NodeStore<u64>, tree: &RankTree, keys: &Numbers) -> Option<u64>
     requires sound { ranked.IsSound (column_of store.now) tree.now }
-    requires order { IsInOrder (order_at (record_of store.now) nat_cmp) (ranked.spelled (column_of store.now) tree.now) }
+    requires order { IsInOrder (order_at (record_of store.now) nat_cmp)
+        (ranked.spelled (column_of store.now) tree.now) }
 {
     let mut most = 0;
     for id in 0..2001u64 {

@@ -25,7 +25,8 @@ pub(crate) fn put_last<R>(chain: &mut SeqIndex, store: &mut NodeStore<R>, n: Nod
     requires new { Lacks (chains.spelled (column_of store.old) chain.old) n }
     ensures sound { chains.IsSound (column_of store.new) chain.new }
     ensures col { chains.col_of chain.new ≡ chains.col_of chain.old }
-    ensures others { KeepsOthers (column_of store.old) (column_of store.new) (chains.col_of chain.old) }
+    ensures others { KeepsOthers (column_of store.old) (column_of store.new)
+        (chains.col_of chain.old) }
     ensures contents { contents store.new ≡ contents store.old }
 {
     if chain.reserve_one(store).is_ok() {
@@ -55,7 +56,8 @@ pub(crate) fn put_by_key<T>(tree: &mut OrdTree<NoTally>, store: &mut NodeStore<K
     ensures sound { trees.IsSound (column_of store.new) tree.new }
     ensures order { IsByKey store.new (trees.spelled (column_of store.new) tree.new) }
     ensures col { trees.col_of tree.new ≡ trees.col_of tree.old }
-    ensures others { KeepsOthers (column_of store.old) (column_of store.new) (trees.col_of tree.old) }
+    ensures others { KeepsOthers (column_of store.old) (column_of store.new)
+        (trees.col_of tree.old) }
     ensures contents { contents store.new ≡ contents store.old }
 {
     if tree.reserve_one(store).is_ok() {
@@ -71,7 +73,8 @@ pub(crate) fn put_by_rank<T>(tree: &mut RankTree, store: &mut NodeStore<Keyed<T>
     ensures sound { ranked.IsSound (column_of store.new) tree.new }
     ensures order { IsByKey store.new (ranked.spelled (column_of store.new) tree.new) }
     ensures col { ranked.col_of tree.new ≡ ranked.col_of tree.old }
-    ensures others { KeepsOthers (column_of store.old) (column_of store.new) (ranked.col_of tree.old) }
+    ensures others { KeepsOthers (column_of store.old) (column_of store.new)
+        (ranked.col_of tree.old) }
     ensures contents { contents store.new ≡ contents store.old }
 {
     if tree.reserve_one(store).is_ok() {
@@ -85,7 +88,8 @@ pub(crate) fn put_by_hash<T>(index: &mut HashIndex, store: &mut NodeStore<Keyed<
     requires new { Lacks (buckets.spelled (column_of store.old) index.old) n }
     ensures sound { buckets.IsSound (column_of store.new) index.new }
     ensures col { buckets.col_of index.new ≡ buckets.col_of index.old }
-    ensures others { KeepsOthers (column_of store.old) (column_of store.new) (buckets.col_of index.old) }
+    ensures others { KeepsOthers (column_of store.old) (column_of store.new)
+        (buckets.col_of index.old) }
     ensures contents { contents store.new ≡ contents store.old }
 {
     if index.reserve_one(store).is_ok() {

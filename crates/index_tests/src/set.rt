@@ -114,7 +114,9 @@ fn rewrite<R: Drop, E: Extract<R>>(set: &mut IndexSet<R, E>, n: Node, value: R)
     requires sound { IsSound E.has_key set.old }
     requires keyed { IsKeyed E.order_of E.hash_of set.old }
     requires node { IsNodeOf (store_of set.old) n }
-    requires same { (index : ℕ) (row : R) → index < length (specs_of set.old) → IsTrue (has_key_kind (kind_at set.old index)) → record_of set.old n ≡ Some row → E.order_of (keys_of set.old) index value row ≡ Equal }
+    requires same { (index : ℕ) (row : R) → index < length (specs_of set.old) →
+        IsTrue (has_key_kind (kind_at set.old index)) → record_of set.old n ≡ Some row →
+        E.order_of (keys_of set.old) index value row ≡ Equal }
     ensures sound { IsSound E.has_key set.new }
     ensures keyed { IsKeyed E.order_of E.hash_of set.new }
     ensures same { IsOfSame set.old set.new }
@@ -126,7 +128,8 @@ fn rewrite<R: Drop, E: Extract<R>>(set: &mut IndexSet<R, E>, n: Node, value: R)
 
 // An index in order, and a hashed one without two records of one key.
 fn two_indices(alloc: Global) -> Result<Vec<Spec>, AllocError>
-    ensures { IfOk result (λ made. made.items ≡ record { kind = Ordered; unique = false } ∷ record { kind = Hashed; unique = true } ∷ []) }
+    ensures { IfOk result (λ made. made.items ≡ record { kind = Ordered; unique = false } ∷ record
+        { kind = Hashed; unique = true } ∷ []) }
 {
     let mut specs = Vec::new(alloc);
     specs.push(Spec {

@@ -276,10 +276,14 @@ impl Watched {
     // Whether the index can be searched by the probe; one that has no key refuses each.
     fn may_search(&self, index: usize, probe: &Probe) -> bool
         ensures in_range { IsTrue result → index < length self.now.specs }
-        ensures fits { IsTrue result → IsTrue (has_key_kind (kind_at self.now index)) → IsTrue (probe_fits (parts_at self.now.keys index) probe.now) }
-        ensures sorted { IsTrue result → IsTrue (is_sorted_kind (kind_at self.now index)) → IsTrue (probe_fits (parts_at self.now.keys index) probe.now) }
-        ensures ranked { IsTrue result → IsTrue (is_ranked_kind (kind_at self.now index)) → IsTrue (probe_fits (parts_at self.now.keys index) probe.now) }
-        ensures whole { IsTrue result → IsTrue (is_hashed_kind (kind_at self.now index)) → IsTrue (probe_is_whole (parts_at self.now.keys index) probe.now) }
+        ensures fits { IsTrue result → IsTrue (has_key_kind (kind_at self.now index)) →
+            IsTrue (probe_fits (parts_at self.now.keys index) probe.now) }
+        ensures sorted { IsTrue result → IsTrue (is_sorted_kind (kind_at self.now index)) →
+            IsTrue (probe_fits (parts_at self.now.keys index) probe.now) }
+        ensures ranked { IsTrue result → IsTrue (is_ranked_kind (kind_at self.now index)) →
+            IsTrue (probe_fits (parts_at self.now.keys index) probe.now) }
+        ensures whole { IsTrue result → IsTrue (is_hashed_kind (kind_at self.now index)) →
+            IsTrue (probe_is_whole (parts_at self.now.keys index) probe.now) }
     {
         if index >= self.specs.len() {
             return false;

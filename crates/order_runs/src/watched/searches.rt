@@ -118,7 +118,9 @@ impl Watched {
 
     // Whether the index can be searched by the bound.
     fn may_bound(&self, index: usize, bound: Bound<&Probe>) -> bool
-        ensures { IsTrue result → IsTrue (is_sorted_kind (kind_at self.now index)) → MatchBound bound.entry (λ p. IsTrue (probe_fits (parts_at self.now.keys index) p.now)) (λ p. IsTrue (probe_fits (parts_at self.now.keys index) p.now)) ⊤ }
+        ensures { IsTrue result → IsTrue (is_sorted_kind (kind_at self.now index)) →
+            MatchBound bound.entry (λ p. IsTrue (probe_fits (parts_at self.now.keys index) p.now))
+            (λ p. IsTrue (probe_fits (parts_at self.now.keys index) p.now)) ⊤ }
     {
         match bound {
             Bound::Included(probe) | Bound::Excluded(probe) => self.may_search(index, probe),
