@@ -26,8 +26,16 @@ class CiInProgress:
         # (the system shares its time between sessions first, and `rt` has its checks in sessions of their own)
         try:
             os.setsid()
+        except OSError:
+            pass
+        self.weigh(19)
+
+    @staticmethod
+    def weigh(nice):
+        """Gives this session a weight among the others."""
+        try:
             with open("/proc/self/autogroup", "w", encoding="utf-8") as it:
-                it.write("19")
+                it.write(str(nice))
         except OSError:
             pass
 
@@ -50,7 +58,8 @@ class CiInProgress:
         return told or (functions_in(crate) if crate.makes_rlib() else [])
 
     def lanes(self, most):
-        """How many checks may run beside it: while it runs, one for each core but one, where the memory is there."""
+        """How many checks may run beside it: while it runs, one for each core but one, where the memory is there. Once it has ended they weigh as much as any."""
         if not self.is_running():
+            self.weigh(0)
             return most
         return max(1, most - 1) if rtlib.fits(ROOM) else 0
