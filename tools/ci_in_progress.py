@@ -27,7 +27,7 @@ class CiInProgress:
         try:
             os.setsid()
         except OSError:
-            pass
+            return
         self.weigh(19)
 
     @staticmethod
