@@ -1,10 +1,13 @@
 /* Refuses one allocation of a program: preloaded, with REFUSE_AT the number of the refused call, counted from 1,
-   and REFUSED_FILE a file that is made when it is refused. REFUSE_ON=1 refuses every later call too. */
+   and REFUSED_FILE a file that is made when it is refused. REFUSE_ON=1 refuses every later call too. With COUNTED_FILE it
+   writes the number of the calls to that file when the program ends by _exit. */
 #define _GNU_SOURCE
 #include <dlfcn.h>
 #include <errno.h>
 #include <fcntl.h>
+#include <stdio.h>
 #include <stdlib.h>
+#include <sys/syscall.h>
 #include <unistd.h>
 
 static long count, refused_at = -1;
@@ -58,4 +61,13 @@ void *aligned_alloc(size_t align, size_t size)
     if (!real)
         real = dlsym(RTLD_NEXT, "aligned_alloc");
     return refused() ? NULL : real(align, size);
+}
+
+void _exit(int status)
+{
+    char *name = getenv("COUNTED_FILE");
+    if (name)
+        dprintf(open(name, O_CREAT | O_WRONLY | O_TRUNC, 0600), "%ld\n", count);
+    for (;;)
+        syscall(SYS_exit_group, status);
 }
