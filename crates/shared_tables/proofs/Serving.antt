@@ -1,17 +1,20 @@
 -- The lines of a stream, one after another.
-use Rattle.std.proofs.Common.{◌≡◌, ◌<◌, ℕ, ◌==◌, ◌&&◌, nat_lt, Bool, cond, List, [], ◌∷◌, ◌++◌, take, refl, sym, ap, subst, ◌∙◌, append-nil, append_assoc, Result, Ok, Err, OnOk}
-use Rattle.std.specs.Prelude.{Option}
+use Rattle.std.proofs.Common.{◌≡◌, ◌<◌, ◌≤◌, ℕ, suc, ◌==◌, ◌&&◌, nat_lt, Bool, true, false, cond, List, [], ◌∷◌, ◌++◌, length, take, refl, sym, ap, subst, ◌∙◌, append-nil, append_assoc, Result, Ok, Err, OnOk, arith}
+use Rattle.std.specs.Prelude.{Option, IfErr}
 use Rattle.std.specs.Io.KnownBytes.{Appends, Consumes, IsAtEnd}
 use Rattle.std.proofs.lemmas.Bool.{eq-eqb, lt-ltb, ne_eqb}
 use Rattle.std.proofs.KnownBytes.{Appends-nil, Appends-trans, Consumes-trans}
 use Rattle.table_engine.specs.Devices.{AppendsFront, raised}
 use Rattle.table_engine.proofs.Devices.{AppendsFront-after}
-use Rattle.table_engine.specs.Lines.{Unfinished, short, add}
+use Rattle.table_engine.specs.Lines.{Unfinished, short, add, added, is_blank, is_empty}
 use Rattle.table_engine.specs.Whole.{as_line, lines_of}
+use Rattle.table_engine.proofs.Added.{whole_line}
+use Rattle.table_engine.proofs.Quiet.{IsQuiet}
 use Rattle.table_engine.proofs.Whole.{add-as_line}
+use Rattle.command_lines.specs.Meaning.{meaning}
 use Rattle.shared_tables.specs.Hears.{SharedData}
 use Rattle.shared_tables.specs.Pass.{PassData}
-use Rattle.shared_tables.specs.Serving.{HearsFront, HearsLines, HearsWhole, MeetsRefusal, Passes, RefusesNext, RefusesWhole, SoFar, Stops, TakesBytes, TakesFront}
+use Rattle.shared_tables.specs.Serving.{HearsFront, HearsLines, HearsWhole, MayHear, MeetsRefusal, Passes, RefusesMeaning, RefusesNext, RefusesWhole, SoFar, Stops, TakesBytes, TakesFront}
 use Rattle.shared_tables.specs.declared.fault.CallFault.{CallFault}
 use Rattle.shared_tables.specs.declared.fault.ServeFault.{ServeFault}
 use Rattle.shared_tables.specs.declared.fault.ServeFault.TheVariants as serve_faults
@@ -19,6 +22,9 @@ use Rattle.shared_tables.proofs.Splits.{ends, grows, stays}
 
 abbrev newline : ℕ → Bool
 newline b = b == 10
+
+other : (b : ℕ) → (b == 10) ≡ false → b ≡ 10 → ⊥
+other b e is = let bad : true ≡ false = subst (λ x. (x == 10) ≡ false) is e in cc
 
 -- ---- laws of what lines are told
 
@@ -72,11 +78,6 @@ module _ (shared : SharedData) where
     },
   )
 
-  -- the same, as the cutter tells it
-  pub takes_other : (pass : PassData) (line : Unfinished) (b : ℕ) (line' : Unfinished) → (b ≡ 10 → ⊥) → line' ≡ cond (b == 10) (short []) (add b line)
-      → TakesBytes shared pass line (b ∷ []) [] pass line'
-  takes_other pass line b line' other e = takes_byte pass line b line' other (e ∙ ap (λ is. cond is (short []) (add b line)) (ne_eqb b 10 other))
-
   -- a newline, and the answer to the line that it ends
   pub takes_newline : (pass : PassData) (line : Unfinished) (b : ℕ) (told : List ℕ) (pass' : PassData) (line' : Unfinished) → b ≡ 10
       → HearsWhole shared pass line told pass' → line' ≡ short [] → TakesBytes shared pass line (b ∷ []) told pass' line'
@@ -95,6 +96,37 @@ module _ (shared : SharedData) where
   takes_then a b c l m n xs ys told more first then = λ start bytes text h.
       moved start c n ((bytes ++ xs) ++ ys) (bytes ++ (xs ++ ys)) ((text ++ told) ++ more) (text ++ (told ++ more)) (append_assoc bytes xs ys) (append_assoc text told more)
       (then start (bytes ++ xs) (text ++ told) (first start bytes text h))
+
+  -- bytes that complete no line
+  pub takes_quiet : (pass : PassData) (line : Unfinished) (bytes : List ℕ) → IsQuiet bytes → TakesBytes shared pass line bytes [] pass (added bytes line)
+  takes_quiet pass line [] quiet = takes_nothing pass line
+  takes_quiet pass line (b ∷ bs) quiet =
+      takes_then pass pass pass line (add b line) (added bs (add b line)) (b ∷ []) bs [] []
+      (takes_byte pass line b (add b line) (other b (quiet 0 (omega arith))) refl)
+      (takes_quiet pass (add b line) bs (λ k below. quiet (suc k) (omega (arith, below))))
+
+  -- bytes and the newline after them, and the answer to the line that they end
+  pub takes_line : (pass : PassData) (before : Unfinished) (line told : List ℕ) (pass' : PassData) (after : Unfinished) → IsQuiet line
+      → HearsWhole shared pass (added line before) told pass' → after ≡ short [] → TakesBytes shared pass before (line ++ 10 ∷ []) told pass' after
+  takes_line pass before line told pass' after quiet heard e =
+      takes_then pass pass pass' before (added line before) after line (10 ∷ []) [] told (takes_quiet pass before line quiet)
+      (takes_newline pass (added line before) 10 told pass' after refl heard e)
+
+  -- a line that begins with its bytes
+  pub hears_whole : (pass : PassData) (before : Unfinished) (line text : List ℕ) (pass' : PassData) → is_empty before ≡ true → length line ≤ 65536 → is_blank line ≡ false
+      → MayHear shared pass (meaning line) text pass' → HearsWhole shared pass (added line before) text pass'
+  hears_whole pass before line text pass' empty within none answer =
+      subst (λ l. HearsWhole shared pass l text pass') (sym (whole_line before line empty within)) (rw none answer)
+
+  pub hears_blank : (pass : PassData) (before : Unfinished) (line : List ℕ) → is_empty before ≡ true → length line ≤ 65536 → is_blank line ≡ true
+      → HearsWhole shared pass (added line before) [] pass
+  hears_blank pass before line empty within blank =
+      subst (λ l. HearsWhole shared pass l [] pass) (sym (whole_line before line empty within)) (rw blank (refl, refl))
+
+  pub refuses_whole : (pass : PassData) (before : Unfinished) (line : List ℕ) (why : CallFault) → is_empty before ≡ true → length line ≤ 65536 → is_blank line ≡ false
+      → RefusesMeaning shared pass (meaning line) why → RefusesWhole shared pass (added line before) why
+  refuses_whole pass before line why empty within none refused =
+      subst (λ l. RefusesWhole shared pass l why) (sym (whole_line before line empty within)) (none, refused)
 
   -- what was answered is the first part, whatever follows
   pub front_of : (a b : PassData) (l m : Unfinished) (xs ys told : List ℕ) → TakesBytes shared a l xs told b m → TakesFront shared a l (xs ++ ys) told b
@@ -147,6 +179,15 @@ module _ (shared : SharedData) where
     heard = h.2.heard;
     refused = subst (λ l. RefusesWhole shared b l why) h.1 refused;
   }
+
+-- what a result gives, said otherwise
+pub OnOk-map : {T E P Q : Type 0} (r : Result T E) → (P → Q) → OnOk r P → OnOk r Q
+OnOk-map (Ok x) f p = f p
+OnOk-map (Err e) f p = tt
+
+pub IfErr-map : {T E : Type 0} {P Q : E → Type 0} (r : Result T E) → ((e : E) → P e → Q e) → IfErr r P → IfErr r Q
+IfErr-map (Ok x) f p = tt
+IfErr-map (Err e) f p = f e p
 
 -- whatever the result
 pub always_ok : {P : Type 0} (r : Result (Unit {0}) ServeFault) → P → OnOk r P

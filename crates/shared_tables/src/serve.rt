@@ -1,10 +1,10 @@
 //! One session's stream over tables behind locks.
 
-ghost use Rattle.std.specs.Prelude.{◌≡◌, ◌+◌, ◌≤◌, ◌++◌, ◌∷◌, ◌⊎◌, [], ⊤, List, ℕ, length, Err, OnErr, OnOk, IfErr};
+ghost use Rattle.std.specs.Prelude.{◌≡◌, ◌+◌, ◌≤◌, ◌++◌, ◌⊎◌, [], ⊤, List, ℕ, length, Err, OnErr, OnOk, IfErr};
 ghost use Rattle.std.specs.Io.KnownBytes.{Appends, Consumes, IsAtEnd};
 ghost use Rattle.command_lines.specs.Meaning.{meaning};
 ghost use Rattle.table_engine.specs.Devices.{AppendsFront, raised, raised_by};
-ghost use Rattle.table_engine.specs.Lines.{short};
+ghost use Rattle.table_engine.specs.Lines.{short, added};
 ghost use Rattle.table_engine.specs.Whole.{lines_of};
 ghost use Rattle.table_reply.specs.Buffer.{Keeps};
 ghost use Rattle.shared_tables.specs.Serving.{HearsEnded, HearsFront, HearsLines, HearsWhole, MayHear, MeetsRefusal, Passes, RefusesMeaning, RefusesNext, RefusesWhole, Stops, TakesBytes, TakesFront, failures_after_serve};
@@ -13,10 +13,13 @@ use crate::fault::{CallFault, ServeFault};
 use crate::pass::Pass;
 use crate::shared::{Gate, Shared};
 use command_lines::{CommandFault, read_command};
+use memchr::memchr;
 use std::alloc::Global;
 use std::io::{Read, Write};
 use std::sync::Wait;
-use table_engine::{Cut, LineCutter, PIECE, Sink, Source, make_room, new_out, write_out};
+use table_engine::{
+    Cut, LineCutter, MAX_LINE, PIECE, Sink, Source, is_blank, make_room, new_out, write_out,
+};
 use table_reply::{Fault, Out, READY_ROOM};
 use table_step::refuse;
 
@@ -139,7 +142,7 @@ impl<G: Gate> Shared<G> {
         Ok(())
     }
 
-    // Takes the bytes of a piece one after another, and writes out the answers to the lines that they end.
+    // Takes the bytes of a piece, line by line, and writes out the answers to the lines that they end.
     fn serve_piece<W: Write>(
         &self,
         alloc: Global,
@@ -161,44 +164,74 @@ impl<G: Gate> Shared<G> {
             (λ why. (told : List ℕ) × MeetsRefusal self.now pass.old cutter.old.unfinished piece.now told pass.new why × AppendsFront (W.contents sink.old.inner) (W.contents sink.new.inner) told) }
         ensures failures { sink.new.failures ≡ failures_after_serve result sink.old.failures }
     {
-        for byte in piece {
-            match self.serve_byte(alloc, rt, pass, cutter, *byte, sink, out) {
+        let mut rest = piece;
+        while let Some(length) = memchr(b'\n', rest) {
+            let (line, after) = rest.split_at(length);
+            match self.serve_line(alloc, rt, pass, cutter, line, sink, out) {
                 Ok(()) => {}
                 Err(fault) => return Err(fault),
             }
+            let (_, behind) = after.split_at(1);
+            rest = behind;
         }
+        cutter.extend(rest);
         write_out(alloc, sink, out)?;
         Ok(())
     }
 
-    // Takes the next byte. Before a line is answered, the answers that wait are written out where they are many or leave no room
-    // for a further one.
-    fn serve_byte<W: Write>(
+    // Takes bytes and the newline after them. Before the line that they end is answered, the answers that wait are written out
+    // where they are many or leave no room for a further one.
+    fn serve_line<W: Write>(
         &self,
         alloc: Global,
         rt: &impl Wait,
         pass: &mut Pass,
         cutter: &mut LineCutter,
-        byte: u8,
+        line: &[u8],
         sink: &mut Sink<W>,
         out: &mut Out,
     ) -> Result<(), ServeFault>
         requires room { READY_ROOM ≤ out.old.room + length out.old.bytes }
-        ensures taken { OnOk result ((told : List ℕ) × TakesBytes self.now pass.old cutter.old.unfinished (byte ∷ []) told pass.new cutter.new.unfinished
+        ensures heard { OnOk result ((told : List ℕ) × HearsWhole self.now pass.old (added line.now cutter.old.unfinished) told pass.new
             × Passes (W.contents sink.old.inner) (W.contents sink.new.inner) out.old.bytes told out.new.bytes) }
+        ensures ended { OnOk result (cutter.new.unfinished ≡ short []) }
         ensures room { OnOk result (READY_ROOM ≤ out.new.room + length out.new.bytes) }
         ensures unchanged { OnErr result (pass.new ≡ pass.old) }
         ensures front { OnErr result (AppendsFront (W.contents sink.old.inner) (W.contents sink.new.inner) out.old.bytes) }
-        ensures stopped { Stops result ⊤ (λ why. (byte ≡ 10) × RefusesWhole self.now pass.old cutter.old.unfinished why) }
+        ensures stopped { Stops result ⊤ (λ why. RefusesWhole self.now pass.old (added line.now cutter.old.unfinished) why) }
         ensures failures { sink.new.failures ≡ failures_after_serve result sink.old.failures }
     {
-        if byte != b'\n' {
-            cutter.feed(byte);
+        make_room(alloc, sink, out)?;
+        self.take_line(alloc, rt, pass, cutter, line, out)?;
+        Ok(())
+    }
+
+    // Takes bytes and the newline after them, and answers the line that they end. A line that stands in the bytes as a whole is
+    // answered where it stands.
+    fn take_line(
+        &self,
+        alloc: Global,
+        rt: &impl Wait,
+        pass: &mut Pass,
+        cutter: &mut LineCutter,
+        line: &[u8],
+        out: &mut Out,
+    ) -> Result<(), CallFault>
+        requires { READY_ROOM ≤ out.old.room }
+        ensures heard { OnOk result ((text : List ℕ) × (out.new.bytes ≡ out.old.bytes ++ text) × HearsWhole self.now pass.old (added line.now cutter.old.unfinished) text pass.new) }
+        ensures refused { IfErr result (λ why. RefusesWhole self.now pass.old (added line.now cutter.old.unfinished) why) }
+        ensures unchanged { OnErr result ((pass.new ≡ pass.old) × (out.new ≡ out.old)) }
+        ensures ended { cutter.new.unfinished ≡ short [] }
+        ensures kept { Keeps out.old out.new }
+    {
+        if !cutter.is_empty() || line.len() > MAX_LINE {
+            cutter.extend(line);
+            return self.end_line(alloc, rt, pass, cutter, out);
+        }
+        if is_blank(line) {
             return Ok(());
         }
-        make_room(alloc, sink, out)?;
-        self.end_line(alloc, rt, pass, cutter, out)?;
-        Ok(())
+        self.answer_line(alloc, rt, pass, line, out)
     }
 
     // Takes a newline, and answers the line that it ends.
