@@ -1,9 +1,11 @@
 """Edits that earlier runs on this machine saw refused, each by a sum of all that its verdict rests on."""
+import contextlib
 import hashlib
 import json
 import os
 import stat
 import tempfile
+import time
 
 from crate_builds import rtlib
 
@@ -11,6 +13,8 @@ HERE = os.path.dirname(os.path.abspath(__file__))
 # What judges an edit: these files, and these parts of the kit.
 TOOLS = ("try_edits", "ci_in_progress.py", "crate_builds.py", "crate_checks.py", "kept_verdicts.py", "rattle_source.py")
 PARTS = ("KIT-ID", "WHAT", "bin", "logic_built", "rattle/logic", "rattle/antt")
+# An entry that no run has taken for so long is removed.
+SECONDS = 90 * 24 * 3600
 
 
 def folder_of_user():
@@ -53,8 +57,15 @@ class KeptVerdicts:
             found = os.lstat(folder)
             if stat.S_ISDIR(found.st_mode) and found.st_uid == os.geteuid():
                 self.folder = folder
+                self.remove_old()
         except OSError:
             pass
+
+    def remove_old(self):
+        for it in os.scandir(self.folder):
+            with contextlib.suppress(OSError):
+                if it.stat().st_mtime < time.time() - SECONDS:
+                    os.remove(it.path)
 
     def sums_of(self, crate, edits):
         """For each of these edits of a crate the sum of all that its verdict rests on: the judges; the crate's line of crates.txt and its files, and
@@ -69,6 +80,7 @@ class KeptVerdicts:
             return ""
         try:
             found = json.loads(content(f"{self.folder}/{sum}"))
+            os.utime(f"{self.folder}/{sum}")
             return found["refused"] if found["sum"] == sum and isinstance(found["refused"], str) else ""
         except (OSError, ValueError, KeyError, TypeError):
             return ""
