@@ -20,15 +20,17 @@ def functions_in(library):
 
 
 class CiInProgress:
-    def __init__(self, file):
-        """Follows the run that prints into this file, and gives this process and those that it starts the processor's idle time alone."""
-        self.file = file
+    def __init__(self, file, is_apart):
+        """Follows the run that prints into this file, and gives this process and those that it starts the processor's idle time alone, or, where that
+        run has processors of its own, all of it."""
+        self.file, self.is_apart = file, is_apart
         # (the system shares its time between sessions first, and `rt` has its checks in sessions of their own)
         try:
             os.setsid()
         except OSError:
             return
-        self.weigh(19)
+        if not is_apart:
+            self.weigh(19)
 
     @staticmethod
     def weigh(nice):
@@ -61,5 +63,7 @@ class CiInProgress:
         """How many checks may run beside it: while it runs, one for each core but one, where the memory is there. Once it has ended they weigh as much as any."""
         if not self.is_running():
             self.weigh(0)
+            return most
+        if self.is_apart:
             return most
         return max(1, most - 1) if rtlib.fits(ROOM) else 0
