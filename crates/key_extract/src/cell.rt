@@ -5,67 +5,93 @@ ghost use Rattle.std.specs.Hash.FoldHasher as folding;
 ghost use Rattle.key_extract.specs.Cells.{cell_cmp, optional_cell_cmp};
 ghost use Rattle.key_extract.specs.Hashes.{optional_cell_writes};
 
+use arrayvec::ArrayString;
 use std::alloc::{AllocError, Global};
 use std::cmp::Ordering;
+use std::fmt;
 use std::hash::{FoldHasher, Hash, Hasher};
 use std::marker::Model;
 use std::mem::replace;
 
-/// A text, which compares by its bytes.
-#[derive(Debug, Drop)]
+// The bytes of a text: in the value itself where they are few, and else in memory of their own.
+#[derive(Drop)]
+enum Stored {
+    Short(ArrayString<16>),
+    Long(String),
+}
+
+/// A text, which compares by its bytes. Those of a text of at most 16 bytes stand in the value itself, and it allocates nothing.
+#[derive(Drop)]
 pub struct Text {
-    text: String,
+    stored: Stored,
 }
 
 impl Model for Text {
-    ghost use Rattle.std.specs.Prelude.{List, ℕ, string_bytes};
+    ghost use Rattle.std.specs.Prelude.{List, ℕ};
 
     ghost Value = { List ℕ };
 
-    ghost view = { λ t. string_bytes t.text };
+    ghost use Rattle.key_extract.specs.Texts.{stored_bytes};
+
+    ghost view = { λ t. stored_bytes t.stored };
 }
 
 impl Text {
-    /// The text of a string, which it takes. O(1).
+    /// The text of a string, which it takes. O(1); of a text of at most 16 bytes the string's memory is freed.
     pub fn new(text: String) -> Text
         ensures { result ≡ string_bytes text }
     {
-        Text { text }
+        let stored = match ArrayString::from(text.as_str()) {
+            Ok(short) => Stored::Short(short),
+            Err(_) => Stored::Long(text),
+        };
+        Text { stored }
     }
 
-    /// A text of these bytes, newly allocated. O(length).
+    /// A text of these bytes, newly allocated where they are more than 16. O(length).
     pub fn copy_of(alloc: Global, text: &str) -> Result<Text, AllocError>
         ensures { IfOk result (λ copy. copy ≡ text.now) }
     {
-        Ok(Text::new(String::from_str(alloc, text)?))
+        let stored = match ArrayString::from(text) {
+            Ok(short) => Stored::Short(short),
+            Err(_) => Stored::Long(String::from_str(alloc, text)?),
+        };
+        Ok(Text { stored })
     }
 
-    /// An equal text, newly allocated. O(length).
+    /// An equal text, newly allocated where its bytes are more than 16. O(length).
     pub fn copy(&self) -> Result<Text, AllocError>
         ensures { IfOk result (λ copy. copy ≡ self.now) }
     {
-        Text::copy_of(*self.text.allocator(), self.as_str())
+        let stored = match &self.stored {
+            Stored::Short(text) => Stored::Short(*text),
+            Stored::Long(text) => Stored::Long(text.clone()?),
+        };
+        Ok(Text { stored })
     }
 
     /// The text, as long as it is borrowed. O(1).
     pub fn as_str(&self) -> &str
         ensures { result.now ≡ self.now }
     {
-        self.text.as_str()
+        match &self.stored {
+            Stored::Short(text) => text.as_str(),
+            Stored::Long(text) => text.as_str(),
+        }
     }
 
     /// The length in bytes, which is not the number of characters. O(1).
     pub fn len(&self) -> usize
         ensures { result ≡ length self.now }
     {
-        self.text.len()
+        self.as_str().len()
     }
 
     /// Whether the text has no byte. O(1).
     pub fn is_empty(&self) -> bool
         ensures { IsTrue result ↔ (self.now ≡ []) }
     {
-        self.text.is_empty()
+        self.as_str().is_empty()
     }
 }
 
@@ -98,7 +124,13 @@ impl Hash for Text {
     ghost respects_eq = { (same_Alike str bytes_decides).fed };
 
     fn hash<H: Hasher>(&self, state: &mut H) {
-        self.text.hash(state);
+        self.as_str().hash(state);
+    }
+}
+
+impl fmt::Debug for Text {
+    fn fmt<W: fmt::Write>(&self, f: &mut fmt::Formatter<W>) -> fmt::Result {
+        fmt::Debug::fmt(&self.as_str(), f)
     }
 }
 
@@ -116,7 +148,7 @@ pub enum Cell {
 }
 
 impl Cell {
-    /// An equal cell; a text is newly allocated. O(length of the text).
+    /// An equal cell; a text of more than 16 bytes is newly allocated. O(length of the text).
     pub fn copy(&self) -> Result<Cell, AllocError>
         ensures { IfOk result (λ copy. copy ≡ self.now) }
     {
