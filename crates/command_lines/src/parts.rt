@@ -24,7 +24,7 @@ fn value_of(alloc: Global, json: &Json) -> Result<Value, AllocError>
             Some(number) => Value::Cell(Cell::Int(number)),
             None => Value::Other,
         }),
-        Json::String(text) => Ok(Value::Cell(Cell::Text(Text::new(text.clone()?)))),
+        Json::String(text) => Ok(Value::Cell(Cell::Text(Text::copy_of(alloc, text.as_str())?))),
         Json::Array(_) | Json::Object(_) => Ok(Value::Other),
     }
 }
@@ -45,7 +45,7 @@ fn fields_of(alloc: Global, members: &Map<String, Json>) -> Result<Fields, Alloc
     let mut row = Vec::with_capacity(alloc, members.len())?;
     for (name, value) in members {
         row.push(Field {
-            name: Text::new(name.clone()?),
+            name: Text::copy_of(alloc, name.as_str())?,
             value: value_of(alloc, value)?,
         })?;
     }
