@@ -91,14 +91,14 @@ fn one_node_stands_in_two_rows(rt: HostRuntime) -> Result<(), Fail> {
     assert!(rt; pair.left_at(0) == Some(0));
     assert!(rt; pair.right_at(0) == Some(2));
     pair.unlink_left(1);
-    assert!(rt; pair.left_at(0) == Some(0));
-    assert!(rt; pair.left_at(1) == Some(2));
-    assert!(rt; pair.left_at(2) == None);
+    for (place, number) in [(0, Some(0)), (1, Some(2)), (2, None)] {
+        assert!(rt; pair.left_at(place) == number);
+    }
     assert!(rt; pair.right_at(1) == Some(1));
     pair.unlink_right(1);
-    assert!(rt; pair.right_at(0) == Some(2));
-    assert!(rt; pair.right_at(1) == Some(0));
-    assert!(rt; pair.right_at(2) == None);
+    for (place, number) in [(0, Some(2)), (1, Some(0)), (2, None)] {
+        assert!(rt; pair.right_at(place) == number);
+    }
     assert!(rt; pair.left_at(1) == Some(2));
     Ok(())
 }

@@ -26,10 +26,9 @@ fn the_least_free_slot_is_taken_first(rt: HostRuntime) -> Result<(), Fail> {
     assert!(rt; table.least_free() == 1);
     assert!(rt; table.get(0) == Some(10));
     assert!(rt; table.get(1) == None);
-    assert!(rt; put(&mut table, 20) == Some(1));
-    assert!(rt; put(&mut table, 21) == Some(3));
-    assert!(rt; put(&mut table, 22) == Some(4));
-    assert!(rt; put(&mut table, 23) == Some(5));
+    for (item, slot) in [(20, 1), (21, 3), (22, 4), (23, 5)] {
+        assert!(rt; put(&mut table, item) == Some(slot));
+    }
     assert!(rt; table.get(3) == Some(21));
     assert!(rt; table.get(6) == None);
     table.clear();

@@ -1,11 +1,52 @@
 //! Nodes and their links, how large they are, and a store that moves to another thread.
+ghost use Rattle.std.specs.Prelude.{◌≡◌, ◌<◌};
+ghost use Rattle.node_store.specs.Store.{IsNodeOf, number_of};
+ghost use Rattle.node_store.specs.ByNode.{contents};
 
 use node_store::{BLOCK_BYTES, COLUMNS, Link, Node, NodeStore};
 use std::mem::size_of;
+use std::process::Abort;
 use std::test::Fail;
 use std::thread;
 
-#[tactic(auto, using(node_store::proofs::StoreLemmas::nodes_with_record, node_store::proofs::ByNode::nodes_kept))]
+// What is written into one column of a node is read there, and not in the next.
+fn keeps_links(rt: &impl Abort, store: &mut NodeStore<u32>, a: Node, b: Node)
+    requires { IsNodeOf store.old a }
+    ensures { contents store.new ≡ contents store.old }
+{
+    let link = store.link(a, 1);
+    store.set_link(
+        a,
+        1,
+        Link {
+            b: Some(b),
+            height: 4,
+            ..link
+        },
+    );
+    assert!(rt; store.link(a, 1).b == Some(b));
+    assert_eq!(rt; store.link(a, 1).height, 4);
+    assert!(rt; store.link(a, 2).b == None);
+}
+
+// Of three nodes the last has its record changed, and the second goes.
+#[tactic(auto, using(node_store::proofs::StoreLemmas::nodes_with_record))]
+fn loses_second(rt: &impl Abort, store: &mut NodeStore<u32>, a: Node, b: Node, c: Node)
+    requires first { IsNodeOf store.old a }
+    requires second { IsNodeOf store.old b }
+    requires third { IsNodeOf store.old c }
+    requires before { number_of a < number_of b }
+    requires after { number_of b < number_of c }
+{
+    *store.get_mut(c) = 31;
+    assert_eq!(rt; store.remove(b), 20);
+    assert!(rt; store.older(c) == Some(a));
+    assert_eq!(rt; *store.get(c), 31);
+    assert_eq!(rt; *store.get(a), 10);
+    assert_eq!(rt; store.len(), 2);
+}
+
+#[tactic(auto, using(node_store::proofs::ByNode::nodes_kept))]
 #[test]
 fn links_are_kept_by_column(rt: HostRuntime) -> Result<(), Fail> {
     let mut store = NodeStore::new(rt.alloc());
@@ -23,25 +64,8 @@ fn links_are_kept_by_column(rt: HostRuntime) -> Result<(), Fail> {
     assert!(rt; store.newest() == Some(c));
     assert!(rt; store.older(c) == Some(b));
     assert!(rt; store.older(a) == None);
-    let link = store.link(a, 1);
-    store.set_link(
-        a,
-        1,
-        Link {
-            b: Some(b),
-            height: 4,
-            ..link
-        },
-    );
-    assert!(rt; store.link(a, 1).b == Some(b));
-    assert_eq!(rt; store.link(a, 1).height, 4);
-    assert!(rt; store.link(a, 2).b == None);
-    *store.get_mut(c) = 31;
-    assert_eq!(rt; store.remove(b), 20);
-    assert!(rt; store.older(c) == Some(a));
-    assert_eq!(rt; *store.get(c), 31);
-    assert_eq!(rt; *store.get(a), 10);
-    assert_eq!(rt; store.len(), 2);
+    keeps_links(&rt, &mut store, a, b);
+    loses_second(&rt, &mut store, a, b, c);
     Ok(())
 }
 
