@@ -1,6 +1,6 @@
 //! A table with the journal of its writes.
 
-ghost use Rattle.std.specs.Prelude.{◌≡◌, ◌<◌, ◌≤◌, [], length, OnErr, OnOk, IfOk, IsTrue};
+ghost use Rattle.std.specs.Prelude.{◌≡◌, ◌+◌, ◌<◌, ◌≤◌, ◌∷◌, ◌++◌, [], length, vec_len, vec_capacity, OnErr, OnOk, IfOk, IfSome, IsTrue};
 ghost use Rattle.table_reply.specs.Buffer.{Keeps};
 ghost use Rattle.shared_tables.specs.Journal.{IsLegal, own};
 ghost use Rattle.shared_tables.specs.Call.{Told, TrackTold, fault_of, fault_in};
@@ -11,6 +11,7 @@ use crate::line::first_bytes;
 use crate::pass::{Answered, Pass, Track};
 use crate::same::is_same_table;
 use crate::tally::Tally;
+use arrayvec::ArrayVec;
 use std::alloc::{AllocError, Global};
 use std::marker::Model;
 use table_cmd::Command;
@@ -38,6 +39,50 @@ impl Model for TableCell {
     ghost view = { λ c. record { shape = c.spec; workers = length c.tallies.items; journal = c.journal.items } };
 
     ghost invariant = { λ c. IsKept c.spec c.table c.journal.items c.tallies.items };
+}
+
+// Makes room for one more write in a journal and in what a session knows of it, and copies the command.
+fn prepare(
+    journal: &mut Vec<Entry>,
+    writes: &mut Vec<Answered>,
+    command: &Command,
+) -> Option<Command>
+    ensures copy { IfSome result (λ copied. copied ≡ command.now) }
+    ensures journal { journal.new.items ≡ journal.old.items }
+    ensures writes { writes.new.items ≡ writes.old.items }
+    ensures entry { IfSome result (λ _. vec_len journal.new < vec_capacity journal.new) }
+    ensures write { IfSome result (λ _. vec_len writes.new < vec_capacity writes.new) }
+{
+    if journal.reserve(1).is_err() || writes.reserve(1).is_err() {
+        return None;
+    }
+    command.copy().ok()
+}
+
+// Puts an accepted write at the end of a journal, for which there is room, and counts it.
+fn append(
+    journal: &mut Vec<Entry>,
+    tally: &mut Tally,
+    session: u32,
+    command: Command,
+    answer: ArrayVec<u8, 256>,
+)
+    requires room { vec_len journal.old < vec_capacity journal.old }
+    requires count { tally.old.count ≤ vec_len journal.old }
+    ensures entry { journal.new.items ≡ journal.old.items ++ record { session = session; serial = tally.old.count + 1; command = command; answer = answer.items } ∷ [] }
+    ensures tally { tally.new ≡ record { count = tally.old.count + 1; last = vec_len journal.old + 1 } }
+{
+    let serial = tally.count + 1;
+    *tally = Tally {
+        count: serial,
+        last: journal.len() as u64 + 1,
+    };
+    journal.push_reserved(Entry {
+        session,
+        serial,
+        command,
+        answer,
+    });
 }
 
 impl TableCell {
@@ -127,12 +172,7 @@ impl TableCell {
         ensures answered { TrackTold self.old session track.old command out.old.bytes out.new.bytes self.new track.new }
         ensures kept { Keeps out.old out.new }
     {
-        if self.journal.reserve(1).is_err() || track.writes.reserve(1).is_err() {
-            refuse_memory(out);
-            drop(command);
-            return;
-        }
-        let Ok(copied) = command.copy() else {
+        let Some(copied) = prepare(&mut self.journal, &mut track.writes, &command) else {
             refuse_memory(out);
             drop(command);
             return;
@@ -147,17 +187,13 @@ impl TableCell {
         let number = self.journal.len() as u64;
         if let Outcome::Write = outcome {
             let tally = &mut self.tallies[session as usize];
-            let serial = tally.count + 1;
-            *tally = Tally {
-                count: serial,
-                last: number + 1,
-            };
-            self.journal.push_reserved(Entry {
+            append(
+                &mut self.journal,
+                tally,
                 session,
-                serial,
                 command,
-                answer: first_bytes(out, start),
-            });
+                first_bytes(out, start),
+            );
             track.writes.push_reserved(Answered {
                 number: number + 1,
                 command: copied,
