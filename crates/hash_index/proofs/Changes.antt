@@ -1,5 +1,5 @@
 -- A node goes into a bucket, and out of it.
-use Rattle.std.proofs.Common.{◌≡◌, ◌≢◌, ℕ, ◌+◌, ◌-◌, ◌<◌, ◌≤◌, List, [], ◌∷◌, ◌++◌, length, get_or, set, Option, Some, None, refl, sym, ap, ◌∙◌, subst, arith, append_assoc}
+use Rattle.std.proofs.Common.{◌≡◌, ◌≢◌, ℕ, ◌+◌, ◌-◌, ◌*◌, ◌<◌, ◌≤◌, List, [], ◌∷◌, ◌++◌, length, get_or, set, Option, Some, None, refl, sym, ap, ◌∙◌, subst, arith, append_assoc}
 use Rattle.std.specs.Prelude.{IsPermutation}
 use Rattle.std.proofs.lemmas.List.Sorted.{IsPermutation-sym, IsPermutation-middle}
 use Rattle.std.specs.List.{AllByRecursion}
@@ -119,7 +119,7 @@ hangs_kept ds i j b head ys puts h =
     (subst (λ l. Hangs (ds i.col) (bucket_of l j.buckets.len) 0 (set (heads_of i) b head) ys) (sym puts.level) (subst (λ k. Hangs (ds i.col) (bucket_of i.level k) 0 (set (heads_of i) b head) ys) (sym puts.count) h)))
 
 module _ (cs ds : ℕ → Column) (d : Column) (i j : HashIndex) (n : Node) (b : ℕ) (h : IsSound cs i) (within : b < i.buckets.len) where
-  module _ (hash : ℕ) (head : Option Node) (puts : PutsHead i j b (Some n)) (len : j.len ≡ i.len + 1) (load : j.len ≤ j.buckets.len) (new : Lacks (spelled cs i) n) (bucket : b ≡ leads_to i hash) (first : head ≡ get_or (heads_of i) b None)
+  module _ (hash : ℕ) (head : Option Node) (puts : PutsHead i j b (Some n)) (len : j.len ≡ i.len + 1) (load : j.len * 2 ≤ j.buckets.len) (new : Lacks (spelled cs i) n) (bucket : b ≡ leads_to i hash) (first : head ≡ get_or (heads_of i) b None)
       (put : IsPut (cs i.col) d n (record { a = None; b = head; up = None; tag = hash; height = 0 })) (prev : SetsPrev (untagged d) (untagged (ds i.col)) head (Some n)) (tags : KeepsTags d (ds i.col)) (same : KeepsOtherNodes d (ds i.col) head) where
     put_both : IsSound ds j × IsPermutation (n ∷ spelled cs i) (spelled ds j)
     put_both =
@@ -137,7 +137,7 @@ module _ (cs ds : ℕ → Column) (d : Column) (i j : HashIndex) (n : Node) (b :
     pub put_moved : IsPermutation (n ∷ spelled cs i) (spelled ds j)
     put_moved = put_both.1
 
-  pub out_done : (link : Link) (head : Option Node) → PutsHead i j b head → head ≡ end_beside link.a (get_or (heads_of i) b None) link.b → j.len + 1 ≡ i.len → j.len ≤ j.buckets.len → Holds (spelled cs i) n → b ≡ leads_to i link.tag → cs i.col n ≡ Some link
+  pub out_done : (link : Link) (head : Option Node) → PutsHead i j b head → head ≡ end_beside link.a (get_or (heads_of i) b None) link.b → j.len + 1 ≡ i.len → j.len * 2 ≤ j.buckets.len → Holds (spelled cs i) n → b ≡ leads_to i link.tag → cs i.col n ≡ Some link
       → SetsNext (untagged (cs i.col)) (untagged d) link.a link.b → KeepsOtherNodes (cs i.col) d link.a → SetsPrev (untagged d) (untagged (ds i.col)) link.b link.a → KeepsOtherNodes d (ds i.col) link.b → KeepsTags (cs i.col) (ds i.col) → Spells ds j (without (same_node n) (spelled cs i))
   out_done link head puts first len load held bucket is next same_next prev same_prev tags =
       let f = focus_of cs i (spelled cs i) b within h in

@@ -1,8 +1,8 @@
 -- One bucket more, with the nodes that go there.
 use Rattle.std.proofs.Common.{◌≡◌, ◌≢◌, ℕ, Bool, true, false, cond, not, ◌+◌, ◌-◌, ◌*◌, ◌%◌, ◌<◌, ◌≤◌, List, [], ◌∷◌, ◌++◌, length, get_or, set, Option, Some, None, refl, sym, ap, ◌∙◌, subst, arith, append_assoc, ⊎_elim}
-use Rattle.std.specs.Prelude.{filter, IsPermutation}
+use Rattle.std.specs.Prelude.{filter, IsPermutation, ◌==◌}
 use Rattle.std.specs.List.{AllByRecursion}
-use Rattle.std.specs.Option.{option_map}
+use Rattle.std.specs.Option.{option_map, option_map_or}
 use Rattle.std.proofs.lemmas.Bool.{cases_eq}
 use Rattle.std.proofs.lemmas.List.{append-nil, length-set}
 use Rattle.std.proofs.lemmas.List.Elements.{filter-append}
@@ -145,6 +145,25 @@ gone_kept r p front chain back before after sub =
     let none : filter r stay ≡ [] = filter_out r (λ n. not (p n)) chain (λ n no_p yes_r. never_both p n (sub n yes_r) no_p) in
     filter-append r (front ++ (stay ++ back)) gone ∙ (ap (λ z. z ++ filter r gone) (filter_middle r front stay back before after ∙ none)
     ∙ (filter_within r p chain sub ∙ sym (filter_middle r front chain back before after)))
+
+-- ---- one chain more after another
+
+members_tags : (c d : Column) (to : ℕ → ℕ) (b : ℕ) (xs : List Node) → KeepsTags c d → members d to b xs ≡ members c to b xs
+members_tags c d to b xs tags = λ k. filter (λ n. option_map_or (λ hash. to hash == b) (tags n k) false) xs
+
+module _ (c : Column) (before after : ℕ → ℕ) (comes : (hash : ℕ) → before (after hash) ≡ before hash) (b : ℕ) where
+  led_before : (n : Node) → leads c after b n ≡ true → leads c before (before b) n ≡ true
+  led_before n there =
+      let t = leads_tag c after b n there in
+      leads_there c before (before b) n t.0 t.1.0 (sym (comes t.0) ∙ ap before t.1.1)
+
+  members_finer : (xs : List Node) → members c after b (members c before (before b) xs) ≡ members c after b xs
+  members_finer xs = filter_within (leads c after b) (leads c before (before b)) xs led_before
+
+  pub order_both : (d : Column) (old mid new : List Node) → KeepsTags c d → members c before (before b) mid ≡ members c before (before b) old → members d after b new ≡ members d after b mid → members c after b new ≡ members c after b old
+  order_both d old mid new tags first second =
+      sym (members_tags c d after b new tags) ∙ (second ∙ (members_tags c d after b mid tags
+      ∙ (sym (members_finer mid) ∙ (ap (members c after b) first ∙ members_finer old))))
 
 -- ---- an index with one bucket more
 

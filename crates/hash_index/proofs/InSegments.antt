@@ -1,12 +1,12 @@
 -- Buckets in segments: where each stands, and what changes one, adds one or adds a segment.
-use Rattle.std.proofs.Common.{◌≡◌, ◌⊎◌, inl, inr, ℕ, zero, suc, ◌+◌, ◌-◌, ◌*◌, ◌^◌, ◌<◌, ◌≤◌, true, false, nat_lt, List, [], ◌∷◌, ◌++◌, length, get_or, set, Option, Some, None, refl, sym, ap, ◌∙◌, subst, arith, append_assoc, length-append, pow_mono, pow-add, pow-suc, lt_of_not-le}
+use Rattle.std.proofs.Common.{◌≡◌, ◌⊎◌, inl, inr, ℕ, zero, suc, ◌+◌, ◌-◌, ◌*◌, ◌^◌, ◌<◌, ◌≤◌, List, [], ◌∷◌, ◌++◌, length, get_or, set, Option, Some, None, refl, sym, ap, ◌∙◌, subst, arith, append_assoc, length-append, pow_mono, pow-add, pow-suc, lt_of_not-le}
 use Rattle.std.specs.List.{slice_get}
 use Rattle.std.specs.Vec.{vec_len, vec_capacity}
 use Rattle.std.proofs.lemmas.Nat.{pow_pos}
 use Rattle.std.proofs.lemmas.List.{append-nil, get_or-append-add, get_or_append_left, set-append_left, set-append_right}
 use Rattle.std.proofs.Math.Seq.{get_or-append_seam, set-append_seam}
 use Rattle.node_store.specs.declared.Node.{Node}
-use Rattle.hash_index.specs.Segments.{Segment, heads_in, AreSegments, has_spare}
+use Rattle.hash_index.specs.Segments.{Segment, heads_in, AreSegments, spare}
 
 -- ---- the highest bit
 
@@ -90,8 +90,8 @@ swapped_shape size [] s t (b ∷ back) len cap h = (len ∙ h.0, h.1)
 swapped_shape size (f ∷ []) s t back len cap h = (h.0, swapped_shape (size * 2) [] s t back len cap h.1)
 swapped_shape size (f ∷ (g ∷ front)) s t back len cap h = (h.0, swapped_shape (size * 2) (g ∷ front) s t back len cap h.1)
 
-swapped_spare : (front : List Segment) (s t : Segment) (back : List Segment) → vec_len t ≡ vec_len s → vec_capacity t ≡ vec_capacity s → has_spare (front ++ t ∷ back) ≡ has_spare (front ++ s ∷ back)
-swapped_spare [] s t [] len cap = ap (λ k. nat_lt k (vec_capacity t)) len ∙ ap (λ k. nat_lt (vec_len s) k) cap
+swapped_spare : (front : List Segment) (s t : Segment) (back : List Segment) → vec_len t ≡ vec_len s → vec_capacity t ≡ vec_capacity s → spare (front ++ t ∷ back) ≡ spare (front ++ s ∷ back)
+swapped_spare [] s t [] len cap = ap (λ k. vec_capacity t - k) len ∙ ap (λ k. k - vec_len s) cap
 swapped_spare [] s t (b ∷ back) len cap = refl
 swapped_spare (f ∷ []) s t back len cap = swapped_spare [] s t back len cap
 swapped_spare (f ∷ (g ∷ front)) s t back len cap = swapped_spare (g ∷ front) s t back len cap
@@ -100,34 +100,39 @@ module _ (ss : List Segment) (k j b : ℕ) (p : Part ss k j b) (s : Segment) (le
   pub put_shape : (size : ℕ) → AreSegments size ss → AreSegments size (set ss k s)
   put_shape size h = subst (AreSegments size) (sym (part_put ss k j b p s)) (swapped_shape size p.front p.segment s p.back len cap (subst (AreSegments size) p.whole h))
 
-  pub put_spare : has_spare (set ss k s) ≡ has_spare ss
-  put_spare = ap has_spare (part_put ss k j b p s) ∙ (swapped_spare p.front p.segment s p.back len cap ∙ ap has_spare (sym p.whole))
+  pub put_spare : spare (set ss k s) ≡ spare ss
+  put_spare = ap spare (part_put ss k j b p s) ∙ (swapped_spare p.front p.segment s p.back len cap ∙ ap spare (sym p.whole))
 
 -- ---- one bucket more in the last segment
+
+pub spare_more : (ss : List Segment) (new : Segment) → spare (ss ++ new ∷ []) ≡ vec_capacity new - vec_len new
+spare_more [] new = refl
+spare_more (s ∷ []) new = refl
+spare_more (s ∷ (t ∷ ss)) new = spare_more (t ∷ ss) new
 
 pub record Last (ss : List Segment) : Type 0 where
   pub front : List Segment
   pub segment : Segment
   pub whole : ss ≡ front ++ segment ∷ []
-  pub spare : has_spare ss ≡ nat_lt (vec_len segment) (vec_capacity segment)
+  pub room : spare ss ≡ vec_capacity segment - vec_len segment
 
 pub last_of : (s : Segment) (ss : List Segment) → Last (s ∷ ss)
-last_of s [] = record { front = []; segment = s; whole = refl; spare = refl }
-last_of s (t ∷ ss) = let r = last_of t ss in record { front = s ∷ r.front; segment = r.segment; whole = ap (λ z. s ∷ z) r.whole; spare = r.spare }
+last_of s [] = record { front = []; segment = s; whole = refl; room = refl }
+last_of s (t ∷ ss) = let r = last_of t ss in record { front = s ∷ r.front; segment = r.segment; whole = ap (λ z. s ∷ z) r.whole; room = r.room }
 
-spare_at : (ss : List Segment) (k : ℕ) (s : Segment) → k + 1 ≡ length ss → slice_get ss k ≡ Some s → nat_lt (vec_len s) (vec_capacity s) ≡ has_spare ss
+spare_at : (ss : List Segment) (k : ℕ) (s : Segment) → k + 1 ≡ length ss → slice_get ss k ≡ Some s → vec_capacity s - vec_len s ≡ spare ss
 spare_at [] k s count e = absurd (omega (arith, count))
 spare_at (x ∷ []) zero s count e = cc
 spare_at (x ∷ []) (suc k) s count e = absurd (omega (arith, count))
 spare_at (x ∷ (y ∷ ss)) zero s count e = absurd (omega (arith, count))
 spare_at (x ∷ (y ∷ ss)) (suc k) s count e = spare_at (y ∷ ss) k s (omega (arith, count)) e
 
-pub spare_is : (ss : List Segment) (s : Segment) → Some s ≡ slice_get ss (length ss - 1) → nat_lt (vec_len s) (vec_capacity s) ≡ has_spare ss
+pub spare_is : (ss : List Segment) (s : Segment) → Some s ≡ slice_get ss (length ss - 1) → vec_capacity s - vec_len s ≡ spare ss
 spare_is [] s e = cc
 spare_is (x ∷ ss) s e = let below : length (x ∷ ss) - 1 ≡ length ss = omega arith in spare_at (x ∷ ss) (length ss) s (omega arith) (sym (e ∙ ap (λ k. slice_get (x ∷ ss) k) below))
 
-pub spare_last : (ss : List Segment) → has_spare ss ≡ true → Last ss
-spare_last [] e = cc
+pub spare_last : (ss : List Segment) → 0 < spare ss → Last ss
+spare_last [] e = absurd (omega (arith, e))
 spare_last (s ∷ ss) e = last_of s ss
 
 last_shape : (size : ℕ) (front : List Segment) (s t : Segment) → vec_capacity t ≡ vec_capacity s → AreSegments size (front ++ s ∷ []) → AreSegments size (front ++ t ∷ [])
@@ -139,8 +144,8 @@ module _ (ss : List Segment) (p : Last ss) where
   pub last_count : 0 < length ss
   last_count = omega (arith, ap length p.whole, length-append p.front (p.segment ∷ []))
 
-  pub last_room : has_spare ss ≡ true → vec_len p.segment < vec_capacity p.segment
-  last_room e = let is : nat_lt (vec_len p.segment) (vec_capacity p.segment) ≡ true = sym p.spare ∙ e in grind (arith, is)
+  pub last_room : 0 < spare ss → vec_len p.segment < vec_capacity p.segment
+  last_room e = omega (arith, e, p.room)
 
   pub last_is : (k : ℕ) (s : Segment) → k + 1 ≡ length ss → s ≡ get_or ss k s → s ≡ p.segment
   last_is k s count e =
@@ -155,6 +160,9 @@ module _ (ss : List Segment) (p : Last ss) where
   pub last_fits : (size k : ℕ) (s : Segment) → k + 1 ≡ length ss → vec_capacity s ≡ vec_capacity p.segment → AreSegments size ss → AreSegments size (set ss k s)
   last_fits size k s count cap h = subst (AreSegments size) (sym (last_put k s count)) (last_shape size p.front p.segment s cap (subst (AreSegments size) p.whole h))
 
+  pub last_spare : (k : ℕ) (s : Segment) → k + 1 ≡ length ss → vec_len s ≡ vec_len p.segment + 1 → vec_capacity s ≡ vec_capacity p.segment → 0 < spare ss → spare (set ss k s) + 1 ≡ spare ss
+  last_spare k s count len cap some = omega (arith, ap spare (last_put k s count), spare_more p.front s, p.room, len, cap, some)
+
   pub last_heads : (k : ℕ) (s : Segment) (head : Option Node) → k + 1 ≡ length ss → s.items ≡ p.segment.items ++ head ∷ [] → heads_in (set ss k s) ≡ heads_in ss ++ head ∷ []
   last_heads k s head count e =
       ap heads_in (last_put k s count) ∙ (heads_parts p.front s [] ∙ (ap (λ z. heads_in p.front ++ z) (append-nil s.items ∙ e)
@@ -166,15 +174,10 @@ module _ (ss : List Segment) (p : Last ss) where
 pub heads_more : (ss : List Segment) (new : Segment) → new.items ≡ [] → heads_in (ss ++ new ∷ []) ≡ heads_in ss
 heads_more ss new e = heads_parts ss new [] ∙ (ap (λ z. heads_in ss ++ (z ++ [])) e ∙ append-nil (heads_in ss))
 
-pub spare_more : (ss : List Segment) (new : Segment) → nat_lt (vec_len new) (vec_capacity new) ≡ true → has_spare (ss ++ new ∷ []) ≡ true
-spare_more [] new e = e
-spare_more (s ∷ []) new e = e
-spare_more (s ∷ (t ∷ ss)) new e = spare_more (t ∷ ss) new e
+full : (s : Segment) → vec_capacity s - vec_len s ≡ 0 → vec_len s ≡ vec_capacity s
+full s e = omega (arith, e, s.ok.1)
 
-full : (s : Segment) → nat_lt (vec_len s) (vec_capacity s) ≡ false → vec_len s ≡ vec_capacity s
-full s e = grind (arith, e, s.ok.1)
-
-pub shape_more : (size : ℕ) (ss : List Segment) (new : Segment) → has_spare ss ≡ false → vec_capacity new ≡ length (heads_in ss) + size → AreSegments size ss → AreSegments size (ss ++ new ∷ [])
+pub shape_more : (size : ℕ) (ss : List Segment) (new : Segment) → spare ss ≡ 0 → vec_capacity new ≡ length (heads_in ss) + size → AreSegments size ss → AreSegments size (ss ++ new ∷ [])
 shape_more size [] new e room h = omega (arith, room)
 shape_more size (s ∷ []) new e room h =
     let is = full s e in

@@ -1,7 +1,7 @@
 -- Buckets that are added one at a time: which hashes lead elsewhere.
 use Rattle.std.proofs.Common.{◌≡◌, ◌≢◌, ℕ, ◌+◌, ◌-◌, ◌*◌, ◌%◌, ◌<◌, ◌≤◌, refl, sym, ap, ◌∙◌, subst, arith, ⊎_elim}
 use Rattle.std.specs.Prelude.{max}
-use Rattle.std.proofs.lemmas.Bool.{cases_lt, cond_below, cond_above}
+use Rattle.std.proofs.lemmas.Bool.{cases_eq, cases_lt, cond_below, cond_above}
 use Rattle.std.proofs.Math.Nat.{mod-mod_of_dvd, mod-eq-sub-mod, mod-eq_of_lt, dvd-mul_right}
 use Rattle.hash_index.specs.declared.HashIndex.{HashIndex}
 use Rattle.hash_index.specs.Buckets.{bucket_of}
@@ -21,6 +21,12 @@ pub upper_half : (level hash : ℕ) → 0 < level → level ≤ hash % (level * 
 upper_half level hash some le =
     let below : hash % (level * 2) < level * 2 = omega (arith, some) in
     sym (halved level hash) ∙ (mod-eq-sub-mod le ∙ mod-eq_of_lt (omega (arith, below, le)))
+
+-- the number of a chain that is there leads to that chain
+pub led : (level count hash : ℕ) → hash < count → count ≤ level * 2 → bucket_of level count hash ≡ hash
+led level count hash lt le =
+    let same : hash % (level * 2) ≡ hash = mod-eq_of_lt (omega (arith, lt, le)) in
+    low level count hash (omega (arith, same, lt)) ∙ same
 
 -- a hash leads to a bucket that there is
 pub bucket_within : (level count hash : ℕ) → 0 < level → level ≤ max 1 count → 0 < count → bucket_of level count hash < count
@@ -60,3 +66,11 @@ stays level count hash ne =
     (λ lt. low level (count + 1) hash (omega (arith, lt)) ∙ sym (low level count hash lt))
     (λ le. let more : count + 1 ≤ hash % (level * 2) = omega (arith, le, ne) in high level (count + 1) hash more ∙ sym (high level count hash le))
     (cases_lt (hash % (level * 2)) count)
+
+-- a hash led where the number of the chain led that it leads to then
+pub comes : (level count hash : ℕ) → 0 < level → level ≤ count → count < level * 2 → bucket_of level count (bucket_of level (count + 1) hash) ≡ bucket_of level count hash
+comes level count hash some le below =
+    ⊎_elim
+    (λ e. ap (λ k. bucket_of level count k) (goes level count hash e) ∙ (went level count count some le (mod-eq_of_lt below) ∙ sym (went level count hash some le e)))
+    (λ ne. ap (λ k. bucket_of level count k) (stays level count hash ne) ∙ led level count (bucket_of level count hash) (bucket_within level count hash some (omega (arith, le)) (omega (arith, some, le))) (omega (arith, below)))
+    (cases_eq (hash % (level * 2)) count)

@@ -1,5 +1,5 @@
 -- What an index spells, by its buckets.
-use Rattle.std.proofs.Common.{◌≡◌, ◌≢◌, ℕ, ◌+◌, ◌<◌, ◌≤◌, List, [], ◌∷◌, ◌++◌, length, map, get_or, drop, Option, Some, None, refl, sym, ap, ◌∙◌, subst, arith, append_assoc, length-append}
+use Rattle.std.proofs.Common.{◌≡◌, ◌≢◌, ℕ, ◌+◌, ◌*◌, ◌<◌, ◌≤◌, List, [], ◌∷◌, ◌++◌, length, map, get_or, drop, Option, Some, None, refl, sym, ap, ◌∙◌, subst, arith, append_assoc, length-append}
 use Rattle.std.specs.List.{AllByRecursion}
 use Rattle.std.specs.Option.{option_map}
 use Rattle.node_store.specs.declared.Node.{Node}
@@ -23,7 +23,7 @@ use Rattle.hash_index.proofs.Untagged.{tag_is, tagged_node}
 use Rattle.hash_index.proofs.OneBucket.{Hangs, Focus, IsElsewhere, focus, chains_are, chains_same, chains_nodes, heads_first, follow_leads, leads_runs}
 
 -- an index whose buckets hold these nodes spells them
-pub Spells_from : (cs : ℕ → Column) (i : HashIndex) (xs : List Node) → Hangs (cs i.col) (leads_to i) 0 (heads_of i) xs → IsDistinct xs → i.len ≡ length xs → i.len ≤ i.buckets.len → Spells cs i xs
+pub Spells_from : (cs : ℕ → Column) (i : HashIndex) (xs : List Node) → Hangs (cs i.col) (leads_to i) 0 (heads_of i) xs → IsDistinct xs → i.len ≡ length xs → i.len * 2 ≤ i.buckets.len → Spells cs i xs
 unfolding spelled
 Spells_from cs i xs h dist len load =
     let fits : length (joined h.chains) ≤ i.len = omega (arith, len, ap length h.whole) in

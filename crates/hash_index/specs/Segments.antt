@@ -1,5 +1,5 @@
 -- Buckets in segments, each twice as large as the one before it.
-use Rattle.std.specs.Prelude.{◌≡◌, ℕ, ◌+◌, ◌*◌, ◌^◌, ◌<◌, List, [], ◌∷◌, ◌++◌, Bool, false, nat_lt, Option}
+use Rattle.std.specs.Prelude.{◌≡◌, ℕ, ◌+◌, ◌-◌, ◌*◌, ◌^◌, ◌<◌, List, [], ◌∷◌, ◌++◌, Option}
 use Rattle.std.specs.Vec.{vec_len, vec_capacity}
 use Rattle.std.specs.Coded.{coded_ℕ}
 use Rattle.std.specs.declared.vec.Vec.{Vec}
@@ -22,11 +22,11 @@ AreSegments size [] = Unit {0}
 AreSegments size (s ∷ []) = vec_capacity s ≡ size
 AreSegments size (s ∷ (t ∷ ss)) = (vec_len s ≡ size) × AreSegments (size * 2) (t ∷ ss)
 
--- whether the last has room for one bucket more
-abbrev pub has_spare : List Segment → Bool
-has_spare [] = false
-has_spare (s ∷ []) = nat_lt (vec_len s) (vec_capacity s)
-has_spare (s ∷ (t ∷ ss)) = has_spare (t ∷ ss)
+-- how many more the last has room for
+abbrev pub spare : List Segment → ℕ
+spare [] = 0
+spare (s ∷ []) = vec_capacity s - vec_len s
+spare (s ∷ (t ∷ ss)) = spare (t ∷ ss)
 
 -- where the first segment is of size 8, the bucket stands at this place of this segment
 pub record IsAt (bucket segment place : ℕ) : Type 0 where

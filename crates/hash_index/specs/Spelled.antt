@@ -1,5 +1,5 @@
 -- The nodes that a hashed index has, bucket by bucket.
-use Rattle.std.specs.Prelude.{◌≡◌, ℕ, ◌+◌, ◌<◌, ◌≤◌, List, length, map, Option, if◌then◌else◌, nat_lt}
+use Rattle.std.specs.Prelude.{◌≡◌, ℕ, ◌+◌, ◌*◌, ◌/◌, ◌≤◌, List, length, map, Option, if◌then◌else◌, nat_lt}
 use Rattle.node_store.specs.declared.Node.{Node}
 use Rattle.node_store.specs.Column.{Column}
 pub use Rattle.node_store.specs.Column.{KeepsOthers}
@@ -20,37 +20,37 @@ col_of i = i.col
 abbrev pub index_of : HashIndex → ℕ
 index_of i = i.index
 
--- the first node of each bucket
+-- the first node of each chain, those of the first bucket first
 abbrev pub heads_of : HashIndex → List (Option Node)
 heads_of i = heads_in i.buckets.segments.items
 
--- how many buckets it has
+-- how many buckets it has, each of two chains
 abbrev pub buckets_of : HashIndex → ℕ
-buckets_of i = i.buckets.len
+buckets_of i = i.buckets.len / 2
 
 -- how many buckets have room for one node more: as many as there are, or one more where there are no more than nodes
 abbrev pub grown : ℕ → ℕ → ℕ
 grown nodes buckets = if nat_lt nodes buckets then buckets else buckets + 1
 
--- the bucket that a hash leads to
+-- the chain that a hash leads to
 abbrev pub leads_to : HashIndex → ℕ → ℕ
 leads_to i hash = bucket_of i.level (i.buckets.len) hash
 
--- the chain from each bucket's first node
+-- the nodes of each chain
 abbrev pub chains_of : (ℕ → Column) → HashIndex → List (List Node)
 chains_of cs i = map (λ head. follow (untagged (cs i.col)) head i.len) (heads_of i)
 
--- the nodes of the chains, in the order of the buckets
+-- the nodes of the chains, in their order
 unfoldable pub spelled : (ℕ → Column) → HashIndex → List Node
 spelled cs i = joined (chains_of cs i)
 
--- the index has these nodes, at most one a bucket on average, each in the bucket of the hash that the column keeps of it
+-- the index has these nodes, at most one a bucket on average, each in the chain of the hash that the column keeps of it
 pub record Spells (cs : ℕ → Column) (i : HashIndex) (xs : List Node) : Type 0 where
   pub is : xs ≡ spelled cs i
   pub chains : AreChains (cs i.col) (leads_to i) 0 (heads_of i) (chains_of cs i)
   pub distinct : IsDistinct xs
   pub len : i.len ≡ length xs
-  pub load : i.len ≤ i.buckets.len
+  pub load : i.len * 2 ≤ i.buckets.len
 
 -- the index is chains of distinct nodes
 abbrev pub IsSound : (ℕ → Column) → HashIndex → Type 0
@@ -58,4 +58,4 @@ IsSound cs i = Spells cs i (spelled cs i)
 
 -- one more node needs no more buckets
 abbrev pub HasRoom : HashIndex → Type 0
-HasRoom i = i.len < i.buckets.len
+HasRoom i = (i.len + 1) * 2 ≤ i.buckets.len

@@ -22,14 +22,14 @@ impl HashIndex {
         self.len
     }
 
-    /// How many buckets there are, no fewer than nodes. O(1).
+    /// How many buckets there are, each of two chains, and no fewer than nodes. O(1).
     pub fn buckets(&self) -> usize
         ensures { result ≡ buckets_of self.now }
     {
-        self.buckets.len()
+        self.buckets.len() / 2
     }
 
-    /// How many nodes the fullest bucket has. O(buckets + nodes).
+    /// How many nodes the longest chain has. O(buckets + nodes).
     pub fn longest_chain<R>(&self, store: &NodeStore<R>) -> usize
         requires { AreBucketsOf self.now store.now }
         ensures { result ≡ longest (chains_of (column_of store.now) self.now) }

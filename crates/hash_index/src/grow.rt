@@ -1,5 +1,5 @@
 //! Growth of the buckets, one at a time.
-ghost use Rattle.std.specs.Prelude.{◌≡◌, ℕ, ◌+◌, ◌*◌, ◌<◌, OnOk, OnErr, IsPermutation, length, true};
+ghost use Rattle.std.specs.Prelude.{◌≡◌, ℕ, ◌+◌, ◌*◌, ◌<◌, ◌≤◌, OnOk, OnErr, IsPermutation, length};
 ghost use Rattle.node_store.specs.declared.Node.{Node};
 ghost use Rattle.node_store.specs.ByNode.{column_of, contents};
 ghost use Rattle.node_store.specs.Column.{KeepsOthers};
@@ -8,7 +8,7 @@ ghost use Rattle.hash_index.specs.Spelled.{col_of, buckets_of, grown, leads_to, 
 ghost use Rattle.hash_index.specs.Stored.{nodes_of, AreBucketsOf, KeepsRest};
 ghost use Rattle.hash_index.specs.Walks.{rest_of, Ends};
 ghost use Rattle.hash_index.specs.Chains.{members};
-ghost use Rattle.hash_index.specs.Segments.{has_spare};
+ghost use Rattle.hash_index.specs.Segments.{spare};
 ghost use Rattle.hash_index.specs.Split.{Builds, IsSame, left, taken};
 
 use crate::HashIndex;
@@ -39,38 +39,70 @@ impl HashIndex {
         ensures store_unchanged { OnErr result (store.new ≡ store.old) }
         ensures rest { KeepsRest self.old self.new store.old store.new }
     {
-        if self.len < self.buckets.len() {
+        if self.len < self.buckets() {
             return Ok(());
         }
-        self.reserve_bucket()?;
+        self.reserve_chains()?;
+        self.grow(store);
+        self.grow(store);
+        Ok(())
+    }
+
+    // Makes room for two more chains. Where memory is refused, everything is as before.
+    fn reserve_chains(&mut self) -> Result<(), AllocError>
+        ensures same { IsSame self.old self.new }
+        ensures count { self.new.buckets.len ≡ self.old.buckets.len }
+        ensures room { OnOk result (2 ≤ spare self.new.buckets.segments.items) }
+        ensures unchanged { OnErr result (self.new ≡ self.old) }
+    {
+        self.buckets.reserve_two(self.alloc)
+    }
+
+    // Adds a chain, for which there is room. No hash leads to a chain that is not behind the one where it led.
+    fn grow<R>(&mut self, store: &mut NodeStore<R>)
+        requires chain { AreBucketsOf self.old store.old }
+        requires room { 0 < spare self.old.buckets.segments.items }
+        ensures chain { AreBucketsOf self.new store.new }
+        ensures list { IsPermutation (nodes_of self.old store.old) (nodes_of self.new store.new) }
+        ensures order { (b : ℕ) →
+            members (column_of store.old (col_of self.old)) (leads_to self.new) b
+            (nodes_of self.new store.new) ≡
+            members (column_of store.old (col_of self.old)) (leads_to self.new) b
+            (nodes_of self.old store.old) }
+        ensures tags { KeepsTags (column_of store.old (col_of self.old))
+            (column_of store.new (col_of self.old)) }
+        ensures leads { 0 < self.old.buckets.len → (hash : ℕ) →
+            leads_to self.old (leads_to self.new hash) ≡ leads_to self.old hash }
+        ensures len { self.new.len ≡ self.old.len }
+        ensures count { self.new.buckets.len ≡ self.old.buckets.len + 1 }
+        ensures room { spare self.new.buckets.segments.items + 1 ≡
+            spare self.old.buckets.segments.items }
+        ensures rest { KeepsRest self.old self.new store.old store.new }
+    {
+        self.raise_level();
         if self.buckets.is_empty() {
             self.buckets.push_reserved(None);
         } else {
-            self.add_bucket(store);
+            self.add_chain(store);
         }
-        Ok(())
     }
 
-    // Makes room for one more bucket, in the segments and below twice the level. Where memory is refused, everything is as
-    // before.
-    fn reserve_bucket(&mut self) -> Result<(), AllocError>
+    // Doubles the level where there are twice as many chains, so that there are fewer than that again.
+    fn raise_level(&mut self)
         ensures same { IsSame self.old self.new }
-        ensures room { OnOk result (has_spare self.new.buckets.segments.items ≡ true) }
-        ensures level { OnOk result (self.new.buckets.len < self.new.level * 2) }
-        ensures unchanged { OnErr result (self.new ≡ self.old) }
+        ensures buckets { self.new.buckets ≡ self.old.buckets }
+        ensures level { self.new.buckets.len < self.new.level * 2 }
     {
-        self.buckets.reserve_one(self.alloc)?;
         if self.buckets.len() == self.level * 2 {
             self.level *= 2;
         }
-        Ok(())
     }
 
-    // Adds a bucket, for which there is room, with the nodes that it takes over from the one `level` before it.
-    fn add_bucket<R>(&mut self, store: &mut NodeStore<R>)
+    // Adds a chain, for which there is room, with the nodes that it takes over from the one `level` before it.
+    fn add_chain<R>(&mut self, store: &mut NodeStore<R>)
         requires chain { AreBucketsOf self.old store.old }
         requires some { 0 < self.old.buckets.len }
-        requires room { has_spare self.old.buckets.segments.items ≡ true }
+        requires room { 0 < spare self.old.buckets.segments.items }
         requires level { self.old.buckets.len < self.old.level * 2 }
         ensures chain { AreBucketsOf self.new store.new }
         ensures list { IsPermutation (nodes_of self.old store.old) (nodes_of self.new store.new) }
@@ -82,7 +114,11 @@ impl HashIndex {
         ensures tags { KeepsTags (column_of store.old (col_of self.old))
             (column_of store.new (col_of self.old)) }
         ensures len { self.new.len ≡ self.old.len }
-        ensures buckets { buckets_of self.new ≡ buckets_of self.old + 1 }
+        ensures leads { (hash : ℕ) →
+            leads_to self.old (leads_to self.new hash) ≡ leads_to self.old hash }
+        ensures count { self.new.buckets.len ≡ self.old.buckets.len + 1 }
+        ensures room { spare self.new.buckets.segments.items + 1 ≡
+            spare self.old.buckets.segments.items }
         ensures rest { KeepsRest self.old self.new store.old store.new }
     {
         let from = self.buckets.len() - self.level;

@@ -47,11 +47,11 @@ impl HashIndex {
         let hash = keys.hash(self.index, r);
         let mut at = self.head(hash);
         while let Some(n) = at {
-            let link = store.link(n, self.col);
-            if self.is_other(store, keys, r, hash, except, n, link.tag) {
+            let tag = store.link(n, self.col).tag;
+            if self.is_other(store, keys, r, hash, except, n, tag) {
                 return Some(n);
             }
-            at = link.b;
+            at = store.link(n, self.col).b;
         }
         None
     }
@@ -129,11 +129,11 @@ impl HashIndex {
     {
         let mut at = at;
         while let Some(n) = at {
-            let link = store.link(n, self.col);
-            if self.has_key(store, keys, probe, hash, n, link.tag) {
+            let tag = store.link(n, self.col).tag;
+            if self.has_key(store, keys, probe, hash, n, tag) {
                 return Some(n);
             }
-            at = link.b;
+            at = store.link(n, self.col).b;
         }
         None
     }

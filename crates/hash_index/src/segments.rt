@@ -1,6 +1,6 @@
 //! The buckets, in segments that are never moved.
 ghost use Rattle.std.specs.Prelude.{◌≡◌, ◌==◌, ℕ, ◌+◌, ◌*◌, ◌<◌, ◌≤◌, ◌^◌, min, vec_len, vec_capacity, [], ◌∷◌, ◌++◌, length, get_or, set, true, None, OnOk, OnErr};
-ghost use Rattle.hash_index.specs.Segments.{heads_in, has_spare, AreSegments, AreSegments_prop, IsAt};
+ghost use Rattle.hash_index.specs.Segments.{heads_in, spare, AreSegments, AreSegments_prop, IsAt};
 
 use node_store::Node;
 use std::alloc::{AllocError, Global};
@@ -70,24 +70,36 @@ impl Segments {
         ensures heads { heads_in self.new.segments.items ≡
             set (heads_in self.old.segments.items) bucket head }
         ensures len { self.new.len ≡ self.old.len }
-        ensures room { has_spare self.new.segments.items ≡
-            has_spare self.old.segments.items }
+        ensures room { spare self.new.segments.items ≡ spare self.old.segments.items }
     {
         let (segment, place) = locate(bucket);
         self.segments[segment][place] = head;
     }
 
-    // Makes room for one more bucket. Where all segments are full it takes the next one whole, and moves no bucket.
-    // Where memory is refused, everything is as before.
-    pub(crate) fn reserve_one(&mut self, alloc: Global) -> Result<(), AllocError>
+    // Makes room for two more. Where all segments are full it takes the next one whole, and moves nothing. Where memory
+    // is refused, everything is as before. Room for one alone is never left, since two are added at a time: there it
+    // refuses, too.
+    pub(crate) fn reserve_two(&mut self, alloc: Global) -> Result<(), AllocError>
         ensures heads { heads_in self.new.segments.items ≡ heads_in self.old.segments.items }
         ensures len { self.new.len ≡ self.old.len }
-        ensures room { OnOk result (has_spare self.new.segments.items ≡ true) }
+        ensures room { OnOk result (2 ≤ spare self.new.segments.items) }
         ensures unchanged { OnErr result (self.new ≡ self.old) }
     {
-        if self.has_spare() {
-            return Ok(());
+        match self.spare() {
+            0 => self.add_segment(alloc),
+            1 => Err(AllocError),
+            _ => Ok(()),
         }
+    }
+
+    // Takes the next segment, where all are full.
+    fn add_segment(&mut self, alloc: Global) -> Result<(), AllocError>
+        requires { spare self.old.segments.items ≡ 0 }
+        ensures heads { heads_in self.new.segments.items ≡ heads_in self.old.segments.items }
+        ensures len { self.new.len ≡ self.old.len }
+        ensures room { OnOk result (2 ≤ spare self.new.segments.items) }
+        ensures unchanged { OnErr result (self.new ≡ self.old) }
+    {
         let segment = Vec::with_capacity(alloc, self.len + FIRST)?;
         self.reserve_segments(alloc)?;
         self.segments.push_reserved(segment);
@@ -108,22 +120,23 @@ impl Segments {
         Ok(())
     }
 
-    // Whether there is room for one more bucket.
-    fn has_spare(&self) -> bool
-        ensures { result ≡ has_spare self.now.segments.items }
+    // How many more there is room for.
+    fn spare(&self) -> usize
+        ensures { result ≡ spare self.now.segments.items }
     {
         match self.segments.last() {
-            Some(last) => last.len() < last.capacity(),
-            None => false,
+            Some(last) => last.capacity() - last.len(),
+            None => 0,
         }
     }
 
     // Adds a bucket behind the others, in room that was reserved. O(1).
     pub(crate) fn push_reserved(&mut self, head: Option<Node>)
-        requires { has_spare self.old.segments.items ≡ true }
+        requires { 0 < spare self.old.segments.items }
         ensures heads { heads_in self.new.segments.items ≡
             heads_in self.old.segments.items ++ head ∷ [] }
         ensures len { self.new.len ≡ self.old.len + 1 }
+        ensures room { spare self.new.segments.items + 1 ≡ spare self.old.segments.items }
     {
         let last = self.segments.len() - 1;
         self.segments[last].push_reserved(head);

@@ -1,4 +1,4 @@
-use Rattle.std.proofs.Common.{◌+◌, ◌≤◌, refl, sym, ◌∙◌, arith}
+use Rattle.std.proofs.Common.{◌+◌, ◌*◌, ◌≤◌, refl, sym, ◌∙◌, arith}
 use Rattle.node_store.specs.ByNode.{column_of}
 use Rattle.hash_index.specs.Spelled.{spelled}
 use Rattle.hash_index.proofs.Spelling.{focus_of}
@@ -16,7 +16,7 @@ pub returns-clause-chain : goal.returns-clause-chain
 returns-clause-chain g c =
     let i = c.args.self.now in
     let first = c.get-head.ensures in
-    let load : i.len + 1 ≤ c.set.new.self.len = omega (arith, c.requires.room, c.set.ensures.len) in
+    let load : (i.len + 1) * 2 ≤ c.set.new.self.len = omega (arith, c.requires.room, c.set.ensures.len) in
     put_sound (column_of c.args.store.now) (column_of c.set_prev.new.store) _ i _ c.args.n c.bucket-bucket.result c.requires.chain c.bucket-bucket.ensures.within
     c.args.hash c.get-head.result (record { col = refl; level = refl; count = c.set.ensures.len; heads = c.set.ensures.heads }) refl load c.requires.new c.bucket-bucket.ensures.is first
     c.set_link.ensures.put c.set_prev.ensures.ends c.set_prev.ensures.tags c.set_prev.ensures.same
@@ -25,7 +25,7 @@ pub returns-clause-list : goal.returns-clause-list
 returns-clause-list g c =
     let i = c.args.self.now in
     let first = c.get-head.ensures in
-    let load : i.len + 1 ≤ c.set.new.self.len = omega (arith, c.requires.room, c.set.ensures.len) in
+    let load : (i.len + 1) * 2 ≤ c.set.new.self.len = omega (arith, c.requires.room, c.set.ensures.len) in
     put_moved (column_of c.args.store.now) (column_of c.set_prev.new.store) _ i _ c.args.n c.bucket-bucket.result c.requires.chain c.bucket-bucket.ensures.within
     c.args.hash c.get-head.result (record { col = refl; level = refl; count = c.set.ensures.len; heads = c.set.ensures.heads }) refl load c.requires.new c.bucket-bucket.ensures.is first
     c.set_link.ensures.put c.set_prev.ensures.ends c.set_prev.ensures.tags c.set_prev.ensures.same

@@ -1,55 +1,30 @@
-use Rattle.std.proofs.Common.{◌≡◌, List, sym, ap, ◌∙◌, subst, arith}
+use Rattle.std.proofs.Common.{◌≡◌, ◌<◌, List, ap, ◌∙◌, subst, arith}
 use Rattle.std.specs.Prelude.{IsPermutation}
-use Rattle.std.proofs.lemmas.Bool.{eqb-true}
-use Rattle.std.proofs.lemmas.List.Sorted.{IsPermutation-refl}
+use Rattle.std.proofs.lemmas.List.Sorted.{IsPermutation-trans}
 use Rattle.node_store.specs.declared.Node.{Node}
 use Rattle.node_store.specs.ByNode.{column_of}
 use Rattle.hash_index.specs.Chains.{members}
-use Rattle.hash_index.specs.Spelled.{spelled, col_of, leads_to}
-use Rattle.hash_index.proofs.Spelling.{no_nodes}
-use Rattle.hash_index.proofs.Growing.{same_sound, same_spelled, first_bucket}
+use Rattle.hash_index.specs.Spelled.{col_of, leads_to}
+use Rattle.hash_index.specs.Stored.{nodes_of}
+use Rattle.hash_index.proofs.Growing.{same_sound, same_spelled, order_both}
 use Rattle.hash_index.proofs.HashIndex.reserve_one.Goals as goal
 
-pub add_bucket-requires-clause-chain : goal.add_bucket-requires-clause-chain
-add_bucket-requires-clause-chain g c = same_sound (column_of c.args.store.now) c.args.self.now c.reserve_bucket.new.self c.reserve_bucket.ensures.same c.requires
+pub grow-requires-clause-chain : goal.grow-requires-clause-chain
+grow-requires-clause-chain g c = same_sound (column_of c.args.store.now) c.args.self.now c.reserve_chains.new.self c.reserve_chains.ensures.same c.requires
 
-pub returns-then-is_empty-clause-chain : goal.returns-then-is_empty-clause-chain
-returns-then-is_empty-clause-chain g c =
-    let i = c.reserve_bucket.new.self in
-    let none = eqb-true i.buckets.len 0 (sym c.is_empty.ensures ∙ c.if-is_empty.true) in
-    let sound = same_sound (column_of c.args.store.now) c.args.self.now i c.reserve_bucket.ensures.same c.requires in
-    first_bucket (column_of c.args.store.now) i _ none c.push_reserved.ensures.heads (omega (arith, sound.load, none))
+pub returns-clause-list : goal.returns-clause-list
+returns-clause-list g c =
+    let same = same_spelled (column_of c.args.store.now) c.args.self.now c.reserve_chains.new.self c.reserve_chains.ensures.same c.requires in
+    IsPermutation-trans _ _ _ (subst (λ (z : List Node). IsPermutation z (nodes_of c.grow.new.self c.grow.new.store)) same c.grow.ensures.list) c.grow-2.ensures.list
 
-pub returns-then-is_empty-clause-list : goal.returns-then-is_empty-clause-list
-returns-then-is_empty-clause-list g c =
-    let i = c.reserve_bucket.new.self in
-    let cs = column_of c.args.store.now in
-    let none = eqb-true i.buckets.len 0 (sym c.is_empty.ensures ∙ c.if-is_empty.true) in
-    let sound = same_sound (column_of c.args.store.now) c.args.self.now i c.reserve_bucket.ensures.same c.requires in
-    let len : i.len ≡ 0 = omega (arith, sound.load, none) in
-    let new = first_bucket (column_of c.args.store.now) i _ none c.push_reserved.ensures.heads len in
-    let was = sym (same_spelled (column_of c.args.store.now) c.args.self.now i c.reserve_bucket.ensures.same c.requires) ∙ no_nodes (column_of c.args.store.now) i sound len in
-    subst (λ (z : List Node). IsPermutation (spelled (column_of c.args.store.now) c.args.self.now) z) (was ∙ sym (no_nodes (column_of c.args.store.now) _ new len)) (IsPermutation-refl (spelled (column_of c.args.store.now) c.args.self.now))
-
-pub returns-then-is_empty-clause-order : goal.returns-then-is_empty-clause-order
-returns-then-is_empty-clause-order g c = λ b.
-    let i = c.reserve_bucket.new.self in
-    let none = eqb-true i.buckets.len 0 (sym c.is_empty.ensures ∙ c.if-is_empty.true) in
-    let sound = same_sound (column_of c.args.store.now) c.args.self.now i c.reserve_bucket.ensures.same c.requires in
-    let len : i.len ≡ 0 = omega (arith, sound.load, none) in
-    let new = first_bucket (column_of c.args.store.now) i _ none c.push_reserved.ensures.heads len in
-    let was = sym (same_spelled (column_of c.args.store.now) c.args.self.now i c.reserve_bucket.ensures.same c.requires) ∙ no_nodes (column_of c.args.store.now) i sound len in
-    ap (members (column_of c.args.store.now (col_of c.args.self.now)) _ b) (no_nodes (column_of c.args.store.now) _ new len ∙ sym was)
-
-pub returns-else-is_empty-clause-list : goal.returns-else-is_empty-clause-list
-returns-else-is_empty-clause-list g c =
-    let same = same_spelled (column_of c.args.store.now) c.args.self.now c.reserve_bucket.new.self c.reserve_bucket.ensures.same c.requires in
-    subst (λ (z : List Node). IsPermutation z (spelled (column_of c.add_bucket.new.store) c.add_bucket.new.self)) same c.add_bucket.ensures.list
-
-pub returns-else-is_empty-clause-order : goal.returns-else-is_empty-clause-order
-returns-else-is_empty-clause-order g c = λ b.
-    let i = c.args.self.now in
-    let same = same_spelled (column_of c.args.store.now) c.args.self.now c.reserve_bucket.new.self c.reserve_bucket.ensures.same c.requires in
-    let col = c.reserve_bucket.ensures.same.col in
-    subst (λ k. members (column_of c.args.store.now k) (leads_to c.add_bucket.new.self) b (spelled (column_of c.add_bucket.new.store) c.add_bucket.new.self) ≡ members (column_of c.args.store.now k) (leads_to c.add_bucket.new.self) b (spelled (column_of c.args.store.now) c.args.self.now)) col
-    (c.add_bucket.ensures.order b ∙ ap (members (column_of c.args.store.now (col_of c.reserve_bucket.new.self)) (leads_to c.add_bucket.new.self) b) same)
+pub returns-clause-order : goal.returns-clause-order
+returns-clause-order g c = λ b.
+    let same = same_spelled (column_of c.args.store.now) c.args.self.now c.reserve_chains.new.self c.reserve_chains.ensures.same c.requires in
+    let col = col_of c.reserve_chains.new.self in
+    let before = leads_to c.grow.new.self in
+    let after = leads_to c.grow-2.new.self in
+    let some : 0 < c.grow.new.self.buckets.len = omega (arith, c.grow.ensures.count) in
+    let second = subst (λ k. members (column_of c.grow.new.store k) after b (nodes_of c.grow-2.new.self c.grow-2.new.store) ≡ members (column_of c.grow.new.store k) after b (nodes_of c.grow.new.self c.grow.new.store)) c.grow.ensures.rest.col (c.grow-2.ensures.order b) in
+    let first = c.grow.ensures.order (before b) ∙ ap (members (column_of c.args.store.now col) before (before b)) same in
+    subst (λ k. members (column_of c.args.store.now k) after b (nodes_of c.grow-2.new.self c.grow-2.new.store) ≡ members (column_of c.args.store.now k) after b (nodes_of c.args.self.now c.args.store.now)) c.reserve_chains.ensures.same.col
+    (order_both (column_of c.args.store.now col) before after (c.grow-2.ensures.leads some) b (column_of c.grow.new.store col) (nodes_of c.args.self.now c.args.store.now) (nodes_of c.grow.new.self c.grow.new.store) (nodes_of c.grow-2.new.self c.grow-2.new.store) c.grow.ensures.tags first second)

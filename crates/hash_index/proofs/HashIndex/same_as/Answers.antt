@@ -14,7 +14,7 @@ is_other-requires-clause-node g c = node_of_column c.args.store.now (col_of c.ar
 
 pub loop-at-smaller : goal.loop-at-smaller
 loop-at-smaller g c =
-    let step = walk_step (column_of c.args.store.now) c.args.self.now c.loop-at.at c.in-Some.n c.link-link.result c.loop-at.invariant.ends c.in-Some.is c.link-link.ensures in
+    let step = walk_step (column_of c.args.store.now) c.args.self.now c.loop-at.at c.in-Some.n c.link-at.result c.loop-at.invariant.ends c.in-Some.is c.link-at.ensures in
     omega (arith, ap length step.rest)
 
 pub loop-at-init : goal.loop-at-init
@@ -36,11 +36,11 @@ returns-then-is_other g c =
 
 pub loop-at-preserved : goal.loop-at-preserved
 loop-at-preserved g c =
-    let step = walk_step (column_of c.args.store.now) c.args.self.now c.loop-at.at c.in-Some.n c.link-link.result c.loop-at.invariant.ends c.in-Some.is c.link-link.ensures in
+    let step = walk_step (column_of c.args.store.now) c.args.self.now c.loop-at.at c.in-Some.n c.link-at.result c.loop-at.invariant.ends c.in-Some.is c.link-at.ensures in
     record {
       ends = step.ends;
       hashed = (others_first (g.E.Extract.hash_of c.args.keys.now (index_of c.args.self.now)) c.args.store.now (col_of c.args.self.now) c.args.except _ c.in-Some.n _ step.rest c.loop-at.invariant.hashed).1;
-      same = sym (others_miss (λ n. is_eq (side_of (λ a. g.E.Extract.order_of c.args.keys.now (index_of c.args.self.now) a c.args.r.now) c.args.store.now n)) c.args.except c.in-Some.n (rest_of (column_of c.args.store.now) c.args.self.now c.link-link.result.b) (sym c.is_other.ensures ∙ c.if-is_other.false))
+      same = sym (others_miss (λ n. is_eq (side_of (λ a. g.E.Extract.order_of c.args.keys.now (index_of c.args.self.now) a c.args.r.now) c.args.store.now n)) c.args.except c.in-Some.n (rest_of (column_of c.args.store.now) c.args.self.now c.link-at.result.b) (sym c.is_other.ensures ∙ c.if-is_other.false))
           ∙ (ap (λ l. find (λ n. is_eq (side_of (λ a. g.E.Extract.order_of c.args.keys.now (index_of c.args.self.now) a c.args.r.now) c.args.store.now n)) (others c.args.except l)) (sym step.rest) ∙ c.loop-at.invariant.same);
     }
 

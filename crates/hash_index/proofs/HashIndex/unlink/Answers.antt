@@ -1,4 +1,4 @@
-use Rattle.std.proofs.Common.{◌≡◌, ◌+◌, ◌-◌, ◌≤◌, refl, ap, ◌∙◌, arith}
+use Rattle.std.proofs.Common.{◌≡◌, ◌+◌, ◌-◌, ◌*◌, ◌≤◌, refl, ap, ◌∙◌, arith}
 use Rattle.seq_index.specs.Links.{end_beside}
 use Rattle.node_store.specs.ByNode.{column_of}
 use Rattle.hash_index.proofs.Untagged.{tagged_node, untagged_node}
@@ -24,7 +24,7 @@ returns-clause-list g c =
     let i = c.args.self.now in
     let some = some_node _ i _ c.args.n c.requires.chain c.requires.held in
     let len : (i.len - 1) + 1 ≡ i.len = omega arith in
-    let load : i.len - 1 ≤ c.set.new.self.len = omega (arith, c.requires.chain.load, c.set.ensures.len) in
+    let load : (i.len - 1) * 2 ≤ c.set.new.self.len = omega (arith, c.requires.chain.load, c.set.ensures.len) in
     let first = c.get.ensures in
     out_done (column_of c.args.store.now) (column_of c.set_prev.new.store) _ i _ c.args.n c.bucket-bucket.result c.requires.chain c.bucket-bucket.ensures.within
     c.link-before.result c.first_beside-head.result (record { col = refl; level = refl; count = c.set.ensures.len; heads = c.set.ensures.heads }) (c.first_beside-head.ensures ∙ ap (λ o. end_beside c.link-before.result.a o c.link-before.result.b) first) len load c.requires.held c.bucket-bucket.ensures.is c.link-before.ensures

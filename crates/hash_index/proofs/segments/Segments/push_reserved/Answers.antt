@@ -1,5 +1,5 @@
 use Rattle.std.proofs.Common.{◌≡◌, ◌+◌, ◌-◌, [], ◌∷◌, ◌++◌, length, set, ap, ◌∙◌, arith, length-append}
-use Rattle.hash_index.proofs.InSegments.{spare_last, last_count, last_is, last_fits, last_heads, last_room, heads_small}
+use Rattle.hash_index.proofs.InSegments.{spare_last, last_count, last_is, last_fits, last_heads, last_room, last_spare, heads_small}
 use Rattle.hash_index.proofs.segments.Segments.push_reserved.Goals as goal
 use Rattle.std.specs.Vec.{vec_len, vec_capacity}
 use Rattle.hash_index.specs.Segments.{heads_in, AreSegments}
@@ -34,3 +34,15 @@ returns-clause-heads c =
     let count : (c.len-last.result - 1) + 1 ≡ length s.segments.items = omega (arith, some, c.len-last.ensures, s.segments.ok.0) in
     let is = last_is s.segments.items last (c.len-last.result - 1) c.index_mut.result.now count c.index_mut.ensures.value in
     last_heads s.segments.items last (c.len-last.result - 1) c.push_reserved.new.self c.args.head count (c.push_reserved.ensures.items ∙ ap (λ v. v.items ++ c.args.head ∷ []) is)
+
+pub returns-clause-room : goal.returns-clause-room
+returns-clause-room c =
+    let s = c.args.self.now in
+    let last = spare_last s.segments.items c.requires in
+    let some = last_count s.segments.items last in
+    let count : (c.len-last.result - 1) + 1 ≡ length s.segments.items = omega (arith, some, c.len-last.ensures, s.segments.ok.0) in
+    let is = last_is s.segments.items last (c.len-last.result - 1) c.index_mut.result.now count c.index_mut.ensures.value in
+    let new = c.push_reserved.new.self in
+    let items : new.items ≡ c.index_mut.result.now.items ++ c.args.head ∷ [] = c.push_reserved.ensures.items in
+    let len : vec_len new ≡ vec_len last.segment + 1 = omega (arith, ap length items, length-append c.index_mut.result.now.items (c.args.head ∷ []), new.ok.0, c.index_mut.result.now.ok.0, ap vec_len is) in
+    last_spare s.segments.items last (c.len-last.result - 1) new count len (c.push_reserved.ensures.capacity ∙ ap vec_capacity is) c.requires

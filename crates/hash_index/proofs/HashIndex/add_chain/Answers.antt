@@ -1,8 +1,10 @@
-use Rattle.std.proofs.Common.{◌+◌, ◌-◌, ◌<◌, [], ◌∷◌, ◌++◌, ◌∙◌, ap, arith, refl}
+use Rattle.std.proofs.Common.{◌+◌, ◌-◌, ◌<◌, ◌≤◌, [], ◌∷◌, ◌++◌, ◌∙◌, ap, arith, refl}
 use Rattle.node_store.specs.ByNode.{column_of}
 use Rattle.hash_index.proofs.Spelling.{head_ends}
 use Rattle.hash_index.proofs.Growing.{grown_sound, grown_moved, grown_order}
-use Rattle.hash_index.proofs.HashIndex.add_bucket.Goals as goal
+use Rattle.hash_index.proofs.Levels.{comes}
+use Rattle.hash_index.specs.Buckets.{bucket_of}
+use Rattle.hash_index.proofs.HashIndex.add_chain.Goals as goal
 
 pub cut-requires-clause-ends : goal.cut-requires-clause-ends
 cut-requires-clause-ends g c =
@@ -41,3 +43,10 @@ returns-clause-order g c =
     let at = c.get.ensures in
     grown_order i _ refl (c.push_reserved.ensures.len ∙ ap (λ k. k + 1) c.set.ensures.len) c.requires.some (column_of c.args.store.now) (column_of c.cut.new.store) c.cut.result.0 c.cut.result.1 c.get.result (c.len.result - i.level) c.requires.chain (ap (λ k. k - i.level) c.len.ensures) at
     c.cut.ensures.stay c.cut.ensures.moved c.cut.ensures.tags c.cut.ensures.same refl refl (c.push_reserved.ensures.heads ∙ ap (λ z. z ++ c.cut.result.1.first ∷ []) c.set.ensures.heads)
+
+pub returns-clause-leads : goal.returns-clause-leads
+returns-clause-leads g c = λ hash.
+    let i = c.args.self.now in
+    let le : i.level ≤ i.buckets.len = omega (arith, i.reached, c.requires.some) in
+    let count = c.push_reserved.ensures.len ∙ ap (λ k. k + 1) c.set.ensures.len in
+    ap (λ k. bucket_of i.level i.buckets.len (bucket_of i.level k hash)) count ∙ comes i.level i.buckets.len hash i.some_level le c.requires.level

@@ -1,8 +1,8 @@
-use Rattle.std.proofs.Common.{◌≡◌, ◌+◌, false, true, nat_lt, length, ap, sym, ◌∙◌, subst, arith}
-use Rattle.std.specs.Vec.{vec_len, vec_capacity}
-use Rattle.hash_index.specs.Segments.{heads_in, has_spare, AreSegments}
+use Rattle.std.proofs.Common.{◌≡◌, ◌+◌, length, ap, sym, ◌∙◌, subst, arith}
+use Rattle.std.specs.Vec.{vec_capacity}
+use Rattle.hash_index.specs.Segments.{heads_in, spare, AreSegments}
 use Rattle.hash_index.proofs.InSegments.{count_small, heads_more, spare_more, shape_more}
-use Rattle.hash_index.proofs.segments.Segments.reserve_one.Goals as goal
+use Rattle.hash_index.proofs.segments.Segments.add_segment.Goals as goal
 
 pub push_reserved-requires : goal.push_reserved-requires
 push_reserved-requires c =
@@ -16,7 +16,7 @@ invariant_of-self c =
     let new = c.in_ok-segment.segment in
     let is = c.push_reserved.ensures.items in
     let heads : heads_in c.push_reserved.new.self.items ≡ heads_in r.segments.items = ap heads_in is ∙ heads_more r.segments.items new c.in_ok-segment.ensures.items in
-    let full : has_spare r.segments.items ≡ false = ap has_spare c.reserve_segments.ensures.same ∙ (sym c.has_spare.ensures ∙ c.if-has_spare.false) in
+    let full : spare r.segments.items ≡ 0 = ap spare c.reserve_segments.ensures.same ∙ c.requires in
     let size : vec_capacity new ≡ length (heads_in r.segments.items) + 8 = omega (arith, c.in_ok-segment.ensures.exact, c.reserve_segments.ensures.len, r.ok) in
     record {
       ok = r.ok ∙ ap length (sym heads);
@@ -33,5 +33,4 @@ returns-clause-heads c =
 pub returns-clause-room : goal.returns-clause-room
 returns-clause-room c =
     let new = c.in_ok-segment.segment in
-    let some : nat_lt (vec_len new) (vec_capacity new) ≡ true = grind (arith, c.in_ok-segment.ensures.len, c.in_ok-segment.ensures.exact) in
-    ap has_spare c.push_reserved.ensures.items ∙ spare_more c.reserve_segments.new.self.segments.items new some
+    omega (arith, ap spare c.push_reserved.ensures.items, spare_more c.reserve_segments.new.self.segments.items new, c.in_ok-segment.ensures.len, c.in_ok-segment.ensures.exact)
