@@ -1,4 +1,4 @@
--- Chains of nodes, one for each bucket.
+-- Chains of nodes, two for each bucket, by their numbers.
 use Rattle.std.specs.Prelude.{◌≡◌, ◌≢◌, ℕ, ◌+◌, List, [], ◌∷◌, ◌++◌, length, map, filter, fold, max, Bool, false, ◌==◌, Option, Some, None}
 use Rattle.std.specs.List.{AllByRecursion}
 use Rattle.std.specs.Option.{option_map, option_map_or}
@@ -24,7 +24,7 @@ tag_at c n = option_map (λ l. l.tag) (c n)
 abbrev pub KeepsTags : Column → Column → Type 0
 KeepsTags c d = (n : Node) → tag_at d n ≡ tag_at c n
 
--- the hash that the column keeps of the node leads to this bucket, where `to` says which bucket a hash leads to
+-- the hash that the column keeps of the node leads to this chain, where `to` says which chain a hash leads to
 abbrev pub IsIn : Column → (ℕ → ℕ) → ℕ → Node → Type 0
 IsIn c to b n = option_map to (tag_at c n) ≡ Some b
 
@@ -32,24 +32,24 @@ IsIn c to b n = option_map to (tag_at c n) ≡ Some b
 abbrev pub leads : Column → (ℕ → ℕ) → ℕ → Node → Bool
 leads c to b n = option_map_or (λ hash. to hash == b) (tag_at c n) false
 
--- those of the nodes that are in this bucket
+-- those of the nodes that are in this chain
 abbrev pub members : Column → (ℕ → ℕ) → ℕ → List Node → List Node
 members c to b xs = filter (leads c to b) xs
 
--- the nodes of one bucket, linked to and fro, from the first of them
+-- the nodes of one chain, linked to and fro, from the first of them
 pub record IsChain (c : Column) (to : ℕ → ℕ) (b : ℕ) (head : Option Node) (xs : List Node) : Type 0 where
   pub first : head ≡ first_or xs None
   pub runs : Runs (untagged c) None xs None
   pub members : AllByRecursion (IsIn c to b) xs
 
--- the chains of the buckets from this one on
+-- the chains from this one on
 abbrev pub AreChains : Column → (ℕ → ℕ) → ℕ → List (Option Node) → List (List Node) → Type 0
 AreChains c to b [] [] = Unit {0}
 AreChains c to b [] (xs ∷ xss) = ⊥
 AreChains c to b (head ∷ heads) [] = ⊥
 AreChains c to b (head ∷ heads) (xs ∷ xss) = IsChain c to b head xs × AreChains c to (b + 1) heads xss
 
--- the chains in the order of their buckets
+-- the nodes of the chains, one after another
 abbrev pub joined : List (List Node) → List Node
 joined [] = []
 joined (xs ∷ xss) = xs ++ joined xss
@@ -58,7 +58,7 @@ joined (xs ∷ xss) = xs ++ joined xss
 abbrev pub longest : List (List Node) → ℕ
 longest xss = fold max 0 (map length xss)
 
--- the first node of the first bucket that has one
+-- the first node of the first chain that has one
 abbrev pub first_head : List (Option Node) → Option Node
 first_head [] = None
 first_head (None ∷ heads) = first_head heads

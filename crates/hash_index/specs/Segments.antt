@@ -1,4 +1,4 @@
--- Buckets in segments, each twice as large as the one before it.
+-- The first nodes of chains in segments, each twice as large as the one before it.
 use Rattle.std.specs.Prelude.{◌≡◌, ℕ, ◌+◌, ◌-◌, ◌*◌, ◌^◌, ◌<◌, List, [], ◌∷◌, ◌++◌, Option}
 use Rattle.std.specs.Vec.{vec_len, vec_capacity}
 use Rattle.std.specs.Coded.{coded_ℕ}
@@ -7,11 +7,11 @@ use Rattle.std.specs.declared.alloc.Global.{Global}
 use denote.Struct.Props.{≡_prop}
 use Rattle.node_store.specs.declared.Node.{Node}
 
--- the first nodes of some buckets that lie side by side
+-- the first nodes of some chains that lie side by side
 abbrev pub Segment : Type 0
 Segment = Vec (Option Node) Global
 
--- the first node of each bucket, segment by segment
+-- the first node of each chain, segment by segment
 abbrev pub heads_in : List Segment → List (Option Node)
 heads_in [] = []
 heads_in (s ∷ ss) = s.items ++ heads_in ss
@@ -28,7 +28,7 @@ spare [] = 0
 spare (s ∷ []) = vec_capacity s - vec_len s
 spare (s ∷ (t ∷ ss)) = spare (t ∷ ss)
 
--- where the first segment is of size 8, the bucket stands at this place of this segment
+-- where the first segment is of size 8, the chain stands at this place of this segment
 pub record IsAt (bucket segment place : ℕ) : Type 0 where
   pub at : bucket + 8 ≡ 8 * 2 ^ segment + place
   pub within : place < 8 * 2 ^ segment

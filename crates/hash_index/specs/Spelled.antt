@@ -20,7 +20,7 @@ col_of i = i.col
 abbrev pub index_of : HashIndex → ℕ
 index_of i = i.index
 
--- the first node of each chain, those of the first bucket first
+-- the first node of each chain
 abbrev pub heads_of : HashIndex → List (Option Node)
 heads_of i = heads_in i.buckets.segments.items
 

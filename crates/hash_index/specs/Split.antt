@@ -1,4 +1,4 @@
--- A chain that is cut in two when a bucket is added.
+-- A chain that is cut in two when one is added.
 use Rattle.std.specs.Prelude.{◌≡◌, ℕ, ◌*◌, ◌%◌, List, filter, Bool, not, None}
 use Rattle.node_store.specs.declared.Node.{Node}
 use Rattle.node_store.specs.Column.{Column}
@@ -15,7 +15,7 @@ pub record Builds (c : Column) (chain : Chain) (xs : List Node) : Type 0 where
   pub last : chain.last ≡ last_or xs None
   pub runs : Runs (untagged c) None xs None
 
--- whether the node goes to the bucket after the last
+-- whether the node goes to the chain after the last
 abbrev pub goes : Column → HashIndex → Node → Bool
 goes c i n = leads c (λ hash. hash % (i.level * 2)) (i.buckets.len) n
 
@@ -27,7 +27,7 @@ left c i xs = filter (λ n. not (goes c i n)) xs
 abbrev pub taken : Column → HashIndex → List Node → List Node
 taken c i xs = filter (goes c i) xs
 
--- the new index has the same buckets, and each hash leads where it did
+-- the new index has the same chains, and each hash leads where it did
 pub record IsSame (old new : HashIndex) : Type 0 where
   pub buckets : heads_of new ≡ heads_of old
   pub len : new.len ≡ old.len

@@ -1,4 +1,4 @@
--- Walks along the chain of one bucket.
+-- Walks along one chain.
 use Rattle.std.specs.Prelude.{◌≡◌, ◌≢◌, ℕ, List, [], ◌∷◌, ◌++◌, Option, Some, None}
 use Rattle.std.specs.List.{AllByRecursion}
 use Rattle.node_store.specs.declared.Node.{Node}

@@ -58,7 +58,7 @@ impl HashIndex {
         length
     }
 
-    /// The first node of a walk over all, in no stated order. O(buckets before it).
+    /// The first node of a walk over all, in no stated order. O(chains before it).
     pub fn first<R>(&self, store: &NodeStore<R>) -> Option<Node>
         requires { AreBucketsOf self.now store.now }
         ensures { result ≡ slice_get (nodes_of self.now store.now) 0 }
@@ -66,7 +66,7 @@ impl HashIndex {
         self.first_from(0)
     }
 
-    /// The node after `n` in a walk over all. O(empty buckets between them), and O(nodes) for the whole walk while
+    /// The node after `n` in a walk over all. O(empty chains between them), and O(nodes) for the whole walk while
     /// no node was taken out.
     pub fn next<R>(&self, store: &NodeStore<R>, n: Node) -> Option<Node>
         requires { HasNode self.now store.now n }
@@ -88,7 +88,7 @@ impl HashIndex {
         }
     }
 
-    // The first node of this bucket or a later one.
+    // The first node of this chain or a later one.
     pub(crate) fn first_from(&self, bucket: usize) -> Option<Node>
         requires { bucket ≤ self.now.buckets.len }
         ensures { result ≡ first_head (drop bucket (heads_of self.now)) }
@@ -102,7 +102,7 @@ impl HashIndex {
         None
     }
 
-    // The bucket of a hash.
+    // The chain of a hash.
     pub(crate) fn bucket(&self, hash: u64) -> usize
         requires { 0 < self.now.buckets.len }
         ensures is { result ≡ leads_to self.now hash }
@@ -116,7 +116,7 @@ impl HashIndex {
         }
     }
 
-    // The remainder of a hash by the number of buckets that are to be.
+    // The remainder of a hash by the number of chains that are to be.
     pub(crate) fn remainder(&self, hash: u64) -> usize
         ensures { result ≡ hash % (self.now.level * 2) }
     {

@@ -1,4 +1,4 @@
-//! Growth of the buckets, one at a time.
+//! Growth of the buckets, one at a time: two chains.
 ghost use Rattle.std.specs.Prelude.{◌≡◌, ℕ, ◌+◌, ◌*◌, ◌<◌, ◌≤◌, OnOk, OnErr, IsPermutation, length};
 ghost use Rattle.node_store.specs.declared.Node.{Node};
 ghost use Rattle.node_store.specs.ByNode.{column_of, contents};
@@ -58,7 +58,7 @@ impl HashIndex {
         self.buckets.reserve_two(self.alloc)
     }
 
-    // Adds a chain, for which there is room. No hash leads to a chain that is not behind the one where it led.
+    // Adds a chain, for which there is room. A hash led to the chain from which the one was cut that it leads to now.
     fn grow<R>(&mut self, store: &mut NodeStore<R>)
         requires chain { AreBucketsOf self.old store.old }
         requires room { 0 < spare self.old.buckets.segments.items }
@@ -127,7 +127,7 @@ impl HashIndex {
         self.buckets.push_reserved(moved.first);
     }
 
-    // Cuts a chain in two: the nodes that stay in their bucket once there is one more, and those that go there.
+    // Cuts a chain in two: the nodes that stay in it once there is one more, and those that go there.
     fn cut<R>(&self, store: &mut NodeStore<R>, at: Option<Node>) -> (Chain, Chain)
         requires ends { Ends (column_of store.old) self.now at }
         requires distinct { IsDistinct (rest_of (column_of store.old) self.now at) }

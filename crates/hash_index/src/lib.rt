@@ -1,4 +1,4 @@
-//! A hashed index: nodes in chains through one column of the store's links, one chain for each bucket.
+//! A hashed index: nodes in chains through one column of the store's links, two chains for each bucket.
 //!
 //! Each call takes the store. It reads and writes the links of its own column alone, so a node may
 //! stand in one index of each column at once.
@@ -27,8 +27,9 @@ use segments::Segments;
 use std::alloc::Global;
 
 /// Nodes in buckets by the hashes of their keys, at most one a bucket on average. The `tag` of a node's link is the
-/// hash that it was put in with. Buckets are added one at a time: from `level` on, each takes over nodes of the one
-/// that stands `level` before it, until there are `level * 2`.
+/// hash that it was put in with. A bucket is two chains, so that most chains have one node or none. Chains are added
+/// two at a time: from `level` on, each takes over nodes of the one that stands `level` before it, until there are
+/// `level * 2`. `buckets` has the first node of each chain.
 #[derive(Drop)]
 pub struct HashIndex {
     alloc: Global,
@@ -113,7 +114,7 @@ impl HashIndex {
         self.len -= 1;
     }
 
-    // Puts `n` first into the bucket of a hash.
+    // Puts `n` first into the chain of a hash.
     pub(crate) fn put<R>(&mut self, store: &mut NodeStore<R>, n: Node, hash: u64)
         requires chain { AreBucketsOf self.old store.old }
         requires node { IsNode (column_of store.old (col_of self.old)) n }

@@ -191,7 +191,7 @@ impl HashIndex {
         keys.order_probe(self.index, store.get(n), probe) == Ordering::Equal
     }
 
-    // The first node of the bucket of a hash.
+    // The first node of the chain of a hash.
     fn head(&self, hash: u64) -> Option<Node>
         ensures { (cs : ℕ → Column) → IsSound cs self.now → HasHash cs self.now hash result }
     {

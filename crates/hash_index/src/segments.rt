@@ -1,17 +1,17 @@
-//! The buckets, in segments that are never moved.
+//! The first nodes of the chains, in segments that are never moved.
 ghost use Rattle.std.specs.Prelude.{◌≡◌, ◌==◌, ℕ, ◌+◌, ◌*◌, ◌<◌, ◌≤◌, ◌^◌, min, vec_len, vec_capacity, [], ◌∷◌, ◌++◌, length, get_or, set, true, None, OnOk, OnErr};
 ghost use Rattle.hash_index.specs.Segments.{heads_in, spare, AreSegments, AreSegments_prop, IsAt};
 
 use node_store::Node;
 use std::alloc::{AllocError, Global};
 
-// How many buckets the first segment has.
+// How many chains the first segment has room for.
 const FIRST: usize = 8;
 
 // More segments than memory has room for.
 const SEGMENTS: usize = 64;
 
-// The first nodes of the buckets. Each segment has room for twice as many as the one before it, which is full.
+// The first nodes of the chains. Each segment has room for twice as many as the one before it, which is full.
 #[derive(Drop)]
 pub(crate) struct Segments {
     segments: Vec<Vec<Option<Node>>>,
@@ -22,7 +22,7 @@ pub(crate) struct Segments {
     ghost shape: { AreSegments 8 segments.items } by { AreSegments_prop 8 segments.items },
 }
 
-// The segment of a bucket, and its place there: the highest bit of its number counts the segments before it.
+// The segment of a chain, and its place there: the highest bit of its number counts the segments before it.
 fn locate(bucket: usize) -> (usize, usize)
     requires { bucket + 8 < 2 ^ 64 }
     ensures { IsAt bucket result.0 result.1 }
@@ -33,7 +33,7 @@ fn locate(bucket: usize) -> (usize, usize)
 }
 
 impl Segments {
-    // No buckets. It allocates nothing.
+    // No chains. It allocates nothing.
     pub(crate) fn new(alloc: Global) -> Segments
         ensures { heads_in result.segments.items ≡ [] }
     {
@@ -55,7 +55,7 @@ impl Segments {
         self.len == 0
     }
 
-    // The first node of a bucket. O(1).
+    // The first node of a chain. O(1).
     pub(crate) fn get(&self, bucket: usize) -> Option<Node>
         requires { bucket < self.now.len }
         ensures { result ≡ get_or (heads_in self.now.segments.items) bucket None }
@@ -64,7 +64,7 @@ impl Segments {
         self.segments[segment][place]
     }
 
-    // Makes another node the first of a bucket. O(1).
+    // Makes another node the first of a chain. O(1).
     pub(crate) fn set(&mut self, bucket: usize, head: Option<Node>)
         requires { bucket < self.old.len }
         ensures heads { heads_in self.new.segments.items ≡
@@ -130,7 +130,7 @@ impl Segments {
         }
     }
 
-    // Adds a bucket behind the others, in room that was reserved. O(1).
+    // Adds a chain behind the others, in room that was reserved. O(1).
     pub(crate) fn push_reserved(&mut self, head: Option<Node>)
         requires { 0 < spare self.old.segments.items }
         ensures heads { heads_in self.new.segments.items ≡
