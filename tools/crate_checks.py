@@ -113,10 +113,14 @@ class Copy:
     def check(self, texts, flags=()):
         """Checks the crate with these texts in place of its own, and keeps the work for the next check."""
         for file, text in texts.items():
+            os.makedirs(os.path.dirname(f"{self.folder}/crate/{file}"), exist_ok=True)
             write(f"{self.folder}/crate/{file}", text)
         said = self.run(["--incremental", self.kept, *flags])
         for file in texts:
-            shutil.copyfile(f"{self.crate.folder}/{file}", f"{self.folder}/crate/{file}")
+            if os.path.exists(f"{self.crate.folder}/{file}"):
+                shutil.copyfile(f"{self.crate.folder}/{file}", f"{self.folder}/crate/{file}")
+            else:
+                os.remove(f"{self.folder}/crate/{file}")
         return said
 
     def check_some(self, texts, only):
