@@ -85,6 +85,16 @@ impl<R> Model for NodeStore<R> {
 }
 
 impl Node {
+    /// A value for places that have no node. Its number is that of no add.
+    pub fn nowhere() -> Node
+        ensures { number_of result + 1 ≡ 2 ^ 64 }
+    {
+        Node {
+            place: Place::nowhere(),
+            number: u64::MAX,
+        }
+    }
+
     /// The number of the node's add. The first is 0.
     pub fn number(&self) -> u64
         ensures { result ≡ number_of self.now }
@@ -286,15 +296,11 @@ impl<R: Drop> NodeStore<R> {
         ensures unchanged { OnErr result (self.new ≡ self.old) }
         ensures returned { IfErr result (λ e. e.value ≡ value) }
     {
-        let nowhere = Node {
-            place: Place::nowhere(),
-            number: 0,
-        };
         let block = Block {
             prev: None,
             next: self.first,
             value,
-            links: [Stored::of(Link::empty(), nowhere); 8],
+            links: [Stored::of(Link::empty(), Node::nowhere()); 8],
         };
         match Box::new(self.alloc, block) {
             Ok(boxed) => {
