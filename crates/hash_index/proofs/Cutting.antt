@@ -11,7 +11,7 @@ use Rattle.node_store.specs.Nodes.{Lacks, AreApart, IsDistinct, IsSameAt, first_
 use Rattle.node_store.proofs.NodeLists.{Lacks-front, Lacks-back, IsDistinct-parts, IsSameAt-others, AreApart-head, last_or-append}
 use Rattle.list_model.proofs.Kept.{All-passed}
 use Rattle.seq_index.specs.Links.{Runs, AreNodes, SetsNext, chain_link, end_beside}
-use Rattle.seq_index.proofs.Runs.{Runs-same, Runs-append, Runs-node, EndsWith-last, EndsWith-lacks, LacksEnd, LacksEnd-last, Lacks-last, Distinct-insert}
+use Rattle.seq_index.proofs.Runs.{AreNodes-first, Runs-same, Runs-append, Runs-node, EndsWith-last, EndsWith-lacks, LacksEnd, LacksEnd-last, Lacks-last, Distinct-insert}
 use Rattle.seq_index.proofs.ChainLists.{first-insert}
 use Rattle.hash_index.specs.declared.HashIndex.{HashIndex}
 use Rattle.hash_index.specs.declared.chain.Chain.{Chain}
@@ -23,7 +23,11 @@ use Rattle.hash_index.proofs.Matching.{walk_rest, walk_step}
 
 -- ---- one node more
 
--- the chain's last node is one of the column
+-- the chain's first node is one of the column
+pub first_node : (c : Column) (chain : Chain) (xs : List Node) → Builds c chain xs → AreNodes c chain.first
+first_node c chain xs h = λ m e. tagged_node c m (AreNodes-first (untagged c) None [] xs None h.runs m (sym h.first ∙ e))
+
+-- and so is its last
 pub last_node : (c : Column) (chain : Chain) (xs : List Node) → Builds c chain xs → AreNodes c chain.last
 last_node c chain xs h = λ m e.
     let r = EndsWith-last xs m (sym h.last ∙ e) in

@@ -16,6 +16,8 @@ use Rattle.list_model.proofs.InOrder.{All-map}
 use Rattle.list_model.proofs.Kept.{All-passed, All-filter}
 use Rattle.hash_index.specs.declared.HashIndex.{HashIndex}
 use Rattle.hash_index.specs.declared.chain.Chain.{Chain}
+use Rattle.hash_index.specs.declared.head.Head.{Head}
+use Rattle.hash_index.specs.Segments.{first_in}
 use Rattle.hash_index.specs.Buckets.{bucket_of}
 use Rattle.hash_index.specs.Chains.{tag_at, leads, members, IsIn, IsChain, AreChains, joined, KeepsTags}
 use Rattle.hash_index.specs.Spelled.{heads_of, Spells, IsSound, spelled, leads_to}
@@ -46,10 +48,10 @@ pub same_spelled : (cs : ℕ → Column) (i j : HashIndex) → IsSame i j → Is
 same_spelled cs i j same h = spelled_is cs j (spelled cs i) (same_spells cs i j (spelled cs i) same h)
 
 -- the first bucket of all
-pub first_bucket : (cs : ℕ → Column) (i j : HashIndex) → i.buckets.len ≡ 0 → (heads_of j) ≡ (heads_of i) ++ None ∷ [] → j.len ≡ 0 → IsSound cs j
-first_bucket cs i j none items len =
-    let one = ap (λ z. z ++ None ∷ []) (none_long (heads_of i) (omega (arith, i.buckets.ok, none))) in
-    empty_sound cs j (subst (AllByRecursion (λ o. o ≡ None)) (sym (items ∙ one)) (refl, tt)) len
+pub first_bucket : (cs : ℕ → Column) (i j : HashIndex) (first : Option Node) → i.buckets.len ≡ 0 → first ≡ None → (heads_of j) ≡ (heads_of i) ++ first ∷ [] → j.len ≡ 0 → IsSound cs j
+first_bucket cs i j first none empty items len =
+    let one = ap (λ z. z ++ first ∷ []) (none_long (heads_of i) (omega (arith, i.buckets.ok, none))) in
+    empty_sound cs j (subst (AllByRecursion (λ o. o ≡ None)) (sym (items ∙ one)) (empty, tt)) len
 
 -- ---- a chain behind the others
 
@@ -166,6 +168,11 @@ module _ (c : Column) (before after : ℕ → ℕ) (comes : (hash : ℕ) → bef
       ∙ (sym (members_finer mid) ∙ (ap (members c after b) first ∙ members_finer old))))
 
 -- ---- an index with one bucket more
+
+-- the first nodes of its chains, by the heads of the two that another became
+pub cut_heads : (i : HashIndex) (from : ℕ) (stay moved : Head) (stays goes : Option Node) (cut grown : List (Option Node)) → first_in stay ≡ stays → first_in moved ≡ goes → cut ≡ set (heads_of i) from (first_in stay) → grown ≡ cut ++ first_in moved ∷ [] → grown ≡ set (heads_of i) from stays ++ goes ∷ []
+cut_heads i from stay moved stays goes cut grown one other put more =
+    more ∙ (ap (λ o. cut ++ o ∷ []) other ∙ ap (λ z. z ++ goes ∷ []) (put ∙ ap (λ o. set (heads_of i) from o) one))
 
 module _ (i j : HashIndex) (level : j.level ≡ i.level) (count : j.buckets.len ≡ i.buckets.len + 1) (some : 0 < i.buckets.len) where
   into_is : (hash : ℕ) → leads_to j hash ≡ bucket_of i.level (i.buckets.len + 1) hash

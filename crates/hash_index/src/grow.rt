@@ -13,6 +13,7 @@ ghost use Rattle.hash_index.specs.Split.{Builds, IsSame, left, taken};
 
 use crate::HashIndex;
 use crate::chain::Chain;
+use crate::head::Head;
 use node_store::{Node, NodeStore};
 use std::alloc::AllocError;
 
@@ -81,7 +82,7 @@ impl HashIndex {
     {
         self.raise_level();
         if self.buckets.is_empty() {
-            self.buckets.push_reserved(None);
+            self.buckets.push_reserved(Head::none());
         } else {
             self.add_chain(store);
         }
@@ -123,8 +124,10 @@ impl HashIndex {
     {
         let from = self.buckets.len() - self.level;
         let (stay, moved) = self.cut(store, self.buckets.get(from));
-        self.buckets.set(from, stay.first);
-        self.buckets.push_reserved(moved.first);
+        let stay = self.head_of(store, stay.first);
+        let moved = self.head_of(store, moved.first);
+        self.buckets.set(from, stay);
+        self.buckets.push_reserved(moved);
     }
 
     // Cuts a chain in two: the nodes that stay in it once there is one more, and those that go there.

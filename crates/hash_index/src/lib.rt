@@ -4,23 +4,27 @@
 //! stand in one index of each column at once.
 #![tactic(auto)]
 
-ghost use Rattle.std.specs.Prelude.{◌≡◌, ◌≢◌, ℕ, ◌+◌, ◌*◌, ◌<◌, ◌≤◌, max, List, [], ◌∷◌, ◌++◌, length, Option, Some, None, IsPermutation};
+ghost use Rattle.std.specs.Prelude.{◌≡◌, ◌≢◌, ℕ, ◌+◌, ◌*◌, ◌<◌, ◌≤◌, max, List, [], ◌∷◌, ◌++◌, length, get_or, Option, Some, None, IsPermutation};
 ghost use Rattle.node_store.specs.declared.Node.{Node};
 ghost use Rattle.node_store.specs.Column.{Column, IsNode};
 ghost use Rattle.node_store.specs.Store.{IsNodeOf};
 ghost use Rattle.node_store.specs.Nodes.{Lacks};
 ghost use Rattle.node_store.specs.ByNode.{column_of, same_node};
 ghost use Rattle.list_model.specs.Walk.{without};
+ghost use Rattle.seq_index.specs.Links.{AreNodes, end_beside};
 ghost use Rattle.hash_index.specs.Mask.{HasMask, HasMask_prop};
+ghost use Rattle.hash_index.specs.Segments.{first_in};
 
 mod buckets;
 mod chain;
 mod grow;
+mod head;
 mod search;
 mod segments;
 mod settle;
 
-use chain::{first_beside, set_next, set_prev};
+use chain::{set_next, set_prev};
+use head::Head;
 use key_extract::Extract;
 use node_store::{Link, Node, NodeStore};
 use segments::Segments;
@@ -29,7 +33,7 @@ use std::alloc::Global;
 /// Nodes in buckets by the hashes of their keys, at most one a bucket on average. The `tag` of a node's link is the
 /// hash that it was put in with. A bucket is two chains, so that most chains have one node or none. Chains are added
 /// two at a time: from `level` on, each takes over nodes of the one that stands `level` before it, until there are
-/// `level * 2`. `buckets` has the first node of each chain.
+/// `level * 2`. `buckets` has the head of each chain.
 #[derive(Drop)]
 pub struct HashIndex {
     alloc: Global,
@@ -47,7 +51,7 @@ pub struct HashIndex {
 
 impl HashIndex {
     ghost use Rattle.hash_index.specs.Stored.{nodes_of, AreBucketsOf, HasNode, HasKey, HaveTheirHash, KeepsRest};
-    ghost use Rattle.hash_index.specs.Spelled.{Spells, col_of, index_of, buckets_of, HasRoom, KeepsTags};
+    ghost use Rattle.hash_index.specs.Spelled.{Spells, col_of, index_of, heads_of, buckets_of, HasRoom, KeepsTags};
     ghost use Rattle.hash_index.specs.Chains.{tag_at};
 
     /// An index of no nodes in column `col`, for the keys of the container's index `index`. It has no buckets yet,
@@ -109,7 +113,7 @@ impl HashIndex {
         let bucket = self.bucket(tag);
         set_next(store, self.col, before, after);
         set_prev(store, self.col, after, before);
-        let head = first_beside(before, self.buckets.get(bucket), after);
+        let head = self.head_beside(store, before, bucket, after);
         self.buckets.set(bucket, head);
         self.len -= 1;
     }
@@ -143,7 +147,37 @@ impl HashIndex {
         };
         store.set_link(n, self.col, link);
         set_prev(store, self.col, head, Some(n));
-        self.buckets.set(bucket, Some(n));
+        self.buckets.set(bucket, Head::of(n, hash));
         self.len += 1;
+    }
+
+    // The head of a chain once the node between two neighbours has gone.
+    fn head_beside<R>(
+        &self,
+        store: &NodeStore<R>,
+        before: Option<Node>,
+        bucket: usize,
+        after: Option<Node>,
+    ) -> Head
+        requires bucket { bucket < self.now.buckets.len }
+        requires after { AreNodes (column_of store.now (col_of self.now)) after }
+        ensures { first_in result ≡
+            end_beside before (get_or (heads_of self.now) bucket None) after }
+    {
+        match before {
+            Some(_) => self.buckets.head(bucket),
+            None => self.head_of(store, after),
+        }
+    }
+
+    // The head of a chain that begins with this node.
+    pub(crate) fn head_of<R>(&self, store: &NodeStore<R>, first: Option<Node>) -> Head
+        requires { AreNodes (column_of store.now (col_of self.now)) first }
+        ensures { first_in result ≡ first }
+    {
+        match first {
+            Some(n) => Head::of(n, store.link(n, self.col).tag),
+            None => Head::none(),
+        }
     }
 }

@@ -12,10 +12,12 @@ ghost use Rattle.hash_index.specs.Spelled.{IsSound, col_of, index_of, Holds};
 ghost use Rattle.hash_index.specs.Stored.{nodes_of, side_in, record_side_in, matches_in, HasKey, HasItsHash, HaveTheirHash, IsHashedBut, CanSearch};
 ghost use Rattle.hash_index.specs.Hashed.{others};
 ghost use Rattle.hash_index.specs.Chains.{tag_at};
+ghost use Rattle.hash_index.specs.Segments.{first_in};
 ghost use Rattle.hash_index.specs.Walks.{rest_of, Ends, HasHash};
 ghost use Rattle.node_store.specs.Column.{Column};
 
 use crate::HashIndex;
+use crate::head::Head;
 use key_extract::Extract;
 use node_store::{Node, NodeStore};
 use std::cmp::Ordering;
@@ -45,7 +47,7 @@ impl HashIndex {
             (others except (nodes_of self.now store.now)) }
     {
         let hash = keys.hash(self.index, r);
-        let mut at = self.head(hash);
+        let mut at = self.head(hash).node();
         while let Some(n) = at {
             let tag = store.link(n, self.col).tag;
             if self.is_other(store, keys, r, hash, except, n, tag) {
@@ -69,7 +71,12 @@ impl HashIndex {
     {
         let hash = keys.hash_probe(self.index, probe);
         let head = self.head(hash);
-        self.match_from(store, keys, probe, hash, head)
+        if let Some(n) = head.hinted(hash) {
+            if self.is_match(store, keys, probe, n) {
+                return Some(n);
+            }
+        }
+        self.match_from(store, keys, probe, hash, head.node())
     }
 
     /// The node after `n` among those whose records have the whole key, each of which is answered once in a walk from
@@ -98,7 +105,7 @@ impl HashIndex {
     {
         let hash = keys.hash_probe(self.index, probe);
         let mut count = 0;
-        let mut at = self.head(hash);
+        let mut at = self.head(hash).node();
         while let Some(n) = at {
             let link = store.link(n, self.col);
             if self.has_key(store, keys, probe, hash, n, link.tag) {
@@ -188,16 +195,33 @@ impl HashIndex {
         if tag != hash {
             return false;
         }
+        self.is_match(store, keys, probe, n)
+    }
+
+    // Whether the node's record has the whole key.
+    fn is_match<R, E: Extract<R>>(
+        &self,
+        store: &NodeStore<R>,
+        keys: &E,
+        probe: &E::Probe,
+        n: Node,
+    ) -> bool
+        requires node { IsNodeOf store.now n }
+        requires has_key { HasKey E.Extract self.now keys.now }
+        requires whole { IsTrue (E.is_whole keys.now (index_of self.now) probe.now) }
+        ensures { result ≡ is_eq (side_in E.Extract self.now store.now keys.now probe.now n) }
+    {
         keys.order_probe(self.index, store.get(n), probe) == Ordering::Equal
     }
 
-    // The first node of the chain of a hash.
-    fn head(&self, hash: u64) -> Option<Node>
-        ensures { (cs : ℕ → Column) → IsSound cs self.now → HasHash cs self.now hash result }
+    // The head of the chain of a hash.
+    fn head(&self, hash: u64) -> Head
+        ensures { (cs : ℕ → Column) → IsSound cs self.now →
+            HasHash cs self.now hash (first_in result) }
     {
         if self.buckets.is_empty() {
-            return None;
+            return Head::none();
         }
-        self.buckets.get(self.bucket(hash))
+        self.buckets.head(self.bucket(hash))
     }
 }

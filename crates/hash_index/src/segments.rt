@@ -1,7 +1,8 @@
-//! The first nodes of the chains, in segments that are never moved.
+//! The heads of the chains, in segments that are never moved.
 ghost use Rattle.std.specs.Prelude.{◌≡◌, ◌==◌, ℕ, ◌+◌, ◌*◌, ◌<◌, ◌≤◌, ◌^◌, min, vec_len, vec_capacity, [], ◌∷◌, ◌++◌, length, get_or, set, true, None, OnOk, OnErr};
-ghost use Rattle.hash_index.specs.Segments.{heads_in, spare, AreSegments, AreSegments_prop, IsAt};
+ghost use Rattle.hash_index.specs.Segments.{first_in, heads_in, spare, AreSegments, AreSegments_prop, IsAt};
 
+use crate::head::Head;
 use node_store::Node;
 use std::alloc::{AllocError, Global};
 
@@ -11,10 +12,10 @@ const FIRST: usize = 8;
 // More segments than memory has room for.
 const SEGMENTS: usize = 64;
 
-// The first nodes of the chains. Each segment has room for twice as many as the one before it, which is full.
+// The heads of the chains. Each segment has room for twice as many as the one before it, which is full.
 #[derive(Drop)]
 pub(crate) struct Segments {
-    segments: Vec<Vec<Option<Node>>>,
+    segments: Vec<Vec<Head>>,
     len: usize,
     ghost ok: { len ≡ length (heads_in segments.items) },
     ghost never_moved: { min 1 (vec_len segments) * 64 ≤ vec_capacity segments },
@@ -60,15 +61,23 @@ impl Segments {
         requires { bucket < self.now.len }
         ensures { result ≡ get_or (heads_in self.now.segments.items) bucket None }
     {
+        self.head(bucket).node()
+    }
+
+    // The head of a chain. O(1).
+    pub(crate) fn head(&self, bucket: usize) -> Head
+        requires { bucket < self.now.len }
+        ensures { first_in result ≡ get_or (heads_in self.now.segments.items) bucket None }
+    {
         let (segment, place) = locate(bucket);
         self.segments[segment][place]
     }
 
-    // Makes another node the first of a chain. O(1).
-    pub(crate) fn set(&mut self, bucket: usize, head: Option<Node>)
+    // Gives a chain another head. O(1).
+    pub(crate) fn set(&mut self, bucket: usize, head: Head)
         requires { bucket < self.old.len }
         ensures heads { heads_in self.new.segments.items ≡
-            set (heads_in self.old.segments.items) bucket head }
+            set (heads_in self.old.segments.items) bucket (first_in head) }
         ensures len { self.new.len ≡ self.old.len }
         ensures room { spare self.new.segments.items ≡ spare self.old.segments.items }
     {
@@ -131,10 +140,10 @@ impl Segments {
     }
 
     // Adds a chain behind the others, in room that was reserved. O(1).
-    pub(crate) fn push_reserved(&mut self, head: Option<Node>)
+    pub(crate) fn push_reserved(&mut self, head: Head)
         requires { 0 < spare self.old.segments.items }
         ensures heads { heads_in self.new.segments.items ≡
-            heads_in self.old.segments.items ++ head ∷ [] }
+            heads_in self.old.segments.items ++ first_in head ∷ [] }
         ensures len { self.new.len ≡ self.old.len + 1 }
         ensures room { spare self.new.segments.items + 1 ≡ spare self.old.segments.items }
     {

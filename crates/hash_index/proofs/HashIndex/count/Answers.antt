@@ -1,10 +1,10 @@
-use Rattle.std.proofs.Common.{◌∙◌, sym, ap, length, arith}
+use Rattle.std.proofs.Common.{◌∙◌, sym, ap, subst, length, arith}
 use Rattle.std.specs.Ordering.{is_eq}
 use Rattle.node_store.proofs.ByNode.{node_of_column}
 use Rattle.node_store.specs.ByNode.{column_of}
 use Rattle.hash_index.specs.Spelled.{col_of, index_of}
 use Rattle.hash_index.specs.Hashed.{side_of}
-use Rattle.hash_index.specs.Walks.{rest_of}
+use Rattle.hash_index.specs.Walks.{rest_of, HasHash}
 use Rattle.std.specs.Prelude.{count_by}
 use Rattle.hash_index.proofs.Matching.{walk_node, walk_step, counted_in, count_hit, count_miss, hashed_rest, rest_hashed}
 use Rattle.hash_index.proofs.HashIndex.count.Goals as goal
@@ -24,11 +24,11 @@ loop-at-smaller-then-has_key g c =
 
 pub loop-at-init : goal.loop-at-init
 loop-at-init g c =
-    let at = c.head-at.ensures (column_of c.args.store.now) c.requires.chain in
+    let at = subst (HasHash (column_of c.args.store.now) c.args.self.now c.hash_probe-hash.result) (sym c.node-at.ensures) (c.head.ensures (column_of c.args.store.now) c.requires.chain) in
     let counted = counted_in c.args.store.now c.args.self.now (g.E.Extract.hash_of c.args.keys.now (index_of c.args.self.now)) c.hash_probe-hash.result (λ a. g.E.Extract.probe_order_of c.args.keys.now (index_of c.args.self.now) a c.args.probe.now)
-    (λ a e. g.met.E.Extract.whole_hash c.args.keys.now (index_of c.args.self.now) a c.args.probe.now c.requires.has_key c.requires.whole e ∙ sym c.hash_probe-hash.ensures) c.head-at.result at c.requires.hashed in
+    (λ a e. g.met.E.Extract.whole_hash c.args.keys.now (index_of c.args.self.now) a c.args.probe.now c.requires.has_key c.requires.whole e ∙ sym c.hash_probe-hash.ensures) c.node-at.result at c.requires.hashed in
     let hashed = rest_hashed c.args.store.now c.args.self.now (g.E.Extract.hash_of c.args.keys.now (index_of c.args.self.now)) c.hash_probe-hash.result (λ a. g.E.Extract.probe_order_of c.args.keys.now (index_of c.args.self.now) a c.args.probe.now)
-    (λ a e. g.met.E.Extract.whole_hash c.args.keys.now (index_of c.args.self.now) a c.args.probe.now c.requires.has_key c.requires.whole e ∙ sym c.hash_probe-hash.ensures) c.head-at.result at c.requires.hashed in
+    (λ a e. g.met.E.Extract.whole_hash c.args.keys.now (index_of c.args.self.now) a c.args.probe.now c.requires.has_key c.requires.whole e ∙ sym c.hash_probe-hash.ensures) c.node-at.result at c.requires.hashed in
     record { ends = at.ends; hashed = hashed; counted = omega (arith, counted) }
 
 pub loop-at-preserved-then-has_key : goal.loop-at-preserved-then-has_key

@@ -1,10 +1,10 @@
-use Rattle.std.proofs.Common.{◌∙◌, sym, ap, length, arith}
+use Rattle.std.proofs.Common.{◌∙◌, sym, ap, subst, length, arith}
 use Rattle.std.specs.Ordering.{is_eq}
 use Rattle.node_store.proofs.ByNode.{node_of_column}
 use Rattle.node_store.specs.ByNode.{column_of}
 use Rattle.hash_index.specs.Spelled.{col_of, index_of}
 use Rattle.hash_index.specs.Hashed.{side_of, others}
-use Rattle.hash_index.specs.Walks.{rest_of}
+use Rattle.hash_index.specs.Walks.{rest_of, HasHash}
 use Rattle.std.specs.Prelude.{find}
 use Rattle.hash_index.proofs.Matching.{walk_node, walk_rest, walk_step, rest_none, others_in, others_hit, others_miss, others_first, others_hashed}
 use Rattle.hash_index.proofs.HashIndex.same_as.Goals as goal
@@ -19,13 +19,13 @@ loop-at-smaller g c =
 
 pub loop-at-init : goal.loop-at-init
 loop-at-init g c =
-    let at = c.head-at.ensures (column_of c.args.store.now) c.requires.others.chain in
+    let at = subst (HasHash (column_of c.args.store.now) c.args.self.now c.hash-hash.result) (sym c.node-at.ensures) (c.head.ensures (column_of c.args.store.now) c.requires.others.chain) in
     record {
       ends = at.ends;
       hashed = others_hashed c.args.store.now c.args.self.now (g.E.Extract.hash_of c.args.keys.now (index_of c.args.self.now)) c.hash-hash.result (λ a. g.E.Extract.order_of c.args.keys.now (index_of c.args.self.now) a c.args.r.now)
-          (λ a e. g.met.E.Extract.same_hash c.args.keys.now (index_of c.args.self.now) a c.args.r.now c.requires.others.has_key e ∙ sym c.hash-hash.ensures) c.head-at.result at c.args.except c.requires.others.hashed;
+          (λ a e. g.met.E.Extract.same_hash c.args.keys.now (index_of c.args.self.now) a c.args.r.now c.requires.others.has_key e ∙ sym c.hash-hash.ensures) c.node-at.result at c.args.except c.requires.others.hashed;
       same = sym (others_in c.args.store.now c.args.self.now (g.E.Extract.hash_of c.args.keys.now (index_of c.args.self.now)) c.hash-hash.result (λ a. g.E.Extract.order_of c.args.keys.now (index_of c.args.self.now) a c.args.r.now)
-          (λ a e. g.met.E.Extract.same_hash c.args.keys.now (index_of c.args.self.now) a c.args.r.now c.requires.others.has_key e ∙ sym c.hash-hash.ensures) c.head-at.result at c.args.except c.requires.others.hashed);
+          (λ a e. g.met.E.Extract.same_hash c.args.keys.now (index_of c.args.self.now) a c.args.r.now c.requires.others.has_key e ∙ sym c.hash-hash.ensures) c.node-at.result at c.args.except c.requires.others.hashed);
     }
 
 pub returns-then-is_other : goal.returns-then-is_other

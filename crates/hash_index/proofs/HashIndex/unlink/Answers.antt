@@ -1,6 +1,6 @@
-use Rattle.std.proofs.Common.{◌≡◌, ◌+◌, ◌-◌, ◌*◌, ◌≤◌, refl, ap, ◌∙◌, arith}
-use Rattle.seq_index.specs.Links.{end_beside}
+use Rattle.std.proofs.Common.{◌≡◌, ◌+◌, ◌-◌, ◌*◌, ◌≤◌, refl, ◌∙◌, arith}
 use Rattle.node_store.specs.ByNode.{column_of}
+use Rattle.hash_index.specs.Segments.{first_in}
 use Rattle.hash_index.proofs.Untagged.{tagged_node, untagged_node}
 use Rattle.hash_index.proofs.Spelling.{held_node, has_neighbours, some_bucket, some_node}
 use Rattle.hash_index.proofs.Changes.{out_done}
@@ -19,13 +19,16 @@ pub set_prev-requires-clause-node : goal.set_prev-requires-clause-node
 set_prev-requires-clause-node g c = λ m e.
     tagged_node _ m (c.set_next.ensures.ends.nodes m (untagged_node _ m ((has_neighbours (column_of c.args.store.now) c.args.self.now _ c.args.n c.link-before.result c.requires.chain c.requires.held c.link-before.ensures).after m e)))
 
+pub head_beside-head-requires-clause-after : goal.head_beside-head-requires-clause-after
+head_beside-head-requires-clause-after g c = λ m e.
+    tagged_node _ m (c.set_prev.ensures.ends.nodes m (c.set_next.ensures.ends.nodes m (untagged_node _ m ((has_neighbours (column_of c.args.store.now) c.args.self.now _ c.args.n c.link-before.result c.requires.chain c.requires.held c.link-before.ensures).after m e))))
+
 pub returns-clause-list : goal.returns-clause-list
 returns-clause-list g c =
     let i = c.args.self.now in
     let some = some_node _ i _ c.args.n c.requires.chain c.requires.held in
     let len : (i.len - 1) + 1 ≡ i.len = omega arith in
     let load : (i.len - 1) * 2 ≤ c.set.new.self.len = omega (arith, c.requires.chain.load, c.set.ensures.len) in
-    let first = c.get.ensures in
     out_done (column_of c.args.store.now) (column_of c.set_prev.new.store) _ i _ c.args.n c.bucket-bucket.result c.requires.chain c.bucket-bucket.ensures.within
-    c.link-before.result c.first_beside-head.result (record { col = refl; level = refl; count = c.set.ensures.len; heads = c.set.ensures.heads }) (c.first_beside-head.ensures ∙ ap (λ o. end_beside c.link-before.result.a o c.link-before.result.b) first) len load c.requires.held c.bucket-bucket.ensures.is c.link-before.ensures
+    c.link-before.result (first_in c.head_beside-head.result) (record { col = refl; level = refl; count = c.set.ensures.len; heads = c.set.ensures.heads }) c.head_beside-head.ensures len load c.requires.held c.bucket-bucket.ensures.is c.link-before.ensures
     c.set_next.ensures.ends c.set_next.ensures.same c.set_prev.ensures.ends c.set_prev.ensures.same (λ m. c.set_prev.ensures.tags m ∙ c.set_next.ensures.tags m)
