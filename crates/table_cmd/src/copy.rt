@@ -146,6 +146,21 @@ fn copy_name(name: &Option<Text>) -> Result<Option<Text>, AllocError>
     })
 }
 
+// Equal names of a table and of an index.
+fn copy_names(table: &Text, index: &Text) -> Result<(Text, Text), AllocError>
+    ensures { IfOk result (λ copies. (copies.0 ≡ table.now) × (copies.1 ≡ index.now)) }
+{
+    Ok((table.copy()?, index.copy()?))
+}
+
+// Equal names of a table and of an index, and an equal key there.
+fn copy_search(table: &Text, index: &Text, key: &Key) -> Result<(Text, Text, Key), AllocError>
+    ensures { IfOk result (λ copies. (copies.0 ≡ table.now) × (copies.1 ≡ index.now) × (copies.2 ≡ key.now)) }
+{
+    let (table, index) = copy_names(table, index)?;
+    Ok((table, index, key.copy()?))
+}
+
 impl Command {
     /// An equal command, newly allocated. O(length of all texts + parts).
     pub fn copy(&self) -> Result<Command, AllocError>
@@ -219,13 +234,16 @@ impl Command {
                 handle,
                 key,
                 rollback,
-            } => Command::ModifyKey {
-                table: table.copy()?,
-                index: index.copy()?,
-                handle: *handle,
-                key: key.copy()?,
-                rollback: *rollback,
-            },
+            } => {
+                let (table, index, key) = copy_search(table, index, key)?;
+                Command::ModifyKey {
+                    table,
+                    index,
+                    handle: *handle,
+                    key,
+                    rollback: *rollback,
+                }
+            }
             Command::Erase {
                 table,
                 handle,
@@ -253,30 +271,39 @@ impl Command {
                 index,
                 handle,
                 place,
-            } => Command::Move {
-                table: table.copy()?,
-                index: index.copy()?,
-                handle: *handle,
-                place: *place,
-            },
+            } => {
+                let (table, index) = copy_names(table, index)?;
+                Command::Move {
+                    table,
+                    index,
+                    handle: *handle,
+                    place: *place,
+                }
+            }
             Command::Rearrange {
                 table,
                 index,
                 handles,
-            } => Command::Rearrange {
-                table: table.copy()?,
-                index: index.copy()?,
-                handles: handles.copy()?,
-            },
-            Command::Reverse { table, index } => Command::Reverse {
-                table: table.copy()?,
-                index: index.copy()?,
-            },
-            Command::Sort { table, index, by } => Command::Sort {
-                table: table.copy()?,
-                index: index.copy()?,
-                by: by.copy()?,
-            },
+            } => {
+                let (table, index) = copy_names(table, index)?;
+                Command::Rearrange {
+                    table,
+                    index,
+                    handles: handles.copy()?,
+                }
+            }
+            Command::Reverse { table, index } => {
+                let (table, index) = copy_names(table, index)?;
+                Command::Reverse { table, index }
+            }
+            Command::Sort { table, index, by } => {
+                let (table, index) = copy_names(table, index)?;
+                Command::Sort {
+                    table,
+                    index,
+                    by: by.copy()?,
+                }
+            }
             _ => unreachable!(),
         })
     }
@@ -287,46 +314,38 @@ impl Command {
         ensures { IfOk result (λ copy. copy ≡ self.now) }
     {
         Ok(match self {
-            Command::EraseKey { table, index, key } => Command::EraseKey {
-                table: table.copy()?,
-                index: index.copy()?,
-                key: key.copy()?,
-            },
-            Command::Find { table, index, key } => Command::Find {
-                table: table.copy()?,
-                index: index.copy()?,
-                key: key.copy()?,
-            },
-            Command::Count { table, index, key } => Command::Count {
-                table: table.copy()?,
-                index: index.copy()?,
-                key: key.copy()?,
-            },
-            Command::Lower { table, index, key } => Command::Lower {
-                table: table.copy()?,
-                index: index.copy()?,
-                key: key.copy()?,
-            },
-            Command::Upper { table, index, key } => Command::Upper {
-                table: table.copy()?,
-                index: index.copy()?,
-                key: key.copy()?,
-            },
-            Command::FindRank { table, index, key } => Command::FindRank {
-                table: table.copy()?,
-                index: index.copy()?,
-                key: key.copy()?,
-            },
-            Command::LowerRank { table, index, key } => Command::LowerRank {
-                table: table.copy()?,
-                index: index.copy()?,
-                key: key.copy()?,
-            },
-            Command::UpperRank { table, index, key } => Command::UpperRank {
-                table: table.copy()?,
-                index: index.copy()?,
-                key: key.copy()?,
-            },
+            Command::EraseKey { table, index, key } => {
+                let (table, index, key) = copy_search(table, index, key)?;
+                Command::EraseKey { table, index, key }
+            }
+            Command::Find { table, index, key } => {
+                let (table, index, key) = copy_search(table, index, key)?;
+                Command::Find { table, index, key }
+            }
+            Command::Count { table, index, key } => {
+                let (table, index, key) = copy_search(table, index, key)?;
+                Command::Count { table, index, key }
+            }
+            Command::Lower { table, index, key } => {
+                let (table, index, key) = copy_search(table, index, key)?;
+                Command::Lower { table, index, key }
+            }
+            Command::Upper { table, index, key } => {
+                let (table, index, key) = copy_search(table, index, key)?;
+                Command::Upper { table, index, key }
+            }
+            Command::FindRank { table, index, key } => {
+                let (table, index, key) = copy_search(table, index, key)?;
+                Command::FindRank { table, index, key }
+            }
+            Command::LowerRank { table, index, key } => {
+                let (table, index, key) = copy_search(table, index, key)?;
+                Command::LowerRank { table, index, key }
+            }
+            Command::UpperRank { table, index, key } => {
+                let (table, index, key) = copy_search(table, index, key)?;
+                Command::UpperRank { table, index, key }
+            }
             _ => unreachable!(),
         })
     }
@@ -349,61 +368,79 @@ impl Command {
                 index,
                 low,
                 high,
-            } => Command::Range {
-                table: table.copy()?,
-                index: index.copy()?,
-                low: low.copy()?,
-                high: high.copy()?,
-            },
+            } => {
+                let (table, index) = copy_names(table, index)?;
+                Command::Range {
+                    table,
+                    index,
+                    low: low.copy()?,
+                    high: high.copy()?,
+                }
+            }
             Command::Nth {
                 table,
                 index,
                 place,
-            } => Command::Nth {
-                table: table.copy()?,
-                index: index.copy()?,
-                place: *place,
-            },
+            } => {
+                let (table, index) = copy_names(table, index)?;
+                Command::Nth {
+                    table,
+                    index,
+                    place: *place,
+                }
+            }
             Command::Rank {
                 table,
                 index,
                 position,
-            } => Command::Rank {
-                table: table.copy()?,
-                index: index.copy()?,
-                position: *position,
-            },
+            } => {
+                let (table, index) = copy_names(table, index)?;
+                Command::Rank {
+                    table,
+                    index,
+                    position: *position,
+                }
+            }
             Command::Place {
                 table,
                 index,
                 handle,
-            } => Command::Place {
-                table: table.copy()?,
-                index: index.copy()?,
-                handle: *handle,
-            },
+            } => {
+                let (table, index) = copy_names(table, index)?;
+                Command::Place {
+                    table,
+                    index,
+                    handle: *handle,
+                }
+            }
             Command::Next {
                 table,
                 index,
                 position,
-            } => Command::Next {
-                table: table.copy()?,
-                index: index.copy()?,
-                position: *position,
-            },
+            } => {
+                let (table, index) = copy_names(table, index)?;
+                Command::Next {
+                    table,
+                    index,
+                    position: *position,
+                }
+            }
             Command::Prev {
                 table,
                 index,
                 position,
-            } => Command::Prev {
-                table: table.copy()?,
-                index: index.copy()?,
-                position: *position,
-            },
-            Command::List { table, index } => Command::List {
-                table: table.copy()?,
-                index: index.copy()?,
-            },
+            } => {
+                let (table, index) = copy_names(table, index)?;
+                Command::Prev {
+                    table,
+                    index,
+                    position: *position,
+                }
+            }
+            Command::List { table, index } => {
+                let (table, index) = copy_names(table, index)?;
+                Command::List { table, index }
+            }
             _ => unreachable!(),
         })
     }

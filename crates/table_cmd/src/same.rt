@@ -178,6 +178,27 @@ fn is_same_text(a: &Text, b: &Text) -> bool
     a.as_str() == b.as_str()
 }
 
+// Whether the names of a table and of an index are the same as the others.
+fn is_same_index(table: &Text, index: &Text, other_table: &Text, other_index: &Text) -> bool
+    ensures { IsTrue result ↔ ((table.now ≡ other_table.now) × (index.now ≡ other_index.now)) }
+{
+    is_same_text(table, other_table) && is_same_text(index, other_index)
+}
+
+// Whether the names of a table and of an index, and the key there, are the same as the others.
+fn is_same_search(
+    table: &Text,
+    index: &Text,
+    key: &Key,
+    other_table: &Text,
+    other_index: &Text,
+    other_key: &Key,
+) -> bool
+    ensures { IsTrue result ↔ ((table.now ≡ other_table.now) × (index.now ≡ other_index.now) × (key.now ≡ other_key.now)) }
+{
+    is_same_index(table, index, other_table, other_index) && is_same_key(key, other_key)
+}
+
 impl Command {
     /// Whether the commands are the same, part by part. O(length of all texts + parts).
     pub fn is_same(&self, other: &Command) -> bool
@@ -272,10 +293,8 @@ impl Command {
                     handle: h,
                     key: k,
                     rollback: undo,
-                } => is_same_text(table, t)
-                    && is_same_text(index, i)
+                } => is_same_search(table, index, key, t, i, k)
                     && is_same_handle(*handle, *h)
-                    && is_same_key(key, k)
                     && rollback == undo,
                 _ => false,
             },
@@ -318,10 +337,7 @@ impl Command {
                     index: i,
                     handle: h,
                     place: p,
-                } => is_same_text(table, t)
-                    && is_same_text(index, i)
-                    && is_same_handle(*handle, *h)
-                    && place == p,
+                } => is_same_index(table, index, t, i) && is_same_handle(*handle, *h) && place == p,
                 _ => false,
             },
             Command::Rearrange {
@@ -333,14 +349,12 @@ impl Command {
                     table: t,
                     index: i,
                     handles: hs,
-                } => is_same_text(table, t)
-                    && is_same_text(index, i)
+                } => is_same_index(table, index, t, i)
                     && are_same_handles(handles.as_slice(), hs.as_slice()),
                 _ => false,
             },
             Command::Reverse { table, index } => match other {
-                Command::Reverse { table: t, index: i } => is_same_text(table, t)
-                    && is_same_text(index, i),
+                Command::Reverse { table: t, index: i } => is_same_index(table, index, t, i),
                 _ => false,
             },
             Command::Sort { table, index, by } => match other {
@@ -348,8 +362,7 @@ impl Command {
                     table: t,
                     index: i,
                     by: names,
-                } => is_same_text(table, t)
-                    && is_same_text(index, i)
+                } => is_same_index(table, index, t, i)
                     && are_same_names(by.as_slice(), names.as_slice()),
                 _ => false,
             },
@@ -368,7 +381,7 @@ impl Command {
                     table: t,
                     index: i,
                     key: k,
-                } => is_same_text(table, t) && is_same_text(index, i) && is_same_key(key, k),
+                } => is_same_search(table, index, key, t, i, k),
                 _ => false,
             },
             Command::Find { table, index, key } => match other {
@@ -376,7 +389,7 @@ impl Command {
                     table: t,
                     index: i,
                     key: k,
-                } => is_same_text(table, t) && is_same_text(index, i) && is_same_key(key, k),
+                } => is_same_search(table, index, key, t, i, k),
                 _ => false,
             },
             Command::Count { table, index, key } => match other {
@@ -384,7 +397,7 @@ impl Command {
                     table: t,
                     index: i,
                     key: k,
-                } => is_same_text(table, t) && is_same_text(index, i) && is_same_key(key, k),
+                } => is_same_search(table, index, key, t, i, k),
                 _ => false,
             },
             Command::Lower { table, index, key } => match other {
@@ -392,7 +405,7 @@ impl Command {
                     table: t,
                     index: i,
                     key: k,
-                } => is_same_text(table, t) && is_same_text(index, i) && is_same_key(key, k),
+                } => is_same_search(table, index, key, t, i, k),
                 _ => false,
             },
             Command::Upper { table, index, key } => match other {
@@ -400,7 +413,7 @@ impl Command {
                     table: t,
                     index: i,
                     key: k,
-                } => is_same_text(table, t) && is_same_text(index, i) && is_same_key(key, k),
+                } => is_same_search(table, index, key, t, i, k),
                 _ => false,
             },
             Command::FindRank { table, index, key } => match other {
@@ -408,7 +421,7 @@ impl Command {
                     table: t,
                     index: i,
                     key: k,
-                } => is_same_text(table, t) && is_same_text(index, i) && is_same_key(key, k),
+                } => is_same_search(table, index, key, t, i, k),
                 _ => false,
             },
             Command::LowerRank { table, index, key } => match other {
@@ -416,7 +429,7 @@ impl Command {
                     table: t,
                     index: i,
                     key: k,
-                } => is_same_text(table, t) && is_same_text(index, i) && is_same_key(key, k),
+                } => is_same_search(table, index, key, t, i, k),
                 _ => false,
             },
             Command::UpperRank { table, index, key } => match other {
@@ -424,7 +437,7 @@ impl Command {
                     table: t,
                     index: i,
                     key: k,
-                } => is_same_text(table, t) && is_same_text(index, i) && is_same_key(key, k),
+                } => is_same_search(table, index, key, t, i, k),
                 _ => false,
             },
             _ => unreachable!(),
@@ -459,8 +472,7 @@ impl Command {
                     index: i,
                     low: from,
                     high: to,
-                } => is_same_text(table, t)
-                    && is_same_text(index, i)
+                } => is_same_index(table, index, t, i)
                     && is_same_bound(low, from)
                     && is_same_bound(high, to),
                 _ => false,
@@ -474,7 +486,7 @@ impl Command {
                     table: t,
                     index: i,
                     place: p,
-                } => is_same_text(table, t) && is_same_text(index, i) && place == p,
+                } => is_same_index(table, index, t, i) && place == p,
                 _ => false,
             },
             Command::Rank {
@@ -486,9 +498,7 @@ impl Command {
                     table: t,
                     index: i,
                     position: p,
-                } => is_same_text(table, t)
-                    && is_same_text(index, i)
-                    && is_same_place(*position, *p),
+                } => is_same_index(table, index, t, i) && is_same_place(*position, *p),
                 _ => false,
             },
             Command::Place {
@@ -500,9 +510,7 @@ impl Command {
                     table: t,
                     index: i,
                     handle: h,
-                } => is_same_text(table, t)
-                    && is_same_text(index, i)
-                    && is_same_handle(*handle, *h),
+                } => is_same_index(table, index, t, i) && is_same_handle(*handle, *h),
                 _ => false,
             },
             Command::Next {
@@ -514,9 +522,7 @@ impl Command {
                     table: t,
                     index: i,
                     position: p,
-                } => is_same_text(table, t)
-                    && is_same_text(index, i)
-                    && is_same_place(*position, *p),
+                } => is_same_index(table, index, t, i) && is_same_place(*position, *p),
                 _ => false,
             },
             Command::Prev {
@@ -528,14 +534,11 @@ impl Command {
                     table: t,
                     index: i,
                     position: p,
-                } => is_same_text(table, t)
-                    && is_same_text(index, i)
-                    && is_same_place(*position, *p),
+                } => is_same_index(table, index, t, i) && is_same_place(*position, *p),
                 _ => false,
             },
             Command::List { table, index } => match other {
-                Command::List { table: t, index: i } => is_same_text(table, t)
-                    && is_same_text(index, i),
+                Command::List { table: t, index: i } => is_same_index(table, index, t, i),
                 _ => false,
             },
             _ => unreachable!(),
