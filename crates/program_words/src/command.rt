@@ -44,12 +44,10 @@ fn serve_command<'a>(alloc: Global) -> Result<Command<'a>, AllocError>
     ensures words { IfOk result (λ c. app_of c ≡ serve_words) }
     ensures local { IfOk result (λ c. (out-Command c).has_globals ≡ false) }
 {
-    let schema = option(alloc, "schema", "FILE", "the file of the schema").required(true);
-    let listen = option(alloc, "listen", "ADDRESS", "unix:PATH or tcp:IP:PORT").required(true);
     Command::new(alloc, "serve")
         .about("answers the lines of connections")
-        .arg(schema)?
-        .arg(listen)?
+        .arg(option(alloc, "schema", "FILE", "the file of the schema").required(true))?
+        .arg(option(alloc, "listen", "ADDRESS", "unix:PATH or tcp:IP:PORT").required(true))?
         .arg(workers(alloc))?
         .arg(each(alloc))?
         .arg(option(alloc, "journal", "FILE", "the file for the accepted writes"))

@@ -10,12 +10,12 @@ use Rattle.program_words.proofs.command.serve_command.Goals as goal
 pub returns-clause-words : goal.returns-clause-words
 returns-clause-words c =
     let about_is : app_of c.about.result ≡ new_app (codes "serve") = ap app_of_fields c.about.ensures ∙ c.new.ensures.app in
-    let schema_is : rule_of c.required-schema.result ≡ required_named (codes "schema") =
-    ap rule_of c.required-schema.ensures ∙ ap (λ (r : Rule). record r { required = true }) c.option.ensures.rule in
-    let schema_local : c.required-schema.result.global ≡ false = ap (λ (a : Arg). a.global) c.required-schema.ensures ∙ c.option.ensures.local in
-    let listen_is : rule_of c.required-listen.result ≡ required_named (codes "listen") =
-    ap rule_of c.required-listen.ensures ∙ ap (λ (r : Rule). record r { required = true }) c.option-2.ensures.rule in
-    let listen_local : c.required-listen.result.global ≡ false = ap (λ (a : Arg). a.global) c.required-listen.ensures ∙ c.option-2.ensures.local in
+    let schema_is : rule_of c.required.result ≡ required_named (codes "schema") =
+    ap rule_of c.required.ensures ∙ ap (λ (r : Rule). record r { required = true }) c.option.ensures.rule in
+    let schema_local : c.required.result.global ≡ false = ap (λ (a : Arg). a.global) c.required.ensures ∙ c.option.ensures.local in
+    let listen_is : rule_of c.required-2.result ≡ required_named (codes "listen") =
+    ap rule_of c.required-2.ensures ∙ ap (λ (r : Rule). record r { required = true }) c.option-2.ensures.rule in
+    let listen_local : c.required-2.result.global ≡ false = ap (λ (a : Arg). a.global) c.required-2.ensures ∙ c.option-2.ensures.local in
     let with_schema = c.in_ok-arg.ensures.shape schema_local ∙ ap₂ with_rule about_is schema_is in
     let with_listen = c.in_ok-arg-2.ensures.shape listen_local ∙ ap₂ with_rule with_schema listen_is in
     let with_workers = c.in_ok-arg-3.ensures.shape c.workers.ensures.local ∙ ap₂ with_rule with_listen c.workers.ensures.rule in
@@ -24,8 +24,8 @@ returns-clause-words c =
 
 pub returns-clause-local : goal.returns-clause-local
 returns-clause-local c =
-    let schema_local : c.required-schema.result.global ≡ false = ap (λ (a : Arg). a.global) c.required-schema.ensures ∙ c.option.ensures.local in
-    let listen_local : c.required-listen.result.global ≡ false = ap (λ (a : Arg). a.global) c.required-listen.ensures ∙ c.option-2.ensures.local in
+    let schema_local : c.required.result.global ≡ false = ap (λ (a : Arg). a.global) c.required.ensures ∙ c.option.ensures.local in
+    let listen_local : c.required-2.result.global ≡ false = ap (λ (a : Arg). a.global) c.required-2.ensures ∙ c.option-2.ensures.local in
     let none : (out-Command c.about.result).has_globals ≡ false = search rules in
     let with_schema = c.in_ok-arg.ensures.globals ∙ ap₂ (λ x y. x || y) none schema_local in
     let with_listen = c.in_ok-arg-2.ensures.globals ∙ ap₂ (λ x y. x || y) with_schema listen_local in
