@@ -1,12 +1,12 @@
 //! The calls of std's collections kept by hand.
 
 use crate::by_hand::ByHand;
+use crate::measured::{Measured, Span, time_calls};
 use crate::record::{Record, looked_for, nth_record};
 use bench_report::Report;
 use std::alloc::Global;
 use std::io;
 use std::rt::Runtime;
-use std::time::Instant;
 
 #[derive(Clone, Copy)]
 pub(crate) enum Call {
@@ -20,19 +20,31 @@ pub(crate) enum Call {
     ListById,
 }
 
-const ONE: [(&str, Call); 1] = [("by hand, 1 index: insert", Call::Insert)];
+const ONE: [(&str, Call, Span); 1] = [("by hand, 1 index: insert", Call::Insert, Span::All)];
 
-const THREE: [(&str, Call); 1] = [("by hand, 3 indices: insert", Call::Insert)];
+const THREE: [(&str, Call, Span); 1] = [("by hand, 3 indices: insert", Call::Insert, Span::All)];
 
-const SEVEN: [(&str, Call); 8] = [
-    ("by hand, 7 indices: insert", Call::Insert),
-    ("find by hand: BTreeMap, id", Call::FindId),
-    ("find by hand: BTreeMap, two parts", Call::FindOwnerAndPrice),
-    ("find by hand: BTreeMap, price", Call::FindPrice),
-    ("find by hand: HashMap, id", Call::FindHashedId),
-    ("find by hand: HashMap of Vec, owner", Call::FindOwner),
-    ("list by hand, a record: Vec", Call::List),
-    ("list by hand, a record: BTreeMap", Call::ListById),
+const SEVEN: [(&str, Call, Span); 8] = [
+    ("by hand, 7 indices: insert", Call::Insert, Span::All),
+    ("find by hand: BTreeMap, id", Call::FindId, Span::All),
+    (
+        "find by hand: BTreeMap, two parts",
+        Call::FindOwnerAndPrice,
+        Span::All,
+    ),
+    ("find by hand: BTreeMap, price", Call::FindPrice, Span::All),
+    ("find by hand: HashMap, id", Call::FindHashedId, Span::All),
+    (
+        "find by hand: HashMap of Vec, owner",
+        Call::FindOwner,
+        Span::All,
+    ),
+    ("list by hand, a record: Vec", Call::List, Span::All),
+    (
+        "list by hand, a record: BTreeMap",
+        Call::ListById,
+        Span::All,
+    ),
 ];
 
 /// The calls at a size.
@@ -52,38 +64,18 @@ fn run<R: Runtime>(
     alloc: Global,
     report: &mut Report,
     indices: usize,
-    calls: &[(&'static str, Call)],
+    calls: &[(&'static str, Call, Span)],
     count: u64,
 ) -> io::Result<()> {
-    let mut kept = ByHand::new(alloc, indices);
-    time_all(rt, report, calls, &mut kept, count)
+    time_calls(rt, report, &mut ByHand::new(alloc, indices), calls, count)
 }
 
-fn time_all<R: Runtime>(
-    rt: &R,
-    report: &mut Report,
-    calls: &[(&'static str, Call)],
-    kept: &mut ByHand,
-    count: u64,
-) -> io::Result<()> {
-    for (name, call) in calls {
-        time(rt, report, name, *call, kept, count)?;
+impl Measured for ByHand {
+    type Call = Call;
+
+    fn make(&mut self, call: Call, _from: u64, to: u64) -> u64 {
+        each(call, self, to)
     }
-    Ok(())
-}
-
-fn time<R: Runtime>(
-    rt: &R,
-    report: &mut Report,
-    name: &'static str,
-    call: Call,
-    kept: &mut ByHand,
-    count: u64,
-) -> io::Result<()> {
-    let start = Instant::now(rt)?;
-    let met = each(call, kept, count);
-    report.line(start.elapsed(rt)?, name, count, count, met)?;
-    Ok(())
 }
 
 /// Makes the call so many times, or once where it lists all. Answers the sum of the answers.

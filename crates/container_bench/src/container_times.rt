@@ -1,18 +1,19 @@
 //! The calls of the container.
 
 use crate::book::{Book, INDICES};
+use crate::measured::{Measured, Span, time_calls};
 use crate::record::{looked_for, nth_record};
 use bench_report::Report;
 use std::alloc::Global;
 use std::io;
 use std::rt::Runtime;
-use std::time::Instant;
 
 #[derive(Clone, Copy)]
-enum Call {
+pub(crate) enum Call {
     Insert,
     Find(usize),
     List(usize),
+    EraseKey(usize, (u64, u64)),
 }
 
 /// Which of the indices a container has, and what is timed of it.
@@ -20,27 +21,31 @@ enum Call {
 struct Script {
     first: usize,
     indices: usize,
-    calls: &'static [(&'static str, Call)],
+    calls: &'static [(&'static str, Call, Span)],
 }
 
-const ONE: [(&str, Call); 1] = [("container, 1 index: insert", Call::Insert)];
+const ONE: [(&str, Call, Span); 1] = [("container, 1 index: insert", Call::Insert, Span::All)];
 
-const THREE: [(&str, Call); 1] = [("container, 3 indices: insert", Call::Insert)];
+const THREE: [(&str, Call, Span); 1] = [("container, 3 indices: insert", Call::Insert, Span::All)];
 
-const SEVEN: [(&str, Call); 13] = [
-    ("container, 7 indices: insert", Call::Insert),
-    ("find: ordered, unique", Call::Find(3)),
-    ("find: ordered, two parts", Call::Find(6)),
-    ("find: ranked", Call::Find(2)),
-    ("find: hashed, unique", Call::Find(5)),
-    ("find: hashed, four records a key", Call::Find(4)),
-    ("list, a record: sequenced", Call::List(0)),
-    ("list, a record: random access", Call::List(1)),
-    ("list, a record: ordered, unique", Call::List(3)),
-    ("list, a record: ordered, two parts", Call::List(6)),
-    ("list, a record: ranked", Call::List(2)),
-    ("list, a record: hashed, unique", Call::List(5)),
-    ("list, a record: hashed", Call::List(4)),
+const SEVEN: [(&str, Call, Span); 13] = [
+    ("container, 7 indices: insert", Call::Insert, Span::All),
+    ("find: ordered, unique", Call::Find(3), Span::All),
+    ("find: ordered, two parts", Call::Find(6), Span::All),
+    ("find: ranked", Call::Find(2), Span::All),
+    ("find: hashed, unique", Call::Find(5), Span::All),
+    ("find: hashed, four records a key", Call::Find(4), Span::All),
+    ("list, a record: sequenced", Call::List(0), Span::All),
+    ("list, a record: random access", Call::List(1), Span::All),
+    ("list, a record: ordered, unique", Call::List(3), Span::All),
+    (
+        "list, a record: ordered, two parts",
+        Call::List(6),
+        Span::All,
+    ),
+    ("list, a record: ranked", Call::List(2), Span::All),
+    ("list, a record: hashed, unique", Call::List(5), Span::All),
+    ("list, a record: hashed", Call::List(4), Span::All),
 ];
 
 const SCRIPTS: [Script; 3] = [
@@ -82,43 +87,21 @@ fn run<R: Runtime>(
     count: u64,
 ) -> io::Result<()> {
     match Book::new(alloc, script.first, script.indices, u32::MAX)? {
-        Some(mut book) => time_all(rt, report, script.calls, &mut book, count),
+        Some(mut book) => time_calls(rt, report, &mut book, script.calls, count),
         None => Ok(()),
     }
 }
 
-fn time_all<R: Runtime>(
-    rt: &R,
-    report: &mut Report,
-    calls: &[(&'static str, Call)],
-    book: &mut Book,
-    count: u64,
-) -> io::Result<()> {
-    for (name, call) in calls {
-        time(rt, report, name, *call, book, count)?;
-    }
-    Ok(())
-}
+impl Measured for Book {
+    type Call = Call;
 
-fn time<R: Runtime>(
-    rt: &R,
-    report: &mut Report,
-    name: &'static str,
-    call: Call,
-    book: &mut Book,
-    count: u64,
-) -> io::Result<()> {
-    let start = Instant::now(rt)?;
-    let met = each(call, book, count);
-    report.line(start.elapsed(rt)?, name, count, count, met)?;
-    Ok(())
-}
-
-fn each(call: Call, book: &mut Book, count: u64) -> u64 {
-    match call {
-        Call::Insert => insert_each(book, count),
-        Call::Find(index) => find_each(book, index, count),
-        Call::List(index) => book.list(index),
+    fn make(&mut self, call: Call, _from: u64, to: u64) -> u64 {
+        match call {
+            Call::Insert => insert_each(self, to),
+            Call::Find(index) => find_each(self, index, to),
+            Call::List(index) => self.list(index),
+            Call::EraseKey(index, probe) => self.erase_key(index, probe),
+        }
     }
 }
 

@@ -17,6 +17,7 @@ mod erasures;
 mod growth;
 mod keyed;
 mod keys;
+mod measured;
 mod memory;
 mod record;
 mod sequences;
@@ -106,14 +107,23 @@ fn print_bytes<R: Runtime>(rt: &R, alloc: Global, part: Part) -> io::Result<()> 
     }
 }
 
-// The bytes of a record and the times of all calls of a part at each size.
-fn print_part<R: Runtime>(rt: &R, alloc: Global, part: Part) -> io::Result<()> {
-    print_bytes(rt, alloc, part)?;
-    let mut report = Report::new(alloc);
+// The times of all calls of a part at each size.
+fn print_sizes<R: Runtime>(
+    rt: &R,
+    alloc: Global,
+    report: &mut Report,
+    part: Part,
+) -> io::Result<()> {
     for size in part.sizes() {
-        print_times(rt, alloc, &mut report, part, *size)?;
+        print_times(rt, alloc, report, part, *size)?;
     }
     println!(rt; "sum of the answers: {}", report.met)
+}
+
+// The bytes of a record, and these times.
+fn print_part<R: Runtime>(rt: &R, alloc: Global, part: Part) -> io::Result<()> {
+    print_bytes(rt, alloc, part)?;
+    print_sizes(rt, alloc, &mut Report::new(alloc), part)
 }
 
 // The sum of what the calls of a part answer at 100 records.
@@ -123,15 +133,20 @@ fn print_sum<R: Runtime>(rt: &R, alloc: Global, part: Part, name: &str) -> io::R
     println!(rt; "sum of the answers at 100 {name}: {}", report.met)
 }
 
+// What both answer, the sizes of nodes and links, and the sums of the answers of the other parts.
+fn print_answers<R: Runtime>(rt: &R, alloc: Global) -> io::Result<()> {
+    answers::print_answers(rt, alloc, 100)?;
+    sequences::print_sizes(rt)?;
+    print_sum(rt, alloc, Part::Sequences, "records")?;
+    print_sum(rt, alloc, Part::Keys, "words")?;
+    print_sum(rt, alloc, Part::Growth, "that grow")
+}
+
 fn main(rt: HostRuntime) -> io::Result<()> {
     let alloc = rt.alloc();
     let words: Vec<String> = env::args(&rt)?.skip(1).collect(alloc)?;
     if words.is_empty() {
-        answers::print_answers(&rt, alloc, 100)?;
-        sequences::print_sizes(&rt)?;
-        print_sum(&rt, alloc, Part::Sequences, "records")?;
-        print_sum(&rt, alloc, Part::Keys, "words")?;
-        return print_sum(&rt, alloc, Part::Growth, "that grow");
+        return print_answers(&rt, alloc);
     }
     let part = Part::named(words.get(1).map(|word| word.as_str()));
     print_part(&rt, alloc, part)

@@ -6,28 +6,99 @@ ghost use Rattle.hash_index.specs.Spelled.{IsSound, spelled, Holds};
 ghost use Rattle.container_bench.specs.Keyed.{IsKeyed};
 
 use super::words::Words;
+use crate::measured::{Measured, Span, time_calls};
 use bench_report::{Report, Unit, scattered};
 use hash_index::HashIndex;
 use node_store::{Node, NodeStore};
-use std::alloc::Global;
+use std::alloc::{AllocError, Global};
 use std::io;
+use std::marker::Model;
 use std::rt::Runtime;
-use std::time::Instant;
 
 #[derive(Clone, Copy)]
-enum Call {
+pub(super) enum Call {
     Link,
     First,
     Unlink,
     Remove,
 }
 
-const CALLS: [(&str, Call); 4] = [
-    ("hash_index: add and link, growth included", Call::Link),
-    ("hash_index: first_of", Call::First),
-    ("hash_index: first_of, unlink (half of them)", Call::Unlink),
-    ("hash_index: first_of, unlink, remove (rest)", Call::Remove),
+const LINK: [(&str, Call, Span); 1] = [(
+    "hash_index: add and link, growth included",
+    Call::Link,
+    Span::All,
+)];
+
+const CALLS: [(&str, Call, Span); 3] = [
+    ("hash_index: first_of", Call::First, Span::All),
+    (
+        "hash_index: first_of, unlink (half of them)",
+        Call::Unlink,
+        Span::FirstHalf,
+    ),
+    (
+        "hash_index: first_of, unlink, remove (rest)",
+        Call::Remove,
+        Span::SecondHalf,
+    ),
 ];
+
+/// Words in buckets, as records of a store.
+#[derive(Drop)]
+pub(super) struct HashedWords {
+    store: NodeStore<u64>,
+    index: HashIndex,
+}
+
+impl Model for HashedWords {
+    ghost use Rattle.std.specs.Prelude.{ℕ};
+    ghost use Rattle.container_bench.specs.Keyed.{IsKeyed};
+
+    ghost Value = { ℕ };
+
+    ghost view = { λ w. 0 };
+
+    ghost invariant = { λ w. IsKeyed w.store w.index };
+}
+
+impl HashedWords {
+    /// No words.
+    pub(super) fn new(alloc: Global) -> HashedWords {
+        HashedWords {
+            store: NodeStore::new(alloc),
+            index: HashIndex::new(alloc, 0, 0),
+        }
+    }
+
+    /// Adds a word and puts it in, if there is room.
+    pub(super) fn insert(&mut self, word: u64) -> Option<Node> {
+        insert(&mut self.store, &mut self.index, word)
+    }
+
+    // How many buckets there are, and how many nodes the fullest one has.
+    fn fullness(&self, report: &mut Report, count: u64) -> Result<(), AllocError> {
+        report.number(
+            "hash_index: size of the table",
+            Unit::Buckets,
+            count,
+            self.index.buckets() as u64,
+        )?;
+        report.number(
+            "hash_index: longest chain",
+            Unit::Nodes,
+            count,
+            self.index.longest_chain(&self.store) as u64,
+        )
+    }
+}
+
+impl Measured for HashedWords {
+    type Call = Call;
+
+    fn make(&mut self, call: Call, from: u64, to: u64) -> u64 {
+        each(call, &mut self.store, &mut self.index, from, to)
+    }
+}
 
 /// The calls at a size.
 pub(crate) fn times<R: Runtime>(
@@ -36,49 +107,18 @@ pub(crate) fn times<R: Runtime>(
     report: &mut Report,
     count: u64,
 ) -> io::Result<()> {
-    let mut store = NodeStore::new(alloc);
-    let mut index = HashIndex::new(alloc, 0, 0);
-    for (name, call) in &CALLS {
-        let (from, to) = match call {
-            Call::Unlink => (0, count / 2),
-            Call::Remove => (count / 2, count),
-            _ => (0, count),
-        };
-        let start = Instant::now(rt)?;
-        let met = each(*call, &mut store, &mut index, from, to);
-        report.line(
-            start.elapsed(rt)?,
-            name,
-            count,
-            to.saturating_sub(from),
-            met,
-        )?;
-        if let Call::Link = call {
-            fullness(report, &store, &index, count)?;
-        }
-    }
-    Ok(())
+    time_all(rt, report, &mut HashedWords::new(alloc), count)
 }
 
-// How many buckets there are, and how many nodes the fullest one has.
-fn fullness(
+fn time_all<R: Runtime>(
+    rt: &R,
     report: &mut Report,
-    store: &NodeStore<u64>,
-    index: &HashIndex,
+    words: &mut HashedWords,
     count: u64,
-) -> io::Result<()>
-    requires { IsKeyed store.now index.now }
-{
-    let buckets = index.buckets() as u64;
-    report.number(
-        "hash_index: size of the table",
-        Unit::Buckets,
-        count,
-        buckets,
-    )?;
-    let longest = index.longest_chain(store) as u64;
-    report.number("hash_index: longest chain", Unit::Nodes, count, longest)?;
-    Ok(())
+) -> io::Result<()> {
+    time_calls(rt, report, words, &LINK, count)?;
+    words.fullness(report, count)?;
+    time_calls(rt, report, words, &CALLS, count)
 }
 
 // Makes the call at the words of these numbers. Answers the sum of the numbers of the nodes that were met.
@@ -102,8 +142,8 @@ fn each(call: Call, store: &mut NodeStore<u64>, index: &mut HashIndex, from: u64
     met
 }
 
-/// Adds a word and puts it in, if there is room.
-pub(super) fn insert(store: &mut NodeStore<u64>, index: &mut HashIndex, word: u64) -> Option<Node>
+// Adds a word and puts it in, if there is room.
+fn insert(store: &mut NodeStore<u64>, index: &mut HashIndex, word: u64) -> Option<Node>
     requires { IsKeyed store.old index.old }
     ensures { IsKeyed store.new index.new }
 {

@@ -1,9 +1,7 @@
 //! The longest single insertion into a hashed index.
 
-use super::buckets::insert;
+use super::buckets::HashedWords;
 use bench_report::{Report, Unit, scattered};
-use hash_index::HashIndex;
-use node_store::NodeStore;
 use std::alloc::Global;
 use std::io;
 use std::rt::Runtime;
@@ -21,7 +19,7 @@ pub(crate) fn times<R: Runtime>(
 ) -> io::Result<()> {
     let mut least = vec![in alloc; u64::MAX; count as usize]?;
     for _ in 0..FILLS {
-        fill(rt, alloc, &mut least)?;
+        fill(rt, &mut HashedWords::new(alloc), &mut least)?;
     }
     let longest = least.iter().copied().max().unwrap_or(0);
     report.number(
@@ -34,13 +32,11 @@ pub(crate) fn times<R: Runtime>(
 }
 
 // Makes an insertion for each of these times, and keeps the nanoseconds that it took where they are less.
-fn fill<R: Runtime>(rt: &R, alloc: Global, least: &mut [u64]) -> io::Result<()> {
-    let mut store = NodeStore::new(alloc);
-    let mut index = HashIndex::new(alloc, 0, 0);
+fn fill<R: Runtime>(rt: &R, words: &mut HashedWords, least: &mut [u64]) -> io::Result<()> {
     for (number, least) in least.iter_mut().enumerate() {
         let word = scattered(number as u64);
         let start = Instant::now(rt)?;
-        let _added = insert(&mut store, &mut index, word);
+        let _added = words.insert(word);
         let spent = start.elapsed(rt)?.as_nanos().min(u64::MAX as u128) as u64;
         *least = spent.min(*least);
     }

@@ -1,29 +1,29 @@
 //! The maps of std, whose calls stand beside those of the trees and the buckets.
 
+use crate::measured::{Measured, Span, time_calls};
 use bench_report::{Report, scattered};
 use std::alloc::Global;
 use std::collections::{BTreeMap, HashMap};
 use std::io;
 use std::rt::Runtime;
-use std::time::Instant;
 
 #[derive(Clone, Copy)]
-enum Call {
+pub(crate) enum Call {
     Insert,
     Get,
     Remove,
 }
 
-const SORTED: [(&str, Call); 3] = [
-    ("std BTreeMap: insert", Call::Insert),
-    ("std BTreeMap: get", Call::Get),
-    ("std BTreeMap: remove", Call::Remove),
+const SORTED: [(&str, Call, Span); 3] = [
+    ("std BTreeMap: insert", Call::Insert, Span::All),
+    ("std BTreeMap: get", Call::Get, Span::All),
+    ("std BTreeMap: remove", Call::Remove, Span::All),
 ];
 
-const HASHED: [(&str, Call); 3] = [
-    ("std HashMap: insert", Call::Insert),
-    ("std HashMap: get", Call::Get),
-    ("std HashMap: remove", Call::Remove),
+const HASHED: [(&str, Call, Span); 3] = [
+    ("std HashMap: insert", Call::Insert, Span::All),
+    ("std HashMap: get", Call::Get, Span::All),
+    ("std HashMap: remove", Call::Remove, Span::All),
 ];
 
 fn sorted(call: Call, map: &mut BTreeMap<u64, u64>, count: u64) -> u64 {
@@ -60,6 +60,22 @@ fn hashed(call: Call, map: &mut HashMap<u64, u64>, count: u64) -> u64 {
     met
 }
 
+impl Measured for BTreeMap<u64, u64> {
+    type Call = Call;
+
+    fn make(&mut self, call: Call, _from: u64, to: u64) -> u64 {
+        sorted(call, self, to)
+    }
+}
+
+impl Measured for HashMap<u64, u64> {
+    type Call = Call;
+
+    fn make(&mut self, call: Call, _from: u64, to: u64) -> u64 {
+        hashed(call, self, to)
+    }
+}
+
 /// The calls of a sorted map at a size.
 pub(crate) fn sorted_times<R: Runtime>(
     rt: &R,
@@ -67,13 +83,7 @@ pub(crate) fn sorted_times<R: Runtime>(
     report: &mut Report,
     count: u64,
 ) -> io::Result<()> {
-    let mut map = BTreeMap::new(alloc);
-    for (name, call) in &SORTED {
-        let start = Instant::now(rt)?;
-        let met = sorted(*call, &mut map, count);
-        report.line(start.elapsed(rt)?, name, count, count, met)?;
-    }
-    Ok(())
+    time_calls(rt, report, &mut BTreeMap::new(alloc), &SORTED, count)
 }
 
 /// The calls of a hashed map at a size.
@@ -83,11 +93,5 @@ pub(crate) fn hashed_times<R: Runtime>(
     report: &mut Report,
     count: u64,
 ) -> io::Result<()> {
-    let mut map = HashMap::new(alloc);
-    for (name, call) in &HASHED {
-        let start = Instant::now(rt)?;
-        let met = hashed(*call, &mut map, count);
-        report.line(start.elapsed(rt)?, name, count, count, met)?;
-    }
-    Ok(())
+    time_calls(rt, report, &mut HashMap::new(alloc), &HASHED, count)
 }

@@ -5,13 +5,14 @@ ghost use Rattle.rank_tree.specs.Spelled.{IsSound};
 ghost use Rattle.container_bench.specs.Ranks.{IsRanked};
 
 use super::words::Words;
+use crate::measured::{Measured, Span, time_calls};
 use bench_report::{Report, scattered};
 use node_store::NodeStore;
 use rank_tree::RankTree;
 use std::alloc::Global;
 use std::io;
+use std::marker::Model;
 use std::rt::Runtime;
-use std::time::Instant;
 
 #[derive(Clone, Copy)]
 enum Call {
@@ -20,11 +21,46 @@ enum Call {
     Rank,
 }
 
-const CALLS: [(&str, Call); 3] = [
-    ("rank_tree: add and link", Call::Link),
-    ("rank_tree: nth", Call::Nth),
-    ("rank_tree: nth, rank", Call::Rank),
+const CALLS: [(&str, Call, Span); 3] = [
+    ("rank_tree: add and link", Call::Link, Span::All),
+    ("rank_tree: nth", Call::Nth, Span::All),
+    ("rank_tree: nth, rank", Call::Rank, Span::All),
 ];
+
+// Words in order with ranks, as records of a store.
+#[derive(Drop)]
+struct RankedWords {
+    store: NodeStore<u64>,
+    tree: RankTree,
+}
+
+impl Model for RankedWords {
+    ghost use Rattle.std.specs.Prelude.{ℕ};
+    ghost use Rattle.container_bench.specs.Ranks.{IsRanked};
+
+    ghost Value = { ℕ };
+
+    ghost view = { λ w. 0 };
+
+    ghost invariant = { λ w. IsRanked w.store w.tree };
+}
+
+impl RankedWords {
+    fn new(alloc: Global) -> RankedWords {
+        RankedWords {
+            store: NodeStore::new(alloc),
+            tree: RankTree::new(0, 0),
+        }
+    }
+}
+
+impl Measured for RankedWords {
+    type Call = Call;
+
+    fn make(&mut self, call: Call, _from: u64, to: u64) -> u64 {
+        each(call, &mut self.store, &mut self.tree, to)
+    }
+}
 
 /// The calls at a size.
 pub(crate) fn times<R: Runtime>(
@@ -33,14 +69,7 @@ pub(crate) fn times<R: Runtime>(
     report: &mut Report,
     count: u64,
 ) -> io::Result<()> {
-    let mut store = NodeStore::new(alloc);
-    let mut tree = RankTree::new(0, 0);
-    for (name, call) in &CALLS {
-        let start = Instant::now(rt)?;
-        let met = each(*call, &mut store, &mut tree, count);
-        report.line(start.elapsed(rt)?, name, count, count, met)?;
-    }
-    Ok(())
+    time_calls(rt, report, &mut RankedWords::new(alloc), &CALLS, count)
 }
 
 fn each(call: Call, store: &mut NodeStore<u64>, tree: &mut RankTree, count: u64) -> u64

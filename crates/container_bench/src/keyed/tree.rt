@@ -8,13 +8,14 @@ ghost use Rattle.ord_tree.specs.Spelled.{IsSound, spelled, Holds};
 ghost use Rattle.container_bench.specs.Trees.{IsSorted};
 
 use super::words::Words;
+use crate::measured::{Measured, Span, time_calls};
 use bench_report::{Report, scattered};
 use node_store::{Node, NodeStore};
 use ord_tree::{NoTally, OrdTree};
 use std::alloc::Global;
 use std::io;
+use std::marker::Model;
 use std::rt::Runtime;
-use std::time::Instant;
 
 #[derive(Clone, Copy)]
 enum Call {
@@ -26,14 +27,57 @@ enum Call {
     Remove,
 }
 
-const CALLS: [(&str, Call); 6] = [
-    ("ord_tree: add and link", Call::Link),
-    ("ord_tree: find", Call::Find),
-    ("ord_tree: find, settle near", Call::SettleNear),
-    ("ord_tree: find, settle far", Call::SettleFar),
-    ("ord_tree: find, unlink (half of them)", Call::Unlink),
-    ("ord_tree: find, unlink, remove (the rest)", Call::Remove),
+const CALLS: [(&str, Call, Span); 6] = [
+    ("ord_tree: add and link", Call::Link, Span::All),
+    ("ord_tree: find", Call::Find, Span::All),
+    ("ord_tree: find, settle near", Call::SettleNear, Span::All),
+    ("ord_tree: find, settle far", Call::SettleFar, Span::All),
+    (
+        "ord_tree: find, unlink (half of them)",
+        Call::Unlink,
+        Span::FirstHalf,
+    ),
+    (
+        "ord_tree: find, unlink, remove (the rest)",
+        Call::Remove,
+        Span::SecondHalf,
+    ),
 ];
+
+// Words in order, as records of a store.
+#[derive(Drop)]
+struct SortedWords {
+    store: NodeStore<u64>,
+    tree: OrdTree<NoTally>,
+}
+
+impl Model for SortedWords {
+    ghost use Rattle.std.specs.Prelude.{ℕ};
+    ghost use Rattle.container_bench.specs.Trees.{IsSorted};
+
+    ghost Value = { ℕ };
+
+    ghost view = { λ w. 0 };
+
+    ghost invariant = { λ w. IsSorted w.store w.tree };
+}
+
+impl SortedWords {
+    fn new(alloc: Global) -> SortedWords {
+        SortedWords {
+            store: NodeStore::new(alloc),
+            tree: OrdTree::new(0, 0),
+        }
+    }
+}
+
+impl Measured for SortedWords {
+    type Call = Call;
+
+    fn make(&mut self, call: Call, from: u64, to: u64) -> u64 {
+        each(call, &mut self.store, &mut self.tree, from, to)
+    }
+}
 
 /// The calls at a size.
 pub(crate) fn times<R: Runtime>(
@@ -42,25 +86,7 @@ pub(crate) fn times<R: Runtime>(
     report: &mut Report,
     count: u64,
 ) -> io::Result<()> {
-    let mut store = NodeStore::new(alloc);
-    let mut tree = OrdTree::new(0, 0);
-    for (name, call) in &CALLS {
-        let (from, to) = match call {
-            Call::Unlink => (0, count / 2),
-            Call::Remove => (count / 2, count),
-            _ => (0, count),
-        };
-        let start = Instant::now(rt)?;
-        let met = each(*call, &mut store, &mut tree, from, to);
-        report.line(
-            start.elapsed(rt)?,
-            name,
-            count,
-            to.saturating_sub(from),
-            met,
-        )?;
-    }
-    Ok(())
+    time_calls(rt, report, &mut SortedWords::new(alloc), &CALLS, count)
 }
 
 // Makes the call at the words of these numbers. Answers the sum of the numbers of the nodes that were met.

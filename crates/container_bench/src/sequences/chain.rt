@@ -3,13 +3,14 @@ ghost use Rattle.std.specs.Prelude.{◌≡◌, ◌≤◌, IfOk, Some, length};
 ghost use Rattle.node_store.specs.ByNode.{column_of};
 ghost use Rattle.seq_index.specs.Spelled.{IsSound, spelled, Holds};
 
+use crate::measured::{Measured, Span, time_calls};
 use bench_report::Report;
 use node_store::{Node, NodeStore};
 use seq_index::SeqIndex;
 use std::alloc::{AllocError, Global};
 use std::io;
+use std::marker::Model;
 use std::rt::Runtime;
-use std::time::Instant;
 
 #[derive(Clone, Copy)]
 enum Call {
@@ -26,24 +27,61 @@ enum Call {
     Unlink,
 }
 
-// Each call with how often it is made at most.
-const CALLS: [(&str, Call, u64); 11] = [
-    ("sequence: add and push", Call::Push, u64::MAX),
-    ("sequence: next", Call::Next, u64::MAX),
-    ("sequence: prev", Call::Prev, u64::MAX),
-    ("sequence: first", Call::First, u64::MAX),
-    ("sequence: last", Call::Last, u64::MAX),
-    ("sequence: move_to the front", Call::MoveTo, u64::MAX),
-    ("sequence: reverse", Call::Reverse, 10),
-    ("sequence: nodes in order", Call::Collect, 1),
-    ("sequence: rearrange", Call::Rearrange, 10),
+const CALLS: [(&str, Call, Span); 11] = [
+    ("sequence: add and push", Call::Push, Span::All),
+    ("sequence: next", Call::Next, Span::All),
+    ("sequence: prev", Call::Prev, Span::All),
+    ("sequence: first", Call::First, Span::All),
+    ("sequence: last", Call::Last, Span::All),
+    ("sequence: move_to the front", Call::MoveTo, Span::All),
+    ("sequence: reverse", Call::Reverse, Span::First(10)),
+    ("sequence: nodes in order", Call::Collect, Span::First(1)),
+    ("sequence: rearrange", Call::Rearrange, Span::First(10)),
     (
         "sequence: add and insert_at the middle",
         Call::InsertAt,
-        100,
+        Span::First(100),
     ),
-    ("sequence: unlink the first", Call::Unlink, u64::MAX),
+    ("sequence: unlink the first", Call::Unlink, Span::All),
 ];
+
+// A sequence of nodes of a store.
+#[derive(Drop)]
+struct Chain {
+    alloc: Global,
+    store: NodeStore<u64>,
+    index: SeqIndex,
+}
+
+impl Model for Chain {
+    ghost use Rattle.std.specs.Prelude.{ℕ};
+    ghost use Rattle.node_store.specs.ByNode.{column_of};
+    ghost use Rattle.seq_index.specs.Spelled.{IsSound};
+
+    ghost Value = { ℕ };
+
+    ghost view = { λ s. 0 };
+
+    ghost invariant = { λ s. IsSound (column_of s.store) s.index };
+}
+
+impl Chain {
+    fn new(alloc: Global) -> Chain {
+        Chain {
+            alloc,
+            store: NodeStore::new(alloc),
+            index: SeqIndex::new(0),
+        }
+    }
+}
+
+impl Measured for Chain {
+    type Call = Call;
+
+    fn make(&mut self, call: Call, _from: u64, to: u64) -> u64 {
+        run(call, &mut self.store, &mut self.index, self.alloc, to)
+    }
+}
 
 /// The calls at a size.
 pub(crate) fn times<R: Runtime>(
@@ -52,15 +90,7 @@ pub(crate) fn times<R: Runtime>(
     report: &mut Report,
     count: u64,
 ) -> io::Result<()> {
-    let mut store = NodeStore::new(alloc);
-    let mut index = SeqIndex::new(0);
-    for (name, call, most) in &CALLS {
-        let calls = count.min(*most);
-        let start = Instant::now(rt)?;
-        let met = run(*call, &mut store, &mut index, alloc, calls);
-        report.line(start.elapsed(rt)?, name, count, calls, met)?;
-    }
-    Ok(())
+    time_calls(rt, report, &mut Chain::new(alloc), &CALLS, count)
 }
 
 fn run(

@@ -3,16 +3,18 @@ ghost use Rattle.std.specs.Prelude.{◌≡◌, ◌≤◌, IfOk, Some, length};
 ghost use Rattle.node_store.specs.ByNode.{column_of};
 ghost use Rattle.row_index.specs.Spelled.{IsSound, spelled, Holds};
 
+use super::moves::move_each;
+use crate::measured::{Measured, Span, time_calls};
 use bench_report::Report;
 use node_store::{Node, NodeStore};
 use row_index::RowIndex;
 use std::alloc::{AllocError, Global};
 use std::io;
+use std::marker::Model;
 use std::rt::Runtime;
-use std::time::Instant;
 
 #[derive(Clone, Copy)]
-enum Call {
+pub(super) enum Call {
     Push,
     Next,
     Prev,
@@ -21,6 +23,7 @@ enum Call {
     Places,
     Nth,
     MoveTo,
+    MoveOn(u64),
     Reverse,
     Collect,
     Rearrange,
@@ -30,29 +33,71 @@ enum Call {
     Remove,
 }
 
-// Each call with how often it is made at most.
-const CALLS: [(&str, Call, u64); 16] = [
-    ("row: add and push", Call::Push, u64::MAX),
-    ("row: next", Call::Next, u64::MAX),
-    ("row: prev", Call::Prev, u64::MAX),
-    ("row: first", Call::First, u64::MAX),
-    ("row: last", Call::Last, u64::MAX),
-    ("row: nth", Call::Nth, u64::MAX),
-    ("row: nth and place_of", Call::Places, u64::MAX),
-    ("row: move_to the front", Call::MoveTo, 100),
-    ("row: reverse", Call::Reverse, 10),
-    ("row: nodes in order", Call::Collect, 1),
-    ("row: rearrange", Call::Rearrange, 10),
-    ("row: add and insert_at the middle", Call::InsertAt, 100),
-    ("row: unlink the first", Call::UnlinkFirst, 100),
-    ("row: unlink the last", Call::Unlink, u64::MAX),
-    ("row: add and push again", Call::Push, u64::MAX),
+const CALLS: [(&str, Call, Span); 16] = [
+    ("row: add and push", Call::Push, Span::All),
+    ("row: next", Call::Next, Span::All),
+    ("row: prev", Call::Prev, Span::All),
+    ("row: first", Call::First, Span::All),
+    ("row: last", Call::Last, Span::All),
+    ("row: nth", Call::Nth, Span::All),
+    ("row: nth and place_of", Call::Places, Span::All),
+    ("row: move_to the front", Call::MoveTo, Span::First(100)),
+    ("row: reverse", Call::Reverse, Span::First(10)),
+    ("row: nodes in order", Call::Collect, Span::First(1)),
+    ("row: rearrange", Call::Rearrange, Span::First(10)),
+    (
+        "row: add and insert_at the middle",
+        Call::InsertAt,
+        Span::First(100),
+    ),
+    ("row: unlink the first", Call::UnlinkFirst, Span::First(100)),
+    ("row: unlink the last", Call::Unlink, Span::All),
+    ("row: add and push again", Call::Push, Span::All),
     (
         "row: unlink the last, store: remove",
         Call::Remove,
-        u64::MAX,
+        Span::All,
     ),
 ];
+
+/// A row of nodes of a store.
+#[derive(Drop)]
+pub(super) struct Row {
+    alloc: Global,
+    store: NodeStore<u64>,
+    index: RowIndex,
+}
+
+impl Model for Row {
+    ghost use Rattle.std.specs.Prelude.{ℕ};
+    ghost use Rattle.node_store.specs.ByNode.{column_of};
+    ghost use Rattle.row_index.specs.Spelled.{IsSound};
+
+    ghost Value = { ℕ };
+
+    ghost view = { λ s. 0 };
+
+    ghost invariant = { λ s. IsSound (column_of s.store) s.index };
+}
+
+impl Row {
+    /// A row of no nodes.
+    pub(super) fn new(alloc: Global) -> Row {
+        Row {
+            alloc,
+            store: NodeStore::new(alloc),
+            index: RowIndex::new(alloc, 0),
+        }
+    }
+}
+
+impl Measured for Row {
+    type Call = Call;
+
+    fn make(&mut self, call: Call, _from: u64, to: u64) -> u64 {
+        run(call, &mut self.store, &mut self.index, self.alloc, to)
+    }
+}
 
 /// The calls at a size.
 pub(crate) fn times<R: Runtime>(
@@ -61,15 +106,7 @@ pub(crate) fn times<R: Runtime>(
     report: &mut Report,
     count: u64,
 ) -> io::Result<()> {
-    let mut store = NodeStore::new(alloc);
-    let mut index = RowIndex::new(alloc, 0);
-    for (name, call, most) in &CALLS {
-        let calls = count.min(*most);
-        let start = Instant::now(rt)?;
-        let met = run(*call, &mut store, &mut index, alloc, calls);
-        report.line(start.elapsed(rt)?, name, count, calls, met)?;
-    }
-    Ok(())
+    time_calls(rt, report, &mut Row::new(alloc), &CALLS, count)
 }
 
 fn run(
@@ -87,6 +124,7 @@ fn run(
         Call::Prev => walk_back(store, index, count),
         Call::Nth => nth_each(store, index, count),
         Call::Places => place_each(store, index, count),
+        Call::MoveOn(distance) => move_each(store, index, distance, count),
         Call::Collect => in_order(store, index, alloc).map_or(0, |nodes| nodes.len() as u64),
         Call::Rearrange => rearrange_each(store, index, alloc, count).map_or(0, |_| 1),
         Call::InsertAt => insert_each(store, index, alloc, count).map_or(0, |_| 1),
@@ -126,8 +164,8 @@ fn step(call: Call, store: &mut NodeStore<u64>, index: &mut RowIndex) -> Option<
     None
 }
 
-/// Adds a node and puts it last, if there is room.
-pub(super) fn add_last(store: &mut NodeStore<u64>, index: &mut RowIndex)
+// Adds a node and puts it last, if there is room.
+fn add_last(store: &mut NodeStore<u64>, index: &mut RowIndex)
     requires { IsSound (column_of store.old) index.old }
     ensures { IsSound (column_of store.new) index.new }
 {

@@ -33,8 +33,19 @@ pub(crate) fn times<R: Runtime>(
     count: u64,
 ) -> io::Result<()> {
     let mut store = NodeStore::new(alloc);
+    time_calls(rt, alloc, report, &mut store, count)?;
+    time_drop(rt, report, store, count)
+}
+
+fn time_calls<R: Runtime>(
+    rt: &R,
+    alloc: Global,
+    report: &mut Report,
+    store: &mut NodeStore<u64>,
+    count: u64,
+) -> io::Result<()> {
     let start = Instant::now(rt)?;
-    let nodes = add_each(&mut store, alloc, count);
+    let nodes = add_each(store, alloc, count);
     report.line(
         start.elapsed(rt)?,
         "store: add",
@@ -42,11 +53,33 @@ pub(crate) fn times<R: Runtime>(
         count,
         nodes.len() as u64,
     )?;
+    time_each(rt, report, store, &nodes, count)
+}
+
+// The calls at each of the nodes.
+fn time_each<R: Runtime>(
+    rt: &R,
+    report: &mut Report,
+    store: &mut NodeStore<u64>,
+    nodes: &[Node],
+    count: u64,
+) -> io::Result<()>
+    requires { AllByRecursion (IsNodeOf store.old) nodes.now }
+{
     for (name, call) in &CALLS {
         let start = Instant::now(rt)?;
-        let met = each(*call, &mut store, &nodes);
+        let met = each(*call, store, nodes);
         report.line(start.elapsed(rt)?, name, count, count, met)?;
     }
+    Ok(())
+}
+
+fn time_drop<R: Runtime>(
+    rt: &R,
+    report: &mut Report,
+    store: NodeStore<u64>,
+    count: u64,
+) -> io::Result<()> {
     let start = Instant::now(rt)?;
     drop(store);
     report.line(start.elapsed(rt)?, "store: drop, a node", count, count, 0)?;

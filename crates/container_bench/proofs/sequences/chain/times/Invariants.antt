@@ -1,6 +1,0 @@
-use Rattle.node_store.specs.ByNode.{column_of}
-use Rattle.seq_index.specs.Spelled.{IsSound}
-use Rattle.container_bench.proofs.sequences.chain.times.Given as goal
-
-abbrev pub invariant-loop-name : goal.invariant-loop-name
-invariant-loop-name g l = IsSound (column_of l.store) l.index

@@ -1,5 +1,0 @@
-use Rattle.container_bench.proofs.Kept.{all_kept}
-use Rattle.container_bench.proofs.sequences.store.times.Goals as goal
-
-pub loop-name-preserved : goal.loop-name-preserved
-loop-name-preserved g c = all_kept c.loop-name.store c.each-met.new.store c.add_each-nodes.result.items c.each-met.ensures c.loop-name.invariant
