@@ -10,6 +10,7 @@ use book::Book;
 use container_model::Handle;
 use order::Order;
 use renumber::Renumber;
+use std::alloc::Global;
 use std::io;
 use std::rt::Runtime;
 
@@ -50,24 +51,52 @@ fn try_numbers<R: Runtime>(
     Ok(())
 }
 
-fn main(rt: HostRuntime) -> io::Result<()> {
-    let mut book = Book::new(rt.alloc(), 1000)?;
+// Gives these orders one number, one after the other.
+fn renumber_each<R: Runtime>(rt: &R, book: &mut Book, handles: &[Handle]) -> io::Result<()> {
+    for handle in handles {
+        print::renumbered(rt, 6, book.renumber(*handle, 6))?;
+    }
+    Ok(())
+}
+
+fn place_all<R: Runtime>(rt: &R, book: &mut Book) -> io::Result<()> {
     for (id, price, owner) in ORDERS {
         let order = Order { id, price, owner };
-        print::placed(&rt, order, book.place(order))?;
+        print::placed(rt, order, book.place(order))?;
     }
-    print::orders(&rt, &book, book.by_price())?;
-    println!(rt; "owner 71 has {} orders", book.count_of(71))?;
+    print::orders(rt, book, book.by_price())?;
+    println!(rt; "owner 71 has {} orders", book.count_of(71))
+}
+
+fn change_first<R: Runtime>(rt: &R, book: &mut Book) -> io::Result<()> {
     if let Some(first) = book.first_at(250) {
-        amend_and_cancel(&rt, &mut book, first)?;
+        amend_and_cancel(rt, book, first)?;
     }
-    if let Some(first) = book.first_at(250) {
-        try_numbers(&rt, &mut book, first, [4, 7])?;
+    match book.first_at(250) {
+        Some(first) => try_numbers(rt, book, first, [4, 7]),
+        None => Ok(()),
     }
-    for handle in book.between(300, 400).unwrap_or(Vec::new(rt.alloc())) {
-        print::renumbered(&rt, 6, book.renumber(handle, 6))?;
-    }
+}
+
+fn renumber_between<R: Runtime>(rt: &R, alloc: Global, book: &mut Book) -> io::Result<()> {
+    let handles = book.between(300, 400).unwrap_or(Vec::new(alloc));
+    renumber_each(rt, book, &handles)
+}
+
+fn cancel_all<R: Runtime>(rt: &R, book: &mut Book) -> io::Result<()> {
     let cancelled = book.cancel_all(71).unwrap_or(0);
     println!(rt; "{cancelled} orders of owner 71 are cancelled")?;
-    print::orders(&rt, &book, book.by_price())
+    print::orders(rt, book, book.by_price())
+}
+
+fn run<R: Runtime>(rt: &R, alloc: Global, book: &mut Book) -> io::Result<()> {
+    place_all(rt, book)?;
+    change_first(rt, book)?;
+    renumber_between(rt, alloc, book)?;
+    cancel_all(rt, book)
+}
+
+fn main(rt: HostRuntime) -> io::Result<()> {
+    let mut book = Book::new(rt.alloc(), 1000)?;
+    run(&rt, rt.alloc(), &mut book)
 }

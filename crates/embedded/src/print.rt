@@ -28,6 +28,13 @@ fn line<R: Runtime>(rt: &R, book: &Book, handle: Handle) -> io::Result<()> {
     }
 }
 
+fn lines<R: Runtime>(rt: &R, book: &Book, handles: &[Handle]) -> io::Result<()> {
+    for handle in handles {
+        line(rt, book, *handle)?;
+    }
+    Ok(())
+}
+
 /// The orders, a line for each.
 pub fn orders<R: Runtime>(
     rt: &R,
@@ -35,12 +42,7 @@ pub fn orders<R: Runtime>(
     handles: Result<Vec<Handle>, Why>,
 ) -> io::Result<()> {
     match handles {
-        Ok(handles) => {
-            for handle in handles {
-                line(rt, book, handle)?;
-            }
-            Ok(())
-        }
+        Ok(handles) => lines(rt, book, &handles),
         Err(why) => println!(rt; "no orders: {why:?}"),
     }
 }
