@@ -9,7 +9,6 @@ use hash_index::HashIndex;
 use key_extract::{Extract, Row};
 use node_store::{Node, NodeStore};
 use std::alloc::Global;
-use std::test::Fail;
 
 // Adds a node and puts it in.
 fn insert_new<R: Drop, E: Extract<R>>(
@@ -60,7 +59,8 @@ fn counts<E: Extract<Row>>(alloc: Global, keys: &E, sought: &E::Probe) -> Option
     Some(index.len(&store) == 40)
 }
 
-fn script(alloc: Global) -> Option<bool> {
+/// The same of rows of one number.
+pub(crate) fn script(alloc: Global) -> Option<bool> {
     let Ok(keys) = keys(alloc) else {
         return None;
     };
@@ -68,10 +68,4 @@ fn script(alloc: Global) -> Option<bool> {
         return None;
     };
     counts(alloc, &keys, &sought)
-}
-
-#[test]
-fn equal_keys_are_counted_through_growth(rt: HostRuntime) -> Result<(), Fail> {
-    assert!(rt; script(rt.alloc()) == Some(true));
-    Ok(())
 }

@@ -14,7 +14,6 @@ use row_index::RowIndex;
 use seq_index::SeqIndex;
 use std::alloc::Global;
 use std::cell::Cell;
-use std::test::Fail;
 
 // Four sequences and two rows, in the first six columns.
 fn six_indices(alloc: Global) -> [Index; 6]
@@ -98,48 +97,37 @@ fn taken_from_each(indices: &mut [Index], alloc: Global) -> Option<Vec<Vec<u64>>
     views(&store, indices, alloc)
 }
 
-fn taken_from_six(alloc: Global) -> Option<Vec<Vec<u64>>> {
+// What the four nodes that are left have for numbers in the order of their adds, in the other one, and by their keys.
+const ADDED: [u64; 4] = [0, 1, 3, 4];
+
+const TURNED: [u64; 4] = [4, 3, 1, 0];
+
+const BY_KEY: [u64; 4] = [0, 4, 1, 3];
+
+// Whether these are the lists.
+fn are_lists(lists: &[Vec<u64>], wanted: &[[u64; 4]]) -> bool {
+    for (list, numbers) in lists.iter().zip(wanted) {
+        if list.as_slice() != numbers.as_slice() {
+            return false;
+        }
+    }
+    lists.len() == wanted.len()
+}
+
+/// Whether six columns stay as they were, each time another one changes.
+pub(crate) fn six_columns_stay(alloc: Global) -> Option<bool> {
     let mut indices = six_indices(alloc);
-    taken_from_each(&mut indices, alloc)
+    let lists = taken_from_each(&mut indices, alloc)?;
+    let wanted = [ADDED, ADDED, ADDED, ADDED, TURNED, TURNED];
+    Some(are_lists(&lists, &wanted))
 }
 
-fn taken_from_eight(alloc: Global) -> Option<Vec<Vec<u64>>> {
+/// The same of eight.
+pub(crate) fn eight_columns_stay(alloc: Global) -> Option<bool> {
     let mut indices = eight_indices(alloc);
-    taken_from_each(&mut indices, alloc)
-}
-
-#[test]
-fn six_columns_stay_as_they_were(rt: HostRuntime) -> Result<(), Fail> {
-    let Some(lists) = taken_from_six(rt.alloc()) else {
-        panic!(rt; "a list changed that was not to")
-    };
-    assert_eq!(rt; lists.len(), 6);
-    for (place, list) in lists.iter().enumerate() {
-        let wanted = if place < 4 {
-            [0, 1, 3, 4]
-        } else {
-            [4, 3, 1, 0]
-        };
-        assert!(rt; list.as_slice() == wanted.as_slice());
-    }
-    Ok(())
-}
-
-#[test]
-fn eight_columns_stay_as_they_were(rt: HostRuntime) -> Result<(), Fail> {
-    let Some(lists) = taken_from_eight(rt.alloc()) else {
-        panic!(rt; "a list changed that was not to")
-    };
-    assert_eq!(rt; lists.len(), 8);
-    for (place, list) in lists.iter().enumerate() {
-        let wanted = match place {
-            2 | 3 => [4, 3, 1, 0],
-            4 | 5 => [0, 4, 1, 3],
-            _ => [0, 1, 3, 4],
-        };
-        assert!(rt; list.as_slice() == wanted.as_slice());
-    }
-    Ok(())
+    let lists = taken_from_each(&mut indices, alloc)?;
+    let wanted = [ADDED, ADDED, TURNED, TURNED, BY_KEY, BY_KEY, ADDED, ADDED];
+    Some(are_lists(&lists, &wanted))
 }
 
 // Tells when it is dropped.
@@ -174,13 +162,10 @@ fn drop_half_linked(count: &Cell<u64>, names: &Cell<u64>, alloc: Global) -> Opti
     Some(list.len())
 }
 
-#[test]
-fn each_record_is_dropped_once(rt: HostRuntime) -> Result<(), Fail> {
+/// Whether each record is dropped once.
+pub(crate) fn each_is_dropped_once(alloc: Global) -> Option<bool> {
     let count = Cell::new(0);
     let names = Cell::new(0);
-    let linked = drop_half_linked(&count, &names, rt.alloc());
-    assert!(rt; linked == Some(50));
-    assert_eq!(rt; count.get(), 100);
-    assert_eq!(rt; names.get(), 4950);
-    Ok(())
+    let linked = drop_half_linked(&count, &names, alloc)?;
+    Some(linked == 50 && count.get() == 100 && names.get() == 4950)
 }

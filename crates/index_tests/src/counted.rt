@@ -13,7 +13,6 @@ use node_store::NodeStore;
 use ord_tree::{NoTally, OrdTree};
 use rank_tree::RankTree;
 use std::alloc::Global;
-use std::test::Fail;
 
 #[derive(Clone, Copy)]
 enum Call {
@@ -140,33 +139,36 @@ fn links_at(end: End, alloc: Global) -> Option<u64> {
     ranks::most_followed(&store, &index, 1000)
 }
 
-#[test]
-fn each_call_of_an_ordered_tree_says_its_comparisons(rt: HostRuntime) -> Result<(), Fail> {
+/// Whether each call of an ordered tree says its comparisons, and they are few, in each order.
+pub(crate) fn tree_says_comparisons(alloc: Global) -> Option<bool> {
     for end in End::EACH {
         for call in CALLS {
-            let most = tree_at(call, end, rt.alloc()).unwrap_or(0);
-            assert!(rt; (10..=20).contains(&most), "{most}");
+            if !(10..=20).contains(&tree_at(call, end, alloc)?) {
+                return Some(false);
+            }
         }
     }
-    Ok(())
+    Some(true)
 }
 
-#[test]
-fn each_call_of_a_ranked_tree_says_its_comparisons(rt: HostRuntime) -> Result<(), Fail> {
+/// The same of a ranked tree.
+pub(crate) fn ranks_say_comparisons(alloc: Global) -> Option<bool> {
     for end in End::EACH {
         for call in CALLS {
-            let most = ranks_at(call, end, rt.alloc()).unwrap_or(0);
-            assert!(rt; (10..=20).contains(&most), "{most}");
+            if !(10..=20).contains(&ranks_at(call, end, alloc)?) {
+                return Some(false);
+            }
         }
     }
-    Ok(())
+    Some(true)
 }
 
-#[test]
-fn each_place_says_its_links_in_each_order(rt: HostRuntime) -> Result<(), Fail> {
+/// Whether each place of a ranked tree says its links, and they are few, in each order.
+pub(crate) fn places_say_links(alloc: Global) -> Option<bool> {
     for end in End::EACH {
-        let most = links_at(end, rt.alloc()).unwrap_or(0);
-        assert!(rt; (9..=20).contains(&most), "{most}");
+        if !(9..=20).contains(&links_at(end, alloc)?) {
+            return Some(false);
+        }
     }
-    Ok(())
+    Some(true)
 }

@@ -11,7 +11,6 @@ use container_model::Kind;
 use key_extract::{Extract, Row};
 use node_store::NodeStore;
 use std::alloc::Global;
-use std::test::Fail;
 
 // Adds a node and puts it in.
 fn enter_new<R: Drop, E: Extract<R>>(
@@ -95,10 +94,10 @@ fn script(alloc: Global, kind: Kind) -> Option<bool>
     finds(alloc, kind, &keys, &sought)
 }
 
-#[test]
-fn first_of_a_key_at_each_kind(rt: HostRuntime) -> Result<(), Fail> {
-    assert!(rt; script(rt.alloc(), Kind::Ordered) == Some(true));
-    assert!(rt; script(rt.alloc(), Kind::Ranked) == Some(true));
-    assert!(rt; script(rt.alloc(), Kind::Hashed) == Some(true));
-    Ok(())
+/// The same of each kind of index that has a key.
+pub(crate) fn each_script(alloc: Global) -> Option<bool> {
+    let ordered = script(alloc, Kind::Ordered)?;
+    let ranked = script(alloc, Kind::Ranked)?;
+    let hashed = script(alloc, Kind::Hashed)?;
+    Some(ordered && ranked && hashed)
 }

@@ -8,7 +8,6 @@ use key_extract::{Extract, Row};
 use node_store::{Node, NodeStore};
 use rank_tree::RankTree;
 use std::alloc::Global;
-use std::test::Fail;
 
 // Adds the value and puts it into the tree.
 fn insert_new<R: Drop, E: Extract<R>>(
@@ -178,22 +177,15 @@ fn counts_each_link<R>(store: &NodeStore<R>, tree: &RankTree) -> Option<bool>
     Some(beyond.is_none() && links == 9)
 }
 
-// The same where the ids rise, as they make each level full before the next.
-fn counts_rising(alloc: Global) -> Option<bool> {
+/// The same where the ids rise, as they make each level full before the next.
+pub(crate) fn counts_rising(alloc: Global) -> Option<bool> {
     let (store, tree) = filled(alloc, 511, 1)?;
     counts_each_link(&store, &tree)
 }
 
-#[test]
-fn the_links_that_are_followed_are_counted(rt: HostRuntime) -> Result<(), Fail> {
-    assert!(rt; counts_rising(rt.alloc()) == Some(true));
-    Ok(())
-}
-
-#[test]
-fn places_of_a_thousand_ids_take_twenty_links(rt: HostRuntime) -> Result<(), Fail> {
-    let (all, half) = most_among(rt.alloc()).unwrap_or((0, 0));
-    assert!(rt; (9..=20).contains(&all), "{all}");
-    assert!(rt; (8..=18).contains(&half), "{half}");
-    Ok(())
+/// Whether twenty links lead to each place of a thousand ids, and eighteen to each of every second one; nine and eight to
+/// some.
+pub(crate) fn links_are_few(alloc: Global) -> Option<bool> {
+    let (all, half) = most_among(alloc)?;
+    Some((9..=20).contains(&all) && (8..=18).contains(&half))
 }

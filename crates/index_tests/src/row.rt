@@ -7,7 +7,6 @@ ghost use Rattle.row_index.specs.Props.{Spells_prop};
 use node_store::NodeStore;
 use row_index::RowIndex;
 use std::alloc::Global;
-use std::test::Fail;
 
 #[derive(Drop)]
 struct Pair {
@@ -80,27 +79,40 @@ impl Pair {
         let node = self.right.nth(&self.store, place)?;
         Some(node.number())
     }
+
+    // Whether these are the numbers at the first places of the left row.
+    fn has_left(&self, numbers: &[Option<u64>]) -> bool {
+        for (place, number) in numbers.iter().enumerate() {
+            if self.left_at(place as u64) != *number {
+                return false;
+            }
+        }
+        true
+    }
+
+    // The same of the right row.
+    fn has_right(&self, numbers: &[Option<u64>]) -> bool {
+        for (place, number) in numbers.iter().enumerate() {
+            if self.right_at(place as u64) != *number {
+                return false;
+            }
+        }
+        true
+    }
 }
 
-#[test]
-fn one_node_stands_in_two_rows(rt: HostRuntime) -> Result<(), Fail> {
-    let mut pair = Pair::new(rt.alloc());
+/// Whether nodes stand in two rows, in another order in each, and leave each of them without a change to the other.
+pub(crate) fn one_node_in_two_rows(alloc: Global) -> Option<bool> {
+    let mut pair = Pair::new(alloc);
     for _ in 0..3u64 {
-        assert!(rt; pair.add().is_some());
+        pair.add()?;
     }
-    assert!(rt; pair.left_at(0) == Some(0));
-    assert!(rt; pair.right_at(0) == Some(2));
+    let are_filled = pair.has_left(&[Some(0)]) && pair.has_right(&[Some(2)]);
     pair.unlink_left(1);
-    for (place, number) in [(0, Some(0)), (1, Some(2)), (2, None)] {
-        assert!(rt; pair.left_at(place) == number);
-    }
-    assert!(rt; pair.right_at(1) == Some(1));
+    let has_left_one = pair.has_left(&[Some(0), Some(2), None]) && pair.right_at(1) == Some(1);
     pair.unlink_right(1);
-    for (place, number) in [(0, Some(2)), (1, Some(0)), (2, None)] {
-        assert!(rt; pair.right_at(place) == number);
-    }
-    assert!(rt; pair.left_at(1) == Some(2));
-    Ok(())
+    let has_left_both = pair.has_right(&[Some(2), Some(0), None]) && pair.left_at(1) == Some(2);
+    Some(are_filled && has_left_one && has_left_both)
 }
 
 // One drawn change of the left row, and the same of a plain vector.
@@ -135,17 +147,27 @@ fn change(pair: &mut Pair, plain: &mut Vec<u64>, draw: u32) -> Option<()> {
     Some(())
 }
 
-#[test]
-fn drawn_changes_as_of_a_plain_vector(rt: HostRuntime) -> Result<(), Fail> {
-    let mut pair = Pair::new(rt.alloc());
-    let mut plain = Vec::new(rt.alloc());
+// Whether the left row has the numbers of a plain vector at the first twenty places.
+fn agrees(pair: &Pair, plain: &[u64]) -> bool {
+    for place in 0..20u64 {
+        if pair.left_at(place) != plain.get(place as usize).copied() {
+            return false;
+        }
+    }
+    true
+}
+
+/// Whether the left row and a plain vector agree after each of sixty changes.
+pub(crate) fn script(alloc: Global) -> Option<bool> {
+    let mut pair = Pair::new(alloc);
+    let mut plain = Vec::new(alloc);
     let mut draw = 7u32;
     for _ in 0..60u64 {
         draw = draw.wrapping_mul(1_664_525).wrapping_add(1_013_904_223);
-        assert!(rt; change(&mut pair, &mut plain, draw / 65_536).is_some());
-        for place in 0..20u64 {
-            assert!(rt; pair.left_at(place) == plain.get(place as usize).copied());
+        change(&mut pair, &mut plain, draw / 65_536)?;
+        if !agrees(&pair, &plain) {
+            return Some(false);
         }
     }
-    Ok(())
+    Some(true)
 }

@@ -7,7 +7,6 @@ ghost use Rattle.seq_index.specs.Spelled.{IsSound, spelled, Holds};
 use node_store::{Node, NodeStore};
 use seq_index::SeqIndex;
 use std::alloc::{AllocError, Global};
-use std::test::Fail;
 
 // The nodes in order, as far as there is memory for them.
 fn in_order(
@@ -171,8 +170,8 @@ fn change(
     Some(())
 }
 
-// Whether the sequence and the plain list agree after each of sixty changes.
-fn script(alloc: Global) -> Option<bool> {
+/// Whether the sequence and the plain list agree after each of sixty changes.
+pub(crate) fn script(alloc: Global) -> Option<bool> {
     let mut store = NodeStore::new(alloc);
     let mut index = SeqIndex::new(3);
     let mut plain = Vec::new(alloc);
@@ -187,10 +186,4 @@ fn script(alloc: Global) -> Option<bool> {
         }
     }
     Some(plain.len() > 10)
-}
-
-#[test]
-fn drawn_changes_agree_with_a_plain_list(rt: HostRuntime) -> Result<(), Fail> {
-    assert!(rt; script(rt.alloc()) == Some(true));
-    Ok(())
 }

@@ -12,7 +12,6 @@ use key_extract::Extract;
 use node_store::Node;
 use std::alloc::{AllocError, Global};
 use std::cmp::Ordering;
-use std::test::Fail;
 
 /// Numbers that all have one key at each index.
 #[derive(Drop)]
@@ -143,9 +142,9 @@ fn two_indices(alloc: Global) -> Result<Vec<Spec>, AllocError>
     Ok(specs)
 }
 
-// Whether a number that was put in is found at its key in each index, also once it is another of that key, until the set
-// is emptied.
-fn script(alloc: Global) -> Option<bool> {
+/// Whether a number that was put in is found at its key in each index, also once it is another of that key, until the set
+/// is emptied.
+pub(crate) fn script(alloc: Global) -> Option<bool> {
     let Ok(specs) = two_indices(alloc) else {
         return None;
     };
@@ -161,10 +160,4 @@ fn script(alloc: Global) -> Option<bool> {
     set.clear();
     let none = set.find_any(0, &()).is_none() && set.find_any(1, &()).is_none();
     Some(found && found_again && one && none && set.len() == 0 && set.added() == 1)
-}
-
-#[test]
-fn a_record_comes_into_each_index(rt: HostRuntime) -> Result<(), Fail> {
-    assert!(rt; script(rt.alloc()) == Some(true));
-    Ok(())
 }

@@ -1,6 +1,6 @@
 //! Slots taken and freed out of order.
 use slot_table::SlotTable;
-use std::test::Fail;
+use std::alloc::Global;
 
 fn put(table: &mut SlotTable<u64>, item: u64) -> Option<usize> {
     table.reserve_one().ok()?;
@@ -13,26 +13,31 @@ fn free(table: &mut SlotTable<u64>, slot: usize) {
     }
 }
 
-#[test]
-fn the_least_free_slot_is_taken_first(rt: HostRuntime) -> Result<(), Fail> {
-    let mut table = SlotTable::new(rt.alloc());
-    assert!(rt; table.least_free() == 0);
-    for item in 0..5u64 {
-        assert!(rt; put(&mut table, 10 + item) == Some(item as usize));
+// Whether each item is put into this slot.
+fn are_put(table: &mut SlotTable<u64>, items: &[(u64, usize)]) -> bool {
+    for (item, slot) in items {
+        if put(table, *item) != Some(*slot) {
+            return false;
+        }
     }
-    free(&mut table, 3);
-    free(&mut table, 1);
-    free(&mut table, 4);
-    assert!(rt; table.least_free() == 1);
-    assert!(rt; table.get(0) == Some(10));
-    assert!(rt; table.get(1) == None);
-    for (item, slot) in [(20, 1), (21, 3), (22, 4), (23, 5)] {
-        assert!(rt; put(&mut table, item) == Some(slot));
+    true
+}
+
+/// Whether items come into the least slots that are free, also once slots in the middle were freed, until the table is
+/// emptied.
+pub(crate) fn script(alloc: Global) -> bool {
+    let mut table = SlotTable::new(alloc);
+    let is_empty = table.least_free() == 0;
+    let items = [(10, 0), (11, 1), (12, 2), (13, 3), (14, 4)];
+    let are_filled = are_put(&mut table, &items);
+    for slot in [3, 1, 4] {
+        free(&mut table, slot);
     }
-    assert!(rt; table.get(3) == Some(21));
-    assert!(rt; table.get(6) == None);
+    let are_freed = table.least_free() == 1 && table.get(0) == Some(10) && table.get(1) == None;
+    let are_refilled = are_put(&mut table, &[(20, 1), (21, 3), (22, 4), (23, 5)])
+        && table.get(3) == Some(21)
+        && table.get(6) == None;
     table.clear();
-    assert!(rt; table.least_free() == 0);
-    assert!(rt; table.get(5) == None);
-    Ok(())
+    let is_cleared = table.least_free() == 0 && table.get(5) == None;
+    is_empty && are_filled && are_freed && are_refilled && is_cleared
 }

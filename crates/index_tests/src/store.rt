@@ -4,13 +4,13 @@ ghost use Rattle.node_store.specs.Store.{IsNodeOf, number_of};
 ghost use Rattle.node_store.specs.ByNode.{contents};
 
 use node_store::{BLOCK_BYTES, COLUMNS, Link, Node, NodeStore};
+use std::alloc::Global;
 use std::mem::size_of;
-use std::process::Abort;
-use std::test::Fail;
 use std::thread;
+use std::thread::Threads;
 
-// What is written into one column of a node is read there, and not in the next.
-fn keeps_links(rt: &impl Abort, store: &mut NodeStore<u32>, a: Node, b: Node)
+// Whether what is written into one column of a node is read there, and not in the next.
+fn keeps_links(store: &mut NodeStore<u32>, a: Node, b: Node) -> bool
     requires { IsNodeOf store.old a }
     ensures { contents store.new ≡ contents store.old }
 {
@@ -24,14 +24,14 @@ fn keeps_links(rt: &impl Abort, store: &mut NodeStore<u32>, a: Node, b: Node)
             ..link
         },
     );
-    assert!(rt; store.link(a, 1).b == Some(b));
-    assert_eq!(rt; store.link(a, 1).height, 4);
-    assert!(rt; store.link(a, 2).b == None);
+    let written = store.link(a, 1);
+    let beside = store.link(a, 2);
+    written.b == Some(b) && written.height == 4 && beside.b == None
 }
 
-// Of three nodes the last has its record changed, and the second goes.
+// Of three nodes the last has its record changed, and the second goes. Whether the others are as they are to be.
 #[tactic(auto, using(node_store::proofs::StoreLemmas::nodes_with_record))]
-fn loses_second(rt: &impl Abort, store: &mut NodeStore<u32>, a: Node, b: Node, c: Node)
+fn loses_second(store: &mut NodeStore<u32>, a: Node, b: Node, c: Node) -> bool
     requires first { IsNodeOf store.old a }
     requires second { IsNodeOf store.old b }
     requires third { IsNodeOf store.old c }
@@ -39,45 +39,34 @@ fn loses_second(rt: &impl Abort, store: &mut NodeStore<u32>, a: Node, b: Node, c
     requires after { number_of b < number_of c }
 {
     *store.get_mut(c) = 31;
-    assert_eq!(rt; store.remove(b), 20);
-    assert!(rt; store.older(c) == Some(a));
-    assert_eq!(rt; *store.get(c), 31);
-    assert_eq!(rt; *store.get(a), 10);
-    assert_eq!(rt; store.len(), 2);
+    let removed = store.remove(b);
+    let are_joined = store.older(c) == Some(a) && store.len() == 2;
+    removed == 20 && are_joined && *store.get(c) == 31 && *store.get(a) == 10
 }
 
+/// Whether three nodes are kept in the order of their adds, with their links and records.
 #[tactic(auto, using(node_store::proofs::ByNode::nodes_kept))]
-#[test]
-fn links_are_kept_by_column(rt: HostRuntime) -> Result<(), Fail> {
-    let mut store = NodeStore::new(rt.alloc());
-    let Ok(a) = store.add(10u32) else {
-        return Ok(())
-    };
-    let Ok(b) = store.add(20u32) else {
-        return Ok(())
-    };
-    let Ok(c) = store.add(30u32) else {
-        return Ok(())
-    };
-    assert_eq!(rt; store.len(), 3);
-    assert_eq!(rt; store.added(), 3);
-    assert!(rt; store.newest() == Some(c));
-    assert!(rt; store.older(c) == Some(b));
-    assert!(rt; store.older(a) == None);
-    keeps_links(&rt, &mut store, a, b);
-    loses_second(&rt, &mut store, a, b, c);
-    Ok(())
+pub(crate) fn links_are_kept_by_column(alloc: Global) -> Option<bool> {
+    let mut store = NodeStore::new(alloc);
+    let a = store.add(10u32).ok()?;
+    let b = store.add(20u32).ok()?;
+    let c = store.add(30u32).ok()?;
+    let are_counted = store.len() == 3 && store.added() == 3;
+    let are_listed = store.newest() == Some(c) && store.older(c) == Some(b);
+    let has_first = store.older(a) == None;
+    let are_linked = keeps_links(&mut store, a, b);
+    let are_left = loses_second(&mut store, a, b, c);
+    Some(are_counted && are_listed && has_first && are_linked && are_left)
 }
 
-#[test]
-fn sizes_in_bytes(rt: HostRuntime) -> Result<(), Fail> {
-    assert_eq!(rt; size_of::<Node>(), 16);
-    assert_eq!(rt; size_of::<Option<Node>>(), 24);
-    assert_eq!(rt; size_of::<Link>(), 88);
+/// Whether a node, its links and its block have these sizes in bytes.
+pub(crate) fn are_sizes() -> bool {
     let two_neighbours_and_a_record = 2 * size_of::<Option<Node>>() + size_of::<u64>();
-    assert_eq!(rt; (BLOCK_BYTES - two_neighbours_and_a_record) / COLUMNS, 64);
-    assert_eq!(rt; BLOCK_BYTES, 568);
-    Ok(())
+    size_of::<Node>() == 16
+        && size_of::<Option<Node>>() == 24
+        && size_of::<Link>() == 88
+        && (BLOCK_BYTES - two_neighbours_and_a_record) / COLUMNS == 64
+        && BLOCK_BYTES == 568
 }
 
 // A store with one more record, which is read in the store.
@@ -93,14 +82,10 @@ fn with_one(store: NodeStore<u32>) -> Option<(NodeStore<u32>, u32)> {
     Some((store, read))
 }
 
-#[test]
-fn a_store_moves_to_another_thread(rt: HostRuntime) -> Result<(), Fail> {
-    let store = NodeStore::new(rt.alloc());
-    let (made, _) = thread::join(&rt, || with_one(store), || 0);
-    let Some((store, read)) = made else {
-        return Ok(())
-    };
-    assert_eq!(rt; read, 10);
-    assert_eq!(rt; store.len(), 1);
-    Ok(())
+/// Whether a store moves to another thread and back, with what was added there.
+pub(crate) fn moves_to_a_thread(rt: &impl Threads, alloc: Global) -> Option<bool> {
+    let store = NodeStore::new(alloc);
+    let (made, _) = thread::join(rt, || with_one(store), || 0);
+    let (store, read) = made?;
+    Some(read == 10 && store.len() == 1)
 }

@@ -2,8 +2,8 @@ use Rattle.node_store.proofs.ByNode.{node_in_column, IsNodeOf_kept}
 use Rattle.index_tests.proofs.store.keeps_links.Goals as goal
 
 pub link-link-requires-clause-node : goal.link-link-requires-clause-node
-link-link-requires-clause-node g c = node_in_column c.args.store.now 1 c.args.a c.requires
+link-link-requires-clause-node c = node_in_column c.args.store.now 1 c.args.a c.requires
 
-pub link-requires-3-clause-node : goal.link-requires-3-clause-node
-link-requires-3-clause-node g c =
+pub link-beside-requires-clause-node : goal.link-beside-requires-clause-node
+link-beside-requires-clause-node c =
     node_in_column c.set_link.new.self 2 c.args.a (IsNodeOf_kept c.args.store.now c.set_link.new.self c.args.a c.set_link.ensures.contents c.requires)
