@@ -3,7 +3,7 @@
 //! stands for so many bytes of that number.
 //!
 //! For each stream it prints what one session is answered that sends the lines one after the other, and then whether the
-//! answers are the same in other ways.
+//! answers are the same in other ways. At last it prints how services on the tables end, and what words ask for one.
 #![tactic(auto)]
 
 mod device;
@@ -12,13 +12,17 @@ mod input;
 mod repeats;
 mod sent;
 mod served;
+mod service;
 mod sessions;
 mod ways;
+mod words;
 
 use input::Input;
+use service::tell_ends;
 use std::io;
 use std::io::Write;
 use ways::{tell_early, tell_ways};
+use words::tell_words;
 
 fn main(rt: HostRuntime) -> io::Result<()> {
     let alloc = rt.alloc();
@@ -29,6 +33,8 @@ fn main(rt: HostRuntime) -> io::Result<()> {
             tell_ways(alloc, &schema, stream, &mut report)?;
         }
         tell_early(alloc, &schema, &mut report)?;
+        tell_ends(&rt, &input, &mut report)?;
+        tell_words(alloc, &mut report)?;
     }
     io::writer(&rt).write_all(&report)
 }

@@ -5,8 +5,6 @@ mod fault;
 mod opens;
 mod program;
 mod serve;
-#[cfg(test)]
-mod tests;
 
 use program::{given_words, main_with};
 use std::io;
