@@ -1,5 +1,5 @@
 //! The canonical text of the command on each line, or why the line is none. Where that text, read again, is written otherwise,
-//! it says so; and where a copy of the command is another command, or the command of the line before is the same though its text is not.
+//! it says so; and where a copy of the command is another command, or the last one before it is the same though its text is not.
 
 use command_lines::{CommandFault, read_command};
 use command_text::{Command, Out, write_command};
@@ -7,54 +7,54 @@ use std::alloc::{AllocError, Global};
 use std::io;
 use std::io::Write;
 
-fn written(alloc: Global, command: &Command) -> Result<Out, CommandFault> {
+/// The canonical text of a command.
+pub(crate) fn written(alloc: Global, command: &Command) -> Result<Out, AllocError> {
     let mut text = Out::new(alloc);
     match write_command(command, &mut text) {
         Ok(()) => Ok(text),
-        Err(_) => Err(CommandFault::Memory),
+        Err(_) => Err(AllocError),
     }
 }
 
-/// A command, and its canonical text.
-#[derive(Drop)]
-struct Told {
-    command: Command,
-    text: Out,
-}
-
-// What a line is.
-fn read(alloc: Global, line: &[u8]) -> Result<Told, CommandFault> {
-    let command = read_command(alloc, line)?;
-    let text = written(alloc, &command)?;
-    Ok(Told { command, text })
+// Whether this is the canonical text of a command.
+fn is_written(alloc: Global, command: &Command, text: &[u8]) -> bool {
+    match written(alloc, command) {
+        Ok(written) => written.bytes() == text,
+        Err(_) => false,
+    }
 }
 
 // Whether a text is read as a command that is written as this text.
 fn stays(alloc: Global, text: &[u8]) -> bool {
-    match read(alloc, text) {
-        Ok(again) => again.text.bytes() == text,
-        Err(_) => false,
-    }
+    let Ok(command) = read_command(alloc, text) else {
+        return false;
+    };
+    is_written(alloc, &command, text)
+}
+
+// Whether two commands are the same, whichever is asked.
+fn are_same(a: &Command, b: &Command) -> bool {
+    a.is_same(b) && b.is_same(a)
 }
 
 // Whether a copy of the command is the same command, and written as it is.
-fn is_copied(alloc: Global, told: &Told) -> bool {
-    let Ok(copy) = told.command.copy() else {
+fn is_copied(alloc: Global, command: &Command, text: &[u8]) -> bool {
+    let Ok(copy) = command.copy() else {
         return false;
     };
-    let is_same = copy.is_same(&told.command) && told.command.is_same(&copy);
-    match written(alloc, &copy) {
-        Ok(text) => is_same && text.bytes() == told.text.bytes(),
-        Err(_) => false,
-    }
+    are_same(command, &copy) & is_written(alloc, &copy, text)
 }
 
-// Whether two commands are the same exactly where their texts are.
-fn is_told_apart(a: &Told, b: &Told) -> bool {
-    a.command.is_same(&b.command) == (a.text.bytes() == b.text.bytes())
+// Whether a command and the one of another line, if it has one, are the same exactly where their texts are.
+fn is_told_apart(alloc: Global, command: &Command, text: &[u8], line: &[u8]) -> bool {
+    let Ok(other) = read_command(alloc, line) else {
+        return true;
+    };
+    command.is_same(&other) == is_written(alloc, &other, text)
 }
 
-fn name_of(fault: CommandFault) -> &'static str {
+/// The fault of a line, in a word.
+pub(crate) fn name_of(fault: CommandFault) -> &'static str {
     match fault {
         CommandFault::Json => "json",
         CommandFault::Command => "command",
@@ -62,38 +62,61 @@ fn name_of(fault: CommandFault) -> &'static str {
     }
 }
 
-// Adds what is printed for a command.
-fn tell_command(
+// Adds the text of a command, and what is told of it.
+fn tell_text(
     alloc: Global,
-    told: &Told,
-    before: Option<&Told>,
+    command: &Command,
+    text: &[u8],
+    before: &[u8],
     report: &mut Vec<u8>,
 ) -> Result<(), AllocError> {
-    report.extend_from_slice(told.text.bytes())?;
-    if !stays(alloc, told.text.bytes()) {
+    report.extend_from_slice(text)?;
+    if !stays(alloc, text) {
         report.extend_from_slice(b" is written otherwise")?;
     }
-    if !is_copied(alloc, told) {
+    if !is_copied(alloc, command, text) {
         report.extend_from_slice(b" is copied as another")?;
     }
-    if !before.is_none_or(|before| is_told_apart(told, before)) {
-        report.extend_from_slice(b" is the command of the line before")?;
+    if !is_told_apart(alloc, command, text, before) {
+        report.extend_from_slice(b" is the command before")?;
     }
     Ok(())
 }
 
-/// What each line is.
+// Adds what is printed for a command.
+fn tell_command(
+    alloc: Global,
+    command: &Command,
+    before: &[u8],
+    report: &mut Vec<u8>,
+) -> Result<(), AllocError> {
+    let text = written(alloc, command)?;
+    tell_text(alloc, command, text.bytes(), before, report)
+}
+
+// Adds what is printed for a line, and says whether it is a command.
+fn tell_line(
+    alloc: Global,
+    line: &[u8],
+    before: &[u8],
+    report: &mut Vec<u8>,
+) -> Result<bool, AllocError> {
+    match read_command(alloc, line) {
+        Ok(command) => tell_command(alloc, &command, before, report).map(|()| true),
+        Err(fault) => report
+            .extend_from_slice(name_of(fault).as_bytes())
+            .map(|()| false),
+    }
+}
+
+/// What each line is. (The command before is read again, so that none is kept, which would take long to prove.)
 pub(crate) fn tell(rt: &HostRuntime, lines: &[Vec<u8>]) -> io::Result<()> {
     let alloc = rt.alloc();
     let mut report = Vec::new(alloc);
-    let mut before = None;
+    let mut before: &[u8] = &[];
     for line in lines {
-        match read(alloc, line) {
-            Ok(told) => {
-                tell_command(alloc, &told, before.as_ref(), &mut report)?;
-                before = Some(told);
-            }
-            Err(fault) => report.extend_from_slice(name_of(fault).as_bytes())?,
+        if tell_line(alloc, line, before, &mut report)? {
+            before = line;
         }
         report.push(b'\n')?;
     }

@@ -1,12 +1,14 @@
 //! Prints what texts mean, and how values are written: standard input has the cases of each part below a line
-//! `====== PART`, which is printed above what the part says to them. The parts are `keys`, `replies`, `commands` and
-//! `schemas`.
+//! `====== PART`, which is printed above what the part says to them. The parts are `keys`, `replies`, `commands`, `schemas` and
+//! `tables`.
 #![tactic(auto)]
 
 mod commands;
 mod keys;
 mod replies;
 mod schemas;
+mod scripts;
+mod tables;
 
 use std::io;
 use std::io::BufRead;
@@ -17,9 +19,16 @@ enum Part {
     Replies,
     Commands,
     Schemas,
+    Tables,
 }
 
-const PARTS: [Part; 4] = [Part::Keys, Part::Replies, Part::Commands, Part::Schemas];
+const PARTS: [Part; 5] = [
+    Part::Keys,
+    Part::Replies,
+    Part::Commands,
+    Part::Schemas,
+    Part::Tables,
+];
 
 impl Part {
     fn name(self) -> &'static str {
@@ -28,6 +37,7 @@ impl Part {
             Part::Replies => "replies",
             Part::Commands => "commands",
             Part::Schemas => "schemas",
+            Part::Tables => "tables",
         }
     }
 }
@@ -62,6 +72,7 @@ fn tell(rt: &HostRuntime, section: &Section) -> io::Result<()> {
         Part::Replies => replies::tell(rt),
         Part::Commands => commands::tell(rt, &section.lines),
         Part::Schemas => schemas::tell(rt, &section.lines),
+        Part::Tables => tables::tell(rt, &section.lines),
     }
 }
 

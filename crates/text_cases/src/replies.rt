@@ -14,8 +14,47 @@ const LAST: Handle = Handle {
     stamp: u64::MAX,
 };
 
-// The longest name that an index may have.
-const LONGEST_NAME: &str = "a_name_of_32_letters_or_digits_0";
+// Replies of each form without rows; one has the longest name that an index may have.
+const REPLIES: [Reply<'static>; 12] = [
+    Reply::Found {
+        at: 1,
+        handle: Some(FIRST),
+    },
+    Reply::Found {
+        at: 0,
+        handle: None,
+    },
+    Reply::Found {
+        at: u64::MAX,
+        handle: Some(LAST),
+    },
+    Reply::Counted { at: 3, number: 2 },
+    Reply::Counted {
+        at: u64::MAX,
+        number: u64::MAX,
+    },
+    Reply::Done { at: 0 },
+    Reply::Done { at: u64::MAX },
+    Reply::Next {
+        at: 4,
+        next: Some(FIRST),
+    },
+    Reply::Next { at: 0, next: None },
+    Reply::Next {
+        at: u64::MAX,
+        next: Some(LAST),
+    },
+    Reply::Banned {
+        at: 2,
+        index: "u",
+        by: FIRST,
+    },
+    Reply::Erased {
+        at: u64::MAX,
+        index: "a_name_of_32_letters_or_digits_0",
+        by: LAST,
+    },
+];
 
 const FAULTS: [Fault; 15] = [
     Fault::Line,
@@ -35,25 +74,35 @@ const FAULTS: [Fault; 15] = [
     Fault::Memory,
 ];
 
-fn found(at: u64, handle: Option<Handle>) -> Reply<'static> {
-    Reply::Found { at, handle }
+// A cell of a row.
+#[derive(Clone, Copy)]
+enum Value {
+    Int(i64),
+    Text(&'static str),
+    Bool(bool),
 }
 
-fn counted(at: u64, number: u64) -> Reply<'static> {
-    Reply::Counted { at, number }
-}
+const PLAIN: [Value; 2] = [Value::Int(1), Value::Text("a")];
 
-fn next(at: u64, next: Option<Handle>) -> Reply<'static> {
-    Reply::Next { at, next }
-}
+const ESCAPED: [Value; 2] = [
+    Value::Int(-5),
+    Value::Text("\"\\/\n\r\t\u{8}\u{c}\u{1}\u{1f}\u{7f}\u{e9}"),
+];
 
-fn banned(at: u64, index: &'static str, by: Handle) -> Reply<'static> {
-    Reply::Banned { at, index, by }
-}
+const WIDE: [Value; 3] = [Value::Bool(true), Value::Bool(false), Value::Int(i64::MIN)];
 
-fn erased(at: u64, index: &'static str, by: Handle) -> Reply<'static> {
-    Reply::Erased { at, index, by }
-}
+const QUOTED: [Value; 2] = [Value::Int(i64::MAX), Value::Text("\"\u{1}")];
+
+// A column's name, and its place.
+type Named = (&'static str, usize);
+
+// Columns in the order of their names.
+const BY_NAME: [Named; 2] = [("g", 1), ("id", 0)];
+
+// Columns in another order, of which two have no cell in some rows.
+const AS_GIVEN: [Named; 3] = [("z", 0), ("a", 2), ("\"", 3)];
+
+const OUTSIDE: [Named; 2] = [("z", 0), ("\"", 3)];
 
 fn push(out: &mut Out, text: &str) -> Result<(), AllocError> {
     out.try_push(text.as_bytes()).map_err(|_| AllocError)
@@ -63,24 +112,19 @@ fn push_reply(out: &mut Out, reply: &Reply) -> Result<(), AllocError> {
     write_reply(reply, out).map_err(|_| AllocError)
 }
 
-// Replies of each form without rows.
-fn tell_replies(alloc: Global) -> Result<Out, AllocError> {
-    let mut out = Out::new(alloc);
-    push(&mut out, "=== replies\n")?;
-    push_reply(&mut out, &found(1, Some(FIRST)))?;
-    push_reply(&mut out, &found(0, None))?;
-    push_reply(&mut out, &found(u64::MAX, Some(LAST)))?;
-    push_reply(&mut out, &counted(3, 2))?;
-    push_reply(&mut out, &counted(u64::MAX, u64::MAX))?;
-    push_reply(&mut out, &Reply::Done { at: 0 })?;
-    push_reply(&mut out, &Reply::Done { at: u64::MAX })?;
-    push_reply(&mut out, &next(4, Some(FIRST)))?;
-    push_reply(&mut out, &next(0, None))?;
-    push_reply(&mut out, &next(u64::MAX, Some(LAST)))?;
-    push_reply(&mut out, &banned(2, "u", FIRST))?;
-    push_reply(&mut out, &erased(u64::MAX, LONGEST_NAME, LAST))?;
+fn push_fault(out: &mut Out, fault: Fault) -> Result<(), AllocError> {
+    push(out, fault.name())?;
+    push(out, " ")?;
+    push_reply(out, &Reply::Fault(fault))
+}
+
+fn push_replies(out: &mut Out) -> Result<(), AllocError> {
+    push(out, "=== replies\n")?;
+    for reply in REPLIES {
+        push_reply(out, &reply)?;
+    }
     push_reply(
-        &mut out,
+        out,
         &Reply::Listed {
             at: 7,
             headings: &[],
@@ -88,39 +132,67 @@ fn tell_replies(alloc: Global) -> Result<Out, AllocError> {
         },
     )?;
     for fault in FAULTS {
-        push(&mut out, fault.name())?;
-        push(&mut out, " ")?;
-        push_reply(&mut out, &Reply::Fault(fault))?;
+        push_fault(out, fault)?;
     }
-    Ok(out)
+    Ok(())
 }
 
-fn heading(alloc: Global, name: &str, place: usize) -> Result<Heading, AllocError> {
-    Ok(Heading {
-        name: Text::copy_of(alloc, name)?,
-        place,
+fn cell(alloc: Global, value: Value) -> Result<Cell, AllocError> {
+    Ok(match value {
+        Value::Int(number) => Cell::Int(number),
+        Value::Text(text) => Cell::Text(Text::copy_of(alloc, text)?),
+        Value::Bool(truth) => Cell::Bool(truth),
     })
 }
 
-fn row(alloc: Global, id: i64, group: &str) -> Result<Row, AllocError> {
+fn row(alloc: Global, values: &[Value]) -> Result<Row, AllocError> {
     let mut cells = Vec::new(alloc);
-    cells.push(Cell::Int(id))?;
-    cells.push(Cell::Text(Text::copy_of(alloc, group)?))?;
+    for value in values {
+        cells.push(cell(alloc, *value)?)?;
+    }
     Ok(Row::new(cells))
 }
 
-fn wide_row(alloc: Global) -> Result<Row, AllocError> {
-    let mut cells = Vec::new(alloc);
-    cells.push(Cell::Bool(true))?;
-    cells.push(Cell::Bool(false))?;
-    cells.push(Cell::Int(i64::MIN))?;
-    Ok(Row::new(cells))
+fn headings(alloc: Global, columns: &[Named]) -> Result<Vec<Heading>, AllocError> {
+    let mut headings = Vec::new(alloc);
+    for (name, place) in columns {
+        let name = Text::copy_of(alloc, name)?;
+        headings.push(Heading {
+            name,
+            place: *place,
+        })?;
+    }
+    Ok(headings)
 }
 
-fn tell_records(alloc: Global, out: &mut Out, headings: &[Heading]) -> Result<(), AllocError> {
-    let plain = row(alloc, 1, "a")?;
-    let escaped = row(alloc, -5, "\"\\/\n\r\t\u{8}\u{c}\u{1}\u{1f}\u{7f}\u{e9}")?;
-    let wide = wide_row(alloc)?;
+fn push_listed(
+    alloc: Global,
+    out: &mut Out,
+    columns: &[Named],
+    records: &[Record],
+) -> Result<(), AllocError> {
+    let headings = headings(alloc, columns)?;
+    push_reply(
+        out,
+        &Reply::Listed {
+            at: 2,
+            headings: &headings,
+            records,
+        },
+    )
+}
+
+fn push_lists(alloc: Global, out: &mut Out, records: &[Record]) -> Result<(), AllocError> {
+    push_listed(alloc, out, &BY_NAME, records)?;
+    push_listed(alloc, out, &AS_GIVEN, records)
+}
+
+// Rows below headings.
+fn push_rows(alloc: Global, out: &mut Out) -> Result<(), AllocError> {
+    push(out, "=== rows\n")?;
+    let plain = row(alloc, &PLAIN)?;
+    let escaped = row(alloc, &ESCAPED)?;
+    let wide = row(alloc, &WIDE)?;
     let records = [
         Record {
             handle: Handle { slot: 1, stamp: 2 },
@@ -135,86 +207,77 @@ fn tell_records(alloc: Global, out: &mut Out, headings: &[Heading]) -> Result<()
             row: &wide,
         },
     ];
+    push_lists(alloc, out, &records)
+}
+
+fn push_shown(
+    alloc: Global,
+    out: &mut Out,
+    at: u64,
+    columns: &[Named],
+    record: Record,
+) -> Result<(), AllocError> {
+    let headings = headings(alloc, columns)?;
     push_reply(
         out,
-        &Reply::Listed {
-            at: 2,
-            headings,
-            records: &records,
+        &Reply::Shown {
+            at,
+            headings: &headings,
+            record,
         },
     )
 }
 
-fn shown<'a>(at: u64, headings: &'a [Heading], handle: Handle, row: &'a Row) -> Reply<'a> {
-    let record = Record { handle, row };
-    Reply::Shown {
-        at,
-        headings,
-        record,
-    }
-}
-
 // One record below headings.
-fn tell_shown(alloc: Global) -> Result<Out, AllocError> {
-    let mut out = Out::new(alloc);
-    push(&mut out, "=== shown\n")?;
-    let escaped = row(alloc, i64::MAX, "\"\u{1}")?;
-    let by_name = [heading(alloc, "g", 1)?, heading(alloc, "id", 0)?];
-    let wide = [heading(alloc, "z", 0)?, heading(alloc, "\"", 3)?];
-    push_reply(&mut out, &shown(1, &by_name, FIRST, &escaped))?;
-    push_reply(&mut out, &shown(0, &[], FIRST, &escaped))?;
-    push_reply(&mut out, &shown(u64::MAX, &wide, LAST, &escaped))?;
-    Ok(out)
+fn push_records(alloc: Global, out: &mut Out) -> Result<(), AllocError> {
+    push(out, "=== shown\n")?;
+    let row = row(alloc, &QUOTED)?;
+    let first = Record {
+        handle: FIRST,
+        row: &row,
+    };
+    let last = Record {
+        handle: LAST,
+        row: &row,
+    };
+    push_shown(alloc, out, 1, &BY_NAME, first)?;
+    push_shown(alloc, out, 0, &[], first)?;
+    push_shown(alloc, out, u64::MAX, &OUTSIDE, last)
 }
 
-// Rows below headings that are in the order of their names, and below others, of which two are of no cell of some rows.
-fn tell_rows(alloc: Global) -> Result<Out, AllocError> {
-    let mut out = Out::new(alloc);
-    push(&mut out, "=== rows\n")?;
-    let by_name = [heading(alloc, "g", 1)?, heading(alloc, "id", 0)?];
-    tell_records(alloc, &mut out, &by_name)?;
-    let as_given = [
-        heading(alloc, "z", 0)?,
-        heading(alloc, "a", 2)?,
-        heading(alloc, "\"", 3)?,
-    ];
-    tell_records(alloc, &mut out, &as_given)?;
-    Ok(out)
-}
-
-fn push_state(alloc: Global, out: &Out, report: &mut String) -> Result<(), AllocError> {
+fn push_state(alloc: Global, report: &mut Out, out: &Out) -> Result<(), AllocError> {
     let text = String::from_utf8_lossy(alloc, out.bytes())?;
     let state = format!(in alloc; "{} '{}'\n", out.bytes().len(), text.as_str())?;
-    report.push_str(state.as_str())
+    push(report, state.as_str())
 }
 
 // A buffer's length and bytes as it takes texts and gives them back.
-fn tell_buffer(alloc: Global) -> Result<String, AllocError> {
-    let mut report = String::from_str(alloc, "=== buffer\n")?;
+fn push_states(alloc: Global, report: &mut Out) -> Result<(), AllocError> {
+    push(report, "=== buffer\n")?;
     let mut out = Out::new(alloc);
-    push_state(alloc, &out, &mut report)?;
+    push_state(alloc, report, &out)?;
     out.ready().map_err(|_| AllocError)?;
     out.push(b"one ");
     out.push(b"two ");
     out.try_push(b"three ").map_err(|_| AllocError)?;
     out.try_push_all(&["four", "", "."])
         .map_err(|_| AllocError)?;
-    push_state(alloc, &out, &mut report)?;
+    push_state(alloc, report, &out)?;
     out.truncate(3);
-    push_state(alloc, &out, &mut report)?;
+    push_state(alloc, report, &out)?;
     out.clear();
-    push_state(alloc, &out, &mut report)?;
+    push_state(alloc, report, &out)?;
     out.push(&[b'x'; READY_ROOM]);
-    push_state(alloc, &out, &mut report)?;
-    Ok(report)
+    push_state(alloc, report, &out)
 }
 
 /// All of them. It takes no lines.
 pub(crate) fn tell(rt: &HostRuntime) -> io::Result<()> {
     let alloc = rt.alloc();
-    let mut output = io::writer(rt);
-    output.write_all(tell_replies(alloc)?.bytes())?;
-    output.write_all(tell_rows(alloc)?.bytes())?;
-    output.write_all(tell_shown(alloc)?.bytes())?;
-    output.write_all(tell_buffer(alloc)?.as_bytes())
+    let mut out = Out::new(alloc);
+    push_replies(&mut out)?;
+    push_rows(alloc, &mut out)?;
+    push_records(alloc, &mut out)?;
+    push_states(alloc, &mut out)?;
+    io::writer(rt).write_all(out.bytes())
 }

@@ -3,26 +3,11 @@
 
 mod spelled;
 
+use crate::scripts::{Script, scripts_of};
 use schema_file::read_schema;
 use spelled::table_line;
-use std::alloc::Global;
 use std::io;
 use table_schema::{Schema, builtin};
-
-/// A schema file, and what it is called here.
-#[derive(Drop)]
-struct Case {
-    name: String,
-    file: Vec<u8>,
-}
-
-/// The name on a line that begins a file.
-fn heading(line: &[u8]) -> Option<&[u8]> {
-    match line {
-        [b'=', b'=', b'=', b' ', name @ ..] => Some(name),
-        _ => None,
-    }
-}
 
 fn tell_tables(rt: &HostRuntime, name: &str, schema: &Schema) -> io::Result<()> {
     println!(rt; "{name}: valid")?;
@@ -34,38 +19,20 @@ fn tell_tables(rt: &HostRuntime, name: &str, schema: &Schema) -> io::Result<()> 
     Ok(())
 }
 
-fn tell_case(rt: &HostRuntime, case: &Case) -> io::Result<()> {
-    let name = case.name.as_str();
-    match read_schema(rt.alloc(), &case.file) {
+fn tell_script(rt: &HostRuntime, script: &Script) -> io::Result<()> {
+    let name = script.name.as_str();
+    match read_schema(rt.alloc(), &script.file) {
         Ok(schema) => tell_tables(rt, name, &schema),
         Err(fault) => println!(rt; "{name}: {fault}"),
     }
-}
-
-fn begun(alloc: Global, name: &[u8]) -> io::Result<Case> {
-    Ok(Case {
-        name: String::from_utf8_lossy(alloc, name)?,
-        file: Vec::new(alloc),
-    })
 }
 
 /// The built-in schema, and what each file means.
 pub(crate) fn tell(rt: &HostRuntime, lines: &[Vec<u8>]) -> io::Result<()> {
     let alloc = rt.alloc();
     tell_tables(rt, "built in", &builtin(alloc)?)?;
-    let mut case: Option<Case> = None;
-    for line in lines {
-        if let Some(name) = heading(line) {
-            if let Some(ended) = case.replace(begun(alloc, name)?) {
-                tell_case(rt, &ended)?;
-            }
-        } else if let Some(open) = &mut case {
-            open.file.extend_from_slice(line)?;
-            open.file.push(b'\n')?;
-        }
+    for script in &scripts_of(alloc, lines)? {
+        tell_script(rt, script)?;
     }
-    match case {
-        Some(last) => tell_case(rt, &last),
-        None => Ok(()),
-    }
+    Ok(())
 }
