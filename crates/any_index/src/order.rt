@@ -16,7 +16,7 @@ impl AnyIndex {
     ghost use Rattle.any_index.specs.Stored.{nodes_of, IsIn, HasNode, KeepsRest, CanSink};
 
     /// Moves `n` before the node at the place, or last. The place counts with `n` still in. It takes no memory. In a
-    /// chain O(the distance of the place from the nearer end), in a row O(the nodes from the lower of both places on).
+    /// chain O(the distance of the place from the nearer end), in a row O(the nodes between both places).
     pub fn move_to<R>(&mut self, store: &mut NodeStore<R>, place: u64, n: Node)
         requires node { HasNode self.old store.old n }
         requires place { place ≤ length (nodes_of self.old store.old) }

@@ -73,7 +73,7 @@ impl Op {
         None
     }
 
-    // Each operation under its name.
+    // Each operation under its name, those that are met most first, since they are compared one after another.
     fn named() -> &'static [(&'static str, Op)]
         ensures { map (λ p. (p.0.now, p.1)) result.now ≡ op_names }
     {

@@ -17,8 +17,8 @@ impl<R, E: Extract<R>> IndexSet<R, E> {
     ghost use Rattle.index_set.specs.Set.{contents, lists_of, list_of, kind_at, probe_side, HasRoom, IsSound, IsKeyed, IsOfSame};
 
     /// Moves `n` before the node at the place of a sequence, or last. The place counts with `n` still in. It takes no
-    /// memory. O(the distance of the place from the nearer end), in one with places O(the nodes from the lower of both
-    /// places on). Others have no such call.
+    /// memory. O(the distance of the place from the nearer end), in one with places O(the nodes between both
+    /// places). Others have no such call.
     pub fn move_to(&mut self, index: usize, place: u64, n: Node)
         requires at { HasIndex E.Extract self.old index }
         requires kind { IsTrue (is_sequence_kind (kind_at self.old index)) }

@@ -20,7 +20,7 @@ impl<R: Drop, E: Extract<R> + Drop> MultiIndex<R, E> {
     /// its own and the next one leave the list as it is, which is an accepted write too. A refused move changes nothing:
     /// `Kind`, where the index is no sequence, comes before `Stale`, that before `Place`, where the place is past the end, and
     /// that before `Spent`. It takes no memory. O(the distance of the place from the nearer end), in a sequence with places
-    /// O(the records from the lower of both places on).
+    /// O(the records between both places).
     pub fn relocate(&mut self, index: usize, place: u64, handle: Handle) -> Result<(), Refused<R>>
         requires { index < length self.old.specs }
         ensures allowed { OnOk result (relocate_refusal self.old index place handle ≡ None) }
