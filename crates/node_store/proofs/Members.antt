@@ -78,7 +78,7 @@ all_nodes : (c : Column) (xs : List Node) → AllByRecursion (IsNode c) xs → A
 all_nodes c [] h = tt
 all_nodes c (x ∷ xs) h = (h.0, all_nodes c xs h.1)
 
-each_node : (c : Column) (xs : List Node) → AllNodes c xs → AllByRecursion (IsNode c) xs
+pub each_node : (c : Column) (xs : List Node) → AllNodes c xs → AllByRecursion (IsNode c) xs
 each_node c [] h = tt
 each_node c (x ∷ xs) h = (h.0, each_node c xs h.1)
 
