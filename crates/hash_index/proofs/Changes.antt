@@ -1,8 +1,9 @@
 -- A node goes into a bucket, and out of it.
-use Rattle.std.proofs.Common.{◌≡◌, ◌≢◌, ℕ, ◌+◌, ◌-◌, ◌*◌, ◌<◌, ◌≤◌, List, [], ◌∷◌, ◌++◌, length, get_or, set, Option, Some, None, refl, sym, ap, ◌∙◌, subst, arith, append_assoc}
+use Rattle.std.proofs.Common.{◌≡◌, ◌≢◌, ℕ, ◌+◌, ◌-◌, ◌*◌, ◌<◌, ◌≤◌, List, [], ◌∷◌, ◌++◌, length, map, get_or, set, Option, Some, None, refl, sym, ap, ◌∙◌, subst, arith, append_assoc}
 use Rattle.std.specs.Prelude.{IsPermutation}
 use Rattle.std.proofs.lemmas.List.Sorted.{IsPermutation-sym, IsPermutation-middle}
-use Rattle.std.specs.List.{AllByRecursion}
+use Rattle.std.specs.List.{AllByRecursion, slice_get}
+use Rattle.std.proofs.lemmas.List.{map-set}
 use Rattle.std.specs.Option.{option_map}
 use Rattle.node_store.specs.declared.Node.{Node}
 use Rattle.node_store.specs.declared.Link.{Link}
@@ -12,8 +13,11 @@ use Rattle.list_model.specs.Walk.{without}
 use Rattle.seq_index.proofs.Walks.{without_at}
 use Rattle.hash_index.specs.declared.HashIndex.{HashIndex}
 use Rattle.hash_index.specs.Buckets.{bucket_of}
-use Rattle.hash_index.specs.Spelled.{heads_of, Spells, IsSound, spelled, leads_to, Holds}
+use Rattle.hash_index.specs.declared.head.Head.{Head}
+use Rattle.hash_index.specs.Heads.{first_in, IsRight, AreRight}
+use Rattle.hash_index.specs.Spelled.{all_of, heads_of, Spells, IsSound, spelled, leads_to, Holds}
 use Rattle.node_store.specs.Nodes.{Lacks, AreApart, IsDistinct, IsSameAt, first_or, last_or}
+use Rattle.node_store.proofs.Members.{each_node}
 use Rattle.node_store.proofs.NodeLists.{Lacks-front, Lacks-back, IsDistinct-parts, IsSameAt-others, IsSameAt-trans, AreApart-sym, AreApart-append, AreApart-head}
 use Rattle.list_model.proofs.Lists.{All-join}
 use Rattle.list_model.proofs.InOrder.{All-map}
@@ -23,8 +27,9 @@ use Rattle.seq_index.proofs.Runs.{Runs-insert, Runs-remove, SetsNext-none, IsSam
 use Rattle.seq_index.proofs.ChainLists.{first-remove, length-insert, length-remove}
 use Rattle.hash_index.specs.Chains.{untagged_link, untagged, tag_at, KeepsTags, KeepsOtherNodes, IsIn}
 use Rattle.hash_index.proofs.Untagged.{put_untagged, tag_put, tag_other, tagged_node}
+use Rattle.hash_index.proofs.Heads.{first_has, last_has, others_of, one_chain, right_at, right_set, slice_first}
 use Rattle.hash_index.proofs.OneBucket.{Focus, Hangs}
-use Rattle.hash_index.proofs.Spelling.{neighbours, Spells_from, IsSound_from, focus_of, held_chain, is_in, split_at}
+use Rattle.hash_index.proofs.Spelling.{hangs_of, Spells_nodes, neighbours, Spells_from, IsSound_from, focus_of, held_chain, is_in, split_at}
 
 in_tags : (c f : Column) (to : ℕ → ℕ) (b : ℕ) (n : Node) (xs : List Node) → ((m : Node) → m ≢ n → tag_at f m ≡ tag_at c m) → Lacks xs n → AllByRecursion (IsIn c to b) xs → AllByRecursion (IsIn f to b) xs
 in_tags c f to b n [] kept lacks h = tt
@@ -106,28 +111,57 @@ head_lacks c to b heads xs at m lacks = λ e.
     let l = Lacks-front at.chain at.back m (Lacks-back at.front (at.chain ++ at.back) m (subst (λ z. Lacks z m) at.whole lacks)) in
     Lacks-first at.chain m l (sym at.here.first ∙ e)
 
--- the new index has another first node in one bucket, and as many buckets
-pub record PutsHead (i j : HashIndex) (b : ℕ) (head : Option Node) : Type 0 where
+-- the new index has another head of one chain, and as many chains
+pub record PutsHead (i j : HashIndex) (b : ℕ) (head : Head) : Type 0 where
   pub col : j.col ≡ i.col
   pub level : j.level ≡ i.level
   pub count : j.buckets.len ≡ i.buckets.len
-  pub heads : heads_of j ≡ set (heads_of i) b head
+  pub heads : all_of j ≡ set (all_of i) b head
 
-hangs_kept : (ds : ℕ → Column) (i j : HashIndex) (b : ℕ) (head : Option Node) (ys : List Node) → PutsHead i j b head → Hangs (ds i.col) (leads_to i) 0 (set (heads_of i) b head) ys → Hangs (ds j.col) (leads_to j) 0 (heads_of j) ys
+firsts_put : (i j : HashIndex) (b : ℕ) (head : Head) → PutsHead i j b head → heads_of j ≡ set (heads_of i) b (first_in head)
+firsts_put i j b head puts = ap (map first_in) puts.heads ∙ map-set first_in (all_of i) b head
+
+hangs_kept : (ds : ℕ → Column) (i j : HashIndex) (b : ℕ) (head : Head) (ys : List Node) → PutsHead i j b head → Hangs (ds i.col) (leads_to i) 0 (set (heads_of i) b (first_in head)) ys → Hangs (ds j.col) (leads_to j) 0 (heads_of j) ys
 hangs_kept ds i j b head ys puts h =
-    subst (λ c. Hangs (ds c) (leads_to j) 0 (heads_of j) ys) (sym puts.col) (subst (λ z. Hangs (ds i.col) (leads_to j) 0 z ys) (sym puts.heads)
-    (subst (λ l. Hangs (ds i.col) (bucket_of l j.buckets.len) 0 (set (heads_of i) b head) ys) (sym puts.level) (subst (λ k. Hangs (ds i.col) (bucket_of i.level k) 0 (set (heads_of i) b head) ys) (sym puts.count) h)))
+    subst (λ c. Hangs (ds c) (leads_to j) 0 (heads_of j) ys) (sym puts.col) (subst (λ z. Hangs (ds i.col) (leads_to j) 0 z ys) (sym (firsts_put i j b head puts))
+    (subst (λ l. Hangs (ds i.col) (bucket_of l j.buckets.len) 0 (set (heads_of i) b (first_in head)) ys) (sym puts.level) (subst (λ k. Hangs (ds i.col) (bucket_of i.level k) 0 (set (heads_of i) b (first_in head)) ys) (sym puts.count) h)))
+
+-- a node that others follow is not alone
+some_first : (xs : List Node) (n : Node) (ys : List Node) → first_or (xs ++ n ∷ ys) None ≡ None → ⊥
+some_first [] n ys e = cc
+some_first (x ∷ xs) n ys e = cc
+
+-- so the head of a chain stays right where a node goes that another one stands before
+right_beside : (c d : Column) (hs : List Head) (b : ℕ) (head : Head) (before : Option Node) (ps : List Node) (n : Node) (qs : List Node) → before ≡ last_or ps None → ((h : Head) → slice_get hs b ≡ Some h → first_in h ≡ get_or (map first_in hs) b None) → get_or (map first_in hs) b None ≡ first_or (ps ++ n ∷ qs) None → Runs (untagged c) None (ps ++ n ∷ qs) None → AreRight c hs
+    → ((m : Node) → before ≡ Some m → slice_get hs b ≡ Some head) → (before ≡ None → IsRight d head) → IsRight d head
+right_beside c d hs b head before [] n qs at is first runs right kept exact = exact at
+right_beside c d hs b head None (x ∷ ps) n qs at is first runs right kept exact = exact refl
+right_beside c d hs b head (Some p) (x ∷ ps) n qs at is first runs right kept exact = λ alone m l from there.
+    let same = kept p refl in
+    let node = tagged_node c x (record { block = chain_link None (first_or (ps ++ n ∷ qs) None); is = runs.0 }) in
+    let near = neighbours c [] x (ps ++ n ∷ qs) node.block runs node.is in
+    absurd (some_first ps n qs (sym near.b ∙ (right_at c hs b head right same alone x node.block (is head same ∙ first) node.is).0))
+
+-- where no link changes of the first nodes of other chains, the new heads are right
+right_put : (cs ds : ℕ → Column) (i j : HashIndex) (b : ℕ) (head : Head) (Q : Node → Type 0) → IsSound cs i → PutsHead i j b head → AllByRecursion Q (spelled cs i) → ((k : ℕ) (m : Node) → k ≢ b → Q m → IsIn (cs i.col) (leads_to i) k m → ds i.col m ≡ cs i.col m) → IsRight (ds i.col) head → AreRight (ds j.col) (all_of j)
+right_put cs ds i j b head Q h puts all same is =
+    let k = hangs_of cs i (spelled cs i) h in
+    subst (λ c. AreRight (ds c) (all_of j)) (sym puts.col) (subst (AreRight (ds i.col)) (sym puts.heads)
+    (right_set (cs i.col) (ds i.col) (leads_to i) Q 0 b (all_of i) k.chains head k.are (subst (AllByRecursion Q) (sym k.whole) all) (λ j m ne. same j m (λ e. ne (omega (arith, e)))) is h.right))
 
 module _ (cs ds : ℕ → Column) (d : Column) (i j : HashIndex) (n : Node) (b : ℕ) (h : IsSound cs i) (within : b < i.buckets.len) where
-  module _ (hash : ℕ) (head : Option Node) (puts : PutsHead i j b (Some n)) (len : j.len ≡ i.len + 1) (load : j.len * 2 ≤ j.buckets.len) (new : Lacks (spelled cs i) n) (bucket : b ≡ leads_to i hash) (first : head ≡ get_or (heads_of i) b None)
+  module _ (hash : ℕ) (head : Option Node) (begins : Head) (puts : PutsHead i j b begins) (begin : first_in begins ≡ Some n) (right : IsRight (ds i.col) begins) (len : j.len ≡ i.len + 1) (load : j.len * 2 ≤ j.buckets.len) (new : Lacks (spelled cs i) n) (bucket : b ≡ leads_to i hash) (first : head ≡ get_or (heads_of i) b None)
       (put : IsPut (cs i.col) d n (record { a = None; b = head; up = None; tag = hash; height = 0 })) (prev : SetsPrev (untagged d) (untagged (ds i.col)) head (Some n)) (tags : KeepsTags d (ds i.col)) (same : KeepsOtherNodes d (ds i.col) head) where
     put_both : IsSound ds j × IsPermutation (n ∷ spelled cs i) (spelled ds j)
     put_both =
         let f = focus_of cs i (spelled cs i) b within h in
         let ys : List Node = f.front ++ n ∷ (f.chain ++ f.back) in
-        let hangs = hangs_kept ds i j b (Some n) ys puts (put_hangs (cs i.col) d (ds i.col) (leads_to i) b (heads_of i) (spelled cs i) n hash head f h.distinct new (sym bucket) first put prev tags same) in
+        let hangs = hangs_kept ds i j b begins ys puts (subst (λ o. Hangs (ds i.col) (leads_to i) 0 (set (heads_of i) b o) ys) (sym begin) (put_hangs (cs i.col) d (ds i.col) (leads_to i) b (heads_of i) (spelled cs i) n hash head f h.distinct new (sym bucket) first put prev tags same)) in
+        let here : (m : Node) → head ≡ Some m → IsIn (cs i.col) (leads_to i) b m = λ m e. first_has (IsIn (cs i.col) (leads_to i) b) f.chain m f.here.members (sym f.here.first ∙ (sym first ∙ e)) in
+        let are = right_put cs ds i j b begins (λ m. m ≢ n) h puts (others_of (spelled cs i) n new)
+        (λ k m ne other is. same m (λ e. ne (one_chain (cs i.col) (leads_to i) b k m (here m e) is)) ∙ put.others m other) right in
         let dist = Distinct-insert f.front n (f.chain ++ f.back) (subst IsDistinct f.whole h.distinct) (subst (λ z. Lacks z n) f.whole new) in
-        let s = Spells_from ds j ys hangs dist (len ∙ (ap (λ k. k + 1) (h.len ∙ ap length f.whole) ∙ length-insert f.front n (f.chain ++ f.back))) load in
+        let s = Spells_from ds j ys hangs dist (len ∙ (ap (λ k. k + 1) (h.len ∙ ap length f.whole) ∙ length-insert f.front n (f.chain ++ f.back))) load are in
         let moved : IsPermutation (n ∷ (f.front ++ (f.chain ++ f.back))) ys = IsPermutation-sym _ _ (IsPermutation-middle f.front n (f.chain ++ f.back)) in
         (IsSound_from ds j ys s, subst (λ z. IsPermutation (n ∷ spelled cs i) z) s.is (subst (λ z. IsPermutation (n ∷ z) ys) (sym f.whole) moved))
 
@@ -137,9 +171,9 @@ module _ (cs ds : ℕ → Column) (d : Column) (i j : HashIndex) (n : Node) (b :
     pub put_moved : IsPermutation (n ∷ spelled cs i) (spelled ds j)
     put_moved = put_both.1
 
-  pub out_done : (link : Link) (head : Option Node) → PutsHead i j b head → head ≡ end_beside link.a (get_or (heads_of i) b None) link.b → j.len + 1 ≡ i.len → j.len * 2 ≤ j.buckets.len → Holds (spelled cs i) n → b ≡ leads_to i link.tag → cs i.col n ≡ Some link
+  pub out_done : (link : Link) (head : Head) → PutsHead i j b head → first_in head ≡ end_beside link.a (get_or (heads_of i) b None) link.b → ((m : Node) → link.a ≡ Some m → slice_get (all_of i) b ≡ Some head) → (link.a ≡ None → IsRight (ds i.col) head) → j.len + 1 ≡ i.len → j.len * 2 ≤ j.buckets.len → Holds (spelled cs i) n → b ≡ leads_to i link.tag → cs i.col n ≡ Some link
       → SetsNext (untagged (cs i.col)) (untagged d) link.a link.b → KeepsOtherNodes (cs i.col) d link.a → SetsPrev (untagged d) (untagged (ds i.col)) link.b link.a → KeepsOtherNodes d (ds i.col) link.b → KeepsTags (cs i.col) (ds i.col) → Spells ds j (without (same_node n) (spelled cs i))
-  out_done link head puts first len load held bucket is next same_next prev same_prev tags =
+  out_done link head puts first kept right len load held bucket is next same_next prev same_prev tags =
       let f = focus_of cs i (spelled cs i) b within h in
       let here : IsIn (cs i.col) (leads_to i) b n = subst (λ k. IsIn (cs i.col) (leads_to i) k n) (sym bucket) (is_in (cs i.col) (leads_to i) n link is) in
       let k = held_chain (cs i.col) (leads_to i) 0 b b (heads_of i) (spelled cs i) n f here held in
@@ -149,7 +183,15 @@ module _ (cs ds : ℕ → Column) (d : Column) (i j : HashIndex) (n : Node) (b :
       ap (λ z. f.front ++ z) (append_assoc k.before k.after f.back) ∙ sym (append_assoc f.front k.before (k.after ++ f.back)) in
       let hangs = subst (λ z. Hangs (ds i.col) (leads_to i) 0 (set (heads_of i) b (end_beside link.a (get_or (heads_of i) b None) link.b)) z) joins
       (out_hangs (cs i.col) d (ds i.col) (leads_to i) b (heads_of i) (spelled cs i) n link k.before k.after f h.distinct k.is is next same_next prev same_prev tags) in
+      let runs = subst (λ z. Runs (untagged (cs i.col)) None z None) k.is f.here.runs in
+      let near = neighbours (cs i.col) k.before n k.after link runs is in
+      let beside = All-split (IsIn (cs i.col) (leads_to i) b) k.before (n ∷ k.after) (subst (AllByRecursion (IsIn (cs i.col) (leads_to i) b)) k.is f.here.members) in
+      let are = right_put cs ds i j b head (IsNode (cs i.col)) h puts (each_node (cs i.col) (spelled cs i) (Spells_nodes cs i (spelled cs i) h))
+      (λ q m ne node away.
+      same_prev m (λ e. ne (one_chain (cs i.col) (leads_to i) b q m (first_has (IsIn (cs i.col) (leads_to i) b) k.after m beside.1.1 (sym near.b ∙ e)) away))
+      ∙ same_next m (λ e. ne (one_chain (cs i.col) (leads_to i) b q m (last_has (IsIn (cs i.col) (leads_to i) b) k.before m beside.0 (sym near.a ∙ e)) away)))
+      (right_beside (cs i.col) (ds i.col) (all_of i) b head link.a k.before n k.after near.a (slice_first (heads_of i) (all_of i) b refl) (f.here.first ∙ ap (λ z. first_or z None) k.is) runs h.right kept right) in
       let dist : IsDistinct ((f.front ++ k.before) ++ n ∷ (k.after ++ f.back)) = subst IsDistinct split h.distinct in
       let left : length ((f.front ++ k.before) ++ n ∷ (k.after ++ f.back)) - 1 ≡ length ys = length-remove (f.front ++ k.before) n (k.after ++ f.back) in
-      let s = Spells_from ds j ys (hangs_kept ds i j b head ys puts (subst (λ o. Hangs (ds i.col) (leads_to i) 0 (set (heads_of i) b o) ys) (sym first) hangs)) (Distinct-remove (f.front ++ k.before) n (k.after ++ f.back) dist) (omega (arith, left, len, h.len, ap length split)) load in
+      let s = Spells_from ds j ys (hangs_kept ds i j b head ys puts (subst (λ o. Hangs (ds i.col) (leads_to i) 0 (set (heads_of i) b o) ys) (sym first) hangs)) (Distinct-remove (f.front ++ k.before) n (k.after ++ f.back) dist) (omega (arith, left, len, h.len, ap length split)) load are in
       subst (λ z. Spells ds j z) (sym (ap (λ z. without (same_node n) z) split ∙ without_at (f.front ++ k.before) n (k.after ++ f.back) dist)) s

@@ -1,32 +1,34 @@
 -- One bucket more, with the nodes that go there.
-use Rattle.std.proofs.Common.{◌≡◌, ◌≢◌, ℕ, Bool, true, false, cond, not, ◌+◌, ◌-◌, ◌*◌, ◌%◌, ◌<◌, ◌≤◌, List, [], ◌∷◌, ◌++◌, length, get_or, set, Option, Some, None, refl, sym, ap, ◌∙◌, subst, arith, append_assoc, ⊎_elim}
+use Rattle.std.proofs.Common.{◌≡◌, ◌≢◌, ℕ, Bool, true, false, cond, not, ◌+◌, ◌-◌, ◌*◌, ◌%◌, ◌<◌, ◌≤◌, List, [], ◌∷◌, ◌++◌, length, map, get_or, set, Option, Some, None, refl, sym, ap, ◌∙◌, subst, arith, append_assoc, ⊎_elim}
 use Rattle.std.specs.Prelude.{filter, IsPermutation, ◌==◌}
 use Rattle.std.specs.List.{AllByRecursion}
 use Rattle.std.specs.Option.{option_map, option_map_or}
 use Rattle.std.proofs.lemmas.Bool.{cases_eq}
-use Rattle.std.proofs.lemmas.List.{append-nil, length-set}
+use Rattle.std.proofs.lemmas.List.{append-nil, length-set, map_push, map-set}
 use Rattle.std.proofs.lemmas.List.Elements.{filter-append}
 use Rattle.std.proofs.lemmas.List.Sorted.{IsPermutation-trans, IsPermutation-append_left, IsPermutation-append_right, IsPermutation-append_comm, IsPermutation-filter_both, length_permutation}
 use Rattle.node_store.specs.declared.Node.{Node}
-use Rattle.node_store.specs.Column.{Column}
+use Rattle.node_store.specs.Column.{Column, IsNode}
 use Rattle.node_store.specs.Nodes.{Lacks, AreApart, IsDistinct, IsSameAt}
+use Rattle.node_store.proofs.Members.{each_node}
 use Rattle.node_store.proofs.NodeLists.{IsDistinct-parts, IsDistinct-append, AreApart-append, AreApart-join, AreApart-sym, IsSameAt-refl}
-use Rattle.list_model.proofs.Lists.{All-both}
+use Rattle.list_model.proofs.Lists.{All-both, All-join}
 use Rattle.list_model.proofs.InOrder.{All-map}
 use Rattle.list_model.proofs.Kept.{All-passed, All-filter}
 use Rattle.hash_index.specs.declared.HashIndex.{HashIndex}
 use Rattle.hash_index.specs.declared.chain.Chain.{Chain}
 use Rattle.hash_index.specs.declared.head.Head.{Head}
-use Rattle.hash_index.specs.Segments.{first_in}
+use Rattle.hash_index.specs.Heads.{first_in, IsRight, AreRight}
 use Rattle.hash_index.specs.Buckets.{bucket_of}
 use Rattle.hash_index.specs.Chains.{tag_at, leads, members, IsIn, IsChain, AreChains, joined, KeepsTags}
-use Rattle.hash_index.specs.Spelled.{heads_of, Spells, IsSound, spelled, leads_to}
+use Rattle.hash_index.specs.Spelled.{all_of, heads_of, Spells, IsSound, spelled, leads_to}
 use Rattle.hash_index.specs.Walks.{rest_of}
 use Rattle.hash_index.specs.Split.{Builds, IsSame, goes, left, taken}
 use Rattle.hash_index.proofs.Untagged.{leads_tag, leads_there, leads_elsewhere, in_tag}
+use Rattle.hash_index.proofs.Heads.{lacks_other, right_set}
 use Rattle.hash_index.proofs.OneBucket.{chains_same, Hangs, Focus, IsElsewhere, KeepsOtherBuckets}
 use Rattle.hash_index.proofs.Levels.{goes as goes_there, went, stays, leads_within}
-use Rattle.hash_index.proofs.Spelling.{Spells_from, IsSound_from, spelled_is, hangs_of, focus_of, rest_is, none_long, empty_sound}
+use Rattle.hash_index.proofs.Spelling.{Spells_from, IsSound_from, spelled_is, hangs_of, heads_count, Spells_nodes, focus_of, rest_is, none_long, empty_sound}
 use Rattle.hash_index.proofs.Matching.{filter_none, filter_middle}
 use Rattle.hash_index.proofs.Changes.{apart_of}
 use Rattle.hash_index.proofs.Cutting.{Distinct_filter, filters_apart, never_both}
@@ -38,8 +40,9 @@ same_spells cs i j xs same h =
     let k = hangs_of cs i xs h in
     let into = chains_same (cs i.col) (cs i.col) (leads_to i) (leads_to j) 0 (λ b le hash e. same.leads hash ∙ e) (heads_of i) k.chains (IsSameAt-refl (cs i.col) (joined k.chains)) k.are in
     let hangs : Hangs (cs i.col) (leads_to j) 0 (heads_of i) xs = record { chains = k.chains; are = into; whole = k.whole } in
-    Spells_from cs j xs (subst (λ b. Hangs (cs b) (leads_to j) 0 (heads_of j) xs) (sym same.col) (subst (λ z. Hangs (cs i.col) (leads_to j) 0 z xs) (sym same.buckets) hangs))
+    Spells_from cs j xs (subst (λ b. Hangs (cs b) (leads_to j) 0 (heads_of j) xs) (sym same.col) (subst (λ z. Hangs (cs i.col) (leads_to j) 0 z xs) (sym (ap (map first_in) same.buckets)) hangs))
     h.distinct (same.len ∙ h.len) (omega (arith, same.len, h.load, i.buckets.ok, j.buckets.ok, ap length same.buckets))
+    (subst (λ b. AreRight (cs b) (all_of j)) (sym same.col) (subst (AreRight (cs i.col)) (sym same.buckets) h.right))
 
 pub same_sound : (cs : ℕ → Column) (i j : HashIndex) → IsSame i j → IsSound cs i → IsSound cs j
 same_sound cs i j same h = IsSound_from cs j (spelled cs i) (same_spells cs i j (spelled cs i) same h)
@@ -48,10 +51,10 @@ pub same_spelled : (cs : ℕ → Column) (i j : HashIndex) → IsSame i j → Is
 same_spelled cs i j same h = spelled_is cs j (spelled cs i) (same_spells cs i j (spelled cs i) same h)
 
 -- the first bucket of all
-pub first_bucket : (cs : ℕ → Column) (i j : HashIndex) (first : Option Node) → i.buckets.len ≡ 0 → first ≡ None → (heads_of j) ≡ (heads_of i) ++ first ∷ [] → j.len ≡ 0 → IsSound cs j
+pub first_bucket : (cs : ℕ → Column) (i j : HashIndex) (first : Head) → i.buckets.len ≡ 0 → first_in first ≡ None → all_of j ≡ all_of i ++ first ∷ [] → j.len ≡ 0 → IsSound cs j
 first_bucket cs i j first none empty items len =
-    let one = ap (λ z. z ++ first ∷ []) (none_long (heads_of i) (omega (arith, i.buckets.ok, none))) in
-    empty_sound cs j (subst (AllByRecursion (λ o. o ≡ None)) (sym (items ∙ one)) (empty, tt)) len
+    let one = ap (λ z. z ++ first ∷ []) (none_long (all_of i) (omega (arith, i.buckets.ok, none))) in
+    empty_sound cs j (subst (λ hs. AllByRecursion (λ o. o ≡ None) (map first_in hs)) (sym (items ∙ one)) (empty, tt)) len
 
 -- ---- a chain behind the others
 
@@ -169,10 +172,19 @@ module _ (c : Column) (before after : ℕ → ℕ) (comes : (hash : ℕ) → bef
 
 -- ---- an index with one bucket more
 
--- the first nodes of its chains, by the heads of the two that another became
-pub cut_heads : (i : HashIndex) (from : ℕ) (stay moved : Head) (stays goes : Option Node) (cut grown : List (Option Node)) → first_in stay ≡ stays → first_in moved ≡ goes → cut ≡ set (heads_of i) from (first_in stay) → grown ≡ cut ++ first_in moved ∷ [] → grown ≡ set (heads_of i) from stays ++ goes ∷ []
-cut_heads i from stay moved stays goes cut grown one other put more =
-    more ∙ (ap (λ o. cut ++ o ∷ []) other ∙ ap (λ z. z ++ goes ∷ []) (put ∙ ap (λ o. set (heads_of i) from o) one))
+-- the heads of its chains, by those of the two that another became
+pub record CutsHeads (i j : HashIndex) (from : ℕ) (stay moved : Option Node) : Type 0 where
+  pub stays : Head
+  pub goes : Head
+  pub stay_is : first_in stays ≡ stay
+  pub moved_is : first_in goes ≡ moved
+  pub heads : all_of j ≡ set (all_of i) from stays ++ goes ∷ []
+
+cut_firsts : (i j : HashIndex) (from : ℕ) (stay moved : Option Node) → CutsHeads i j from stay moved → heads_of j ≡ set (heads_of i) from stay ++ moved ∷ []
+cut_firsts i j from stay moved cuts =
+    ap (map first_in) cuts.heads ∙ (map_push first_in (set (all_of i) from cuts.stays) cuts.goes
+    ∙ (ap (λ z. z ++ first_in cuts.goes ∷ []) (map-set first_in (all_of i) from cuts.stays)
+    ∙ (ap (λ o. set (heads_of i) from o ++ first_in cuts.goes ∷ []) cuts.stay_is ∙ ap (λ o. set (heads_of i) from stay ++ o ∷ []) cuts.moved_is)))
 
 module _ (i j : HashIndex) (level : j.level ≡ i.level) (count : j.buckets.len ≡ i.buckets.len + 1) (some : 0 < i.buckets.len) where
   into_is : (hash : ℕ) → leads_to j hash ≡ bucket_of i.level (i.buckets.len + 1) hash
@@ -199,7 +211,7 @@ module _ (i j : HashIndex) (level : j.level ≡ i.level) (count : j.buckets.len 
 
   module _ (cs ds : ℕ → Column) (stay moved : Chain) (head : Option Node) (from : ℕ) (h : IsSound cs i) (from_is : from ≡ i.buckets.len - i.level) (at : head ≡ get_or (heads_of i) from None)
       (stay_is : Builds (ds i.col) stay (left (cs i.col) i (rest_of cs i head))) (moved_is : Builds (ds i.col) moved (taken (cs i.col) i (rest_of cs i head))) (tags : KeepsTags (cs i.col) (ds i.col)) (same : (m : Node) → Lacks (rest_of cs i head) m → ds i.col m ≡ cs i.col m)
-      (col : j.col ≡ i.col) (len : j.len ≡ i.len) (items : (heads_of j) ≡ set (heads_of i) from stay.first ++ moved.first ∷ []) where
+      (col : j.col ≡ i.col) (len : j.len ≡ i.len) (cuts : CutsHeads i j from stay.first moved.first) (stay_right : IsRight (ds i.col) cuts.stays) (moved_right : IsRight (ds i.col) cuts.goes) where
     abbrev c : Column
     c = cs i.col
 
@@ -254,15 +266,24 @@ module _ (i j : HashIndex) (level : j.level ≡ i.level) (count : j.buckets.len 
         let a = apart_of focused.front focused.chain focused.back (subst IsDistinct focused.whole h.distinct) in
         let keeps = subst (KeepsOtherBuckets (leads_to i) (leads_to j)) (sym from_is) others_stay in
         let one = focused.with_chain d (leads_to j) keeps stay.first (left c i focused.chain) (same_apart focused.front (AreApart-sym focused.chain focused.front a.before)) (same_apart focused.back (AreApart-sym focused.chain focused.back a.after)) stay_chain in
-        let place : last ≡ length (set (heads_of i) from stay.first) = omega (arith, i.buckets.ok, length-set (heads_of i) from stay.first) in
+        let place : last ≡ length (set (heads_of i) from stay.first) = omega (arith, heads_count i, length-set (heads_of i) from stay.first) in
         hangs_last d (leads_to j) (set (heads_of i) from stay.first) (focused.front ++ (left c i focused.chain ++ focused.back)) moved.first (taken c i focused.chain) (subst (λ b. IsChain d (leads_to j) b moved.first (taken c i focused.chain)) place moved_chain) one
+
+    grown_right : AreRight (ds j.col) (all_of j)
+    grown_right =
+        let k = hangs_of cs i (spelled cs i) h in
+        let apart : (b : ℕ) (m : Node) → b ≢ from → IsIn c (leads_to i) b m → d m ≡ c m =
+        λ b m ne is. same m (subst (λ z. Lacks z m) (sym rest) (lacks_other c (leads_to i) from b focused.chain m focused.here.members is ne)) in
+        let most = right_set c d (leads_to i) (IsNode c) 0 from (all_of i) k.chains cuts.stays k.are (subst (AllByRecursion (IsNode c)) (sym k.whole) (each_node c (spelled cs i) (Spells_nodes cs i (spelled cs i) h)))
+        (λ b m ne node is. apart b m (λ e. ne (omega (arith, e))) is) stay_right h.right in
+        subst (λ b. AreRight (ds b) (all_of j)) (sym col) (subst (AreRight d) (sym cuts.heads) (All-join (IsRight d) (set (all_of i) from cuts.stays) (cuts.goes ∷ []) most (moved_right, tt)))
 
     grown_spells : Spells ds j new_list
     grown_spells =
-        let hangs = subst (λ k. Hangs (ds k) (leads_to j) 0 (heads_of j) new_list) (sym col) (subst (λ z. Hangs d (leads_to j) 0 z new_list) (sym items) grown_hangs) in
+        let hangs = subst (λ k. Hangs (ds k) (leads_to j) 0 (heads_of j) new_list) (sym col) (subst (λ z. Hangs d (leads_to j) 0 z new_list) (sym (cut_firsts i j from stay.first moved.first cuts)) grown_hangs) in
         let count_kept = length_permutation _ _ (cut_moved (goes c i) focused.front focused.chain focused.back) in
         Spells_from ds j new_list hangs (cut_distinct (goes c i) focused.front focused.chain focused.back (subst IsDistinct focused.whole h.distinct))
-        (omega (arith, len, h.len, ap length focused.whole, count_kept)) (omega (arith, len, h.load, count))
+        (omega (arith, len, h.len, ap length focused.whole, count_kept)) (omega (arith, len, h.load, count)) grown_right
 
     pub grown_sound : IsSound ds j
     grown_sound = IsSound_from ds j new_list grown_spells

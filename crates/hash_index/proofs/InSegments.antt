@@ -1,13 +1,12 @@
 -- Buckets in segments: where each stands, and what changes one, adds one or adds a segment.
-use Rattle.std.proofs.Common.{◌≡◌, ◌⊎◌, inl, inr, ℕ, zero, suc, ◌+◌, ◌-◌, ◌*◌, ◌^◌, ◌<◌, ◌≤◌, List, [], ◌∷◌, ◌++◌, length, map, get_or, set, Option, Some, None, refl, sym, ap, ◌∙◌, subst, arith, append_assoc, length-append, pow_mono, pow-add, pow-suc, lt_of_not-le}
+use Rattle.std.proofs.Common.{◌≡◌, ◌⊎◌, inl, inr, ℕ, zero, suc, ◌+◌, ◌-◌, ◌*◌, ◌^◌, ◌<◌, ◌≤◌, List, [], ◌∷◌, ◌++◌, length, get_or, set, Some, refl, sym, ap, ◌∙◌, subst, arith, append_assoc, length-append, pow_mono, pow-add, pow-suc, lt_of_not-le}
 use Rattle.std.specs.List.{slice_get}
 use Rattle.std.specs.Vec.{vec_len, vec_capacity}
 use Rattle.std.proofs.lemmas.Nat.{pow_pos}
-use Rattle.std.proofs.lemmas.List.{append-nil, length-map, map_push, map-set, get_or-append-add, get_or_append_left, set-append_left, set-append_right}
+use Rattle.std.proofs.lemmas.List.{append-nil, get_or-append-add, get_or_append_left, set-append_left, set-append_right}
 use Rattle.std.proofs.Math.Seq.{get_or-append_seam, set-append_seam}
-use Rattle.node_store.specs.declared.Node.{Node}
 use Rattle.hash_index.specs.declared.head.Head.{Head}
-use Rattle.hash_index.specs.Segments.{Segment, first_in, heads_in, AreSegments, spare}
+use Rattle.hash_index.specs.Segments.{Segment, all_in, AreSegments, spare}
 
 -- ---- the highest bit
 
@@ -20,18 +19,8 @@ module _ (n top : ℕ) (low : 2 ^ top ≤ n) (high : n < 2 * 2 ^ top) (some : 8 
 
 -- ---- one segment among all
 
--- the first nodes of the chains of one segment
-abbrev pub firsts : Segment → List (Option Node)
-firsts s = map first_in s.items
-
-pub firsts_count : (s : Segment) → length (firsts s) ≡ length s.items
-firsts_count s = length-map s.items first_in
-
-last_count_is : (s : Segment) → length (firsts s ++ []) ≡ length s.items
-last_count_is s = ap length (append-nil (firsts s)) ∙ firsts_count s
-
-firsts_before : (s : Segment) (heads : List (Option Node)) → length (firsts s ++ heads) ≡ length s.items + length heads
-firsts_before s heads = length-append (firsts s) heads ∙ ap (λ k. k + length heads) (firsts_count s)
+last_count_is : (s : Segment) → length (s.items ++ []) ≡ length s.items
+last_count_is s = ap length (append-nil s.items)
 
 pub record Part (ss : List Segment) (k j b : ℕ) : Type 0 where
   pub front : List Segment
@@ -40,7 +29,7 @@ pub record Part (ss : List Segment) (k j b : ℕ) : Type 0 where
   pub whole : ss ≡ front ++ segment ∷ back
   pub count : k ≡ length front
   pub within : j < length segment.items
-  pub place : b ≡ length (heads_in front) + j
+  pub place : b ≡ length (all_in front) + j
 
 -- a segment further on starts past this one
 twice : (size k : ℕ) → (size * 2 ^ suc k ≡ (size * 2) * 2 ^ k) × (size * 2 ≤ (size * 2) * 2 ^ k)
@@ -52,7 +41,7 @@ twice size k =
 first_part : (s : Segment) (ss : List Segment) (size j b : ℕ) → size ≤ length s.items ⊎ (b < length s.items) → b + size ≡ size * 2 ^ zero + j → j < size * 2 ^ zero → Part (s ∷ ss) zero j b
 first_part s ss size j b h at lt = record { front = []; segment = s; back = ss; whole = refl; count = refl; within = grind (arith, h, at, lt); place = omega (arith, at) }
 
-pub part_at : (size : ℕ) (ss : List Segment) (k j b : ℕ) → AreSegments size ss → b < length (heads_in ss) → b + size ≡ size * 2 ^ k + j → j < size * 2 ^ k → Part ss k j b
+pub part_at : (size : ℕ) (ss : List Segment) (k j b : ℕ) → AreSegments size ss → b < length (all_in ss) → b + size ≡ size * 2 ^ k + j → j < size * 2 ^ k → Part ss k j b
 part_at size [] k j b h lt at within = absurd (omega (arith, lt))
 part_at size (s ∷ []) zero j b h lt at within = first_part s [] size j b (inr (omega (arith, lt, last_count_is s))) at within
 part_at size (s ∷ []) (suc k) j b h lt at within =
@@ -61,14 +50,14 @@ part_at size (s ∷ []) (suc k) j b h lt at within =
 part_at size (s ∷ (t ∷ ss)) zero j b h lt at within = first_part s (t ∷ ss) size j b (inl (omega (arith, h.0, s.ok.0))) at within
 part_at size (s ∷ (t ∷ ss)) (suc k) j b h lt at within =
     let w = twice size k in
-    let both = firsts_before s (heads_in (t ∷ ss)) in
+    let both = length-append s.items (all_in (t ∷ ss)) in
     let r = part_at (size * 2) (t ∷ ss) k j (b - size) h.1 (omega (arith, lt, both, h.0, s.ok.0, at, w.0, w.1)) (omega (arith, at, w.0, w.1)) (omega (arith, within, w.0)) in
-    let more = firsts_before s (heads_in r.front) in
+    let more = length-append s.items (all_in r.front) in
     record { front = s ∷ r.front; segment = r.segment; back = r.back; whole = ap (λ z. s ∷ z) r.whole; count = ap suc r.count; within = r.within; place = omega (arith, more, r.place, h.0, s.ok.0, at, w.0, w.1) }
 
-pub heads_parts : (front : List Segment) (s : Segment) (back : List Segment) → heads_in (front ++ s ∷ back) ≡ heads_in front ++ (firsts s ++ heads_in back)
+pub heads_parts : (front : List Segment) (s : Segment) (back : List Segment) → all_in (front ++ s ∷ back) ≡ all_in front ++ (s.items ++ all_in back)
 heads_parts [] s back = refl
-heads_parts (f ∷ front) s back = ap (λ z. firsts f ++ z) (heads_parts front s back) ∙ sym (append_assoc (firsts f) (heads_in front) (firsts s ++ heads_in back))
+heads_parts (f ∷ front) s back = ap (λ z. f.items ++ z) (heads_parts front s back) ∙ sym (append_assoc f.items (all_in front) (s.items ++ all_in back))
 
 module _ (ss : List Segment) (k j b : ℕ) (p : Part ss k j b) where
   pub part_is : (s : Segment) → s ≡ get_or ss k s → s ≡ p.segment
@@ -77,29 +66,24 @@ module _ (ss : List Segment) (k j b : ℕ) (p : Part ss k j b) where
   pub part_below : k < length ss
   part_below = omega (arith, ap length p.whole, length-append p.front (p.segment ∷ p.back), p.count)
 
-  part_within : j < length (firsts p.segment)
-  part_within = omega (arith, p.within, firsts_count p.segment)
-
-  pub part_get : get_or (heads_in ss) b None ≡ get_or (firsts p.segment) j None
-  part_get =
-      ap (λ z. get_or (heads_in z) b None) p.whole ∙ (ap (λ z. get_or z b None) (heads_parts p.front p.segment p.back)
-      ∙ (ap (λ m. get_or (heads_in p.front ++ (firsts p.segment ++ heads_in p.back)) m None) p.place
-      ∙ (get_or-append-add (heads_in p.front) (firsts p.segment ++ heads_in p.back) j None ∙ get_or_append_left (firsts p.segment) (heads_in p.back) None j part_within)))
+  pub part_get : (head : Head) → get_or (all_in ss) b head ≡ get_or p.segment.items j head
+  part_get head =
+      ap (λ z. get_or (all_in z) b head) p.whole ∙ (ap (λ z. get_or z b head) (heads_parts p.front p.segment p.back)
+      ∙ (ap (λ m. get_or (all_in p.front ++ (p.segment.items ++ all_in p.back)) m head) p.place
+      ∙ (get_or-append-add (all_in p.front) (p.segment.items ++ all_in p.back) j head ∙ get_or_append_left p.segment.items (all_in p.back) head j p.within)))
 
   pub part_put : (s : Segment) → set ss k s ≡ p.front ++ s ∷ p.back
   part_put s = ap (λ z. set z k s) p.whole ∙ (ap (λ m. set (p.front ++ p.segment ∷ p.back) m s) p.count ∙ set-append_seam p.front p.segment p.back s)
 
-  pub part_set : (s : Segment) (head : Head) → s.items ≡ set p.segment.items j head → heads_in (set ss k s) ≡ set (heads_in ss) b (first_in head)
+  pub part_set : (s : Segment) (head : Head) → s.items ≡ set p.segment.items j head → all_in (set ss k s) ≡ set (all_in ss) b head
   part_set s head e =
-      let first = first_in head in
-      let put : firsts s ≡ set (firsts p.segment) j first = ap (map first_in) e ∙ map-set first_in p.segment.items j head in
-      let past : b - length (heads_in p.front) ≡ j = omega (arith, p.place) in
-      let old : set (heads_in ss) b first ≡ heads_in p.front ++ (set (firsts p.segment) j first ++ heads_in p.back) =
-      ap (λ z. set (heads_in z) b first) p.whole ∙ (ap (λ z. set z b first) (heads_parts p.front p.segment p.back)
-      ∙ (set-append_right (heads_in p.front) (firsts p.segment ++ heads_in p.back) (length (heads_in p.front)) b first refl (omega (arith, p.place))
-      ∙ (ap (λ m. heads_in p.front ++ set (firsts p.segment ++ heads_in p.back) m first) past
-      ∙ ap (λ z. heads_in p.front ++ z) (set-append_left (firsts p.segment) (heads_in p.back) j first part_within)))) in
-      ap heads_in (part_put s) ∙ (heads_parts p.front s p.back ∙ (ap (λ z. heads_in p.front ++ (z ++ heads_in p.back)) put ∙ sym old))
+      let past : b - length (all_in p.front) ≡ j = omega (arith, p.place) in
+      let old : set (all_in ss) b head ≡ all_in p.front ++ (set p.segment.items j head ++ all_in p.back) =
+      ap (λ z. set (all_in z) b head) p.whole ∙ (ap (λ z. set z b head) (heads_parts p.front p.segment p.back)
+      ∙ (set-append_right (all_in p.front) (p.segment.items ++ all_in p.back) (length (all_in p.front)) b head refl (omega (arith, p.place))
+      ∙ (ap (λ m. all_in p.front ++ set (p.segment.items ++ all_in p.back) m head) past
+      ∙ ap (λ z. all_in p.front ++ z) (set-append_left p.segment.items (all_in p.back) j head p.within)))) in
+      ap all_in (part_put s) ∙ (heads_parts p.front s p.back ∙ (ap (λ z. all_in p.front ++ (z ++ all_in p.back)) e ∙ sym old))
 
 -- ---- another segment of the same length and capacity in the place of one
 
@@ -182,28 +166,27 @@ module _ (ss : List Segment) (p : Last ss) where
   pub last_spare : (k : ℕ) (s : Segment) → k + 1 ≡ length ss → vec_len s ≡ vec_len p.segment + 1 → vec_capacity s ≡ vec_capacity p.segment → 0 < spare ss → spare (set ss k s) + 1 ≡ spare ss
   last_spare k s count len cap some = omega (arith, ap spare (last_put k s count), spare_more p.front s, p.room, len, cap, some)
 
-  pub last_heads : (k : ℕ) (s : Segment) (head : Head) → k + 1 ≡ length ss → s.items ≡ p.segment.items ++ head ∷ [] → heads_in (set ss k s) ≡ heads_in ss ++ first_in head ∷ []
+  pub last_heads : (k : ℕ) (s : Segment) (head : Head) → k + 1 ≡ length ss → s.items ≡ p.segment.items ++ head ∷ [] → all_in (set ss k s) ≡ all_in ss ++ head ∷ []
   last_heads k s head count e =
-      let more : firsts s ≡ firsts p.segment ++ first_in head ∷ [] = ap (map first_in) e ∙ map_push first_in p.segment.items head in
-      ap heads_in (last_put k s count) ∙ (heads_parts p.front s [] ∙ (ap (λ z. heads_in p.front ++ z) (append-nil (firsts s) ∙ more)
-      ∙ (sym (append_assoc (heads_in p.front) (firsts p.segment) (first_in head ∷ []))
-      ∙ ap (λ z. z ++ first_in head ∷ []) (sym (ap heads_in p.whole ∙ (heads_parts p.front p.segment [] ∙ ap (λ z. heads_in p.front ++ z) (append-nil (firsts p.segment))))))))
+      ap all_in (last_put k s count) ∙ (heads_parts p.front s [] ∙ (ap (λ z. all_in p.front ++ z) (append-nil s.items ∙ e)
+      ∙ (sym (append_assoc (all_in p.front) p.segment.items (head ∷ []))
+      ∙ ap (λ z. z ++ head ∷ []) (sym (ap all_in p.whole ∙ (heads_parts p.front p.segment [] ∙ ap (λ z. all_in p.front ++ z) (append-nil p.segment.items)))))))
 
 -- ---- one segment more
 
-pub heads_more : (ss : List Segment) (new : Segment) → new.items ≡ [] → heads_in (ss ++ new ∷ []) ≡ heads_in ss
-heads_more ss new e = heads_parts ss new [] ∙ (ap (λ z. heads_in ss ++ (map first_in z ++ [])) e ∙ append-nil (heads_in ss))
+pub heads_more : (ss : List Segment) (new : Segment) → new.items ≡ [] → all_in (ss ++ new ∷ []) ≡ all_in ss
+heads_more ss new e = heads_parts ss new [] ∙ (ap (λ z. all_in ss ++ (z ++ [])) e ∙ append-nil (all_in ss))
 
 full : (s : Segment) → vec_capacity s - vec_len s ≡ 0 → vec_len s ≡ vec_capacity s
 full s e = omega (arith, e, s.ok.1)
 
-pub shape_more : (size : ℕ) (ss : List Segment) (new : Segment) → spare ss ≡ 0 → vec_capacity new ≡ length (heads_in ss) + size → AreSegments size ss → AreSegments size (ss ++ new ∷ [])
+pub shape_more : (size : ℕ) (ss : List Segment) (new : Segment) → spare ss ≡ 0 → vec_capacity new ≡ length (all_in ss) + size → AreSegments size ss → AreSegments size (ss ++ new ∷ [])
 shape_more size [] new e room h = omega (arith, room)
 shape_more size (s ∷ []) new e room h =
     let is = full s e in
     (is ∙ h, omega (arith, room, last_count_is s, s.ok.0, is, h))
 shape_more size (s ∷ (t ∷ ss)) new e room h =
-    let both = firsts_before s (heads_in (t ∷ ss)) in
+    let both = length-append s.items (all_in (t ∷ ss)) in
     (h.0, shape_more (size * 2) (t ∷ ss) new e (omega (arith, room, both, s.ok.0, h.0)) h.1)
 
 -- the last segment is no larger than a block may be, and so there are fewer of them than bits
@@ -223,16 +206,16 @@ count_small (s ∷ ss) h =
     let below = under_sixty (length ss) (count_fits 8 s ss h) in
     omega (arith, below)
 
-heads_count : (size : ℕ) (ss : List Segment) → AreSegments size ss → length (heads_in ss) + size ≤ size * 2 ^ length ss
+heads_count : (size : ℕ) (ss : List Segment) → AreSegments size ss → length (all_in ss) + size ≤ size * 2 ^ length ss
 heads_count size [] h = omega arith
 heads_count size (s ∷ []) h = omega (arith, last_count_is s, s.ok.0, s.ok.1, h)
 heads_count size (s ∷ (t ∷ ss)) h =
     let w = twice size (length (t ∷ ss)) in
-    let both = firsts_before s (heads_in (t ∷ ss)) in
+    let both = length-append s.items (all_in (t ∷ ss)) in
     let r = heads_count (size * 2) (t ∷ ss) h.1 in
     omega (arith, both, r, h.0, s.ok.0, w.0)
 
-pub heads_small : (ss : List Segment) → AreSegments 8 ss → length (heads_in ss) + 8 ≤ 2 ^ 63
+pub heads_small : (ss : List Segment) → AreSegments 8 ss → length (all_in ss) + 8 ≤ 2 ^ 63
 heads_small [] h = omega arith
 heads_small (s ∷ ss) h =
     let below = under_sixty (length ss) (count_fits 8 s ss h) in

@@ -2,6 +2,7 @@ pub mod Masks
 pub mod InSegments
 pub mod Levels
 pub mod Untagged
+pub mod Heads
 pub mod OneBucket
 pub mod Spelling
 pub mod Changes

@@ -1,7 +1,12 @@
 -- What an index spells, by its buckets.
-use Rattle.std.proofs.Common.{◌≡◌, ◌≢◌, ℕ, ◌+◌, ◌*◌, ◌<◌, ◌≤◌, List, [], ◌∷◌, ◌++◌, length, map, get_or, drop, Option, Some, None, refl, sym, ap, ◌∙◌, subst, arith, append_assoc, length-append}
-use Rattle.std.specs.List.{AllByRecursion}
+use Rattle.std.proofs.Common.{◌≡◌, ◌≢◌, ℕ, Bool, true, false, cond, not, ◌&&◌, ◌==◌, ◌+◌, ◌*◌, ◌/◌, ◌^◌, ◌<◌, ◌≤◌, List, [], ◌∷◌, ◌++◌, length, map, get_or, drop, Option, Some, None, option_and_then, refl, sym, ap, ◌∙◌, subst, arith, append_assoc, length-append}
+use Rattle.std.specs.List.{AllByRecursion, slice_get}
+use Rattle.std.proofs.lemmas.List.{length-map}
 use Rattle.std.specs.Option.{option_map}
+use Rattle.std.specs.Prelude.{nat_lt}
+use Rattle.std.proofs.lemmas.Bool.{eq-eqb, ltb-true}
+use Rattle.seq_index.specs.Spelled.{following}
+use Rattle.list_model.proofs.Lists.{All-join}
 use Rattle.node_store.specs.declared.Node.{Node}
 use Rattle.node_store.specs.declared.Link.{Link}
 use Rattle.node_store.specs.Column.{Column, IsNode}
@@ -15,17 +20,20 @@ use Rattle.seq_index.specs.Links.{Runs, chain_link}
 use Rattle.seq_index.proofs.Runs.{Runs-at, AreNodes-last, AreNodes-first}
 use Rattle.seq_index.proofs.Walks.{next_at}
 use Rattle.hash_index.specs.declared.HashIndex.{HashIndex}
+use Rattle.hash_index.specs.declared.head.Head.{Head}
 use Rattle.hash_index.specs.Chains.{untagged_link, untagged, tag_at, IsIn, AreChains, joined, first_head}
-use Rattle.hash_index.specs.Spelled.{heads_of, Spells, IsSound, spelled, chains_of, leads_to, Holds}
+use Rattle.hash_index.specs.Heads.{first_in, start_in, IsRight, AreRight}
+use Rattle.hash_index.specs.Spelled.{all_of, heads_of, Spells, IsSound, spelled, chains_of, leads_to, Holds}
 use Rattle.hash_index.specs.Walks.{Leads, rest_of, Ends, HasHash}
 use Rattle.hash_index.proofs.Levels.{leads_within}
 use Rattle.hash_index.proofs.Untagged.{tag_is, tagged_node}
+use Rattle.hash_index.proofs.Heads.{same_of, slice_first, right_at, right_kept, all_none}
 use Rattle.hash_index.proofs.OneBucket.{Hangs, Focus, IsElsewhere, focus, chains_are, chains_same, chains_nodes, heads_first, follow_leads, leads_runs}
 
 -- an index whose buckets hold these nodes spells them
-pub Spells_from : (cs : ℕ → Column) (i : HashIndex) (xs : List Node) → Hangs (cs i.col) (leads_to i) 0 (heads_of i) xs → IsDistinct xs → i.len ≡ length xs → i.len * 2 ≤ i.buckets.len → Spells cs i xs
+pub Spells_from : (cs : ℕ → Column) (i : HashIndex) (xs : List Node) → Hangs (cs i.col) (leads_to i) 0 (heads_of i) xs → IsDistinct xs → i.len ≡ length xs → i.len * 2 ≤ i.buckets.len → AreRight (cs i.col) (all_of i) → Spells cs i xs
 unfolding spelled
-Spells_from cs i xs h dist len load =
+Spells_from cs i xs h dist len load right =
     let fits : length (joined h.chains) ≤ i.len = omega (arith, len, ap length h.whole) in
     let e : chains_of cs i ≡ h.chains = chains_are (cs i.col) (leads_to i) 0 i.len (heads_of i) h.chains fits h.are in
     record {
@@ -34,6 +42,7 @@ Spells_from cs i xs h dist len load =
       distinct = dist;
       len = len;
       load = load;
+      right = right;
     }
 
 pub hangs_of : (cs : ℕ → Column) (i : HashIndex) (xs : List Node) → Spells cs i xs → Hangs (cs i.col) (leads_to i) 0 (heads_of i) xs
@@ -43,8 +52,12 @@ hangs_of cs i xs h = record { chains = chains_of cs i; are = h.chains; whole = s
 pub hangs_focus : (c : Column) (to : ℕ → ℕ) (b : ℕ) (heads : List (Option Node)) (xs : List Node) → b < length heads → Hangs c to 0 heads xs → Focus c to 0 b b heads xs
 hangs_focus c to b heads xs lt h = subst (λ z. Focus c to 0 b b heads z) h.whole (focus c to b heads h.chains lt h.are)
 
+-- there are as many heads as chains
+pub heads_count : (i : HashIndex) → length (heads_of i) ≡ i.buckets.len
+heads_count i = length-map (all_of i) first_in ∙ sym i.buckets.ok
+
 pub focus_of : (cs : ℕ → Column) (i : HashIndex) (xs : List Node) (b : ℕ) → b < i.buckets.len → Spells cs i xs → Focus (cs i.col) (leads_to i) 0 b b (heads_of i) xs
-focus_of cs i xs b lt h = hangs_focus (cs i.col) (leads_to i) b (heads_of i) xs (omega (arith, i.buckets.ok, lt)) (hangs_of cs i xs h)
+focus_of cs i xs b lt h = hangs_focus (cs i.col) (leads_to i) b (heads_of i) xs (omega (arith, heads_count i, lt)) (hangs_of cs i xs h)
 
 pub spelled_is : (cs : ℕ → Column) (i : HashIndex) (xs : List Node) → Spells cs i xs → spelled cs i ≡ xs
 spelled_is cs i xs h = sym h.is
@@ -58,6 +71,7 @@ Spells_same cs ds i xs s h =
     Spells_from ds i xs
     (record { chains = k.chains; are = chains_same (cs i.col) (ds i.col) (leads_to i) (leads_to i) 0 (λ b le hash e. e) (heads_of i) k.chains (subst (λ z. IsSameAt (cs i.col) (ds i.col) z) (sym k.whole) s) k.are; whole = k.whole })
     h.distinct h.len h.load
+    (right_kept (cs i.col) (ds i.col) (leads_to i) (λ m. ds i.col m ≡ cs i.col m) 0 (all_of i) k.chains k.are (same_of (cs i.col) (ds i.col) (joined k.chains) (subst (λ z. IsSameAt (cs i.col) (ds i.col) z) (sym k.whole) s)) (λ j m le same is. same) h.right)
 
 pub Spells_nodes : (cs : ℕ → Column) (i : HashIndex) (xs : List Node) → Spells cs i xs → AllNodes (cs i.col) xs
 Spells_nodes cs i xs h =
@@ -72,7 +86,7 @@ empty_hangs c to k (head ∷ heads) h =
     record { chains = [] ∷ r.chains; are = (record { first = h.0; runs = tt; members = tt }, r.are); whole = r.whole }
 
 pub empty_sound : (cs : ℕ → Column) (i : HashIndex) → AllByRecursion (λ o. o ≡ None) (heads_of i) → i.len ≡ 0 → IsSound cs i
-empty_sound cs i h e = IsSound_from cs i [] (Spells_from cs i [] (empty_hangs (cs i.col) (leads_to i) 0 (heads_of i) h) tt e (omega (arith, e)))
+empty_sound cs i h e = IsSound_from cs i [] (Spells_from cs i [] (empty_hangs (cs i.col) (leads_to i) 0 (heads_of i) h) tt e (omega (arith, e)) (all_none (cs i.col) (all_of i) h))
 
 -- ---- nodes of a list
 
@@ -228,6 +242,48 @@ has_hash cs i hash head lt at h =
       after = All-map (IsElsewhere (cs i.col) to (to hash)) (λ n. tag_at (cs i.col) n ≢ Some hash) (λ n e k. e (ap (option_map to) k)) f.back f.after;
     })
 
+-- the chain from nowhere
+none_rest : (cs : ℕ → Column) (i : HashIndex) → rest_of cs i None ≡ []
+none_rest cs i = follow_leads (untagged (cs i.col)) None [] i.len (omega arith) refl
+
+no_more : (c : Column) (hash : ℕ) (at : Option Node) (xs : List Node) → at ≡ None → Leads (untagged c) at xs → AllByRecursion (λ n. tag_at c n ≢ Some hash) xs
+no_more c hash at [] none leads = tt
+no_more c hash at (x ∷ xs) none leads = let e : None ≡ Some x = sym none ∙ leads.0 in cc
+
+-- where none of a chain has this hash, all nodes but none are before it
+passed : (cs : ℕ → Column) (i : HashIndex) (hash : ℕ) (first : Option Node) → AllByRecursion (λ n. tag_at (cs i.col) n ≢ Some hash) (rest_of cs i first) → HasHash cs i hash first → HasHash cs i hash None
+passed cs i hash first apart h = record {
+  front = h.front ++ rest_of cs i first;
+  back = h.back;
+  whole = h.whole ∙ (sym (append_assoc h.front (rest_of cs i first) h.back) ∙ ap (λ z. (h.front ++ rest_of cs i first) ++ (z ++ h.back)) (sym (none_rest cs i)));
+  ends = subst (λ z. Leads (untagged (cs i.col)) None z) (sym (none_rest cs i)) refl;
+  before = All-join (λ n. tag_at (cs i.col) n ≢ Some hash) h.front (rest_of cs i first) h.before apart;
+  after = h.after;
+}
+
+-- a chain of a node that is alone and has another hash has none of this one
+others_hash : (c : Column) (hash : ℕ) (head : Head) (xs : List Node) → Leads (untagged c) (first_in head) xs → IsRight c head → head.hint < 2 ^ 63 → head.hint ≢ hash / 4 + 2 ^ 62 → AllByRecursion (λ n. tag_at c n ≢ Some hash) xs
+others_hash c hash head [] leads right alone ne = tt
+others_hash c hash head (x ∷ xs) leads right alone ne =
+    let node = tagged_node c x leads.1 in
+    let is = right alone x node.block leads.0 node.is in
+    let none : following (untagged c) x ≡ None = ap (λ o. option_and_then (λ (l : Link). l.b) (option_map untagged_link o)) node.is ∙ is.0 in
+    let tag : tag_at c x ≡ Some node.block.tag = tag_is c x node.block node.is in
+    let apart : tag_at c x ≢ Some hash = λ e. let same : node.block.tag ≡ hash = cc in ne (is.1 ∙ ap (λ k. k / 4 + 2 ^ 62) same) in
+    (apart, no_more c hash (following (untagged c) x) xs none leads.2)
+
+start_at : (cs : ℕ → Column) (i : HashIndex) (hash : ℕ) (head : Head) (alone apart : Bool) → nat_lt head.hint (2 ^ 63) ≡ alone → not (head.hint == hash / 4 + 2 ^ 62) ≡ apart → IsRight (cs i.col) head → HasHash cs i hash (first_in head) → HasHash cs i hash (cond (alone && apart) None (first_in head))
+start_at cs i hash head false apart is ne right h = h
+start_at cs i hash head true false is ne right h = h
+start_at cs i hash head true true is ne right h =
+    let differ : head.hint ≢ hash / 4 + 2 ^ 62 = λ e. let bad = sym ne ∙ ap not (eq-eqb head.hint (hash / 4 + 2 ^ 62) e) in cc in
+    passed cs i hash (first_in head) (others_hash (cs i.col) hash head (rest_of cs i (first_in head)) h.ends right (ltb-true head.hint (2 ^ 63) is) differ) h
+
+pub has_start : (cs : ℕ → Column) (i : HashIndex) (hash : ℕ) (head : Head) → leads_to i hash < i.buckets.len → slice_get (all_of i) (leads_to i hash) ≡ Some head → IsSound cs i → HasHash cs i hash (start_in hash head)
+has_start cs i hash head lt at h =
+    let whole = has_hash cs i hash (first_in head) lt (slice_first (heads_of i) (all_of i) (leads_to i hash) refl head at) h in
+    start_at cs i hash head (nat_lt head.hint (2 ^ 63)) (not (head.hint == hash / 4 + 2 ^ 62)) refl refl (right_at (cs i.col) (all_of i) (leads_to i hash) head h.right at) whole
+
 pub none_long : {X : Type 0} (xs : List X) → length xs ≤ 0 → xs ≡ []
 none_long [] le = refl
 none_long (x ∷ xs) le = absurd (omega arith)
@@ -244,7 +300,7 @@ chains_end cs i k (head ∷ heads) h =
 -- an index of no buckets has no node
 pub has_none : (cs : ℕ → Column) (i : HashIndex) (hash : ℕ) → i.buckets.len ≡ 0 → IsSound cs i → HasHash cs i hash None
 has_none cs i hash none h =
-    let rest : rest_of cs i None ≡ [] = follow_leads (untagged (cs i.col)) None [] i.len (omega arith) refl in
+    let rest = none_rest cs i in
     record {
       front = [];
       back = [];

@@ -1,4 +1,5 @@
 pub mod Mask
+pub mod Heads
 pub mod Segments
 pub mod Buckets
 pub mod Chains

@@ -1,5 +1,5 @@
 -- The first nodes of chains in segments, each twice as large as the one before it.
-use Rattle.std.specs.Prelude.{◌≡◌, ℕ, ◌+◌, ◌-◌, ◌*◌, ◌^◌, ◌<◌, List, [], ◌∷◌, ◌++◌, ◌==◌, map, cond, Option, Some, None}
+use Rattle.std.specs.Prelude.{◌≡◌, ℕ, ◌+◌, ◌-◌, ◌*◌, ◌^◌, ◌<◌, List, [], ◌∷◌, ◌++◌, map, Option}
 use Rattle.std.specs.Vec.{vec_len, vec_capacity}
 use Rattle.std.specs.Coded.{coded_ℕ}
 use Rattle.std.specs.declared.vec.Vec.{Vec}
@@ -7,19 +7,20 @@ use Rattle.std.specs.declared.alloc.Global.{Global}
 use denote.Struct.Props.{≡_prop}
 use Rattle.node_store.specs.declared.Node.{Node}
 use Rattle.hash_index.specs.declared.head.Head.{Head}
-
--- the first node of a chain with this head
-abbrev pub first_in : Head → Option Node
-first_in h = cond (h.hint == 0) None (Some h.node)
+pub use Rattle.hash_index.specs.Heads.{first_in}
 
 -- the heads of some chains that lie side by side
 abbrev pub Segment : Type 0
 Segment = Vec Head Global
 
--- the first node of each chain, segment by segment
+-- the heads of the chains, segment by segment
+abbrev pub all_in : List Segment → List Head
+all_in [] = []
+all_in (s ∷ ss) = s.items ++ all_in ss
+
+-- the first node of each chain
 abbrev pub heads_in : List Segment → List (Option Node)
-heads_in [] = []
-heads_in (s ∷ ss) = map first_in s.items ++ heads_in ss
+heads_in ss = map first_in (all_in ss)
 
 -- the first segment is of this size and each further one twice as large, and all but the last are full
 abbrev pub AreSegments : ℕ → List Segment → Type 0

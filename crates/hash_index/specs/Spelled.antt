@@ -8,7 +8,9 @@ use Rattle.hash_index.specs.declared.HashIndex.{HashIndex}
 pub use Rattle.seq_index.specs.Spelled.{Holds}
 use Rattle.seq_index.specs.Spelled.{follow}
 pub use Rattle.hash_index.specs.Chains.{KeepsTags}
-use Rattle.hash_index.specs.Segments.{heads_in}
+use Rattle.hash_index.specs.declared.head.Head.{Head}
+use Rattle.hash_index.specs.Segments.{all_in, heads_in}
+use Rattle.hash_index.specs.Heads.{AreRight}
 use Rattle.hash_index.specs.Buckets.{bucket_of}
 use Rattle.hash_index.specs.Chains.{AreChains, joined, untagged}
 
@@ -19,6 +21,10 @@ col_of i = i.col
 -- the index whose keys it hashes
 abbrev pub index_of : HashIndex → ℕ
 index_of i = i.index
+
+-- the head of each chain
+abbrev pub all_of : HashIndex → List Head
+all_of i = all_in i.buckets.segments.items
 
 -- the first node of each chain
 abbrev pub heads_of : HashIndex → List (Option Node)
@@ -44,13 +50,15 @@ chains_of cs i = map (λ head. follow (untagged (cs i.col)) head i.len) (heads_o
 unfoldable pub spelled : (ℕ → Column) → HashIndex → List Node
 spelled cs i = joined (chains_of cs i)
 
--- the index has these nodes, at most one a bucket on average, each in the chain of the hash that the column keeps of it
+-- the index has these nodes, at most one a bucket on average, each in the chain of the hash that the column keeps of it, and
+-- what its heads say is right
 pub record Spells (cs : ℕ → Column) (i : HashIndex) (xs : List Node) : Type 0 where
   pub is : xs ≡ spelled cs i
   pub chains : AreChains (cs i.col) (leads_to i) 0 (heads_of i) (chains_of cs i)
   pub distinct : IsDistinct xs
   pub len : i.len ≡ length xs
   pub load : i.len * 2 ≤ i.buckets.len
+  pub right : AreRight (cs i.col) (all_of i)
 
 -- the index is chains of distinct nodes
 abbrev pub IsSound : (ℕ → Column) → HashIndex → Type 0

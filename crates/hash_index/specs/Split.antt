@@ -7,7 +7,7 @@ use Rattle.seq_index.specs.Links.{Runs}
 use Rattle.hash_index.specs.declared.HashIndex.{HashIndex}
 use Rattle.hash_index.specs.declared.chain.Chain.{Chain}
 use Rattle.hash_index.specs.Chains.{untagged, leads}
-use Rattle.hash_index.specs.Spelled.{heads_of, leads_to}
+use Rattle.hash_index.specs.Spelled.{all_of, leads_to}
 
 -- the chain has these nodes
 pub record Builds (c : Column) (chain : Chain) (xs : List Node) : Type 0 where
@@ -29,7 +29,7 @@ taken c i xs = filter (goes c i) xs
 
 -- the new index has the same chains, and each hash leads where it did
 pub record IsSame (old new : HashIndex) : Type 0 where
-  pub buckets : heads_of new ≡ heads_of old
+  pub buckets : all_of new ≡ all_of old
   pub len : new.len ≡ old.len
   pub col : new.col ≡ old.col
   pub index : new.index ≡ old.index

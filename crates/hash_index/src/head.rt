@@ -1,13 +1,18 @@
 //! The first node of a chain, with a hint at its hash.
-ghost use Rattle.std.specs.Prelude.{◌≡◌, Option, Some, None};
+ghost use Rattle.std.specs.Prelude.{◌≡◌, ◌+◌, ◌/◌, ◌^◌, cond, Option, Some, None};
 ghost use Rattle.node_store.specs.declared.Node.{Node};
-ghost use Rattle.hash_index.specs.Segments.{first_in};
+ghost use Rattle.hash_index.specs.Heads.{first_in, start_in};
 
 use node_store::Node;
 
-// The first node of a chain, if there is one. The hint is the hash that the node was put in with, its lowest bit set, and
-// 0 where there is no node. A look-up reads the record of a node that hints at its hash before it reads any link. No
-// contract rests on which hash that is: a wrong hint would make a look-up slower, and its answer would be the same.
+// What a hint has beside a quarter of a hash: that the node is the only one of its chain, or that others may follow.
+const ALONE: u64 = 0x4000_0000_0000_0000;
+
+const FOLLOWED: u64 = 0x8000_0000_0000_0000;
+
+// The first node of a chain, if there is one. The hint is 0 where there is no node, and else has a quarter of the hash
+// that the node was put in with. A look-up reads the record of a node that hints at its hash before it reads any link,
+// and reads nothing of a node that is alone and hints at another.
 #[derive(Clone, Copy)]
 pub(crate) struct Head {
     hint: u64,
@@ -25,12 +30,14 @@ impl Head {
         }
     }
 
-    // The head of a chain that begins with this node, which has this hash.
-    pub(crate) fn of(node: Node, hash: u64) -> Head
-        ensures { first_in result ≡ Some node }
+    // The head of a chain that begins with this node, which has this hash, and which others may follow or not.
+    pub(crate) fn of(node: Node, hash: u64, followed: bool) -> Head
+        ensures first { first_in result ≡ Some node }
+        ensures hint { result.hint ≡ hash / 4 + cond followed (2 ^ 63) (2 ^ 62) }
     {
+        let beside = if followed { FOLLOWED } else { ALONE };
         Head {
-            hint: hash | 1,
+            hint: hash / 4 + beside,
             node,
         }
     }
@@ -50,10 +57,21 @@ impl Head {
     pub(crate) fn hinted(self, hash: u64) -> Option<Node>
         ensures { (n : Node) → result ≡ Some n → first_in self ≡ Some n }
     {
-        if self.hint == hash | 1 {
+        if self.hint % ALONE == hash / 4 {
             self.node()
         } else {
             None
+        }
+    }
+
+    // The node, unless it is alone and hints at another hash than this one.
+    pub(crate) fn start(self, hash: u64) -> Option<Node>
+        ensures { result ≡ start_in hash self }
+    {
+        if self.hint < FOLLOWED && self.hint != hash / 4 + ALONE {
+            None
+        } else {
+            self.node()
         }
     }
 }

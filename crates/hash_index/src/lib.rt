@@ -4,7 +4,7 @@
 //! stand in one index of each column at once.
 #![tactic(auto)]
 
-ghost use Rattle.std.specs.Prelude.{◌≡◌, ◌≢◌, ℕ, ◌+◌, ◌*◌, ◌<◌, ◌≤◌, max, List, [], ◌∷◌, ◌++◌, length, get_or, Option, Some, None, IsPermutation};
+ghost use Rattle.std.specs.Prelude.{◌≡◌, ◌≢◌, ℕ, ◌+◌, ◌*◌, ◌<◌, ◌≤◌, max, List, [], ◌∷◌, ◌++◌, length, get_or, slice_get, Option, Some, None, IsPermutation};
 ghost use Rattle.node_store.specs.declared.Node.{Node};
 ghost use Rattle.node_store.specs.Column.{Column, IsNode};
 ghost use Rattle.node_store.specs.Store.{IsNodeOf};
@@ -13,7 +13,7 @@ ghost use Rattle.node_store.specs.ByNode.{column_of, same_node};
 ghost use Rattle.list_model.specs.Walk.{without};
 ghost use Rattle.seq_index.specs.Links.{AreNodes, end_beside};
 ghost use Rattle.hash_index.specs.Mask.{HasMask, HasMask_prop};
-ghost use Rattle.hash_index.specs.Segments.{first_in};
+ghost use Rattle.hash_index.specs.Heads.{first_in, IsRight};
 
 mod buckets;
 mod chain;
@@ -51,7 +51,7 @@ pub struct HashIndex {
 
 impl HashIndex {
     ghost use Rattle.hash_index.specs.Stored.{nodes_of, AreBucketsOf, HasNode, HasKey, HaveTheirHash, KeepsRest};
-    ghost use Rattle.hash_index.specs.Spelled.{Spells, col_of, index_of, heads_of, buckets_of, HasRoom, KeepsTags};
+    ghost use Rattle.hash_index.specs.Spelled.{Spells, col_of, index_of, all_of, heads_of, buckets_of, HasRoom, KeepsTags};
     ghost use Rattle.hash_index.specs.Chains.{tag_at};
 
     /// An index of no nodes in column `col`, for the keys of the container's index `index`. It has no buckets yet,
@@ -147,7 +147,7 @@ impl HashIndex {
         };
         store.set_link(n, self.col, link);
         set_prev(store, self.col, head, Some(n));
-        self.buckets.set(bucket, Head::of(n, hash));
+        self.buckets.set(bucket, Head::of(n, hash, head.is_some()));
         self.len += 1;
     }
 
@@ -161,8 +161,12 @@ impl HashIndex {
     ) -> Head
         requires bucket { bucket < self.now.buckets.len }
         requires after { AreNodes (column_of store.now (col_of self.now)) after }
-        ensures { first_in result ≡
+        ensures first { first_in result ≡
             end_beside before (get_or (heads_of self.now) bucket None) after }
+        ensures kept { (m : Node) → before ≡ Some m →
+            slice_get (all_of self.now) bucket ≡ Some result }
+        ensures right { before ≡ None →
+            IsRight (column_of store.now (col_of self.now)) result }
     {
         match before {
             Some(_) => self.buckets.head(bucket),
@@ -173,10 +177,14 @@ impl HashIndex {
     // The head of a chain that begins with this node.
     pub(crate) fn head_of<R>(&self, store: &NodeStore<R>, first: Option<Node>) -> Head
         requires { AreNodes (column_of store.now (col_of self.now)) first }
-        ensures { first_in result ≡ first }
+        ensures first { first_in result ≡ first }
+        ensures right { IsRight (column_of store.now (col_of self.now)) result }
     {
         match first {
-            Some(n) => Head::of(n, store.link(n, self.col).tag),
+            Some(n) => {
+                let Link { b, tag, .. } = store.link(n, self.col);
+                Head::of(n, tag, b.is_some())
+            }
             None => Head::none(),
         }
     }

@@ -12,7 +12,7 @@ ghost use Rattle.hash_index.specs.Spelled.{IsSound, col_of, index_of, Holds};
 ghost use Rattle.hash_index.specs.Stored.{nodes_of, side_in, record_side_in, matches_in, HasKey, HasItsHash, HaveTheirHash, IsHashedBut, CanSearch};
 ghost use Rattle.hash_index.specs.Hashed.{others};
 ghost use Rattle.hash_index.specs.Chains.{tag_at};
-ghost use Rattle.hash_index.specs.Segments.{first_in};
+ghost use Rattle.hash_index.specs.Heads.{first_in, start_in};
 ghost use Rattle.hash_index.specs.Walks.{rest_of, Ends, HasHash};
 ghost use Rattle.node_store.specs.Column.{Column};
 
@@ -47,7 +47,7 @@ impl HashIndex {
             (others except (nodes_of self.now store.now)) }
     {
         let hash = keys.hash(self.index, r);
-        let mut at = self.head(hash).node();
+        let mut at = self.head(hash).start(hash);
         while let Some(n) = at {
             let tag = store.link(n, self.col).tag;
             if self.is_other(store, keys, r, hash, except, n, tag) {
@@ -76,7 +76,7 @@ impl HashIndex {
                 return Some(n);
             }
         }
-        self.match_from(store, keys, probe, hash, head.node())
+        self.match_from(store, keys, probe, hash, head.start(hash))
     }
 
     /// The node after `n` among those whose records have the whole key, each of which is answered once in a walk from
@@ -105,7 +105,7 @@ impl HashIndex {
     {
         let hash = keys.hash_probe(self.index, probe);
         let mut count = 0;
-        let mut at = self.head(hash).node();
+        let mut at = self.head(hash).start(hash);
         while let Some(n) = at {
             let link = store.link(n, self.col);
             if self.has_key(store, keys, probe, hash, n, link.tag) {
@@ -216,8 +216,10 @@ impl HashIndex {
 
     // The head of the chain of a hash.
     fn head(&self, hash: u64) -> Head
-        ensures { (cs : ℕ → Column) → IsSound cs self.now →
+        ensures all { (cs : ℕ → Column) → IsSound cs self.now →
             HasHash cs self.now hash (first_in result) }
+        ensures start { (cs : ℕ → Column) → IsSound cs self.now →
+            HasHash cs self.now hash (start_in hash result) }
     {
         if self.buckets.is_empty() {
             return Head::none();

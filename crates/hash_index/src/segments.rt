@@ -1,6 +1,6 @@
 //! The heads of the chains, in segments that are never moved.
-ghost use Rattle.std.specs.Prelude.{◌≡◌, ◌==◌, ℕ, ◌+◌, ◌*◌, ◌<◌, ◌≤◌, ◌^◌, min, vec_len, vec_capacity, [], ◌∷◌, ◌++◌, length, get_or, set, true, None, OnOk, OnErr};
-ghost use Rattle.hash_index.specs.Segments.{first_in, heads_in, spare, AreSegments, AreSegments_prop, IsAt};
+ghost use Rattle.std.specs.Prelude.{◌≡◌, ◌==◌, ℕ, ◌+◌, ◌*◌, ◌<◌, ◌≤◌, ◌^◌, min, vec_len, vec_capacity, [], ◌∷◌, ◌++◌, length, get_or, slice_get, set, true, Some, None, OnOk, OnErr};
+ghost use Rattle.hash_index.specs.Segments.{first_in, all_in, heads_in, spare, AreSegments, AreSegments_prop, IsAt};
 
 use crate::head::Head;
 use node_store::Node;
@@ -17,7 +17,7 @@ const SEGMENTS: usize = 64;
 pub(crate) struct Segments {
     segments: Vec<Vec<Head>>,
     len: usize,
-    ghost ok: { len ≡ length (heads_in segments.items) },
+    ghost ok: { len ≡ length (all_in segments.items) },
     ghost never_moved: { min 1 (vec_len segments) * 64 ≤ vec_capacity segments },
     ghost small: { len + 8 ≤ 2 ^ 63 },
     ghost shape: { AreSegments 8 segments.items } by { AreSegments_prop 8 segments.items },
@@ -36,7 +36,7 @@ fn locate(bucket: usize) -> (usize, usize)
 impl Segments {
     // No chains. It allocates nothing.
     pub(crate) fn new(alloc: Global) -> Segments
-        ensures { heads_in result.segments.items ≡ [] }
+        ensures { all_in result.segments.items ≡ [] }
     {
         Segments {
             segments: Vec::new(alloc),
@@ -67,7 +67,7 @@ impl Segments {
     // The head of a chain. O(1).
     pub(crate) fn head(&self, bucket: usize) -> Head
         requires { bucket < self.now.len }
-        ensures { first_in result ≡ get_or (heads_in self.now.segments.items) bucket None }
+        ensures { slice_get (all_in self.now.segments.items) bucket ≡ Some result }
     {
         let (segment, place) = locate(bucket);
         self.segments[segment][place]
@@ -76,8 +76,8 @@ impl Segments {
     // Gives a chain another head. O(1).
     pub(crate) fn set(&mut self, bucket: usize, head: Head)
         requires { bucket < self.old.len }
-        ensures heads { heads_in self.new.segments.items ≡
-            set (heads_in self.old.segments.items) bucket (first_in head) }
+        ensures heads { all_in self.new.segments.items ≡
+            set (all_in self.old.segments.items) bucket head }
         ensures len { self.new.len ≡ self.old.len }
         ensures room { spare self.new.segments.items ≡ spare self.old.segments.items }
     {
@@ -89,7 +89,7 @@ impl Segments {
     // is refused, everything is as before. Room for one alone is never left, since two are added at a time: there it
     // refuses, too.
     pub(crate) fn reserve_two(&mut self, alloc: Global) -> Result<(), AllocError>
-        ensures heads { heads_in self.new.segments.items ≡ heads_in self.old.segments.items }
+        ensures heads { all_in self.new.segments.items ≡ all_in self.old.segments.items }
         ensures len { self.new.len ≡ self.old.len }
         ensures room { OnOk result (2 ≤ spare self.new.segments.items) }
         ensures unchanged { OnErr result (self.new ≡ self.old) }
@@ -104,7 +104,7 @@ impl Segments {
     // Takes the next segment, where all are full.
     fn add_segment(&mut self, alloc: Global) -> Result<(), AllocError>
         requires { spare self.old.segments.items ≡ 0 }
-        ensures heads { heads_in self.new.segments.items ≡ heads_in self.old.segments.items }
+        ensures heads { all_in self.new.segments.items ≡ all_in self.old.segments.items }
         ensures len { self.new.len ≡ self.old.len }
         ensures room { OnOk result (2 ≤ spare self.new.segments.items) }
         ensures unchanged { OnErr result (self.new ≡ self.old) }
@@ -142,8 +142,8 @@ impl Segments {
     // Adds a chain behind the others, in room that was reserved. O(1).
     pub(crate) fn push_reserved(&mut self, head: Head)
         requires { 0 < spare self.old.segments.items }
-        ensures heads { heads_in self.new.segments.items ≡
-            heads_in self.old.segments.items ++ first_in head ∷ [] }
+        ensures heads { all_in self.new.segments.items ≡
+            all_in self.old.segments.items ++ head ∷ [] }
         ensures len { self.new.len ≡ self.old.len + 1 }
         ensures room { spare self.new.segments.items + 1 ≡ spare self.old.segments.items }
     {

@@ -1,7 +1,7 @@
-use Rattle.std.proofs.Common.{◌+◌, ◌-◌, ◌<◌, ◌≤◌, ◌∙◌, ap, arith, refl}
+use Rattle.std.proofs.Common.{◌+◌, ◌-◌, ◌<◌, ◌≤◌, [], ◌∷◌, ◌++◌, ◌∙◌, ap, arith, refl}
 use Rattle.node_store.specs.ByNode.{column_of}
 use Rattle.hash_index.proofs.Spelling.{head_ends}
-use Rattle.hash_index.proofs.Growing.{cut_heads, grown_sound, grown_moved, grown_order}
+use Rattle.hash_index.proofs.Growing.{grown_sound, grown_moved, grown_order}
 use Rattle.hash_index.proofs.Cutting.{first_node}
 use Rattle.hash_index.proofs.Levels.{comes}
 use Rattle.hash_index.specs.Buckets.{bucket_of}
@@ -33,7 +33,8 @@ returns-clause-chain g c =
     let within : c.len.result - i.level < i.buckets.len = omega (arith, c.len.ensures, c.requires.some, i.some_level) in
     let at = c.get.ensures in
     grown_sound i _ refl (c.push_reserved.ensures.len ∙ ap (λ k. k + 1) c.set.ensures.len) c.requires.some (column_of c.args.store.now) (column_of c.cut.new.store) c.cut.result.0 c.cut.result.1 c.get.result (c.len.result - i.level) c.requires.chain (ap (λ k. k - i.level) c.len.ensures) at
-    c.cut.ensures.stay c.cut.ensures.moved c.cut.ensures.tags c.cut.ensures.same refl refl (cut_heads i (c.len.result - i.level) c.head_of-stay.result c.head_of-moved.result _ _ _ _ c.head_of-stay.ensures c.head_of-moved.ensures c.set.ensures.heads c.push_reserved.ensures.heads)
+    c.cut.ensures.stay c.cut.ensures.moved c.cut.ensures.tags c.cut.ensures.same refl refl (record { stays = c.head_of-stay.result; goes = c.head_of-moved.result; stay_is = c.head_of-stay.ensures.first; moved_is = c.head_of-moved.ensures.first; heads = c.push_reserved.ensures.heads ∙ ap (λ z. z ++ c.head_of-moved.result ∷ []) c.set.ensures.heads })
+    c.head_of-stay.ensures.right c.head_of-moved.ensures.right
 
 pub returns-clause-list : goal.returns-clause-list
 returns-clause-list g c =
@@ -41,7 +42,8 @@ returns-clause-list g c =
     let within : c.len.result - i.level < i.buckets.len = omega (arith, c.len.ensures, c.requires.some, i.some_level) in
     let at = c.get.ensures in
     grown_moved i _ refl (c.push_reserved.ensures.len ∙ ap (λ k. k + 1) c.set.ensures.len) c.requires.some (column_of c.args.store.now) (column_of c.cut.new.store) c.cut.result.0 c.cut.result.1 c.get.result (c.len.result - i.level) c.requires.chain (ap (λ k. k - i.level) c.len.ensures) at
-    c.cut.ensures.stay c.cut.ensures.moved c.cut.ensures.tags c.cut.ensures.same refl refl (cut_heads i (c.len.result - i.level) c.head_of-stay.result c.head_of-moved.result _ _ _ _ c.head_of-stay.ensures c.head_of-moved.ensures c.set.ensures.heads c.push_reserved.ensures.heads)
+    c.cut.ensures.stay c.cut.ensures.moved c.cut.ensures.tags c.cut.ensures.same refl refl (record { stays = c.head_of-stay.result; goes = c.head_of-moved.result; stay_is = c.head_of-stay.ensures.first; moved_is = c.head_of-moved.ensures.first; heads = c.push_reserved.ensures.heads ∙ ap (λ z. z ++ c.head_of-moved.result ∷ []) c.set.ensures.heads })
+    c.head_of-stay.ensures.right c.head_of-moved.ensures.right
 
 pub returns-clause-order : goal.returns-clause-order
 returns-clause-order g c =
@@ -49,7 +51,8 @@ returns-clause-order g c =
     let within : c.len.result - i.level < i.buckets.len = omega (arith, c.len.ensures, c.requires.some, i.some_level) in
     let at = c.get.ensures in
     grown_order i _ refl (c.push_reserved.ensures.len ∙ ap (λ k. k + 1) c.set.ensures.len) c.requires.some (column_of c.args.store.now) (column_of c.cut.new.store) c.cut.result.0 c.cut.result.1 c.get.result (c.len.result - i.level) c.requires.chain (ap (λ k. k - i.level) c.len.ensures) at
-    c.cut.ensures.stay c.cut.ensures.moved c.cut.ensures.tags c.cut.ensures.same refl refl (cut_heads i (c.len.result - i.level) c.head_of-stay.result c.head_of-moved.result _ _ _ _ c.head_of-stay.ensures c.head_of-moved.ensures c.set.ensures.heads c.push_reserved.ensures.heads)
+    c.cut.ensures.stay c.cut.ensures.moved c.cut.ensures.tags c.cut.ensures.same refl refl (record { stays = c.head_of-stay.result; goes = c.head_of-moved.result; stay_is = c.head_of-stay.ensures.first; moved_is = c.head_of-moved.ensures.first; heads = c.push_reserved.ensures.heads ∙ ap (λ z. z ++ c.head_of-moved.result ∷ []) c.set.ensures.heads })
+    c.head_of-stay.ensures.right c.head_of-moved.ensures.right
 
 pub returns-clause-leads : goal.returns-clause-leads
 returns-clause-leads g c = λ hash.

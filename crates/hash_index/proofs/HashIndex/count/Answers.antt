@@ -24,11 +24,11 @@ loop-at-smaller-then-has_key g c =
 
 pub loop-at-init : goal.loop-at-init
 loop-at-init g c =
-    let at = subst (HasHash (column_of c.args.store.now) c.args.self.now c.hash_probe-hash.result) (sym c.node-at.ensures) (c.head.ensures (column_of c.args.store.now) c.requires.chain) in
+    let at = subst (HasHash (column_of c.args.store.now) c.args.self.now c.hash_probe-hash.result) (sym c.start-at.ensures) (c.head.ensures.start (column_of c.args.store.now) c.requires.chain) in
     let counted = counted_in c.args.store.now c.args.self.now (g.E.Extract.hash_of c.args.keys.now (index_of c.args.self.now)) c.hash_probe-hash.result (λ a. g.E.Extract.probe_order_of c.args.keys.now (index_of c.args.self.now) a c.args.probe.now)
-    (λ a e. g.met.E.Extract.whole_hash c.args.keys.now (index_of c.args.self.now) a c.args.probe.now c.requires.has_key c.requires.whole e ∙ sym c.hash_probe-hash.ensures) c.node-at.result at c.requires.hashed in
+    (λ a e. g.met.E.Extract.whole_hash c.args.keys.now (index_of c.args.self.now) a c.args.probe.now c.requires.has_key c.requires.whole e ∙ sym c.hash_probe-hash.ensures) c.start-at.result at c.requires.hashed in
     let hashed = rest_hashed c.args.store.now c.args.self.now (g.E.Extract.hash_of c.args.keys.now (index_of c.args.self.now)) c.hash_probe-hash.result (λ a. g.E.Extract.probe_order_of c.args.keys.now (index_of c.args.self.now) a c.args.probe.now)
-    (λ a e. g.met.E.Extract.whole_hash c.args.keys.now (index_of c.args.self.now) a c.args.probe.now c.requires.has_key c.requires.whole e ∙ sym c.hash_probe-hash.ensures) c.node-at.result at c.requires.hashed in
+    (λ a e. g.met.E.Extract.whole_hash c.args.keys.now (index_of c.args.self.now) a c.args.probe.now c.requires.has_key c.requires.whole e ∙ sym c.hash_probe-hash.ensures) c.start-at.result at c.requires.hashed in
     record { ends = at.ends; hashed = hashed; counted = omega (arith, counted) }
 
 pub loop-at-preserved-then-has_key : goal.loop-at-preserved-then-has_key

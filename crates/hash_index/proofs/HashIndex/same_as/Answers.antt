@@ -12,6 +12,11 @@ use Rattle.hash_index.proofs.HashIndex.same_as.Goals as goal
 pub is_other-requires-clause-node : goal.is_other-requires-clause-node
 is_other-requires-clause-node g c = node_of_column c.args.store.now (col_of c.args.self.now) c.in-Some.n (walk_node (column_of c.args.store.now) c.args.self.now c.loop-at.at c.in-Some.n c.loop-at.invariant.ends c.in-Some.is)
 
+pub is_other-requires-clause-hashed : goal.is_other-requires-clause-hashed
+is_other-requires-clause-hashed g c =
+    let rest = walk_rest (column_of c.args.store.now) c.args.self.now c.loop-at.at c.in-Some.n c.loop-at.invariant.ends c.in-Some.is in
+    (others_first (g.E.Extract.hash_of c.args.keys.now (index_of c.args.self.now)) c.args.store.now (col_of c.args.self.now) c.args.except _ c.in-Some.n _ rest.1 c.loop-at.invariant.hashed).0
+
 pub loop-at-smaller : goal.loop-at-smaller
 loop-at-smaller g c =
     let step = walk_step (column_of c.args.store.now) c.args.self.now c.loop-at.at c.in-Some.n c.link-at.result c.loop-at.invariant.ends c.in-Some.is c.link-at.ensures in
@@ -19,13 +24,13 @@ loop-at-smaller g c =
 
 pub loop-at-init : goal.loop-at-init
 loop-at-init g c =
-    let at = subst (HasHash (column_of c.args.store.now) c.args.self.now c.hash-hash.result) (sym c.node-at.ensures) (c.head.ensures (column_of c.args.store.now) c.requires.others.chain) in
+    let at = subst (HasHash (column_of c.args.store.now) c.args.self.now c.hash-hash.result) (sym c.start-at.ensures) (c.head.ensures.start (column_of c.args.store.now) c.requires.others.chain) in
     record {
       ends = at.ends;
       hashed = others_hashed c.args.store.now c.args.self.now (g.E.Extract.hash_of c.args.keys.now (index_of c.args.self.now)) c.hash-hash.result (λ a. g.E.Extract.order_of c.args.keys.now (index_of c.args.self.now) a c.args.r.now)
-          (λ a e. g.met.E.Extract.same_hash c.args.keys.now (index_of c.args.self.now) a c.args.r.now c.requires.others.has_key e ∙ sym c.hash-hash.ensures) c.node-at.result at c.args.except c.requires.others.hashed;
+          (λ a e. g.met.E.Extract.same_hash c.args.keys.now (index_of c.args.self.now) a c.args.r.now c.requires.others.has_key e ∙ sym c.hash-hash.ensures) c.start-at.result at c.args.except c.requires.others.hashed;
       same = sym (others_in c.args.store.now c.args.self.now (g.E.Extract.hash_of c.args.keys.now (index_of c.args.self.now)) c.hash-hash.result (λ a. g.E.Extract.order_of c.args.keys.now (index_of c.args.self.now) a c.args.r.now)
-          (λ a e. g.met.E.Extract.same_hash c.args.keys.now (index_of c.args.self.now) a c.args.r.now c.requires.others.has_key e ∙ sym c.hash-hash.ensures) c.node-at.result at c.args.except c.requires.others.hashed);
+          (λ a e. g.met.E.Extract.same_hash c.args.keys.now (index_of c.args.self.now) a c.args.r.now c.requires.others.has_key e ∙ sym c.hash-hash.ensures) c.start-at.result at c.args.except c.requires.others.hashed);
     }
 
 pub returns-then-is_other : goal.returns-then-is_other

@@ -1,8 +1,8 @@
-use Rattle.std.proofs.Common.{◌<◌, None, length, get_or, ap, sym, ◌∙◌, arith}
-use Rattle.hash_index.specs.Segments.{first_in}
-use Rattle.hash_index.proofs.InSegments.{firsts, part_at, part_is, part_below, part_get}
+use Rattle.std.proofs.Common.{◌<◌, Some, length, get_or, ap, sym, ◌∙◌, arith}
+use Rattle.hash_index.specs.Segments.{all_in}
+use Rattle.hash_index.proofs.InSegments.{part_at, part_is, part_below, part_get}
 use Rattle.hash_index.proofs.segments.Segments.head.Goals as goal
-use Rattle.std.proofs.lemmas.List.{get_or-map}
+use Rattle.std.proofs.lemmas.Option.{slice_get-get_or}
 
 pub index-requires : goal.index-requires
 index-requires c =
@@ -23,6 +23,6 @@ returns c =
     let part = part_at 8 s.segments.items c.locate-segment.result.0 c.locate-segment.result.1 c.args.bucket s.shape (omega (arith, s.ok, c.requires)) c.locate-segment.ensures.at c.locate-segment.ensures.within in
     let is = part_is s.segments.items c.locate-segment.result.0 c.locate-segment.result.1 c.args.bucket part c.index.result.now c.index.ensures in
     let within : c.locate-segment.result.1 < length c.index.result.now.items = omega (arith, part.within, ap (λ v. length v.items) is) in
-    ap first_in c.index-2.ensures
-    ∙ (sym (get_or-map first_in c.index.result.now.items c.locate-segment.result.1 c.index-2.result.now None within)
-    ∙ (ap (λ v. get_or (firsts v) c.locate-segment.result.1 None) is ∙ sym (part_get s.segments.items c.locate-segment.result.0 c.locate-segment.result.1 c.args.bucket part)))
+    let at = slice_get-get_or (all_in s.segments.items) c.args.bucket c.index-2.result.now (omega (arith, s.ok, c.requires)) in
+    at ∙ ap Some (part_get s.segments.items c.locate-segment.result.0 c.locate-segment.result.1 c.args.bucket part c.index-2.result.now
+    ∙ (ap (λ v. get_or v.items c.locate-segment.result.1 c.index-2.result.now) (sym is) ∙ sym c.index-2.ensures))

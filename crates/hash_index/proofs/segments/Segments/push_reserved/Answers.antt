@@ -2,7 +2,7 @@ use Rattle.std.proofs.Common.{◌≡◌, ◌+◌, ◌-◌, [], ◌∷◌, ◌++�
 use Rattle.hash_index.proofs.InSegments.{spare_last, last_count, last_is, last_fits, last_heads, last_room, last_spare, heads_small}
 use Rattle.hash_index.proofs.segments.Segments.push_reserved.Goals as goal
 use Rattle.std.specs.Vec.{vec_len, vec_capacity}
-use Rattle.hash_index.specs.Segments.{first_in, heads_in, AreSegments}
+use Rattle.hash_index.specs.Segments.{all_in, AreSegments}
 
 pub push_reserved-requires : goal.push_reserved-requires
 push_reserved-requires c =
@@ -23,7 +23,7 @@ invariant_of-self c =
     let new = c.push_reserved.new.self in
     let heads = last_heads s.segments.items last (c.len-last.result - 1) new c.args.head count (c.push_reserved.ensures.items ∙ ap (λ v. v.items ++ c.args.head ∷ []) is) in
     let shape : AreSegments 8 (set s.segments.items (c.len-last.result - 1) new) = last_fits s.segments.items last 8 (c.len-last.result - 1) new count (c.push_reserved.ensures.capacity ∙ ap vec_capacity is) s.shape in
-    let ok : s.len + 1 ≡ length (heads_in (set s.segments.items (c.len-last.result - 1) new)) = omega (arith, s.ok, ap length heads, length-append (heads_in s.segments.items) (first_in c.args.head ∷ [])) in
+    let ok : s.len + 1 ≡ length (all_in (set s.segments.items (c.len-last.result - 1) new)) = omega (arith, s.ok, ap length heads, length-append (all_in s.segments.items) (c.args.head ∷ [])) in
     record { ok = ok; never_moved = s.never_moved; small = omega (arith, ok, heads_small _ shape); shape = shape }
 
 pub returns-clause-heads : goal.returns-clause-heads

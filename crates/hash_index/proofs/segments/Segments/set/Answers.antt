@@ -1,5 +1,5 @@
 use Rattle.std.proofs.Common.{length, set, ap, sym, ◌∙◌, arith}
-use Rattle.hash_index.specs.Segments.{first_in, heads_in}
+use Rattle.hash_index.specs.Segments.{all_in}
 use Rattle.hash_index.proofs.InSegments.{part_at, part_is, part_below, part_set, put_shape, put_spare}
 use Rattle.hash_index.proofs.segments.Segments.set.Goals as goal
 use Rattle.std.specs.Vec.{vec_len, vec_capacity, with_item}
@@ -26,7 +26,7 @@ invariant_of-self c =
     let new = with_item c.index_mut.result.now c.locate-segment.result.1 c.args.head in
     let heads = part_set s.segments.items c.locate-segment.result.0 c.locate-segment.result.1 c.args.bucket part new c.args.head (ap (λ v. set v.items c.locate-segment.result.1 c.args.head) is) in
     record {
-      ok = s.ok ∙ (sym (length-set (heads_in s.segments.items) c.args.bucket (first_in c.args.head)) ∙ ap length (sym heads));
+      ok = s.ok ∙ (sym (length-set (all_in s.segments.items) c.args.bucket c.args.head) ∙ ap length (sym heads));
       never_moved = s.never_moved;
       small = s.small;
       shape = put_shape s.segments.items c.locate-segment.result.0 c.locate-segment.result.1 c.args.bucket part new (ap vec_len is) (ap vec_capacity is) 8 s.shape;
