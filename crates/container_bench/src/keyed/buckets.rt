@@ -19,6 +19,7 @@ use std::rt::Runtime;
 pub(super) enum Call {
     Link,
     First,
+    Absent,
     Unlink,
     Remove,
 }
@@ -29,8 +30,13 @@ const LINK: [(&str, Call, Span); 1] = [(
     Span::All,
 )];
 
-const CALLS: [(&str, Call, Span); 3] = [
+const CALLS: [(&str, Call, Span); 4] = [
     ("hash_index: first_of", Call::First, Span::All),
+    (
+        "hash_index: first_of a word that is not there",
+        Call::Absent,
+        Span::All,
+    ),
     (
         "hash_index: first_of, unlink (half of them)",
         Call::Unlink,
@@ -132,6 +138,7 @@ fn each(call: Call, store: &mut NodeStore<u64>, index: &mut HashIndex, from: u64
         let answer = match call {
             Call::Link => insert(store, index, word),
             Call::First => first(store, index, word),
+            Call::Absent => first(store, index, !word),
             Call::Unlink => unlink(store, index, word),
             Call::Remove => remove(store, index, word),
         };
