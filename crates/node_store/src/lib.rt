@@ -1,28 +1,31 @@
 //! A store of records in heap blocks that never move.
 //!
-//! A node has a record and, in each of `COLUMNS` columns, links to other nodes with a tag and a height. What the
+//! A node has a record and, in each column of the store, links to other nodes with a tag and a height. What the
 //! links mean is for the layers above: the store only keeps them. Every call is O(1) but the store's drop, which
 //! is O(length). `add` allocates one block; no other call allocates.
 #![tactic(auto)]
 
-ghost use Rattle.std.specs.Prelude.{◌≡◌, ◌+◌, ◌<◌, ◌^◌, IfOk, IfErr, OnOk, OnErr, Some, IsTrue, ◌↔◌};
+ghost use Rattle.std.specs.Prelude.{◌≡◌, ◌+◌, ◌<◌, ◌≤◌, ◌^◌, IfOk, IfErr, OnOk, OnErr, Some, IsTrue, ◌↔◌};
 ghost use Rattle.std.specs.Borrow.{sem};
-ghost use Rattle.node_store.specs.Store.{number_of, no_link, nodes, IsNodeOf, IsStore, len_of, empty_store};
+ghost use Rattle.node_store.specs.Store.{number_of, no_link, nodes, IsNodeOf, IsStore, len_of, empty_store, width_of};
 ghost use Rattle.node_store.specs.Age.{last_below};
 ghost use Rattle.node_store.specs.Column.{IsNode, IsPut, KeepsOthers};
 ghost use Rattle.node_store.specs.ByNode.{column_of, record_of, contents, AddsNode, RemovesNode};
-ghost use Rattle.node_store.specs.Chain.{HasBlock, with_next, with_prev, first_without};
 
 mod blocks;
+mod shelf;
+mod shelves;
 mod stored;
 
-use blocks::{Blocks, Place};
-use std::alloc::{AllocFailed, Global};
+use blocks::Place;
+use shelf::{Block, Shelf};
+use shelves::Shelves;
+use std::alloc::Global;
 use std::marker::Model;
 use std::mem::size_of;
-use stored::Stored;
+use stored::Row;
 
-/// How many columns of links each node has. A column is named by a number below it.
+/// How many columns of links a store can have. A column is named by a number below it.
 pub const COLUMNS: usize = 8;
 
 /// A node of a store, until the store removes it. Nodes are compared by the number of their add, so only those of
@@ -49,25 +52,29 @@ pub struct NoRoom<R> {
     pub value: R,
 }
 
-// The blocks are chained in the order of their adds, the newest first.
-#[derive(Drop)]
-struct Block<R> {
-    prev: Option<Node>,
-    next: Option<Node>,
-    value: R,
-    links: [Stored; 8],
+/// The bytes of the block of a record of 8 bytes with links in one column, and in all of them.
+pub const LEAST_BLOCK_BYTES: usize = size_of::<Block<u64, Row<1>>>();
+
+/// The same with links in all columns.
+pub const BLOCK_BYTES: usize = size_of::<Block<u64, Row<8>>>();
+
+// The call on the shelf, which are the same whatever its width.
+macro_rules! on_shelf {
+    ($shelves:expr, $shelf:ident => $call:expr) => {
+        match $shelves {
+            Shelves::One($shelf) => $call,
+            Shelves::Two($shelf) => $call,
+            Shelves::Four($shelf) => $call,
+            Shelves::Eight($shelf) => $call,
+        }
+    };
 }
 
-/// The bytes of the block of a record of 8 bytes, of which the links in each column take 64.
-pub const BLOCK_BYTES: usize = size_of::<Block<u64>>();
-
-/// Records with their links, each in a heap block of its own.
+/// Records with their links, each in a heap block of its own. The blocks have links in one, two, four or eight columns,
+/// the fewest that are enough.
+#[derive(Drop)]
 pub struct NodeStore<R> {
-    heap: Blocks<Block<R>, Global>,
-    alloc: Global,
-    first: Option<Node>,
-    len: usize,
-    added: u64,
+    shelves: Shelves<R>,
 }
 
 impl<R> Model for NodeStore<R> {
@@ -77,11 +84,9 @@ impl<R> Model for NodeStore<R> {
 
     ghost coded = { store_code R.code };
 
-    ghost use Rattle.node_store.specs.Chain.{store_of, IsSound};
+    ghost use Rattle.node_store.specs.Shelves.{shelved};
 
-    ghost view = { λ s. store_of s.heap.held s.added };
-
-    ghost invariant = { λ s. IsSound s.heap.held s.alloc s.first s.len s.added };
+    ghost view = { λ s. shelved s.shelves };
 }
 
 impl Node {
@@ -138,52 +143,24 @@ impl Link {
     }
 }
 
-// Names the block after that of `n`.
-fn set_next<R>(blocks: &mut Blocks<Block<R>, Global>, n: Option<Node>, next: Option<Node>)
-    requires { HasBlock n blocks.old.held }
-    ensures { blocks.new.held ≡ with_next n next blocks.old.held }
-{
-    if let Some(n) = n {
-        blocks.get_mut(n.number, n.place).next = next;
-    }
-}
-
-// Names the block before that of `n`.
-fn set_prev<R>(blocks: &mut Blocks<Block<R>, Global>, n: Option<Node>, prev: Option<Node>)
-    requires { HasBlock n blocks.old.held }
-    ensures { blocks.new.held ≡ with_prev n prev blocks.old.held }
-{
-    if let Some(n) = n {
-        blocks.get_mut(n.number, n.place).prev = prev;
-    }
-}
-
-// The first node once the one between `prev` and `next` has gone.
-fn first_between(prev: Option<Node>, next: Option<Node>, first: Option<Node>) -> Option<Node>
-    ensures { result ≡ first_without prev next first }
-{
-    match prev {
-        Some(_) => first,
-        None => next,
-    }
-}
-
 impl<R> NodeStore<R> {
     ghost use Rattle.node_store.specs.Lends.{lends_record};
     ghost use Rattle.node_store.specs.declared.Node.{Node};
     ghost use Rattle.node_store.specs.declared.Link.{Link};
 
-    /// A store with no node, which allocates nothing until the first `add`.
-    pub fn new(alloc: Global) -> NodeStore<R>
-        ensures { result ≡ empty_store }
+    /// A store with no node, whose nodes are to have so many columns or more. It allocates nothing until the first `add`.
+    pub fn new(alloc: Global, columns: usize) -> NodeStore<R>
+        requires { columns ≤ 8 }
+        ensures empty { result ≡ empty_store (width_of result) }
+        ensures enough { columns ≤ width_of result }
     {
-        NodeStore {
-            heap: Blocks::new(),
-            alloc,
-            first: None,
-            len: 0,
-            added: 0,
-        }
+        let shelves = match columns {
+            0 | 1 => Shelves::One(Shelf::new(alloc)),
+            2 => Shelves::Two(Shelf::new(alloc)),
+            3 | 4 => Shelves::Four(Shelf::new(alloc)),
+            _ => Shelves::Eight(Shelf::new(alloc)),
+        };
+        NodeStore { shelves }
     }
 
     /// How many nodes there are.
@@ -191,7 +168,7 @@ impl<R> NodeStore<R> {
         ensures len { result ≡ len_of self.now }
         ensures sound { IsStore self.now }
     {
-        self.len
+        on_shelf!(&self.shelves, shelf => shelf.len())
     }
 
     /// How many records were added so far, whether or not they were removed since.
@@ -199,14 +176,14 @@ impl<R> NodeStore<R> {
         ensures added { result ≡ self.now.added }
         ensures sound { IsStore self.now }
     {
-        self.added
+        on_shelf!(&self.shelves, shelf => shelf.added())
     }
 
     /// The node that was added last, of those that are there.
     pub fn newest(&self) -> Option<Node>
         ensures { result ≡ last_below (nodes self.now) self.now.added }
     {
-        self.first
+        on_shelf!(&self.shelves, shelf => shelf.newest())
     }
 
     /// The node that was added last before `n`, of those that are there.
@@ -214,7 +191,7 @@ impl<R> NodeStore<R> {
         requires { IsNodeOf self.now n }
         ensures { result ≡ last_below (nodes self.now) (number_of n) }
     {
-        self.heap.get(n.number, n.place).next
+        on_shelf!(&self.shelves, shelf => shelf.older(n))
     }
 
     /// The node's record.
@@ -222,7 +199,7 @@ impl<R> NodeStore<R> {
         requires { IsNodeOf self.now n }
         ensures { record_of self.now n ≡ Some result.now }
     {
-        &self.heap.get(n.number, n.place).value
+        on_shelf!(&self.shelves, shelf => shelf.get(n))
     }
 
     /// The node's record for writing. No link changes.
@@ -231,17 +208,15 @@ impl<R> NodeStore<R> {
         ensures* writes_back { sem 𝓛 (lends_record R.row self.entry n result) }
         ensures value { record_of self.old n ≡ Some result.now }
     {
-        let block = self.heap.get_mut(n.number, n.place);
-        &mut block.value
+        self.shelves.get_mut(n)
     }
 
     /// The node's links in a column.
     pub fn link(&self, n: Node, col: usize) -> Link
         requires node { IsNode (column_of self.now col) n }
-        requires col { col < 8 }
         ensures { column_of self.now col n ≡ Some result }
     {
-        self.heap.get(n.number, n.place).links[col].link()
+        on_shelf!(&self.shelves, shelf => shelf.link(n, col))
     }
 
     /// Whether `o` is the node `n`. Their numbers decide, so both must be nodes of this store.
@@ -259,28 +234,24 @@ impl<R> NodeStore<R> {
     /// Replaces the node's links in a column. Its record, its other columns and all other nodes stay as they were.
     pub fn set_link(&mut self, n: Node, col: usize, link: Link)
         requires node { IsNode (column_of self.old col) n }
-        requires col { col < 8 }
         ensures put { IsPut (column_of self.old col) (column_of self.new col) n link }
         ensures others { KeepsOthers (column_of self.old) (column_of self.new) col }
         ensures contents { contents self.new ≡ contents self.old }
     {
-        let changed = self.heap.get_mut(n.number, n.place);
-        changed.links[col] = Stored::of(link, n);
+        on_shelf!(&mut self.shelves, shelf => shelf.set_link(n, col, link))
     }
 
     /// Replaces the tag of the node's links in a column, which it does not read. The links themselves, the node's record,
     /// its other columns and all other nodes stay as they were.
     pub fn set_tag(&mut self, n: Node, col: usize, tag: u64)
         requires node { IsNode (column_of self.old col) n }
-        requires col { col < 8 }
         ensures put { (link : Link) → column_of self.old col n ≡ Some link →
             IsPut (column_of self.old col) (column_of self.new col) n
             (record link { tag = tag }) }
         ensures others { KeepsOthers (column_of self.old) (column_of self.new) col }
         ensures contents { contents self.new ≡ contents self.old }
     {
-        let changed = self.heap.get_mut(n.number, n.place);
-        changed.links[col].set_tag(tag);
+        on_shelf!(&mut self.shelves, shelf => shelf.set_tag(n, col, tag))
     }
 }
 
@@ -296,28 +267,7 @@ impl<R: Drop> NodeStore<R> {
         ensures unchanged { OnErr result (self.new ≡ self.old) }
         ensures returned { IfErr result (λ e. e.value ≡ value) }
     {
-        let block = Block {
-            prev: None,
-            next: self.first,
-            value,
-            links: [Stored::of(Link::empty(), Node::nowhere()); 8],
-        };
-        match Box::new(self.alloc, block) {
-            Ok(boxed) => {
-                let number = self.added;
-                let (place, _) = self.heap.put(number, boxed);
-                let node = Node { place, number };
-                set_prev(&mut self.heap, self.first, Some(node));
-                self.first = Some(node);
-                self.len += 1;
-                self.added = number + 1;
-                Ok(node)
-            }
-            Err(failed) => {
-                let AllocFailed { value: block } = failed;
-                Err(NoRoom { value: block.value })
-            }
-        }
+        on_shelf!(&mut self.shelves, shelf => shelf.add(value))
     }
 
     /// Removes the node, frees its block and returns its record. Other nodes' links to it stay as they were, and
@@ -329,34 +279,6 @@ impl<R: Drop> NodeStore<R> {
         ensures count { self.new.added ≡ self.old.added }
         ensures len { len_of self.new + 1 ≡ len_of self.old }
     {
-        let block = self.heap.take(n.number, n.place, self.alloc);
-        let Block {
-            prev,
-            next,
-            value,
-            links: _,
-        } = Box::into_inner(block);
-        set_next(&mut self.heap, prev, next);
-        set_prev(&mut self.heap, next, prev);
-        self.first = first_between(prev, next, self.first);
-        self.len -= 1;
-        value
-    }
-}
-
-impl<R: Drop> Drop for NodeStore<R> {
-    fn drop(self) {
-        let NodeStore {
-            mut heap,
-            alloc,
-            mut first,
-            len: _,
-            added: _,
-        } = self;
-        while let Some(n) = first {
-            let block = Box::into_inner(heap.take(n.number, n.place, alloc));
-            first = block.next;
-        }
-        heap.end();
+        on_shelf!(&mut self.shelves, shelf => shelf.remove(n))
     }
 }

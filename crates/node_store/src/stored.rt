@@ -17,6 +17,12 @@ pub(crate) struct Stored {
     has_up: bool,
 }
 
+/// Links in so many columns.
+#[derive(Drop)]
+pub(crate) struct Row<const N: usize> {
+    pub(crate) row: [Stored; N],
+}
+
 // The node, where it is there.
 fn node_if(there: bool, node: Node) -> Option<Node>
     ensures { result ≡ cond there (Some node) None }
