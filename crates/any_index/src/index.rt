@@ -2,10 +2,9 @@
 ghost use Rattle.std.specs.Prelude.{◌≡◌, ℕ, ◌<◌, ◌≤◌, Some, [], length, OnOk, OnErr};
 ghost use Rattle.std.specs.declared.cmp.Ordering.{Ordering};
 ghost use Rattle.list_model.specs.Walk.{without};
-ghost use Rattle.node_store.specs.Column.{Column};
+ghost use Rattle.node_store.specs.Column.{Column, IsNode};
 ghost use Rattle.node_store.specs.Nodes.{Lacks};
-ghost use Rattle.node_store.specs.Store.{IsNodeOf};
-ghost use Rattle.node_store.specs.ByNode.{same_node};
+ghost use Rattle.node_store.specs.ByNode.{column_of, same_node};
 ghost use Rattle.any_index.specs.Lists.{entered, settled_in};
 
 use container_model::Kind;
@@ -87,7 +86,7 @@ impl AnyIndex {
         at: Option<u64>,
     )
         requires filed { IsFiled E.Extract self.old store.old keys.now }
-        requires node { IsNodeOf store.old n }
+        requires node { IsNode (column_of store.old (col_of self.old)) n }
         requires new { Lacks (nodes_of self.old store.old) n }
         requires room { HasRoom self.old }
         requires place { (p : ℕ) → at ≡ Some p → p ≤ length (nodes_of self.old store.old) }

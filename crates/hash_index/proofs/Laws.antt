@@ -5,7 +5,7 @@ use Rattle.std.proofs.lemmas.List.Sorted.{IsPermutation-middle}
 use Rattle.std.specs.Option.{option_map}
 use Rattle.node_store.specs.declared.Node.{Node}
 use Rattle.node_store.specs.declared.Link.{Link}
-use Rattle.node_store.specs.Column.{Column}
+use Rattle.node_store.specs.Column.{Column, IsNode}
 use Rattle.node_store.specs.Nodes.{AllNodes, Lacks, IsDistinct}
 use Rattle.node_store.specs.Store.{Store, IsNodeOf}
 use Rattle.node_store.specs.ByNode.{column_of, record_of, contents, same_node, AddsNode, RemovesNode}
@@ -77,10 +77,14 @@ module _ {R : Type 0} where
   pub Lacks_spelled_added : (old new : Store R) (n : Node) (value : R) (i : HashIndex) → AddsNode old new n value → IsSound (column_of old) i → Lacks (spelled (column_of new) i) n
   Lacks_spelled_added old new n value i a h = subst (λ (z : List Node). Lacks z n) (sym (spelled_added old new n value i a h)) (Lacks_added old new n value i (spelled (column_of old) i) a h)
 
-  -- a node of the list is one of the store
+  -- a node of the list is one of the column
+  pub node_linked : (s : Store R) (i : HashIndex) (n : Node) → IsSound (column_of s) i → Holds (spelled (column_of s) i) n → IsNode (column_of s (col_of i)) n
+  node_linked s i n h k =
+      nodes_at (column_of s (col_of i)) k.before n k.after (subst (λ z. AllNodes (column_of s (col_of i)) z) k.is (Spells_nodes (column_of s) i (spelled (column_of s) i) h))
+
+  -- and of the store
   pub node_held : (s : Store R) (i : HashIndex) (n : Node) → IsSound (column_of s) i → Holds (spelled (column_of s) i) n → IsNodeOf s n
-  node_held s i n h k =
-      node_of_column s (col_of i) n (nodes_at (column_of s (col_of i)) k.before n k.after (subst (λ z. AllNodes (column_of s (col_of i)) z) k.is (Spells_nodes (column_of s) i (spelled (column_of s) i) h)))
+  node_held s i n h k = node_of_column s (col_of i) n (node_linked s i n h k)
 
 -- ---- hashes that the column keeps
 

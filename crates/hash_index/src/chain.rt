@@ -17,8 +17,7 @@ pub(crate) fn set_next<R>(
     at: Option<Node>,
     next: Option<Node>,
 )
-    requires col { col < 8 }
-    requires node { AreNodes (column_of store.old col) at }
+    requires { AreNodes (column_of store.old col) at }
     ensures ends { SetsNext (untagged (column_of store.old col))
         (untagged (column_of store.new col)) at next }
     ensures tags { KeepsTags (column_of store.old col) (column_of store.new col) }
@@ -39,8 +38,7 @@ pub(crate) fn set_prev<R>(
     at: Option<Node>,
     prev: Option<Node>,
 )
-    requires col { col < 8 }
-    requires node { AreNodes (column_of store.old col) at }
+    requires { AreNodes (column_of store.old col) at }
     ensures ends { SetsPrev (untagged (column_of store.old col))
         (untagged (column_of store.new col)) at prev }
     ensures tags { KeepsTags (column_of store.old col) (column_of store.new col) }
@@ -85,7 +83,6 @@ impl Chain {
 
     // Puts `n` last, which keeps its hash.
     pub(crate) fn append<R>(&mut self, store: &mut NodeStore<R>, col: usize, n: Node, hash: u64)
-        requires col { col < 8 }
         requires node { IsNode (column_of store.old col) n }
         requires last { AreNodes (column_of store.old col) self.old.last }
         requires hash { tag_at (column_of store.old col) n ≡ Some hash }

@@ -213,7 +213,7 @@ impl<R> NodeStore<R> {
 
     /// The node's links in a column.
     pub fn link(&self, n: Node, col: usize) -> Link
-        requires node { IsNode (column_of self.now col) n }
+        requires { IsNode (column_of self.now col) n }
         ensures { column_of self.now col n ≡ Some result }
     {
         on_shelf!(&self.shelves, shelf => shelf.link(n, col))
@@ -233,7 +233,7 @@ impl<R> NodeStore<R> {
 
     /// Replaces the node's links in a column. Its record, its other columns and all other nodes stay as they were.
     pub fn set_link(&mut self, n: Node, col: usize, link: Link)
-        requires node { IsNode (column_of self.old col) n }
+        requires { IsNode (column_of self.old col) n }
         ensures put { IsPut (column_of self.old col) (column_of self.new col) n link }
         ensures others { KeepsOthers (column_of self.old) (column_of self.new) col }
         ensures contents { contents self.new ≡ contents self.old }
@@ -244,7 +244,7 @@ impl<R> NodeStore<R> {
     /// Replaces the tag of the node's links in a column, which it does not read. The links themselves, the node's record,
     /// its other columns and all other nodes stay as they were.
     pub fn set_tag(&mut self, n: Node, col: usize, tag: u64)
-        requires node { IsNode (column_of self.old col) n }
+        requires { IsNode (column_of self.old col) n }
         ensures put { (link : Link) → column_of self.old col n ≡ Some link →
             IsPut (column_of self.old col) (column_of self.new col) n
             (record link { tag = tag }) }

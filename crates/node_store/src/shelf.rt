@@ -145,7 +145,7 @@ impl<R, const N: usize> Shelf<R, N> {
 
     // The node's links in a column.
     pub(crate) fn link(&self, n: Node, col: usize) -> Link
-        requires node { IsNode (column_of self.now col) n }
+        requires { IsNode (column_of self.now col) n }
         ensures { column_of self.now col n ≡ Some result }
     {
         self.heap.get(n.number, n.place).links.row[col].link()
@@ -153,7 +153,7 @@ impl<R, const N: usize> Shelf<R, N> {
 
     // Replaces the node's links in a column. Its record, its other columns and all other nodes stay as they were.
     pub(crate) fn set_link(&mut self, n: Node, col: usize, link: Link)
-        requires node { IsNode (column_of self.old col) n }
+        requires { IsNode (column_of self.old col) n }
         ensures put { IsPut (column_of self.old col) (column_of self.new col) n link }
         ensures others { KeepsOthers (column_of self.old) (column_of self.new) col }
         ensures contents { contents self.new ≡ contents self.old }
@@ -165,7 +165,7 @@ impl<R, const N: usize> Shelf<R, N> {
     // Replaces the tag of the node's links in a column, which it does not read. The links themselves, the node's record,
     // its other columns and all other nodes stay as they were.
     pub(crate) fn set_tag(&mut self, n: Node, col: usize, tag: u64)
-        requires node { IsNode (column_of self.old col) n }
+        requires { IsNode (column_of self.old col) n }
         ensures put { (link : Link) → column_of self.old col n ≡ Some link →
             IsPut (column_of self.old col) (column_of self.new col) n
             (record link { tag = tag }) }

@@ -113,15 +113,19 @@ module _ {T : Type 0} {G : Ghosts T} where
   pub IsSound_added : {R : Type 0} (old new : Store R) (n : Node) (value : R) (i : OrdTree T G) → AddsNode old new n value → IsSound (column_of old) i → IsSound (column_of new) i
   IsSound_added old new n value i a h = IsSound_from (column_of new) i (spelled (column_of old) i) (Spells_added old new n value i (spelled (column_of old) i) a h)
 
-  -- a node of the list is one of the store
-  pub node_held : {R : Type 0} (s : Store R) (i : OrdTree T G) (n : Node) → IsSound (column_of s) i → Holds (spelled (column_of s) i) n → IsNodeOf s n
-  node_held s i n h k =
+  -- a node of the list is one of the column
+  pub node_linked : {R : Type 0} (s : Store R) (i : OrdTree T G) (n : Node) → IsSound (column_of s) i → Holds (spelled (column_of s) i) n → IsNode (column_of s (col_of i)) n
+  node_linked s i n h k =
       let all = Spells_nodes (column_of s) i (spelled (column_of s) i) h in
-      node_of_column s (col_of i) n (node_at (column_of s (col_of i)) k.before n k.after (subst (λ (z : List Node). AllNodes (column_of s (col_of i)) z) k.is all))
+      node_at (column_of s (col_of i)) k.before n k.after (subst (λ (z : List Node). AllNodes (column_of s (col_of i)) z) k.is all)
     where
       node_at : (c : Column) (xs : List Node) (m : Node) (ys : List Node) → AllNodes c (xs ++ m ∷ ys) → IsNode c m
       node_at c [] m ys a = a.0
       node_at c (x ∷ xs) m ys a = node_at c xs m ys a.1
+
+  -- and of the store
+  pub node_held : {R : Type 0} (s : Store R) (i : OrdTree T G) (n : Node) → IsSound (column_of s) i → Holds (spelled (column_of s) i) n → IsNodeOf s n
+  node_held s i n h k = node_of_column s (col_of i) n (node_linked s i n h k)
 
   pub Lacks_spelled_added : {R : Type 0} (old new : Store R) (n : Node) (value : R) (i : OrdTree T G) → AddsNode old new n value → IsSound (column_of old) i → Lacks (spelled (column_of new) i) n
   Lacks_spelled_added old new n value i a h = subst (λ (z : List Node). Lacks z n) (sym (spelled_added old new n value i a h)) (Lacks_added old new n value i (spelled (column_of old) i) a h)

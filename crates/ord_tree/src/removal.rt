@@ -14,8 +14,7 @@ use node_store::{Link, Node, NodeStore};
 
 /// The first node of the subtree below `n`.
 pub(crate) fn first_below<T: Tally, R>(store: &NodeStore<R>, col: usize, n: Node) -> Node
-    requires col { col < 8 }
-    requires below { HasTree T.of (column_of store.now col) (Some n) }
+    requires { HasTree T.of (column_of store.now col) (Some n) }
     ensures first { (t : Tree) → IsAt T.of (column_of store.now col) (Some n) t →
         first_or (nodes t) None ≡ Some result }
     ensures leftmost { left_of (column_of store.now col) result ≡ None }
@@ -40,7 +39,6 @@ pub(crate) fn splice<T: Tally, R>(
     tree_root: Option<Node>,
     n: Node,
 ) -> Option<Node>
-    requires col { col < 8 }
     requires whole { HasWhole T.of (column_of store.old col) tree_root n }
     requires one_child { (left_of (column_of store.old col) n ≡ None) ⊎
         (right_of (column_of store.old col) n ≡ None) }
@@ -62,7 +60,6 @@ pub(crate) fn replace<T: Tally, R>(
     old: Node,
     new: Node,
 ) -> Option<Node>
-    requires col { col < 8 }
     requires node { IsNode (column_of store.old col) new }
     requires room { HasRoomFor T.of (column_of store.old col) old new }
     ensures tree { (t : Tree) → Whole T.of (column_of store.old col) old t → Lacks (nodes t) new →
@@ -84,8 +81,7 @@ pub(crate) fn take_out<T: Tally, R>(
     tree_root: Option<Node>,
     n: Node,
 ) -> Option<Node>
-    requires col { col < 8 }
-    requires whole { HasWhole T.of (column_of store.old col) tree_root n }
+    requires { HasWhole T.of (column_of store.old col) tree_root n }
     ensures tree { (t : Tree) → Whole T.of (column_of store.old col) n t → tree_root ≡ root t →
         Without T.of (column_of store.old col) (column_of store.new col) n t result }
     ensures nodes { KeepsNodes (column_of store.old col) (column_of store.new col) }
@@ -115,7 +111,6 @@ pub(crate) fn next_above<T: Tally, R>(
     mut below: Node,
     mut at: Option<Node>,
 ) -> Option<Node>
-    requires col { col < 8 }
     requires climbs { HasClimb T.of (column_of store.now col) below at }
     requires below { IsNode (column_of store.now col) below }
     ensures { (path : Path) (t : Tree) → Climbs T.of (column_of store.now col) below at path t →

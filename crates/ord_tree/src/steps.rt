@@ -11,8 +11,7 @@ use node_store::{Link, Node, NodeStore};
 
 /// The height of the subtree below `child`.
 pub(crate) fn height_of<R>(store: &NodeStore<R>, col: usize, child: Option<Node>) -> u8
-    requires col { col < 8 }
-    requires node { AreNodes (column_of store.now col) child }
+    requires { AreNodes (column_of store.now col) child }
     ensures { result ≡ stored_height (column_of store.now col) child }
 {
     match child {
@@ -23,8 +22,7 @@ pub(crate) fn height_of<R>(store: &NodeStore<R>, col: usize, child: Option<Node>
 
 /// The tally of the subtree below `child`.
 fn tally_of<R>(store: &NodeStore<R>, col: usize, child: Option<Node>) -> u64
-    requires col { col < 8 }
-    requires node { AreNodes (column_of store.now col) child }
+    requires { AreNodes (column_of store.now col) child }
     ensures { result ≡ stored_tag (column_of store.now col) child }
 {
     match child {
@@ -40,8 +38,7 @@ pub(crate) fn set_up<T: Tally, R>(
     child: Option<Node>,
     parent: Option<Node>,
 )
-    requires col { col < 8 }
-    requires node { AreNodes (column_of store.old col) child }
+    requires { AreNodes (column_of store.old col) child }
     ensures up { SetsUp T.of (column_of store.old col) (column_of store.new col) child parent }
     ensures others { KeepsOthers (column_of store.old) (column_of store.new) col }
     ensures contents { contents store.new ≡ contents store.old }
@@ -60,7 +57,6 @@ pub(crate) fn join<T: Tally, R>(
     n: Node,
     right: Option<Node>,
 )
-    requires col { col < 8 }
     requires node { IsNode (column_of store.old col) n }
     requires left { CanHang (column_of store.old col) left }
     requires right { CanHang (column_of store.old col) right }
@@ -89,7 +85,6 @@ fn rotate_right<T: Tally, R>(
     n: Node,
     right: Option<Node>,
 ) -> Node
-    requires col { col < 8 }
     requires node { IsNode (column_of store.old col) n }
     requires sides { Sides T.of (column_of store.old col) (Some left) n right }
     ensures tree { (s : Sides T.of (column_of store.old col) (Some left) n right) →
@@ -129,7 +124,6 @@ fn rotate_left<T: Tally, R>(
     n: Node,
     right: Node,
 ) -> Node
-    requires col { col < 8 }
     requires node { IsNode (column_of store.old col) n }
     requires sides { Sides T.of (column_of store.old col) left n (Some right) }
     ensures tree { (s : Sides T.of (column_of store.old col) left n (Some right)) →
@@ -169,7 +163,6 @@ fn balance<T: Tally, R>(
     n: Node,
     right: Option<Node>,
 ) -> Node
-    requires col { col < 8 }
     requires node { IsNode (column_of store.old col) n }
     requires sides { Sides T.of (column_of store.old col) left n right }
     ensures tree { (s : Sides T.of (column_of store.old col) left n right) →
@@ -195,7 +188,6 @@ fn balance<T: Tally, R>(
 
 /// Whether the subtree below `new` has the root `old`, and the height and the tally that `link` gives.
 fn is_like<R>(store: &NodeStore<R>, col: usize, new: Option<Node>, old: Node, link: Link) -> bool
-    requires col { col < 8 }
     requires new { AreNodes (column_of store.now col) new }
     requires old { IsNode (column_of store.now col) old }
     ensures { IsTrue result ↔ IsLike (column_of store.now col) new old link }
@@ -218,7 +210,6 @@ pub(crate) fn rise<T: Tally, R>(
     mut link: Link,
     mut new: Option<Node>,
 ) -> Option<Node>
-    requires col { col < 8 }
     requires replaced { Replaced T.of (column_of store.old col) old link new }
     requires old { IsNode (column_of store.old col) old }
     ensures tree { (path : Path) (was now : Tree) →
@@ -258,8 +249,7 @@ pub(crate) fn graft<T: Tally, R>(
     on_right: bool,
     new: Option<Node>,
 ) -> Option<Node>
-    requires col { col < 8 }
-    requires grafted { GraftedSide T.of (column_of store.old col) at on_right new }
+    requires { GraftedSide T.of (column_of store.old col) at on_right new }
     ensures tree { (path : Path) (was now : Tree) →
         Grafted T.of (column_of store.old col) at new path was now → Turned path on_right →
         tree_root ≡ root (plug path was) →

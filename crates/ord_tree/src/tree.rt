@@ -1,7 +1,7 @@
 //! An ordered index, and its changes.
 ghost use Rattle.std.specs.Prelude.{◌≡◌, ℕ, ◌<◌, List, Some, [], OnOk, OnErr};
 ghost use Rattle.node_store.specs.Store.{IsNodeOf, no_link};
-ghost use Rattle.node_store.specs.Column.{Column};
+ghost use Rattle.node_store.specs.Column.{Column, IsNode};
 ghost use Rattle.node_store.specs.Nodes.{Lacks};
 ghost use Rattle.node_store.specs.declared.Node.{Node};
 ghost use Rattle.node_store.specs.ByNode.{column_of, same_node};
@@ -66,10 +66,9 @@ impl<T: Tally> OrdTree<T> {
     }
 
     /// Puts `n` after all whose key is at most its own. O(log n), comparisons included.
-    #[tactic(auto, using(node_store::proofs::ByNode::node_in_column))]
     pub fn link<R, E: Extract<R>>(&mut self, store: &mut NodeStore<R>, keys: &E, n: Node)
         requires ordered { IsOrdered E.Extract self.old store.old keys.now }
-        requires node { IsNodeOf store.old n }
+        requires node { IsNode (column_of store.old (col_of self.old)) n }
         requires new { Lacks (nodes_of self.old store.old) n }
         requires room { HasRoom self.old }
         ensures { BecomesTree self.old self.new store.old store.new

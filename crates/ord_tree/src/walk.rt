@@ -63,8 +63,7 @@ impl<T: Tally> OrdTree<T> {
 
 // The last node of the subtree below `n`.
 fn last_below<T: Tally, R>(store: &NodeStore<R>, col: usize, n: Node) -> Node
-    requires col { col < 8 }
-    requires below { HasTree (flipped_tally T.of) (flipped (column_of store.now col)) (Some n) }
+    requires { HasTree (flipped_tally T.of) (flipped (column_of store.now col)) (Some n) }
     ensures first { (t : Tree) → IsAt (flipped_tally T.of) (flipped (column_of store.now col))
         (Some n) t → first_or (nodes t) None ≡ Some result }
     ensures node { IsNode (column_of store.now col) result }
@@ -82,8 +81,7 @@ pub(crate) fn last_of<T: Tally, R>(
     col: usize,
     child: Option<Node>,
 ) -> Option<Node>
-    requires col { col < 8 }
-    requires below { HasTree T.of (column_of store.now col) child }
+    requires { HasTree T.of (column_of store.now col) child }
     ensures last { (t : Tree) → IsAt T.of (column_of store.now col) child t →
         result ≡ last_or (nodes t) None }
     ensures node { AreNodes (column_of store.now col) result }
@@ -101,7 +99,6 @@ fn prev_above<T: Tally, R>(
     mut below: Node,
     mut at: Option<Node>,
 ) -> Option<Node>
-    requires col { col < 8 }
     requires climbs { HasClimb (flipped_tally T.of) (flipped (column_of store.now col)) below at }
     requires below { IsNode (column_of store.now col) below }
     ensures { (path : Path) (t : Tree) →

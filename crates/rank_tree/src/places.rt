@@ -10,8 +10,7 @@ use node_store::{Link, Node, NodeStore};
 
 // The number of nodes of the subtree below `child`, as its root keeps it.
 pub(crate) fn size_of<R>(store: &NodeStore<R>, col: usize, child: Option<Node>) -> u64
-    requires col { col < 8 }
-    requires node { AreNodes (column_of store.now col) child }
+    requires { AreNodes (column_of store.now col) child }
     ensures { result ≡ stored_tag (column_of store.now col) child }
 {
     match child {

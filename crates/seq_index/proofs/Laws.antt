@@ -1,7 +1,7 @@
 -- The laws of what an index spells, for the crates above.
 use Rattle.std.proofs.Common.{◌≡◌, ℕ, ◌+◌, List, [], ◌∷◌, length, Some, None, ap, sym, subst, slice_get}
 use Rattle.node_store.specs.declared.Node.{Node}
-use Rattle.node_store.specs.Column.{Column}
+use Rattle.node_store.specs.Column.{Column, IsNode}
 use Rattle.node_store.specs.Nodes.{AllNodes, Lacks, IsDistinct}
 use Rattle.node_store.specs.Store.{Store, IsNodeOf}
 use Rattle.node_store.specs.ByNode.{same_node, column_of, AddsNode, RemovesNode}
@@ -60,10 +60,14 @@ pub Spells_nodes : (cs : ℕ → Column) (i : SeqIndex) (xs : List Node) → Spe
 Spells_nodes cs i xs h = Runs-nodes (cs (col_of i)) None xs None h.runs
 
 module _ {R : Type 0} where
-  -- a node of the list is one of the store
+  -- a node of the list is one of the column
+  pub node_linked : (s : Store R) (i : SeqIndex) (n : Node) → IsSound (column_of s) i → Holds (spelled (column_of s) i) n → IsNode (column_of s (col_of i)) n
+  node_linked s i n h k =
+      Runs-node (column_of s (col_of i)) None k.before n k.after None (subst (λ (z : List Node). Runs (column_of s (col_of i)) None z None) k.is h.runs)
+
+  -- and of the store
   pub node_held : (s : Store R) (i : SeqIndex) (n : Node) → IsSound (column_of s) i → Holds (spelled (column_of s) i) n → IsNodeOf s n
-  node_held s i n h k =
-      node_of_column s (col_of i) n (Runs-node (column_of s (col_of i)) None k.before n k.after None (subst (λ (z : List Node). Runs (column_of s (col_of i)) None z None) k.is h.runs))
+  node_held s i n h k = node_of_column s (col_of i) n (node_linked s i n h k)
 
   pub Spells_added : (old new : Store R) (n : Node) (value : R) (i : SeqIndex) (xs : List Node) → AddsNode old new n value → Spells (column_of old) i xs → Spells (column_of new) i xs
   Spells_added old new n value i xs a h =

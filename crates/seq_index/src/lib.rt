@@ -6,8 +6,7 @@
 
 ghost use Rattle.std.specs.Prelude.{◌≡◌, ◌≢◌, ℕ, ◌+◌, ◌^◌, ◌<◌, ◌≤◌, List, [], ◌∷◌, ◌++◌, length, Option, Some, None, OnOk, OnErr, insert};
 ghost use Rattle.node_store.specs.declared.Node.{Node};
-ghost use Rattle.node_store.specs.Column.{Column};
-ghost use Rattle.node_store.specs.Store.{IsNodeOf};
+ghost use Rattle.node_store.specs.Column.{Column, IsNode};
 ghost use Rattle.node_store.specs.Nodes.{Lacks, first_or, last_or};
 ghost use Rattle.node_store.specs.ByNode.{column_of, contents, same_node};
 ghost use Rattle.list_model.specs.Walk.{without};
@@ -70,7 +69,7 @@ impl SeqIndex {
     /// Puts `n` last. O(1).
     pub fn push<R>(&mut self, store: &mut NodeStore<R>, n: Node)
         requires chain { IsChainOf self.old store.old }
-        requires node { IsNodeOf store.old n }
+        requires node { IsNode (column_of store.old (col_of self.old)) n }
         requires new { Lacks (nodes_of self.old store.old) n }
         requires room { HasRoom self.old }
         ensures { BecomesChain self.old self.new store.old store.new
@@ -84,7 +83,7 @@ impl SeqIndex {
     /// O(d), where d is the distance of `place` from the nearer end.
     pub fn insert_at<R>(&mut self, store: &mut NodeStore<R>, place: u64, n: Node)
         requires chain { IsChainOf self.old store.old }
-        requires node { IsNodeOf store.old n }
+        requires node { IsNode (column_of store.old (col_of self.old)) n }
         requires new { Lacks (nodes_of self.old store.old) n }
         requires place { place ≤ length (nodes_of self.old store.old) }
         requires room { HasRoom self.old }
@@ -123,7 +122,7 @@ impl SeqIndex {
         n: Node,
         after: Option<Node>,
     )
-        requires node { IsNodeOf store.old n }
+        requires node { IsNode (column_of store.old (col_of self.old)) n }
         requires before { AreNodesOf store.old before }
         requires after { AreNodesOf store.old after }
         requires room { HasRoom self.old }

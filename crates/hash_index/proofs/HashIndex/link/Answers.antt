@@ -1,12 +1,12 @@
 use Rattle.std.proofs.Common.{Some, ap, sym, ◌∙◌}
 use Rattle.std.specs.Option.{option_map}
-use Rattle.node_store.proofs.ByNode.{node_in_column}
+use Rattle.node_store.proofs.ByNode.{node_of_column}
 use Rattle.hash_index.specs.Spelled.{col_of, index_of}
 use Rattle.hash_index.proofs.Laws.{IsHashed_put}
 use Rattle.hash_index.proofs.HashIndex.link.Goals as goal
 
-pub put-requires-clause-node : goal.put-requires-clause-node
-put-requires-clause-node g c = node_in_column c.args.store.now (col_of c.args.self.now) c.args.n c.requires.node
+pub get-requires : goal.get-requires
+get-requires g c = node_of_column c.args.store.now (col_of c.args.self.now) c.args.n c.requires.node
 
 pub returns-clause-hashed : goal.returns-clause-hashed
 returns-clause-hashed g c = λ h.

@@ -8,8 +8,8 @@ use Rattle.hash_index.specs.Spelled.{Spells}
 use Rattle.hash_index.proofs.Spelling.{held_node, some_bucket}
 use Rattle.hash_index.proofs.HashIndex.next.Goals as goal
 
-pub link-requires-clause-node : goal.link-requires-clause-node
-link-requires-clause-node g c = held_node _ _ _ c.args.n c.requires.chain c.requires.held
+pub link-requires : goal.link-requires
+link-requires g c = held_node _ _ _ c.args.n c.requires.chain c.requires.held
 
 pub after-requires : goal.after-requires
 after-requires g c = some_bucket _ _ _ c.args.n c.requires.chain c.requires.held

@@ -6,8 +6,8 @@ use Rattle.hash_index.proofs.Spelling.{held_node, some_bucket, has_hash}
 use Rattle.hash_index.proofs.Matching.{Holds_kept, match_past, match_hash, past_hashed}
 use Rattle.hash_index.proofs.HashIndex.next_of.Goals as goal
 
-pub link-link-requires-clause-node : goal.link-link-requires-clause-node
-link-link-requires-clause-node g c = held_node _ _ _ c.args.n c.requires.search.chain (Holds_kept _ _ c.args.n c.requires.held)
+pub link-link-requires : goal.link-link-requires
+link-link-requires g c = held_node _ _ _ c.args.n c.requires.search.chain (Holds_kept _ _ c.args.n c.requires.held)
 
 pub match_from-requires-clause-ends : goal.match_from-requires-clause-ends
 match_from-requires-clause-ends g c =

@@ -6,8 +6,8 @@ use Rattle.hash_index.proofs.Spelling.{focus_of}
 use Rattle.hash_index.proofs.Changes.{put_sound, put_moved, head_node, head_lacks}
 use Rattle.hash_index.proofs.HashIndex.put.Goals as goal
 
-pub set_prev-requires-clause-node : goal.set_prev-requires-clause-node
-set_prev-requires-clause-node g c =
+pub set_prev-requires : goal.set_prev-requires
+set_prev-requires g c =
     let i = c.args.self.now in
     let first = c.get-head.ensures in
     let at = focus_of (column_of c.args.store.now) i (spelled (column_of c.args.store.now) i) c.bucket-bucket.result c.bucket-bucket.ensures.within c.requires.chain in

@@ -5,18 +5,18 @@ use Rattle.std.proofs.lemmas.List.Sorted.{IsPermutation-trans, length_permutatio
 use Rattle.node_store.specs.declared.Node.{Node}
 use Rattle.node_store.specs.Nodes.{Lacks}
 use Rattle.node_store.specs.ByNode.{column_of}
-use Rattle.node_store.proofs.ByNode.{node_in_column, IsNodeOf_kept, records_kept}
+use Rattle.node_store.proofs.ByNode.{IsNode_kept, records_kept}
 use Rattle.hash_index.specs.Spelled.{spelled, col_of, index_of}
 use Rattle.hash_index.specs.Hashed.{IsHashed}
 use Rattle.hash_index.proofs.Untagged.{tag_is}
-use Rattle.hash_index.proofs.Laws.{node_held, spelled_is, Lacks_without, Holds_moved, IsHashed_all, IsHashed_tags, IsHashed_put}
+use Rattle.hash_index.proofs.Laws.{node_held, node_linked, spelled_is, Lacks_without, Holds_moved, IsHashed_all, IsHashed_tags, IsHashed_put}
 use Rattle.hash_index.proofs.HashIndex.settle.Goals as goal
 
 pub get-requires : goal.get-requires
 get-requires g c = node_held c.args.store.now c.args.self.now c.args.n c.requires.node.chain c.requires.node.held
 
-pub link-requires-clause-node : goal.link-requires-clause-node
-link-requires-clause-node g c = node_in_column c.args.store.now (col_of c.args.self.now) c.args.n (node_held c.args.store.now c.args.self.now c.args.n c.requires.node.chain c.requires.node.held)
+pub link-requires : goal.link-requires
+link-requires g c = node_linked c.args.store.now c.args.self.now c.args.n c.requires.node.chain c.requires.node.held
 
 pub returns-then-link-hash-clause-hashed : goal.returns-then-link-hash-clause-hashed
 returns-then-link-hash-clause-hashed g c = λ h.
@@ -26,7 +26,7 @@ returns-then-link-hash-clause-hashed g c = λ h.
 
 pub put-requires-clause-node : goal.put-requires-clause-node
 put-requires-clause-node g c =
-    node_in_column c.unlink.new.store (col_of c.unlink.new.self) c.args.n (IsNodeOf_kept c.args.store.now c.unlink.new.store c.args.n c.unlink.ensures.rest.contents (node_held c.args.store.now c.args.self.now c.args.n c.requires.node.chain c.requires.node.held))
+    IsNode_kept c.args.store.now c.unlink.new.store _ _ c.args.n c.unlink.ensures.rest.contents c.unlink.ensures.rest.col (node_linked c.args.store.now c.args.self.now c.args.n c.requires.node.chain c.requires.node.held)
 
 pub put-requires-clause-new : goal.put-requires-clause-new
 put-requires-clause-new g c =

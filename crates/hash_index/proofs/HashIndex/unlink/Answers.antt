@@ -5,17 +5,17 @@ use Rattle.hash_index.proofs.Spelling.{held_node, has_neighbours, some_bucket, s
 use Rattle.hash_index.proofs.Changes.{out_done}
 use Rattle.hash_index.proofs.HashIndex.unlink.Goals as goal
 
-pub link-before-requires-clause-node : goal.link-before-requires-clause-node
-link-before-requires-clause-node g c = held_node _ _ _ c.args.n c.requires.chain c.requires.held
+pub link-before-requires : goal.link-before-requires
+link-before-requires g c = held_node _ _ _ c.args.n c.requires.chain c.requires.held
 
 pub bucket-bucket-requires : goal.bucket-bucket-requires
 bucket-bucket-requires g c = some_bucket _ _ _ c.args.n c.requires.chain c.requires.held
 
-pub set_next-requires-clause-node : goal.set_next-requires-clause-node
-set_next-requires-clause-node g c = (has_neighbours (column_of c.args.store.now) c.args.self.now _ c.args.n c.link-before.result c.requires.chain c.requires.held c.link-before.ensures).before
+pub set_next-requires : goal.set_next-requires
+set_next-requires g c = (has_neighbours (column_of c.args.store.now) c.args.self.now _ c.args.n c.link-before.result c.requires.chain c.requires.held c.link-before.ensures).before
 
-pub set_prev-requires-clause-node : goal.set_prev-requires-clause-node
-set_prev-requires-clause-node g c = λ m e.
+pub set_prev-requires : goal.set_prev-requires
+set_prev-requires g c = λ m e.
     tagged_node _ m (c.set_next.ensures.ends.nodes m (untagged_node _ m ((has_neighbours (column_of c.args.store.now) c.args.self.now _ c.args.n c.link-before.result c.requires.chain c.requires.held c.link-before.ensures).after m e)))
 
 pub head_beside-head-requires-clause-after : goal.head_beside-head-requires-clause-after

@@ -1,9 +1,9 @@
 use Rattle.node_store.proofs.ByNode.{node_in_column, IsNodeOf_kept}
 use Rattle.index_tests.proofs.store.keeps_links.Goals as goal
 
-pub link-link-requires-clause-node : goal.link-link-requires-clause-node
-link-link-requires-clause-node c = node_in_column c.args.store.now 1 c.args.a c.requires
+pub link-link-requires : goal.link-link-requires
+link-link-requires c = node_in_column c.args.store.now 1 c.args.a c.requires
 
-pub link-beside-requires-clause-node : goal.link-beside-requires-clause-node
-link-beside-requires-clause-node c =
+pub link-beside-requires : goal.link-beside-requires
+link-beside-requires c =
     node_in_column c.set_link.new.self 2 c.args.a (IsNodeOf_kept c.args.store.now c.set_link.new.self c.args.a c.set_link.ensures.contents c.requires)

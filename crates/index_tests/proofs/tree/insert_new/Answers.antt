@@ -11,8 +11,8 @@ link-requires-clause-ordered g c =
     IsOrdered_added g.E.Extract c.args.store.now c.add.new.self c.args.keys.now c.in-Ok-add.n c.args.value c.reserve_one.new.self c.in-Ok-add.ensures.added
     (subst (λ t. IsOrdered g.E.Extract t c.args.store.now c.args.keys.now) (sym c.reserve_one.ensures.same) c.requires.ordered)
 
-pub link-requires-clause-node : goal.link-requires-clause-node
-link-requires-clause-node g c = IsNodeOf_added c.args.store.now c.add.new.self c.in-Ok-add.n c.args.value c.in-Ok-add.ensures.added
+pub link-requires : goal.link-requires
+link-requires g c = IsNodeOf_added c.args.store.now c.add.new.self c.in-Ok-add.n c.args.value c.in-Ok-add.ensures.added
 
 pub link-requires-clause-new : goal.link-requires-clause-new
 link-requires-clause-new g c =

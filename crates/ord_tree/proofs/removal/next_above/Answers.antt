@@ -7,8 +7,8 @@ use Rattle.ord_tree.proofs.removal.next_above.Goals as goal
 pub loop-at-init : goal.loop-at-init
 loop-at-init g c = record { climbed = λ path t h. Climbed-start g.T.Tally.of _ _ _ path t h; below = c.requires.below }
 
-pub link-left-requires-clause-node : goal.link-left-requires-clause-node
-link-left-requires-clause-node g c =
+pub link-left-requires : goal.link-left-requires
+link-left-requires g c =
     let r = c.requires.climbs in
     climb_node g.T.Tally.of _ _ _ _ (c.loop-at.invariant.climbed r.path r.tree r.is) c.in-Some.n c.in-Some.is
 

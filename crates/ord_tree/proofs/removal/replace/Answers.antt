@@ -4,8 +4,8 @@ use Rattle.ord_tree.proofs.Removing.{whole_node, whole_sides, side_low, relabell
 use Rattle.ord_tree.proofs.removal.replace.Goals as goal
 use Rattle.node_store.specs.ByNode.{column_of}
 
-pub link-link-requires-clause-node : goal.link-link-requires-clause-node
-link-link-requires-clause-node g c = whole_node g.T.Tally.of _ _ c.requires.room.tree c.requires.room.is
+pub link-link-requires : goal.link-link-requires
+link-link-requires g c = whole_node g.T.Tally.of _ _ c.requires.room.tree c.requires.room.is
 
 pub join-requires-clause-left : goal.join-requires-clause-left
 join-requires-clause-left g c =

@@ -4,8 +4,8 @@ use Rattle.ord_tree.specs.Tree.{Fork, root}
 use Rattle.ord_tree.proofs.removal.splice.Goals as goal
 use Rattle.node_store.specs.ByNode.{column_of}
 
-pub link-link-requires-clause-node : goal.link-link-requires-clause-node
-link-link-requires-clause-node g c = whole_node g.T.Tally.of _ _ c.requires.whole.tree c.requires.whole.is
+pub link-link-requires : goal.link-link-requires
+link-link-requires g c = whole_node g.T.Tally.of _ _ c.requires.whole.tree c.requires.whole.is
 
 pub rise-requires-clause-old : goal.rise-requires-clause-old
 rise-requires-clause-old g c = whole_node g.T.Tally.of _ _ c.requires.whole.tree c.requires.whole.is

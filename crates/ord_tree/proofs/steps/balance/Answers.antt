@@ -2,13 +2,13 @@ use Rattle.std.proofs.Common.{◌<◌, refl, arith, ◌∙◌}
 use Rattle.ord_tree.proofs.Rotations.{IsAt-nodes, IsAt-height, Sides-left, Sides-right, rebalanced-right, rebalanced-left, rebalanced-fork, Becomes-same, can_hang, Joined-from, Becomes-joined}
 use Rattle.ord_tree.proofs.steps.balance.Goals as goal
 
-pub height_of-left_height-requires-clause-node : goal.height_of-left_height-requires-clause-node
-height_of-left_height-requires-clause-node g c =
+pub height_of-left_height-requires : goal.height_of-left_height-requires
+height_of-left_height-requires g c =
     let s = c.requires.sides in
     IsAt-nodes g.T.Tally.of _ _ s.l s.at_left
 
-pub height_of-right_height-requires-clause-node : goal.height_of-right_height-requires-clause-node
-height_of-right_height-requires-clause-node g c =
+pub height_of-right_height-requires : goal.height_of-right_height-requires
+height_of-right_height-requires g c =
     let s = c.requires.sides in
     IsAt-nodes g.T.Tally.of _ _ s.r s.at_right
 

@@ -22,8 +22,8 @@ is_like-requires-clause-new g c =
 pub returns-then-is_like-clause-tree : goal.returns-then-is_like-clause-tree
 returns-then-is_like-clause-tree g c = λ path was now h e. rest g.T.Tally.of _ _ _ path now _ _ _ _ _ (c.loop-link.invariant.carried path was now h) (c.is_like.ensures.0 c.if-is_like.true) c.set_up.ensures.up e
 
-pub link-above-requires-clause-node : goal.link-above-requires-clause-node
-link-above-requires-clause-node g c =
+pub link-above-requires : goal.link-above-requires
+link-above-requires g c =
     let r = c.requires.replaced in
     at_node g.T.Tally.of _ _ _ _ _ _ _ _ (c.loop-link.invariant.carried r.path r.was r.now r.is) c.in-Some.n c.in-Some.is
 
@@ -73,8 +73,8 @@ loop-link-preserved g c = record {
   contents = c.balance-top-else-is_node.ensures.contents ∙ c.loop-link.invariant.contents;
 }
 
-pub set_up-requires-2-clause-node : goal.set_up-requires-2-clause-node
-set_up-requires-2-clause-node g c =
+pub set_up-requires-2 : goal.set_up-requires-2
+set_up-requires-2 g c =
     let r = c.requires.replaced in
     new_node g.T.Tally.of _ _ _ _ _ _ _ _ (c.loop-link.invariant.carried r.path r.was r.now r.is)
 

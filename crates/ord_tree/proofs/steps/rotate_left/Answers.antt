@@ -3,19 +3,19 @@ use Rattle.ord_tree.specs.Tree.{Tree, Fork, nodes, height}
 use Rattle.ord_tree.proofs.Rotations.{IsAt-nodes, IsAt-height, open_right, half_left, whole_left, double_right_links, after_first, can_hang, open_middle_left, rotated_left-single, rotated_left-double, Becomes-right, Becomes-same, assoc_left}
 use Rattle.ord_tree.proofs.steps.rotate_left.Goals as goal
 
-pub link-inner-requires-clause-node : goal.link-inner-requires-clause-node
-link-inner-requires-clause-node g c =
+pub link-inner-requires : goal.link-inner-requires
+link-inner-requires g c =
     let s = c.requires.sides in
     IsAt-nodes g.T.Tally.of _ _ s.r s.at_right c.args.right refl
 
-pub height_of-requires-clause-node : goal.height_of-requires-clause-node
-height_of-requires-clause-node g c =
+pub height_of-requires : goal.height_of-requires
+height_of-requires g c =
     let s = c.requires.sides in
     let o = open_right g.T.Tally.of _ _ _ _ _ s c.link-inner.ensures in
     IsAt-nodes g.T.Tally.of _ _ o.inner o.at_inner
 
-pub height_of-requires-2-clause-node : goal.height_of-requires-2-clause-node
-height_of-requires-2-clause-node g c =
+pub height_of-requires-2 : goal.height_of-requires-2
+height_of-requires-2 g c =
     let s = c.requires.sides in
     let o = open_right g.T.Tally.of _ _ _ _ _ s c.link-inner.ensures in
     IsAt-nodes g.T.Tally.of _ _ o.outer o.at_outer

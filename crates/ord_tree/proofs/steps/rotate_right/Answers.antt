@@ -3,14 +3,14 @@ use Rattle.ord_tree.specs.Tree.{Tree, Fork, height}
 use Rattle.ord_tree.proofs.Rotations.{IsAt-nodes, IsAt-height, open_left, half_right, whole_right, double_right_links, after_first, can_hang, open_middle, rotated_right-single, rotated_right-double, Becomes-left}
 use Rattle.ord_tree.proofs.steps.rotate_right.Goals as goal
 
-pub link-outer-requires-clause-node : goal.link-outer-requires-clause-node
-link-outer-requires-clause-node g c = IsAt-nodes g.T.Tally.of _ _ c.requires.sides.l c.requires.sides.at_left c.args.left refl
+pub link-outer-requires : goal.link-outer-requires
+link-outer-requires g c = IsAt-nodes g.T.Tally.of _ _ c.requires.sides.l c.requires.sides.at_left c.args.left refl
 
-pub height_of-requires-clause-node : goal.height_of-requires-clause-node
-height_of-requires-clause-node g c = let o = open_left g.T.Tally.of _ _ _ _ _ c.requires.sides c.link-outer.ensures in IsAt-nodes g.T.Tally.of _ _ o.inner o.at_inner
+pub height_of-requires : goal.height_of-requires
+height_of-requires g c = let o = open_left g.T.Tally.of _ _ _ _ _ c.requires.sides c.link-outer.ensures in IsAt-nodes g.T.Tally.of _ _ o.inner o.at_inner
 
-pub height_of-requires-2-clause-node : goal.height_of-requires-2-clause-node
-height_of-requires-2-clause-node g c = let o = open_left g.T.Tally.of _ _ _ _ _ c.requires.sides c.link-outer.ensures in IsAt-nodes g.T.Tally.of _ _ o.outer o.at_outer
+pub height_of-requires-2 : goal.height_of-requires-2
+height_of-requires-2 g c = let o = open_left g.T.Tally.of _ _ _ _ _ c.requires.sides c.link-outer.ensures in IsAt-nodes g.T.Tally.of _ _ o.outer o.at_outer
 
 pub join-requires-clause-left : goal.join-requires-clause-left
 join-requires-clause-left g c =

@@ -6,14 +6,14 @@ use Rattle.ord_tree.proofs.Removing.{first_turn, first_end}
 use Rattle.ord_tree.proofs.Mirror.{flip_link, unflip_node}
 use Rattle.ord_tree.proofs.walk.last_below.Goals as goal
 
-pub link-requires-clause-node : goal.link-requires-clause-node
-link-requires-clause-node g c =
-    let s = c.loop-right.invariant c.requires.below.tree c.requires.below.is in
+pub link-requires : goal.link-requires
+link-requires g c =
+    let s = c.loop-right.invariant c.requires.tree c.requires.is in
     unflip_node (column_of c.args.store.now c.args.col) c.loop-right.last (IsAt-nodes (flipped_tally g.T.Tally.of) _ _ s.here s.is c.loop-right.last refl)
 
 pub loop-right-smaller : goal.loop-right-smaller
 loop-right-smaller g c =
-    (first_turn (flipped_tally g.T.Tally.of) _ _ _ (flipped_link c.link.result) _ (c.loop-right.invariant c.requires.below.tree c.requires.below.is) (flip_link (column_of c.args.store.now c.args.col) c.loop-right.last c.link.result c.link.ensures) c.in-Some.is).lower
+    (first_turn (flipped_tally g.T.Tally.of) _ _ _ (flipped_link c.link.result) _ (c.loop-right.invariant c.requires.tree c.requires.is) (flip_link (column_of c.args.store.now c.args.col) c.loop-right.last c.link.result c.link.ensures) c.in-Some.is).lower
 
 pub loop-right-preserved : goal.loop-right-preserved
 loop-right-preserved g c = λ t h.

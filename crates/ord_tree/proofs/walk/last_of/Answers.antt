@@ -8,9 +8,9 @@ use Rattle.ord_tree.specs.Mirror.{mirror}
 use Rattle.ord_tree.proofs.Mirror.{IsAt-mirror, nodes-mirror}
 use Rattle.ord_tree.proofs.walk.last_of.Goals as goal
 
-pub last_below-requires-clause-below : goal.last_below-requires-clause-below
-last_below-requires-clause-below g c =
-    let b = c.requires.below in
+pub last_below-requires : goal.last_below-requires
+last_below-requires g c =
+    let b = c.requires in
     let column = column_of c.args.store.now c.args.col in
     record { tree = mirror b.tree; is = IsAt-mirror g.T.Tally.of column _ b.tree (subst (λ (o : Option Node). IsAt g.T.Tally.of column o b.tree) c.in-Some.is b.is) }
 

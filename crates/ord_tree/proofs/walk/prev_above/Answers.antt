@@ -10,8 +10,8 @@ use Rattle.ord_tree.proofs.walk.prev_above.Goals as goal
 pub loop-at-init : goal.loop-at-init
 loop-at-init g c = record { climbed = λ path t h. Climbed-start (flipped_tally g.T.Tally.of) _ _ _ path t h; below = c.requires.below }
 
-pub link-right-requires-clause-node : goal.link-right-requires-clause-node
-link-right-requires-clause-node g c =
+pub link-right-requires : goal.link-right-requires
+link-right-requires g c =
     let r = c.requires.climbs in
     unflip_node (column_of c.args.store.now c.args.col) c.in-Some.n (climb_node (flipped_tally g.T.Tally.of) _ _ _ _ (c.loop-at.invariant.climbed r.path r.tree r.is) c.in-Some.n c.in-Some.is)
 

@@ -10,8 +10,8 @@ loop-at-init g c =
     let all = c.requires.chain.len in
     record { from = omega (arith, all, c.requires.place); within = e.within; before = e.before; after = e.after }
 
-pub link-before-requires-clause-node : goal.link-before-requires-clause-node
-link-before-requires-clause-node g c =
+pub link-before-requires : goal.link-before-requires
+link-before-requires g c =
     let e = ending (spelled (column_of c.args.store.now) c.args.self.now) c.loop-at.at c.in-Some.n (omega arith) c.loop-at.invariant.within (sym c.loop-at.invariant.before ∙ c.in-Some.is) in
     walk_node (column_of c.args.store.now) c.args.self.now (spelled (column_of c.args.store.now) c.args.self.now) e.place c.in-Some.n c.requires.chain e.stands
 

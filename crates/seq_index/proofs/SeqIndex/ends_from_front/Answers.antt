@@ -4,8 +4,8 @@ use Rattle.seq_index.proofs.ChainLists.{walked, walk_node, no_more}
 use Rattle.seq_index.proofs.SeqIndex.ends_from_front.Goals as goal
 use Rattle.node_store.specs.ByNode.{column_of}
 
-pub link-after-requires-clause-node : goal.link-after-requires-clause-node
-link-after-requires-clause-node g c =
+pub link-after-requires : goal.link-after-requires
+link-after-requires g c =
     walk_node (column_of c.args.store.now) c.args.self.now (spelled (column_of c.args.store.now) c.args.self.now) c.loop-steps.steps c.in-Some.n c.requires.chain (sym c.loop-steps.invariant.after ∙ c.in-Some.is)
 
 pub loop-steps-preserved : goal.loop-steps-preserved

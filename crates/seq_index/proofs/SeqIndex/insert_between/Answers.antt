@@ -1,19 +1,16 @@
 use Rattle.std.proofs.Common.{ℕ, ◌+◌, ap, ◌∙◌}
-use Rattle.node_store.proofs.ByNode.{node_in_column}
+use Rattle.node_store.proofs.ByNode.{node_in_column, column_of_node}
 use Rattle.node_store.proofs.NodeLists.{IsDistinct-insert}
 use Rattle.seq_index.specs.Spelled.{col_of}
 use Rattle.seq_index.proofs.Runs.{Runs-insert}
 use Rattle.seq_index.proofs.ChainLists.{first-insert, last-insert, length-insert}
 use Rattle.seq_index.proofs.SeqIndex.insert_between.Goals as goal
 
-pub set_link-requires-clause-node : goal.set_link-requires-clause-node
-set_link-requires-clause-node g c = node_in_column c.args.store.now (col_of c.args.self.now) c.args.n c.requires.node
+pub set_next-requires : goal.set_next-requires
+set_next-requires g c = λ m e. c.set_link.ensures.put.nodes m (node_in_column c.args.store.now (col_of c.args.self.now) m (column_of_node _ _ _ c.requires.node) (c.requires.before m e))
 
-pub set_next-requires-clause-node : goal.set_next-requires-clause-node
-set_next-requires-clause-node g c = λ m e. c.set_link.ensures.put.nodes m (node_in_column c.args.store.now (col_of c.args.self.now) m (c.requires.before m e))
-
-pub set_prev-requires-clause-node : goal.set_prev-requires-clause-node
-set_prev-requires-clause-node g c = λ m e. c.set_next.ensures.ends.nodes m (c.set_link.ensures.put.nodes m (node_in_column c.args.store.now (col_of c.args.self.now) m (c.requires.after m e)))
+pub set_prev-requires : goal.set_prev-requires
+set_prev-requires g c = λ m e. c.set_next.ensures.ends.nodes m (c.set_link.ensures.put.nodes m (node_in_column c.args.store.now (col_of c.args.self.now) m (column_of_node _ _ _ c.requires.node) (c.requires.after m e)))
 
 pub returns-clause-list : goal.returns-clause-list
 returns-clause-list g c = λ xs ys h new before after.

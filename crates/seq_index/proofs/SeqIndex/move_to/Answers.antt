@@ -3,9 +3,9 @@ use Rattle.node_store.specs.declared.Node.{Node}
 use Rattle.node_store.specs.Nodes.{Lacks}
 use Rattle.node_store.specs.ByNode.{column_of, same_node}
 use Rattle.list_model.specs.Walk.{relocated}
-use Rattle.node_store.proofs.ByNode.{IsNodeOf_kept}
+use Rattle.node_store.proofs.ByNode.{IsNode_kept}
 use Rattle.seq_index.specs.Spelled.{Spells, spelled}
-use Rattle.seq_index.proofs.Laws.{node_held}
+use Rattle.seq_index.proofs.Laws.{node_held, node_linked}
 use Rattle.seq_index.proofs.ChainLists.{AreNodesOf_kept}
 use Rattle.seq_index.proofs.Moves.{beside, lands_in, Spells_stays_before, Spells_stays_after, without_lacks, length_without}
 use Rattle.seq_index.proofs.SeqIndex.move_to.Goals as goal
@@ -32,7 +32,7 @@ returns-then-is_node g c =
 
 pub insert_between-requires-clause-node : goal.insert_between-requires-clause-node
 insert_between-requires-clause-node g c =
-    IsNodeOf_kept c.args.store.now c.unlink.new.store c.args.n c.unlink.ensures.chain.contents (node_held c.args.store.now c.args.self.now c.args.n c.requires.node.chain c.requires.node.held)
+    IsNode_kept c.args.store.now c.unlink.new.store _ _ c.args.n c.unlink.ensures.chain.contents c.unlink.ensures.chain.col (node_linked c.args.store.now c.args.self.now c.args.n c.requires.node.chain c.requires.node.held)
 
 pub insert_between-requires-clause-before : goal.insert_between-requires-clause-before
 insert_between-requires-clause-before g c = AreNodesOf_kept c.args.store.now c.unlink.new.store c.ends_at-before.result.0 c.unlink.ensures.chain.contents c.ends_at-before.ensures.before_held

@@ -7,8 +7,8 @@ use Rattle.seq_index.proofs.ChainLists.{at_node}
 use Rattle.seq_index.proofs.Runs.{Runs-node}
 use Rattle.seq_index.proofs.SeqIndex.next.Goals as goal
 
-pub link-requires-clause-node : goal.link-requires-clause-node
-link-requires-clause-node g c =
+pub link-requires : goal.link-requires
+link-requires g c =
     let h = rw c.requires.held.is at c.requires.chain.runs in
     Runs-node _ None c.requires.held.before c.args.n c.requires.held.after None h
 

@@ -4,7 +4,7 @@ use Rattle.std.proofs.lemmas.List.Sorted.{length_permutation}
 use Rattle.node_store.specs.declared.Node.{Node}
 use Rattle.node_store.specs.ByNode.{column_of}
 use Rattle.node_store.proofs.Members.{IsDistinct_moved, AllNodes_moved}
-use Rattle.node_store.proofs.ByNode.{node_of_column, IsNodeOf_kept}
+use Rattle.node_store.proofs.ByNode.{IsNode_kept}
 use Rattle.seq_index.specs.Spelled.{Spells, col_of}
 use Rattle.seq_index.proofs.Laws.{IsSound_from, Spells_nodes}
 use Rattle.seq_index.proofs.Rearranging.{all_at, coming, lacks_coming, spelled_coming, len_taken}
@@ -18,8 +18,8 @@ push-requires-clause-chain g c = IsSound_from _ _ _ c.loop-n.invariant.list
 
 pub push-requires-clause-node : goal.push-requires-clause-node
 push-requires-clause-node g c =
-    IsNodeOf_kept c.args.store.now c.loop-n.store _ c.loop-n.invariant.contents
-    (node_of_column c.args.store.now (col_of c.args.self.now) _ (all_at _ c.args.order.now c.loop-n.n-index _ c.loop-n-test.true (AllNodes_moved _ _ _ c.requires.same (Spells_nodes _ _ _ c.requires.chain))))
+    IsNode_kept c.args.store.now c.loop-n.store (col_of c.args.self.now) _ _ c.loop-n.invariant.contents c.loop-n.invariant.col
+    (all_at _ c.args.order.now c.loop-n.n-index _ c.loop-n-test.true (AllNodes_moved _ _ _ c.requires.same (Spells_nodes _ _ _ c.requires.chain)))
 
 pub push-requires-clause-new : goal.push-requires-clause-new
 push-requires-clause-new g c =

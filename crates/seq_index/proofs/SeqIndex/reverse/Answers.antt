@@ -4,8 +4,8 @@ use Rattle.seq_index.specs.Spelled.{spelled}
 use Rattle.seq_index.proofs.Turns.{Turning_node, Turning_step, Turning_done}
 use Rattle.seq_index.proofs.SeqIndex.reverse.Goals as goal
 
-pub link-a-requires-clause-node : goal.link-a-requires-clause-node
-link-a-requires-clause-node g c = Turning_node _ _ _ _ c.in-Some.n c.loop.invariant.turning c.in-Some.is
+pub link-a-requires : goal.link-a-requires
+link-a-requires g c = Turning_node _ _ _ _ c.in-Some.n c.loop.invariant.turning c.in-Some.is
 
 pub loop-preserved : goal.loop-preserved
 loop-preserved g c =

@@ -8,25 +8,25 @@ use Rattle.seq_index.proofs.Runs.{Runs-remove, Runs-node, Distinct-remove}
 use Rattle.seq_index.proofs.ChainLists.{first-remove, last-remove, length-remove, at_node}
 use Rattle.seq_index.proofs.SeqIndex.unlink.Goals as goal
 
-pub link-before-requires-clause-node : goal.link-before-requires-clause-node
-link-before-requires-clause-node g c =
+pub link-before-requires : goal.link-before-requires
+link-before-requires g c =
     let h = rw c.requires.held.is at c.requires.chain.runs in
     Runs-node _ None c.requires.held.before c.args.n c.requires.held.after None h
 
-pub set_next-requires-clause-node : goal.set_next-requires-clause-node
-set_next-requires-clause-node g c =
+pub set_next-requires : goal.set_next-requires
+set_next-requires g c =
     let h = rw c.requires.held.is at c.requires.chain in
     let at = at_node _ _ c.requires.held.before c.args.n c.requires.held.after c.link-before.result h c.link-before.ensures in
     λ m e. at.before m (sym at.a ∙ e)
 
-pub set_prev-requires-clause-node : goal.set_prev-requires-clause-node
-set_prev-requires-clause-node g c =
+pub set_prev-requires : goal.set_prev-requires
+set_prev-requires g c =
     let h = rw c.requires.held.is at c.requires.chain in
     let at = at_node _ _ c.requires.held.before c.args.n c.requires.held.after c.link-before.result h c.link-before.ensures in
     λ m e. c.set_next.ensures.ends.nodes m (at.after m (sym at.b ∙ e))
 
-pub set_link-requires-clause-node : goal.set_link-requires-clause-node
-set_link-requires-clause-node g c =
+pub set_link-requires : goal.set_link-requires
+set_link-requires g c =
     let h = rw c.requires.held.is at c.requires.chain.runs in
     c.set_prev.ensures.ends.nodes _ (c.set_next.ensures.ends.nodes _ (Runs-node _ None c.requires.held.before c.args.n c.requires.held.after None h))
 

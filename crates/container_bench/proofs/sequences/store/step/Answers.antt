@@ -2,11 +2,11 @@ use Rattle.node_store.proofs.ByNode.{node_in_column, nodes_kept}
 use Rattle.node_store.proofs.StoreLemmas.{nodes_with_record}
 use Rattle.container_bench.proofs.sequences.store.step.Goals as goal
 
-pub link-requires-clause-node : goal.link-requires-clause-node
-link-requires-clause-node c = node_in_column c.args.store.now 1 c.args.n c.requires
+pub link-requires : goal.link-requires
+link-requires c = node_in_column c.args.store.now 1 c.args.n c.requires
 
-pub set_link-requires-clause-node : goal.set_link-requires-clause-node
-set_link-requires-clause-node c = node_in_column c.args.store.now 1 c.args.n c.requires
+pub set_link-requires : goal.set_link-requires
+set_link-requires c = node_in_column c.args.store.now 1 c.args.n c.requires
 
 pub returns-in-GetMut : goal.returns-in-GetMut
 returns-in-GetMut c = nodes_with_record c.args.store.now c.args.n 1

@@ -9,20 +9,20 @@ use Rattle.node_store.proofs.shelf.Shelf.set_tag.Goals as goal
 
 pub get_mut-changed-requires : goal.get_mut-changed-requires
 get_mut-changed-requires g c =
-    let b = node_block _ c.self.inside.added c.args.n (node_of_column _ c.args.col c.args.n (rw (← c.self.view_is) at c.requires.node)) in
+    let b = node_block _ c.self.inside.added c.args.n (node_of_column _ c.args.col c.args.n (rw (← c.self.view_is) at c.requires)) in
     lies_at _ c.args.n.number _ b.0 b.1 b.2
 
 pub invariant_of-self : goal.invariant_of-self
 invariant_of-self g c =
-    let node = node_of_column _ c.args.col c.args.n (rw (← c.self.view_is) at c.requires.node) in
+    let node = node_of_column _ c.args.col c.args.n (rw (← c.self.view_is) at c.requires) in
     let b = node_block _ c.self.inside.added c.args.n node in
     let here = read_block _ c.args.n.number b.0 c.get_mut-changed.result.now b.1 (c.get_mut-changed.ensures.value b.0 b.1) in
     IsSound-kept _ _ _ _ _ c.args.n.number (lying b.0.at b.0.alloc c.get_mut-changed.result.now) _ c.self.invariant here refl refl (length-set _ _ _ ∙ (chain_block _ _ _ _ _ c.self.invariant.chain c.args.n.number _ here).1)
 
 pub returns-clause-put : goal.returns-clause-put
 returns-clause-put g c = λ link is.
-    let node = node_of_column _ c.args.col c.args.n (rw (← c.self.view_is) at c.requires.node) in
-    let there = column_of_node _ c.args.col c.args.n (rw (← c.self.view_is) at c.requires.node) in
+    let node = node_of_column _ c.args.col c.args.n (rw (← c.self.view_is) at c.requires) in
+    let there = column_of_node _ c.args.col c.args.n (rw (← c.self.view_is) at c.requires) in
     let b = node_block _ c.self.inside.added c.args.n node in
     let here = read_block _ c.args.n.number b.0 c.get_mut-changed.result.now b.1 (c.get_mut-changed.ensures.value b.0 b.1) in
     let changed = lying b.0.at b.0.alloc c.get_mut-changed.result.now in
@@ -35,14 +35,14 @@ returns-clause-put g c = λ link is.
 
 pub returns-clause-others : goal.returns-clause-others
 returns-clause-others g c =
-    let link = c.requires.node.block in
-    let node = node_of_column _ c.args.col c.args.n (rw (← c.self.view_is) at c.requires.node) in
-    let there = column_of_node _ c.args.col c.args.n (rw (← c.self.view_is) at c.requires.node) in
+    let link = c.requires.block in
+    let node = node_of_column _ c.args.col c.args.n (rw (← c.self.view_is) at c.requires) in
+    let there = column_of_node _ c.args.col c.args.n (rw (← c.self.view_is) at c.requires) in
     let b = node_block _ c.self.inside.added c.args.n node in
     let here = read_block _ c.args.n.number b.0 c.get_mut-changed.result.now b.1 (c.get_mut-changed.ensures.value b.0 b.1) in
     let changed = lying b.0.at b.0.alloc c.get_mut-changed.result.now in
     let below : c.args.col < length changed.value.links.row = omega (arith, there, (chain_block _ _ _ _ _ c.self.invariant.chain c.args.n.number _ here).1) in
-    let was = rw (← c.self.view_is) at c.requires.node.is in
+    let was = rw (← c.self.view_is) at c.requires.is in
     let same = same_Some _ _ (sym (link_kept _ c.self.inside.added c.args.n changed c.args.col _ node here there below) ∙ was) in
     let to = linked _ c.self.inside.added c.args.n changed c.args.col c.set_tag.new.self (record link { tag = c.args.tag }) (c.set_tag.ensures ∙ ap (λ (l : Link). record l { tag = c.args.tag }) same) here in
     let relinked = Relinks-with_link _ c.args.n c.args.col (record link { tag = c.args.tag }) (HasBlocks-view _ _ _ _ _ c.self.invariant) node there in
@@ -50,24 +50,24 @@ returns-clause-others g c =
 
 pub returns-clause-contents : goal.returns-clause-contents
 returns-clause-contents g c =
-    let link = c.requires.node.block in
-    let node = node_of_column _ c.args.col c.args.n (rw (← c.self.view_is) at c.requires.node) in
-    let there = column_of_node _ c.args.col c.args.n (rw (← c.self.view_is) at c.requires.node) in
+    let link = c.requires.block in
+    let node = node_of_column _ c.args.col c.args.n (rw (← c.self.view_is) at c.requires) in
+    let there = column_of_node _ c.args.col c.args.n (rw (← c.self.view_is) at c.requires) in
     let b = node_block _ c.self.inside.added c.args.n node in
     let here = read_block _ c.args.n.number b.0 c.get_mut-changed.result.now b.1 (c.get_mut-changed.ensures.value b.0 b.1) in
     let changed = lying b.0.at b.0.alloc c.get_mut-changed.result.now in
     let below : c.args.col < length changed.value.links.row = omega (arith, there, (chain_block _ _ _ _ _ c.self.invariant.chain c.args.n.number _ here).1) in
-    let was = rw (← c.self.view_is) at c.requires.node.is in
+    let was = rw (← c.self.view_is) at c.requires.is in
     let same = same_Some _ _ (sym (link_kept _ c.self.inside.added c.args.n changed c.args.col _ node here there below) ∙ was) in
     let to = linked _ c.self.inside.added c.args.n changed c.args.col c.set_tag.new.self (record link { tag = c.args.tag }) (c.set_tag.ensures ∙ ap (λ (l : Link). record l { tag = c.args.tag }) same) here in
     let relinked = Relinks-with_link _ c.args.n c.args.col (record link { tag = c.args.tag }) (HasBlocks-view _ _ _ _ _ c.self.invariant) node there in
     rw (← c.self.view_is, to) (contents-relinked _ _ c.args.n c.args.col (record link { tag = c.args.tag }) relinked (added-with_link _ c.args.n c.args.col (record link { tag = c.args.tag })) (len-with_link _ c.args.n c.args.col (record link { tag = c.args.tag })))
 
 pub bounds-changed-col : goal.bounds-changed-col
-bounds-changed-col g c = column_of_node _ c.args.col c.args.n (rw (← c.self.view_is) at c.requires.node)
+bounds-changed-col g c = column_of_node _ c.args.col c.args.n (rw (← c.self.view_is) at c.requires)
 
 pub offset_bounds-changed-col : goal.offset_bounds-changed-col
 offset_bounds-changed-col g c =
-    let there = column_of_node _ c.args.col c.args.n (rw (← c.self.view_is) at c.requires.node) in
+    let there = column_of_node _ c.args.col c.args.n (rw (← c.self.view_is) at c.requires) in
     let narrow = c.self.invariant.narrow in
     omega arith

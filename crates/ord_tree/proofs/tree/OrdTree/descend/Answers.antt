@@ -26,8 +26,8 @@ loop-at-init g c =
       few = omega (arith, high);
     }
 
-pub link-link-requires-clause-node : goal.link-link-requires-clause-node
-link-link-requires-clause-node g c = Nears-node g.T.Tally.of _ _ _ _ _ _ c.loop-at.invariant.nears c.in-Some.n c.in-Some.is
+pub link-link-requires : goal.link-link-requires
+link-link-requires g c = Nears-node g.T.Tally.of _ _ _ _ _ _ c.loop-at.invariant.nears c.in-Some.n c.in-Some.is
 
 pub get-requires : goal.get-requires
 get-requires g c = node_of_column c.args.store.now c.args.self.now.col c.in-Some.n (record { block = c.link-link.result; is = c.link-link.ensures })

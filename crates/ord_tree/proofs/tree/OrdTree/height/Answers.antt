@@ -8,8 +8,8 @@ use Rattle.ord_tree.proofs.TreeLinks.{AreNodes-root, stored_height-is}
 use Rattle.ord_tree.proofs.Ways.{height_few, steps_few}
 use Rattle.ord_tree.proofs.tree.OrdTree.height.Goals as goal
 
-pub height_of-requires-clause-node : goal.height_of-requires-clause-node
-height_of-requires-clause-node g c =
+pub height_of-requires : goal.height_of-requires
+height_of-requires g c =
     let s = the_tree _ _ c.requires in
     subst (λ (o : Option Node). AreNodes (column_of c.args.store.now c.args.self.now.col) o) (sym s.root_is) (AreNodes-root g.T.Tally.of _ _ _ s.hangs)
 

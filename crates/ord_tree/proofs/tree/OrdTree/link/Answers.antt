@@ -1,11 +1,15 @@
 use Rattle.ord_tree.proofs.Laws.{the_tree}
 use Rattle.std.proofs.Common.{refl, ap, sym, ◌∙◌, rules}
+use Rattle.node_store.proofs.ByNode.{node_of_column}
 use Rattle.ord_tree.specs.Tree.{Leaf, Fork, root}
 use Rattle.ord_tree.proofs.Linking.{grafted_leaf, grafted_side, Spells-leaf}
 use Rattle.ord_tree.proofs.tree.OrdTree.link.Goals as goal
 
-pub graft-self-requires-clause-grafted : goal.graft-self-requires-clause-grafted
-graft-self-requires-clause-grafted g c =
+pub place_of-parent-requires-clause-node : goal.place_of-parent-requires-clause-node
+place_of-parent-requires-clause-node g c = node_of_column c.args.store.now _ c.args.n c.requires.node
+
+pub graft-self-requires : goal.graft-self-requires
+graft-self-requires g c =
     grafted_side _ _ _ _ _ _ _ c.args.n (the_tree _ _ c.requires.ordered.tree) c.place_of-parent.ensures c.requires.new c.join.ensures.joined
 
 pub returns : goal.returns

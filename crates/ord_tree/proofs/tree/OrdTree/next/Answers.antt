@@ -7,11 +7,11 @@ use Rattle.ord_tree.proofs.Removing.{index_whole, whole_node, has_tree, next_of,
 use Rattle.ord_tree.proofs.Climbing.{climb_from, has_climb}
 use Rattle.ord_tree.proofs.tree.OrdTree.next.Goals as goal
 
-pub link-link-requires-clause-node : goal.link-link-requires-clause-node
-link-link-requires-clause-node g c = whole_node g.T.Tally.of _ c.args.n _ (index_whole (column_of c.args.store.now) c.args.self.now c.args.n _ (the_tree _ _ c.requires.tree) c.requires.held)
+pub link-link-requires : goal.link-link-requires
+link-link-requires g c = whole_node g.T.Tally.of _ c.args.n _ (index_whole (column_of c.args.store.now) c.args.self.now c.args.n _ (the_tree _ _ c.requires.tree) c.requires.held)
 
-pub first_below-requires-clause-below : goal.first_below-requires-clause-below
-first_below-requires-clause-below g c =
+pub first_below-requires : goal.first_below-requires
+first_below-requires g c =
     let t = tree_of (column_of c.args.store.now) c.args.self.now in
     let w = index_whole (column_of c.args.store.now) c.args.self.now c.args.n t (the_tree _ _ c.requires.tree) c.requires.held in
     has_tree g.T.Tally.of _ c.args.n c.in-Some.right c.link-link.result t w c.link-link.ensures c.in-Some.is

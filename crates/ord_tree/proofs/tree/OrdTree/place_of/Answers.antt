@@ -11,8 +11,8 @@ use Rattle.ord_tree.proofs.tree.OrdTree.place_of.Goals as goal
 pub loop-at-init : goal.loop-at-init
 loop-at-init g c = let s = the_tree _ _ c.requires.ordered.tree in Seeks-start g.T.Tally.of _ _ _ _ _ s.hangs s.root_is
 
-pub link-link-requires-clause-node : goal.link-link-requires-clause-node
-link-link-requires-clause-node g c = Seeks-node g.T.Tally.of _ _ _ _ _ _ c.loop-at.invariant c.in-Some.m c.in-Some.is
+pub link-link-requires : goal.link-link-requires
+link-link-requires g c = Seeks-node g.T.Tally.of _ _ _ _ _ _ c.loop-at.invariant c.in-Some.m c.in-Some.is
 
 pub get-requires : goal.get-requires
 get-requires g c = node_of_column c.args.store.now c.args.self.now.col c.in-Some.m (record { block = c.link-link.result; is = c.link-link.ensures })

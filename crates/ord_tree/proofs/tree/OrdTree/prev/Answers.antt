@@ -10,11 +10,11 @@ use Rattle.ord_tree.proofs.Climbing.{climb_from, has_climb}
 use Rattle.ord_tree.proofs.Mirror.{flip_link, Whole-mirror, list_mirrored}
 use Rattle.ord_tree.proofs.tree.OrdTree.prev.Goals as goal
 
-pub link-link-requires-clause-node : goal.link-link-requires-clause-node
-link-link-requires-clause-node g c = whole_node g.T.Tally.of _ c.args.n _ (index_whole (column_of c.args.store.now) c.args.self.now c.args.n _ (the_tree _ _ c.requires.tree) c.requires.held)
+pub link-link-requires : goal.link-link-requires
+link-link-requires g c = whole_node g.T.Tally.of _ c.args.n _ (index_whole (column_of c.args.store.now) c.args.self.now c.args.n _ (the_tree _ _ c.requires.tree) c.requires.held)
 
-pub last_below-requires-clause-below : goal.last_below-requires-clause-below
-last_below-requires-clause-below g c =
+pub last_below-requires : goal.last_below-requires
+last_below-requires g c =
     let t = tree_of (column_of c.args.store.now) c.args.self.now in
     let h = c.requires.held in
     let column = column_of c.args.store.now c.args.self.now.col in

@@ -20,8 +20,8 @@ loop-at-init g c =
     let cuts = cuts_at (g.met.E.Extract.order_total c.args.keys.now index c.requires.others.key) c.args.row.now in
     Nears-start g.T.Tally.of _ _ _ _ _ s.hangs s.root_is (each_beside (is_kept c.args.except) _ _ s.distinct (subst (EachPair (Rises (side_of (record_of c.args.store.now) (λ a. compare a c.args.row.now)))) (kept_list c.args.except _) (Rises-from (record_of c.args.store.now) compare (λ a. compare a c.args.row.now) _ cuts c.requires.others.order)))
 
-pub link-link-requires-clause-node : goal.link-link-requires-clause-node
-link-link-requires-clause-node g c = Nears-node g.T.Tally.of _ _ _ _ _ _ c.loop-at.invariant c.in-Some.n c.in-Some.is
+pub link-link-requires : goal.link-link-requires
+link-link-requires g c = Nears-node g.T.Tally.of _ _ _ _ _ _ c.loop-at.invariant c.in-Some.n c.in-Some.is
 
 pub guide_at-requires-clause-node : goal.guide_at-requires-clause-node
 guide_at-requires-clause-node g c = node_of_column c.args.store.now c.args.self.now.col c.in-Some.n (record { block = c.link-link.result; is = c.link-link.ensures })

@@ -2,10 +2,10 @@ use Rattle.std.proofs.Common.{sym, subst, ◌∙◌, rules}
 use Rattle.std.specs.Prelude.{IsTrue}
 use Rattle.node_store.specs.Nodes.{Lacks}
 use Rattle.node_store.specs.ByNode.{column_of, record_of, same_node}
-use Rattle.node_store.proofs.ByNode.{IsNodeOf_kept, records_kept}
+use Rattle.node_store.proofs.ByNode.{IsNode_kept, records_kept}
 use Rattle.ord_tree.specs.Side.{order_at}
 use Rattle.ord_tree.specs.Spelled.{spelled}
-use Rattle.ord_tree.proofs.Laws.{spelled_is, IsSound_from, Lacks_without, node_held, Spells_list}
+use Rattle.ord_tree.proofs.Laws.{spelled_is, IsSound_from, Lacks_without, node_linked, Spells_list}
 use Rattle.ord_tree.proofs.Settling.{IsInOrder_same, placed_same, settled_anew}
 use Rattle.ord_tree.proofs.tree.OrdTree.settle.Goals as goal
 
@@ -17,7 +17,7 @@ link-requires-clause-ordered g c = record {
 }
 
 pub link-requires-clause-node : goal.link-requires-clause-node
-link-requires-clause-node g c = IsNodeOf_kept c.args.store.now _ c.args.n c.unlink.ensures.tree.contents (node_held c.args.store.now c.args.self.now c.args.n c.requires.node.tree c.requires.node.held)
+link-requires-clause-node g c = IsNode_kept c.args.store.now _ _ _ c.args.n c.unlink.ensures.tree.contents c.unlink.ensures.tree.col (node_linked c.args.store.now c.args.self.now c.args.n c.requires.node.tree c.requires.node.held)
 
 pub link-requires-clause-new : goal.link-requires-clause-new
 link-requires-clause-new g c =

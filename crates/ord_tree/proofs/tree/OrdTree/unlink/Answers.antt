@@ -3,11 +3,11 @@ use Rattle.ord_tree.proofs.Laws.{the_tree, without_is, Spells_list}
 use Rattle.ord_tree.proofs.Removing.{index_whole, whole_node, Spells-without}
 use Rattle.ord_tree.proofs.tree.OrdTree.unlink.Goals as goal
 
-pub take_out-self-requires-clause-whole : goal.take_out-self-requires-clause-whole
-take_out-self-requires-clause-whole g c = record { tree = _; is = index_whole _ _ c.args.n _ (the_tree _ _ c.requires.tree) c.requires.held; root_is = (the_tree _ _ c.requires.tree).root_is }
+pub take_out-self-requires : goal.take_out-self-requires
+take_out-self-requires g c = record { tree = _; is = index_whole _ _ c.args.n _ (the_tree _ _ c.requires.tree) c.requires.held; root_is = (the_tree _ _ c.requires.tree).root_is }
 
-pub set_link-requires-clause-node : goal.set_link-requires-clause-node
-set_link-requires-clause-node g c = c.take_out-self.ensures.nodes c.args.n (whole_node g.T.Tally.of _ _ _ (index_whole _ _ c.args.n _ (the_tree _ _ c.requires.tree) c.requires.held))
+pub set_link-requires : goal.set_link-requires
+set_link-requires g c = c.take_out-self.ensures.nodes c.args.n (whole_node g.T.Tally.of _ _ _ (index_whole _ _ c.args.n _ (the_tree _ _ c.requires.tree) c.requires.held))
 
 pub returns-clause-tree : goal.returns-clause-tree
 returns-clause-tree g c =

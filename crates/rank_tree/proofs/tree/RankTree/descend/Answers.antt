@@ -15,14 +15,14 @@ loop-at-init g c =
     let order = Rises-from (record_of c.args.store.now) (g.E.Extract.order_of c.args.keys.now index) (λ a. g.E.Extract.probe_order_of c.args.keys.now index a c.args.probe.now) (spelled (column_of c.args.store.now) c.args.self.now) cuts c.requires.order in
     Ranks_start _ _ _ _ _ t.hangs c.root-at.ensures order t.fits
 
-pub link-left-requires-clause-node : goal.link-left-requires-clause-node
-link-left-requires-clause-node g c = rank_node _ _ _ _ _ _ _ c.loop-at.invariant c.in-Some.n c.in-Some.is
+pub link-left-requires : goal.link-left-requires
+link-left-requires g c = rank_node _ _ _ _ _ _ _ c.loop-at.invariant c.in-Some.n c.in-Some.is
 
 pub get-requires : goal.get-requires
 get-requires g c = node_of_column c.args.store.now c.col-col.result c.in-Some.n (record { block = c.link-left.result; is = c.link-left.ensures })
 
-pub size_of-requires-clause-node : goal.size_of-requires-clause-node
-size_of-requires-clause-node g c =
+pub size_of-requires : goal.size_of-requires
+size_of-requires g c =
     (rank_turn _ _ _ _ _ c.in-Some.n _ c.link-left.result _ _ _ _ c.loop-at.invariant c.in-Some.is refl c.link-left.ensures refl refl).left_node
 
 pub overflow_add-rank : goal.overflow_add-rank

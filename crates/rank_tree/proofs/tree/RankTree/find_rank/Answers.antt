@@ -6,8 +6,8 @@ use Rattle.rank_tree.proofs.KeyRanks.{absent_rank}
 use Rattle.rank_tree.proofs.Whole.{root_nodes, root_size}
 use Rattle.rank_tree.proofs.tree.RankTree.find_rank.Goals as goal
 
-pub size_of-requires-clause-node : goal.size_of-requires-clause-node
-size_of-requires-clause-node g c = root_nodes (column_of c.args.store.now) c.args.self.now c.col.result c.root.result c.requires.tree c.col.ensures.col c.root.ensures
+pub size_of-requires : goal.size_of-requires
+size_of-requires g c = root_nodes (column_of c.args.store.now) c.args.self.now c.col.result c.root.result c.requires.tree c.col.ensures.col c.root.ensures
 
 pub returns-else-met : goal.returns-else-met
 returns-else-met g c =

@@ -9,11 +9,11 @@ loop-at-init g c =
     let t = hangs_at (column_of c.args.store.now) c.args.self.now c.col-col.result c.requires c.col-col.ensures.col in
     Nears_start _ _ _ _ t.hangs c.root-at.ensures t.fits
 
-pub link-left-requires-clause-node : goal.link-left-requires-clause-node
-link-left-requires-clause-node g c = near_node _ _ _ _ _ _ c.loop-at.invariant c.in-Some.n c.in-Some.is
+pub link-left-requires : goal.link-left-requires
+link-left-requires g c = near_node _ _ _ _ _ _ c.loop-at.invariant c.in-Some.n c.in-Some.is
 
-pub size_of-before-requires-clause-node : goal.size_of-before-requires-clause-node
-size_of-before-requires-clause-node g c = (near_turn _ _ _ _ c.in-Some.n c.link-left.result _ _ _ c.loop-at.invariant c.in-Some.is c.link-left.ensures refl).left_node
+pub size_of-before-requires : goal.size_of-before-requires
+size_of-before-requires g c = (near_turn _ _ _ _ c.in-Some.n c.link-left.result _ _ _ c.loop-at.invariant c.in-Some.is c.link-left.ensures refl).left_node
 
 pub returns-then-rest-before-clause-node : goal.returns-then-rest-before-clause-node
 returns-then-rest-before-clause-node g c =

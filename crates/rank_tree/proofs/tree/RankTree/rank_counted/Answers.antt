@@ -9,13 +9,13 @@ use Rattle.rank_tree.proofs.Climbs.{climb_start, climb_parent, climb_turn, climb
 use Rattle.rank_tree.proofs.Whole.{whole_at, few_links, links_fit}
 use Rattle.rank_tree.proofs.tree.RankTree.rank_counted.Goals as goal
 
-pub link-left-requires-clause-node : goal.link-left-requires-clause-node
-link-left-requires-clause-node g c =
+pub link-left-requires : goal.link-left-requires
+link-left-requires g c =
     let w = whole_at (column_of c.args.store.now) c.args.self.now c.col-col.result c.args.n c.requires.tree c.requires.held c.col-col.ensures.col in
     whole_node size_tally (column_of c.args.store.now c.col-col.result) c.args.n (tree_of (column_of c.args.store.now) c.args.self.now.tree) w
 
-pub size_of-rank-requires-clause-node : goal.size_of-rank-requires-clause-node
-size_of-rank-requires-clause-node g c =
+pub size_of-rank-requires : goal.size_of-rank-requires
+size_of-rank-requires g c =
     let w = whole_at (column_of c.args.store.now) c.args.self.now c.col-col.result c.args.n c.requires.tree c.requires.held c.col-col.ensures.col in
     (climb_start _ _ c.args.n c.link-left.result _ w c.link-left.ensures refl).0
 
@@ -24,8 +24,8 @@ loop-at-init g c =
     let w = whole_at (column_of c.args.store.now) c.args.self.now c.col-col.result c.args.n c.requires.tree c.requires.held c.col-col.ensures.col in
     (climb_start _ _ c.args.n c.link-left.result _ w c.link-left.ensures c.size_of-rank.ensures).1
 
-pub link-left-requires-in-Some-clause-node : goal.link-left-requires-in-Some-clause-node
-link-left-requires-in-Some-clause-node g c = climb_parent _ _ _ _ _ _ _ c.loop-at.invariant c.in-Some.parent c.in-Some.is
+pub link-left-requires-in-Some : goal.link-left-requires-in-Some
+link-left-requires-in-Some g c = climb_parent _ _ _ _ _ _ _ c.loop-at.invariant c.in-Some.parent c.in-Some.is
 
 pub is_node-from_left-requires-clause-other : goal.is_node-from_left-requires-clause-other
 is_node-from_left-requires-clause-other g c = λ m e.
@@ -40,8 +40,8 @@ overflow_add-links g c =
     let fit = links_fit (column_of c.args.store.now) c.args.self.now (c.loop-at.links + 1) c.requires.tree (omega (arith, t.higher)) in
     omega (arith, fit)
 
-pub size_of-requires-clause-node : goal.size_of-requires-clause-node
-size_of-requires-clause-node g c =
+pub size_of-requires : goal.size_of-requires
+size_of-requires g c =
     (climb_turn _ _ _ _ _ c.in-Some.parent c.link-left-in-Some.result _ _ _ c.loop-at.invariant c.in-Some.is c.link-left-in-Some.ensures refl).left_node
 
 pub overflow_add-rank : goal.overflow_add-rank
