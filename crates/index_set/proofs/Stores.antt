@@ -1,24 +1,24 @@
 -- A store stays one where a node comes or goes, and where all but links stays.
-use Rattle.std.proofs.Common.{◌≡◌, ℕ, ◌+◌, None, Option, Result, Ok, Err, sym, ap, ◌∙◌, subst, arith, ⊎_elim}
+use Rattle.std.proofs.Common.{◌≡◌, ℕ, ◌+◌, ◌≤◌, None, Option, Result, Ok, Err, sym, ap, ◌∙◌, subst, arith, ⊎_elim}
 use Rattle.std.specs.Prelude.{IfOk, OnOk, OnErr}
 use Rattle.std.specs.Option.{option_map}
 use Rattle.std.specs.Ordering.{nat_cmp}
 use Rattle.std.specs.FinMap as map
 use Rattle.std.proofs.lemmas.Bool.{cases_eq}
 use Rattle.node_store.specs.declared.Node.{Node}
-use Rattle.node_store.specs.Store.{Store, Entry, IsStore, number_of, nodes, empty_store}
+use Rattle.node_store.specs.Store.{Store, Entry, IsStore, number_of, nodes, empty_store, width_of}
 use Rattle.node_store.specs.ByNode.{contents, AddsNode, RemovesNode}
-use Rattle.node_store.proofs.ByNode.{nodes_kept, added_kept}
+use Rattle.node_store.proofs.ByNode.{nodes_kept, added_kept, width_kept}
 
-no_node : (R : Type 0) (k : ℕ) → nodes (empty_store {R = R}) k ≡ None
+no_node : (R : Type 0) (width k : ℕ) → nodes (empty_store {R = R} width) k ≡ None
 unfolding nodes
-no_node R k = ap (option_map (λ (e : Entry R). e.node)) (map.get-empty nat_cmp k)
+no_node R width k = ap (option_map (λ (e : Entry R). e.node)) (map.get-empty nat_cmp k)
 
 module _ {R : Type 0} where
-  pub IsStore_empty : IsStore (empty_store {R = R})
-  IsStore_empty = record {
-    numbered = λ k n at. let bad = sym at ∙ no_node R k in cc;
-    bounded = λ k le. no_node R k;
+  pub IsStore_empty : (width : ℕ) → IsStore (empty_store {R = R} width)
+  IsStore_empty width = record {
+    numbered = λ k n at. let bad = sym at ∙ no_node R width k in cc;
+    bounded = λ k le. no_node R width k;
   }
 
   -- the nodes stay
@@ -30,6 +30,10 @@ module _ {R : Type 0} where
 
   pub IsStore_kept : (old new : Store R) → contents new ≡ contents old → IsStore old → IsStore new
   IsStore_kept old new same = IsStore_same old new (nodes_kept old new same) (added_kept old new same)
+
+  -- so many columns
+  pub columns_kept : {count : ℕ} (old new : Store R) → contents new ≡ contents old → count ≤ width_of old → count ≤ width_of new
+  columns_kept old new same le = omega (arith, le, width_kept old new same)
 
   -- a node comes, under the next number
   pub IsStore_added : (old new : Store R) (n : Node) (value : R) → AddsNode old new n value → number_of n ≡ old.added → new.added ≡ old.added + 1 → IsStore old → IsStore new
@@ -62,3 +66,7 @@ module _ {R : Type 0} where
       OnOk result (new.added ≡ old.added + 1) → OnErr result (new ≡ old) → IsStore old → IsStore new
   IsStore_after old new value (Ok n) a number count u h = IsStore_added old new n value a number count h
   IsStore_after old new value (Err e) a number count u h = subst IsStore (sym u) h
+
+  pub width_after : {X : Type 0} (old new : Store R) (value : R) (result : Result Node X) → IfOk result (λ n. AddsNode old new n value) → OnErr result (new ≡ old) → width_of new ≡ width_of old
+  width_after old new value (Ok n) a u = a.width
+  width_after old new value (Err e) a u = ap width_of u

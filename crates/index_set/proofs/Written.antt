@@ -13,7 +13,7 @@ use Rattle.node_store.specs.Store as store
 use Rattle.node_store.specs.ByNode.{column_of, record_of, of_node, same_node}
 use Rattle.node_store.proofs.ByNode.{node_cases, record_of-at, column_of_with_record}
 use Rattle.node_store.proofs.Members.{same_node-false}
-use Rattle.node_store.proofs.StoreLemmas.{nodes_with_record, added_with_record, Rewrites-with_record}
+use Rattle.node_store.proofs.StoreLemmas.{nodes_with_record, added_with_record, width_with_record, Rewrites-with_record}
 use Rattle.container_model.specs.State.{has_key_kind}
 use Rattle.any_index.specs.declared.index.AnyIndex.{AnyIndex}
 use Rattle.any_index.specs.Side.{order_at}
@@ -69,6 +69,7 @@ module _ {R E : Type 0} (s : IndexSet R E) (n : Node) (r : R) where
     few = h.few;
     keys = h.keys;
     nodes = IsStore_same s.store (store.with_record s.store n r) (nodes_with_record s.store n r) (added_with_record s.store n r) h.nodes;
+    columns = omega (arith, h.columns, width_with_record s.store n r);
     placed = subst (λ (cs : ℕ → Column). ArePlaced cs s.specs.items s.indices.items) (sym (columns_written s.store n r)) h.placed;
   }
 

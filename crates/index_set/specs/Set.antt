@@ -4,7 +4,7 @@ use Rattle.std.specs.Option.{option_map_or}
 use Rattle.std.specs.declared.cmp.Ordering.{Ordering}
 use Rattle.std.specs.declared.cmp.Ordering.TheVariants.{Equal}
 use Rattle.node_store.specs.declared.Node.{Node}
-use Rattle.node_store.specs.Store.{Store, IsStore}
+use Rattle.node_store.specs.Store.{Store, IsStore, width_of}
 use Rattle.node_store.specs.Store as records
 use Rattle.node_store.specs.ByNode as store
 use Rattle.container_model.specs.declared.handle.Spec.{Spec}
@@ -58,13 +58,14 @@ module _ {R E : Type 0} where
   HasRoom s = every.HaveRoom s.specs.items s.indices.items
 
   -- what holds of every set: one to eight indices, of which those that compare records, and they alone, have a key, over a
-  -- store of numbered nodes
+  -- store of numbered nodes with a column for each
   pub record IsSound (has_key : E → ℕ → Bool) (s : IndexSet R E) : Type 0 where
     pub some : 1 ≤ length s.specs.items
     pub few : length s.specs.items ≤ 8
     pub keys : KeysMatch (has_key s.keys) s.specs.items
     pub placed : every.ArePlaced (store.column_of s.store) s.specs.items s.indices.items
     pub nodes : IsStore s.store
+    pub columns : length s.specs.items ≤ width_of s.store
 
   -- each index has its nodes where their records' keys put them
   abbrev pub IsKeyed : (E → ℕ → R → R → Ordering) → (E → ℕ → R → ℕ) → IndexSet R E → Type 0

@@ -1,6 +1,6 @@
 //! A set without records again.
 ghost use Rattle.std.specs.Prelude.{◌≡◌, ℕ, None, [], map};
-ghost use Rattle.node_store.specs.Store.{IsStore, nodes, len_of};
+ghost use Rattle.node_store.specs.Store.{IsStore, nodes, len_of, width_of};
 ghost use Rattle.node_store.specs.Age.{nodes_of};
 ghost use Rattle.index_set.specs.Set.{store_of, specs_of, lists_of, IsSound, IsKeyed, IsUniqueExcept, IsOfSame};
 
@@ -15,6 +15,7 @@ fn remove_all<R: Drop>(store: &mut NodeStore<R>)
     ensures sound { IsStore store.new }
     ensures nodes { (k : ℕ) → nodes store.new k ≡ None }
     ensures count { store.new.added ≡ store.old.added }
+    ensures width { width_of store.new ≡ width_of store.old }
 {
     while let Some(n) = store.newest() {
         store.remove(n);

@@ -3,7 +3,7 @@ ghost use Rattle.std.specs.Prelude.{◌≡◌, ℕ, ◌≤◌, ◌<◌, Some, On
 ghost use Rattle.std.specs.declared.cmp.Ordering.{Ordering};
 ghost use Rattle.list_model.specs.Walk.{without};
 ghost use Rattle.node_store.specs.Column.{Column};
-ghost use Rattle.node_store.specs.Store.{IsNodeOf};
+ghost use Rattle.node_store.specs.Store.{IsNodeOf, width_of};
 ghost use Rattle.node_store.specs.ByNode.{column_of, record_of, contents, same_node};
 ghost use Rattle.container_model.specs.State.{KeysMatch};
 ghost use Rattle.container_model.specs.Insert.{place_in};
@@ -87,6 +87,7 @@ pub(crate) fn enter_each<R, E: Extract<R>>(
 )
     requires placed { ArePlaced (column_of store.old) specs.now indices.old }
     requires keys { KeysMatch (E.has_key keys.now) specs.now }
+    requires columns { length specs.now ≤ width_of store.old }
     requires node { IsNodeOf store.old n }
     requires new { LackIt (lists_in (column_of store.old) indices.old) n }
     requires room { HaveRoom specs.now indices.old }

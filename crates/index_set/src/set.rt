@@ -2,7 +2,7 @@
 ghost use Rattle.std.specs.Prelude.{◌≡◌, ◌+◌, ◌≤◌, ◌<◌, ◌^◌, ℕ, [], map, length, Some, None, IfOk, IfErr, OnOk, OnErr};
 ghost use Rattle.std.specs.Borrow.{sem};
 ghost use Rattle.list_model.specs.Walk.{without};
-ghost use Rattle.node_store.specs.Store.{IsNodeOf, nodes, number_of, len_of, empty_store};
+ghost use Rattle.node_store.specs.Store.{IsNodeOf, nodes, number_of, len_of, width_of, empty_store};
 ghost use Rattle.node_store.specs.Age.{last_below};
 ghost use Rattle.node_store.specs.ByNode.{AddsNode, RemovesNode, same_node};
 ghost use Rattle.container_model.specs.State.{KeysMatch};
@@ -40,14 +40,15 @@ impl<R: Drop, E: Extract<R> + Drop> IndexSet<R, E> {
         ensures sound { IfOk result (λ made. IsSound E.has_key made) }
         ensures keyed { IfOk result (λ made. IsKeyed E.order_of E.hash_of made) }
         ensures lists { IfOk result (λ made. lists_of made ≡ map (λ _. []) specs.items) }
-        ensures empty { IfOk result (λ made. store_of made ≡ empty_store) }
+        ensures empty { IfOk result (λ made.
+            store_of made ≡ empty_store (width_of (store_of made))) }
         ensures keys { IfOk result (λ made. keys_of made ≡ keys) }
         ensures specs { IfOk result (λ made. specs_of made ≡ specs.items) }
     {
         let indices = empty_indices(alloc, &specs)?;
         Ok(IndexSet {
             alloc,
-            store: NodeStore::new(alloc),
+            store: NodeStore::new(alloc, specs.len()),
             keys,
             specs,
             indices,

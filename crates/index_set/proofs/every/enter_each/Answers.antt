@@ -1,8 +1,9 @@
-use Rattle.std.proofs.Common.{◌∙◌, sym, subst, length, ◌≤◌, arith, false}
+use Rattle.std.proofs.Common.{◌∙◌, sym, subst, length, ◌≤◌, ◌<◌, arith, false}
 use Rattle.std.proofs.lemmas.List.{length-map}
 use Rattle.node_store.specs.Nodes.{Lacks}
+use Rattle.node_store.specs.Store.{width_of}
 use Rattle.node_store.specs.ByNode.{column_of}
-use Rattle.node_store.proofs.ByNode.{IsNodeOf_kept}
+use Rattle.node_store.proofs.ByNode.{IsNodeOf_kept, node_in_column, width_kept}
 use Rattle.container_model.specs.declared.handle.Kind.TheVariants.{Sequenced}
 use Rattle.any_index.specs.Spelled.{list_of}
 use Rattle.index_set.proofs.Each.{all_listed}
@@ -25,7 +26,12 @@ enter-requires-clause-filed g c = record {
 }
 
 pub enter-requires-clause-node : goal.enter-requires-clause-node
-enter-requires-clause-node g c = IsNodeOf_kept c.args.store.now c.loop-index.store c.args.n c.loop-index.invariant.walk.contents c.requires.node
+enter-requires-clause-node g c =
+    let placed = c.loop-index.invariant.walk.placed.each c.loop-index.index (record { kind = Sequenced; unique = false }) _ c.loop-index-test.true in
+    let kept = width_kept c.args.store.now c.loop-index.store c.loop-index.invariant.walk.contents in
+    let below : c.loop-index.index < width_of c.loop-index.store = omega (arith, c.requires.columns, kept, c.loop-index-test.true) in
+    node_in_column c.loop-index.store _ c.args.n (subst (λ k. k < width_of c.loop-index.store) (sym placed.col) below)
+    (IsNodeOf_kept c.args.store.now c.loop-index.store c.args.n c.loop-index.invariant.walk.contents c.requires.node)
 
 pub enter-requires-clause-new : goal.enter-requires-clause-new
 enter-requires-clause-new g c =

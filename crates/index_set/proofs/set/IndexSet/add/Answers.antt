@@ -1,5 +1,6 @@
+use Rattle.std.proofs.Common.{arith}
 use Rattle.index_set.proofs.Coming.{placed_after, lists_after, lacks_after, keyed_after}
-use Rattle.index_set.proofs.Stores.{IsStore_after}
+use Rattle.index_set.proofs.Stores.{IsStore_after, width_after}
 use Rattle.index_set.proofs.set.IndexSet.add.Goals as goal
 
 pub returns-clause-sound : goal.returns-clause-sound
@@ -11,6 +12,7 @@ returns-clause-sound g c =
       keys = old.keys;
       placed = placed_after c.args.self.now.store c.add.new.self c.args.value c.args.self.now.specs.items c.args.self.now.indices.items old.placed c.add.result c.add.ensures.added c.add.ensures.unchanged;
       nodes = IsStore_after c.args.self.now.store c.add.new.self c.args.value c.add.result c.add.ensures.added c.add.ensures.number c.add.ensures.count c.add.ensures.unchanged old.nodes;
+      columns = omega (arith, old.columns, width_after c.args.self.now.store c.add.new.self c.args.value c.add.result c.add.ensures.added c.add.ensures.unchanged);
     }
 
 pub returns-clause-lists : goal.returns-clause-lists

@@ -1,4 +1,4 @@
-use Rattle.std.proofs.Common.{rules}
+use Rattle.std.proofs.Common.{arith, rules}
 use Rattle.index_set.proofs.Emptied.{no_nodes, no_length, emptied_placed, emptied_lists, emptied_keyed, emptied_unique}
 use Rattle.index_set.proofs.set.IndexSet.clear.Goals as goal
 
@@ -9,6 +9,7 @@ returns-clause-sound g c = record {
   keys = c.requires.keys;
   placed = emptied_placed c.remove_all.new.store c.args.self.now.specs.items c.deref.result.now c.deref.ensures.value c.args.self.now.indices.len c.args.self.now.indices.items c.empty_each.new.indices (search rules) c.requires.placed.one_each c.empty_each.ensures.placed c.empty_each.ensures.empty;
   nodes = c.remove_all.ensures.sound;
+  columns = omega (arith, c.requires.columns, c.remove_all.ensures.width);
 }
 
 pub returns-clause-lists : goal.returns-clause-lists

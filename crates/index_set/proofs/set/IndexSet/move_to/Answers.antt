@@ -4,7 +4,7 @@ use Rattle.node_store.specs.ByNode.{same_node}
 use Rattle.index_set.proofs.Frame.{steps_of}
 use Rattle.index_set.proofs.Reading.{list_here}
 use Rattle.index_set.proofs.Moving.{placed_moved, lists_moved, room_moved, keyed_moved}
-use Rattle.index_set.proofs.Stores.{IsStore_kept}
+use Rattle.index_set.proofs.Stores.{IsStore_kept, columns_kept}
 use Rattle.index_set.proofs.set.IndexSet.move_to.Goals as goal
 
 pub returns-clause-sound : goal.returns-clause-sound
@@ -16,6 +16,7 @@ returns-clause-sound g c =
       keys = old.keys;
       placed = placed_moved c.args.self.now c.requires.at.sound c.args.index c.requires.at.index c.index_mut.result.now c.move_to.new.self c.index_mut.ensures.value c.move_to.new.store (steps_of c.move_to.ensures.sound c.move_to.ensures.rest.kind c.move_to.ensures.rest.col c.move_to.ensures.rest.index c.move_to.ensures.rest.others);
       nodes = IsStore_kept c.args.self.now.store c.move_to.new.store c.move_to.ensures.rest.contents old.nodes;
+      columns = columns_kept c.args.self.now.store c.move_to.new.store c.move_to.ensures.rest.contents old.columns;
     }
 
 pub returns-clause-lists : goal.returns-clause-lists

@@ -1,5 +1,5 @@
-use Rattle.std.proofs.Common.{ap, sym, ◌∙◌, subst, length, map, []}
-use Rattle.node_store.specs.Store.{IsStore}
+use Rattle.std.proofs.Common.{ap, sym, ◌∙◌, subst, length, map, [], arith}
+use Rattle.node_store.specs.Store.{IsStore, width_of}
 use Rattle.node_store.specs.ByNode.{column_of}
 use Rattle.index_set.specs.Indices.{ArePlaced}
 use Rattle.index_set.proofs.Coming.{keyed_empty}
@@ -12,7 +12,8 @@ returns-clause-sound g c = record {
   few = c.requires.few;
   keys = c.requires.keys;
   placed = subst (λ ds. ArePlaced (column_of c.new.result) ds c.in_ok-indices.indices.items) c.deref.ensures.value (c.in_ok-indices.ensures.placed (column_of c.new.result));
-  nodes = subst IsStore (sym c.new.ensures) IsStore_empty;
+  nodes = subst IsStore (sym c.new.ensures.empty) (IsStore_empty (width_of c.new.result));
+  columns = omega (arith, c.new.ensures.enough, c.len.ensures);
 }
 
 pub returns-clause-keyed : goal.returns-clause-keyed

@@ -1,3 +1,4 @@
+use Rattle.std.proofs.Common.{arith}
 use Rattle.index_set.proofs.Coming.{placed_removed, lists_removed, keyed_removed}
 use Rattle.index_set.proofs.Stores.{IsStore_removed}
 use Rattle.index_set.proofs.set.IndexSet.remove.Goals as goal
@@ -11,6 +12,7 @@ returns-clause-sound g c =
       keys = old.keys;
       placed = placed_removed c.args.self.now.store c.remove.new.self c.args.n c.args.self.now.specs.items c.args.self.now.indices.items c.remove.ensures.removed old.placed c.requires.loose;
       nodes = IsStore_removed c.args.self.now.store c.remove.new.self c.args.n c.remove.ensures.removed c.remove.ensures.count old.nodes;
+      columns = omega (arith, old.columns, c.remove.ensures.removed.width);
     }
 
 pub returns-clause-lists : goal.returns-clause-lists

@@ -2,7 +2,7 @@ use Rattle.std.proofs.Common.{rules, ◌≡◌, ◌∙◌, ap, sym, subst, lengt
 use Rattle.node_store.specs.ByNode.{column_of}
 use Rattle.index_set.specs.Indices.{ArePlaced, AreKeyed}
 use Rattle.index_set.proofs.Refilled.{refilled}
-use Rattle.index_set.proofs.Stores.{IsStore_kept}
+use Rattle.index_set.proofs.Stores.{IsStore_kept, columns_kept}
 use Rattle.index_set.proofs.set.IndexSet.reserve_one.Goals as goal
 
 pub returns-clause-sound : goal.returns-clause-sound
@@ -18,6 +18,7 @@ returns-clause-sound g c =
       keys = old.keys;
       placed = subst (λ z. ArePlaced (column_of c.reserve_each.new.store) c.args.self.now.specs.items z) (sym (refilled c.args.self.now.indices.len c.args.self.now.indices.items c.reserve_each.new.indices held same)) placed;
       nodes = IsStore_kept c.args.self.now.store c.reserve_each.new.store c.reserve_each.ensures.contents old.nodes;
+      columns = columns_kept c.args.self.now.store c.reserve_each.new.store c.reserve_each.ensures.contents old.columns;
     }
 
 pub returns-clause-keyed : goal.returns-clause-keyed
