@@ -132,9 +132,9 @@ module _ {R : Type 0} where
   pub handles_kept : (old new : Store (Entry R)) (lists : List (List Node)) → contents new ≡ contents old → handles_in (record_of new) lists ≡ handles_in (record_of old) lists
   handles_kept old new lists same = ap (λ (records : Node → Option (Entry R)). handles_in records lists) (records_kept old new same)
 
-  pub entries-empty : entries_in (contents (empty_store {R = Entry R})) ≡ []
+  pub entries-empty : (width : ℕ) → entries_in (contents (empty_store {R = Entry R} width)) ≡ []
   unfolding contents
-  entries-empty = refl
+  entries-empty width = refl
 
   -- ---- when a node comes
 

@@ -104,9 +104,9 @@ leads_kept {R} old new slots same leads =
       slot_of = λ k n at. let p = leads.slot_of k n at in (IsNodeOf_kept old new n same p.0, ap (λ (h : Handle). h.slot) (handle n) ∙ p.1);
     }
 
-pub leads-empty : (R : Type 0) → LeadsTo (empty_store {R = Entry R}) []
+pub leads-empty : (R : Type 0) (width : ℕ) → LeadsTo (empty_store {R = Entry R} width) []
 unfolding nodes
-leads-empty R = record {
+leads-empty R width = record {
   node_at = λ n is. let bad = sym is ∙ ap (option_map (λ (e : Kept (Entry R)). e.node)) (map.get-empty nat_cmp (number_of n)) in cc;
   slot_of = λ k n at. cc;
 }

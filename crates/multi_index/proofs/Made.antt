@@ -3,7 +3,7 @@ use Rattle.std.proofs.Common.{◌≡◌, ℕ, ◌<◌, ◌≤◌, ◌^◌, Bool,
 use Rattle.std.specs.declared.cmp.Ordering.{Ordering}
 use Rattle.list_model.specs.Order.{EachPair}
 use Rattle.node_store.specs.declared.Node.{Node}
-use Rattle.node_store.specs.Store.{Store, empty_store}
+use Rattle.node_store.specs.Store.{Store, empty_store, width_of}
 use Rattle.node_store.specs.ByNode as node
 use Rattle.container_model.specs.declared.handle.Entry.{Entry}
 use Rattle.container_model.specs.declared.handle.Spec.{Spec}
@@ -28,9 +28,9 @@ no_handles records [] = refl
 no_handles records (spec ∷ specs) = ap (λ ls. [] ∷ ls) (no_handles records specs)
 
 module _ {E R : Type 0} (set : IndexSet (Entry R) (ByRow E)) (keys : E) (specs : List Spec) (max first_write : ℕ)
-    (lists : lists_of set ≡ map (λ _. []) specs) (none : store_of set ≡ empty_store) (same_keys : (keys_of set).keys ≡ keys) (same_specs : specs_of set ≡ specs) where
+    (lists : lists_of set ≡ map (λ _. []) specs) (none : store_of set ≡ empty_store (width_of (store_of set))) (same_keys : (keys_of set).keys ≡ keys) (same_specs : specs_of set ≡ specs) where
   no_entries : entries_in (contents set) ≡ []
-  no_entries = ap (λ (s : Store (Entry R)). entries_in (node.contents s)) none ∙ entries-empty
+  no_entries = ap (λ (s : Store (Entry R)). entries_in (node.contents s)) none ∙ entries-empty (width_of (store_of set))
 
   pub seen_made : seen set max first_write ≡ empty keys specs max first_write
   seen_made =
@@ -47,7 +47,7 @@ module _ {E R : Type 0} (set : IndexSet (Entry R) (ByRow E)) (keys : E) (specs :
       unique = subst (AreUniqueFrom (λ index a b. order (keys_of set).keys index a.row b.row) (record_of set) None 0 (specs_of set)) (sym (lists ∙ ap (map (λ _. [])) (sym same_specs)))
           (unique_empty (λ index a b. order (keys_of set).keys index a.row b.row) (record_of set) 0 (specs_of set));
       apart = subst (EachPair _) (sym no_entries) tt;
-      leads = subst (λ (s : Store (Entry R)). LeadsTo s []) (sym none) (leads-empty R);
+      leads = subst (λ (s : Store (Entry R)). LeadsTo s []) (sym none) (leads-empty R (width_of (store_of set)));
     };
     state = subst (IsState has_key order) (sym seen_made) (IsState-empty has_key order keys specs max first_write match);
     narrow = narrow;
