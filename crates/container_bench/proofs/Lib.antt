@@ -4,3 +4,4 @@ pub mod Found
 pub mod Rewritten
 pub mod Trees
 pub mod KeyedBuckets
+mod InColumns

@@ -1,12 +1,13 @@
 -- Trees of words stay in order.
-use Rattle.std.proofs.Common.{◌≡◌, ℕ, List, [], refl, sym, subst}
+use Rattle.std.proofs.Common.{◌≡◌, ℕ, ◌<◌, arith, List, [], refl, sym, subst}
 use Rattle.std.specs.Ordering.{nat_cmp}
 use Rattle.std.proofs.lemmas.Cmp.{nat_cmp_total}
 use Rattle.node_store.specs.declared.Node.{Node}
 use Rattle.node_store.specs.Nodes.{Lacks}
-use Rattle.node_store.specs.Store.{Store, IsNodeOf, with_record}
+use Rattle.node_store.specs.Store.{Store, IsNodeOf, width_of, with_record}
 use Rattle.node_store.specs.ByNode.{column_of, record_of, contents, same_node, AddsNode, RemovesNode}
-use Rattle.node_store.proofs.ByNode.{records_kept, IsNodeOf_kept, column_of_with_record}
+use Rattle.node_store.proofs.ByNode.{records_kept, width_kept, IsNodeOf_kept, column_of_with_record}
+use Rattle.node_store.proofs.StoreLemmas.{width_with_record}
 use Rattle.list_model.specs.Order.{IsInOrder}
 use Rattle.list_model.specs.Walk.{without, placed, settled}
 use Rattle.ord_tree.specs.declared.tree.OrdTree.{OrdTree}
@@ -24,23 +25,25 @@ abbrev pub AreSorted : Store ℕ → List Node → Type 0
 AreSorted s xs = IsInOrder (order_at (record_of s) nat_cmp) xs
 
 module _ {T : Type 0} {G : Ghosts T} where
-  pub sorted_new : (s : Store ℕ) (i : OrdTree T G) → Spells (column_of s) i [] → IsSorted s i
-  sorted_new s i h = record { sound = IsSound_from _ _ _ h; order = IsInOrder_empty _ _ (spelled_is _ _ _ h) }
+  pub sorted_new : (s : Store ℕ) (i : OrdTree T G) → col_of i < width_of s → Spells (column_of s) i [] → IsSorted s i
+  sorted_new s i below h = record { column = below; sound = IsSound_from _ _ _ h; order = IsInOrder_empty _ _ (spelled_is _ _ _ h) }
 
-  sorted_from : (s t : Store ℕ) (i : OrdTree T G) (xs : List Node) → contents t ≡ contents s → Spells (column_of t) i xs → AreSorted s xs → IsSorted t i
-  sorted_from s t i xs e h order = record {
+  sorted_from : (s t : Store ℕ) (i : OrdTree T G) (xs : List Node) → col_of i < width_of s → contents t ≡ contents s → Spells (column_of t) i xs → AreSorted s xs → IsSorted t i
+  sorted_from s t i xs below e h order = record {
+    column = omega (arith, below, width_kept s t e);
     sound = IsSound_from _ _ _ h;
     order = IsInOrder_same (record_of s) (record_of t) (λ _. nat_cmp) 0 0 xs (spelled (column_of t) i) (records_kept s t e) refl (spelled_is _ _ _ h) order;
   }
 
-  pub sorted_linked : (s t : Store ℕ) (i j : OrdTree T G) (n : Node) → IsSorted s i → contents t ≡ contents s → Spells (column_of t) j (placed (λ m. order_at (record_of s) nat_cmp m n) n (spelled (column_of s) i)) → IsSorted t j
-  sorted_linked s t i j n h e list = sorted_from s t j _ e list (IsInOrder_placed (record_of s) nat_cmp nat_cmp_total n (spelled (column_of s) i) h.order)
+  pub sorted_linked : (s t : Store ℕ) (i j : OrdTree T G) (n : Node) → IsSorted s i → col_of j ≡ col_of i → contents t ≡ contents s → Spells (column_of t) j (placed (λ m. order_at (record_of s) nat_cmp m n) n (spelled (column_of s) i)) → IsSorted t j
+  sorted_linked s t i j n h col e list = sorted_from s t j _ (omega (arith, h.column, col)) e list (IsInOrder_placed (record_of s) nat_cmp nat_cmp_total n (spelled (column_of s) i) h.order)
 
-  pub sorted_unlinked : (s t : Store ℕ) (i j : OrdTree T G) (n : Node) → IsSorted s i → contents t ≡ contents s → Spells (column_of t) j (without (same_node n) (spelled (column_of s) i)) → IsSorted t j
-  sorted_unlinked s t i j n h e list = sorted_from s t j _ e list (IsInOrder_without (record_of s) nat_cmp n (spelled (column_of s) i) h.order)
+  pub sorted_unlinked : (s t : Store ℕ) (i j : OrdTree T G) (n : Node) → IsSorted s i → col_of j ≡ col_of i → contents t ≡ contents s → Spells (column_of t) j (without (same_node n) (spelled (column_of s) i)) → IsSorted t j
+  sorted_unlinked s t i j n h col e list = sorted_from s t j _ (omega (arith, h.column, col)) e list (IsInOrder_without (record_of s) nat_cmp n (spelled (column_of s) i) h.order)
 
   pub sorted_added : (s t : Store ℕ) (n : Node) (word : ℕ) (i : OrdTree T G) → AddsNode s t n word → IsSorted s i → IsSorted t i
   sorted_added s t n word i a h = record {
+    column = omega (arith, h.column, a.width);
     sound = IsSound_added s t n word i a h.sound;
     order =
         subst (λ z. AreSorted t z) (sym (spelled_added s t n word i a h.sound))
@@ -53,6 +56,7 @@ module _ {T : Type 0} {G : Ghosts T} where
 
   pub sorted_removed : (s t : Store ℕ) (i : OrdTree T G) (n : Node) → RemovesNode s t n → Lacks (spelled (column_of s) i) n → IsSorted s i → IsSorted t i
   sorted_removed s t i n r lacks h = record {
+    column = omega (arith, h.column, r.width);
     sound = IsSound_removed s t n i r lacks h.sound;
     order =
         subst (λ z. AreSorted t z) (sym (spelled_removed s t n i r lacks h.sound))
@@ -79,8 +83,8 @@ module _ {T : Type 0} {G : Ghosts T} where
         (IsInOrder_others (record_of s) nat_cmp (record_of (with_record s n word)) n (without (same_node n) (spelled (column_of s) i))
         (record_of-others s n word (node_held s i n h.sound k)) (Lacks_without (column_of s) i n h.sound k) (IsInOrder_without (record_of s) nat_cmp n (spelled (column_of s) i) h.order))
 
-    pub sorted_settled : (t : Store ℕ) (j : OrdTree T G) → contents t ≡ contents (with_record s n word)
+    pub sorted_settled : (t : Store ℕ) (j : OrdTree T G) → col_of j ≡ col_of i → contents t ≡ contents (with_record s n word)
         → Spells (column_of t) j (settled (same_node n) (λ m. order_at (record_of (with_record s n word)) nat_cmp m n) n (spelled (column_of (with_record s n word)) i)) → IsSorted t j
-    sorted_settled t j e list =
-        sorted_from (with_record s n word) t j _ e list
+    sorted_settled t j col e list =
+        sorted_from (with_record s n word) t j _ (omega (arith, h.column, col, width_with_record s n word)) e list
         (IsInOrder_settled (record_of (with_record s n word)) nat_cmp nat_cmp_total n (spelled (column_of (with_record s n word)) i) held_rewritten (Spells_distinct _ _ _ sound_rewritten) others_sorted)

@@ -3,3 +3,4 @@ pub mod Pairs
 pub mod Trees
 pub mod Ranks
 pub mod Keyed
+pub mod InColumns

@@ -71,7 +71,7 @@ impl HashedWords {
     /// No words.
     pub(super) fn new(alloc: Global) -> HashedWords {
         HashedWords {
-            store: NodeStore::new(alloc),
+            store: NodeStore::new(alloc, 1),
             index: HashIndex::new(alloc, 0, 0),
         }
     }

@@ -48,7 +48,7 @@ impl Model for RankedWords {
 impl RankedWords {
     fn new(alloc: Global) -> RankedWords {
         RankedWords {
-            store: NodeStore::new(alloc),
+            store: NodeStore::new(alloc, 1),
             tree: RankTree::new(0, 0),
         }
     }

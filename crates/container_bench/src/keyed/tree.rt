@@ -65,7 +65,7 @@ impl Model for SortedWords {
 impl SortedWords {
     fn new(alloc: Global) -> SortedWords {
         SortedWords {
-            store: NodeStore::new(alloc),
+            store: NodeStore::new(alloc, 1),
             tree: OrdTree::new(0, 0),
         }
     }

@@ -1,5 +1,6 @@
 //! The calls of a sequence.
 ghost use Rattle.std.specs.Prelude.{◌≡◌, ◌≤◌, IfOk, Some, length};
+ghost use Rattle.container_bench.specs.InColumns.{IsChain};
 ghost use Rattle.node_store.specs.ByNode.{column_of};
 ghost use Rattle.seq_index.specs.Spelled.{IsSound, spelled, Holds};
 
@@ -55,21 +56,20 @@ struct Chain {
 
 impl Model for Chain {
     ghost use Rattle.std.specs.Prelude.{ℕ};
-    ghost use Rattle.node_store.specs.ByNode.{column_of};
-    ghost use Rattle.seq_index.specs.Spelled.{IsSound};
+    ghost use Rattle.container_bench.specs.InColumns.{IsChain};
 
     ghost Value = { ℕ };
 
     ghost view = { λ s. 0 };
 
-    ghost invariant = { λ s. IsSound (column_of s.store) s.index };
+    ghost invariant = { λ s. IsChain s.store s.index };
 }
 
 impl Chain {
     fn new(alloc: Global) -> Chain {
         Chain {
             alloc,
-            store: NodeStore::new(alloc),
+            store: NodeStore::new(alloc, 1),
             index: SeqIndex::new(0),
         }
     }
@@ -100,8 +100,8 @@ fn run(
     alloc: Global,
     count: u64,
 ) -> u64
-    requires { IsSound (column_of store.old) index.old }
-    ensures { IsSound (column_of store.new) index.new }
+    requires { IsChain store.old index.old }
+    ensures { IsChain store.new index.new }
 {
     match call {
         Call::Next => walk(store, index, count),
@@ -115,8 +115,8 @@ fn run(
 
 // Makes the call so many times.
 fn step_each(call: Call, store: &mut NodeStore<u64>, index: &mut SeqIndex, count: u64) -> u64
-    requires { IsSound (column_of store.old) index.old }
-    ensures { IsSound (column_of store.new) index.new }
+    requires { IsChain store.old index.old }
+    ensures { IsChain store.new index.new }
 {
     let mut met = 0u64;
     for _ in 0..count {
@@ -128,8 +128,8 @@ fn step_each(call: Call, store: &mut NodeStore<u64>, index: &mut SeqIndex, count
 }
 
 fn step(call: Call, store: &mut NodeStore<u64>, index: &mut SeqIndex) -> Option<Node>
-    requires { IsSound (column_of store.old) index.old }
-    ensures { IsSound (column_of store.new) index.new }
+    requires { IsChain store.old index.old }
+    ensures { IsChain store.new index.new }
 {
     match call {
         Call::Push => add_last(store, index),
@@ -144,8 +144,8 @@ fn step(call: Call, store: &mut NodeStore<u64>, index: &mut SeqIndex) -> Option<
 }
 
 fn add_last(store: &mut NodeStore<u64>, index: &mut SeqIndex)
-    requires { IsSound (column_of store.old) index.old }
-    ensures { IsSound (column_of store.new) index.new }
+    requires { IsChain store.old index.old }
+    ensures { IsChain store.new index.new }
 {
     if store.added() == u64::MAX {
         return;
@@ -191,8 +191,8 @@ fn walk_back(store: &NodeStore<u64>, index: &SeqIndex, steps: u64) -> u64
 }
 
 fn move_last(store: &mut NodeStore<u64>, index: &mut SeqIndex)
-    requires { IsSound (column_of store.old) index.old }
-    ensures { IsSound (column_of store.new) index.new }
+    requires { IsChain store.old index.old }
+    ensures { IsChain store.new index.new }
 {
     if let Some(n) = index.last(store) {
         index.move_to(store, 0, n);
@@ -200,8 +200,8 @@ fn move_last(store: &mut NodeStore<u64>, index: &mut SeqIndex)
 }
 
 fn unlink_first(store: &mut NodeStore<u64>, index: &mut SeqIndex)
-    requires { IsSound (column_of store.old) index.old }
-    ensures { IsSound (column_of store.new) index.new }
+    requires { IsChain store.old index.old }
+    ensures { IsChain store.new index.new }
 {
     if let Some(n) = index.first(store) {
         index.unlink(store, n);
@@ -239,8 +239,8 @@ fn rearrange_each(
     alloc: Global,
     count: u64,
 ) -> Result<(), AllocError>
-    requires { IsSound (column_of store.old) index.old }
-    ensures { IsSound (column_of store.new) index.new }
+    requires { IsChain store.old index.old }
+    ensures { IsChain store.new index.new }
 {
     let nodes = in_order(store, index, alloc)?;
     for _ in 0..count {
@@ -256,8 +256,8 @@ fn insert_each(
     alloc: Global,
     count: u64,
 ) -> Result<(), AllocError>
-    requires { IsSound (column_of store.old) index.old }
-    ensures { IsSound (column_of store.new) index.new }
+    requires { IsChain store.old index.old }
+    ensures { IsChain store.new index.new }
 {
     let nodes = in_order(store, index, alloc)?;
     let middle = nodes.len() as u64 / 2;
@@ -268,9 +268,9 @@ fn insert_each(
 }
 
 fn insert_new(store: &mut NodeStore<u64>, index: &mut SeqIndex, place: u64)
-    requires sound { IsSound (column_of store.old) index.old }
+    requires sound { IsChain store.old index.old }
     requires place { place ≤ length (spelled (column_of store.old) index.old) }
-    ensures sound { IsSound (column_of store.new) index.new }
+    ensures sound { IsChain store.new index.new }
     ensures place { place ≤ length (spelled (column_of store.new) index.new) }
 {
     if store.added() == u64::MAX || index.reserve_one(store).is_err() {

@@ -11,7 +11,7 @@ use std::rt::Runtime;
 /// nothing was freed before.
 pub(crate) fn record_bytes<R: Runtime>(rt: &R, alloc: Global, count: u64) -> io::Result<()> {
     let before = resident(rt)?;
-    let mut store = NodeStore::new(alloc);
+    let mut store = NodeStore::new(alloc, 1);
     for number in 0..count {
         if store.added() == u64::MAX || store.add(number).is_err() {
             break;

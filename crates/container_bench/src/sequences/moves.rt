@@ -1,6 +1,5 @@
 //! Near moves in a row.
-ghost use Rattle.node_store.specs.ByNode.{column_of};
-ghost use Rattle.row_index.specs.Spelled.{IsSound};
+ghost use Rattle.container_bench.specs.InColumns.{IsRow};
 
 use super::row::{Call, Row};
 use crate::measured::{Measured, Span, time_calls};
@@ -38,8 +37,8 @@ pub(super) fn move_each(
     distance: u64,
     count: u64,
 ) -> u64
-    requires { IsSound (column_of store.old) index.old }
-    ensures { IsSound (column_of store.new) index.new }
+    requires { IsRow store.old index.old }
+    ensures { IsRow store.new index.new }
 {
     let mut met = 0u64;
     for place in 0..count {
@@ -50,8 +49,8 @@ pub(super) fn move_each(
 
 // Moves the node at a place behind the one at another place, where both are there. Answers the number of that one, or 0.
 fn move_behind(store: &mut NodeStore<u64>, index: &mut RowIndex, from: u64, to: u64) -> u64
-    requires { IsSound (column_of store.old) index.old }
-    ensures { IsSound (column_of store.new) index.new }
+    requires { IsRow store.old index.old }
+    ensures { IsRow store.new index.new }
 {
     let Some(there) = index.nth(store, to) else {
         return 0;

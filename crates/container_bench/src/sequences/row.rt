@@ -1,5 +1,6 @@
 //! The calls of a row.
 ghost use Rattle.std.specs.Prelude.{◌≡◌, ◌≤◌, IfOk, Some, length};
+ghost use Rattle.container_bench.specs.InColumns.{IsRow};
 ghost use Rattle.node_store.specs.ByNode.{column_of};
 ghost use Rattle.row_index.specs.Spelled.{IsSound, spelled, Holds};
 
@@ -70,14 +71,13 @@ pub(super) struct Row {
 
 impl Model for Row {
     ghost use Rattle.std.specs.Prelude.{ℕ};
-    ghost use Rattle.node_store.specs.ByNode.{column_of};
-    ghost use Rattle.row_index.specs.Spelled.{IsSound};
+    ghost use Rattle.container_bench.specs.InColumns.{IsRow};
 
     ghost Value = { ℕ };
 
     ghost view = { λ s. 0 };
 
-    ghost invariant = { λ s. IsSound (column_of s.store) s.index };
+    ghost invariant = { λ s. IsRow s.store s.index };
 }
 
 impl Row {
@@ -85,7 +85,7 @@ impl Row {
     pub(super) fn new(alloc: Global) -> Row {
         Row {
             alloc,
-            store: NodeStore::new(alloc),
+            store: NodeStore::new(alloc, 1),
             index: RowIndex::new(alloc, 0),
         }
     }
@@ -116,8 +116,8 @@ fn run(
     alloc: Global,
     count: u64,
 ) -> u64
-    requires { IsSound (column_of store.old) index.old }
-    ensures { IsSound (column_of store.new) index.new }
+    requires { IsRow store.old index.old }
+    ensures { IsRow store.new index.new }
 {
     match call {
         Call::Next => walk(store, index, count),
@@ -134,8 +134,8 @@ fn run(
 
 // Makes the call so many times.
 fn step_each(call: Call, store: &mut NodeStore<u64>, index: &mut RowIndex, count: u64) -> u64
-    requires { IsSound (column_of store.old) index.old }
-    ensures { IsSound (column_of store.new) index.new }
+    requires { IsRow store.old index.old }
+    ensures { IsRow store.new index.new }
 {
     let mut met = 0u64;
     for _ in 0..count {
@@ -147,8 +147,8 @@ fn step_each(call: Call, store: &mut NodeStore<u64>, index: &mut RowIndex, count
 }
 
 fn step(call: Call, store: &mut NodeStore<u64>, index: &mut RowIndex) -> Option<Node>
-    requires { IsSound (column_of store.old) index.old }
-    ensures { IsSound (column_of store.new) index.new }
+    requires { IsRow store.old index.old }
+    ensures { IsRow store.new index.new }
 {
     match call {
         Call::Push => add_last(store, index),
@@ -166,8 +166,8 @@ fn step(call: Call, store: &mut NodeStore<u64>, index: &mut RowIndex) -> Option<
 
 // Adds a node and puts it last, if there is room.
 fn add_last(store: &mut NodeStore<u64>, index: &mut RowIndex)
-    requires { IsSound (column_of store.old) index.old }
-    ensures { IsSound (column_of store.new) index.new }
+    requires { IsRow store.old index.old }
+    ensures { IsRow store.new index.new }
 {
     if store.added() == u64::MAX {
         return;
@@ -213,8 +213,8 @@ fn walk_back(store: &NodeStore<u64>, index: &RowIndex, steps: u64) -> u64
 }
 
 fn move_last(store: &mut NodeStore<u64>, index: &mut RowIndex)
-    requires { IsSound (column_of store.old) index.old }
-    ensures { IsSound (column_of store.new) index.new }
+    requires { IsRow store.old index.old }
+    ensures { IsRow store.new index.new }
 {
     if let Some(n) = index.last(store) {
         index.move_to(store, 0, n);
@@ -222,8 +222,8 @@ fn move_last(store: &mut NodeStore<u64>, index: &mut RowIndex)
 }
 
 fn unlink_first(store: &mut NodeStore<u64>, index: &mut RowIndex)
-    requires { IsSound (column_of store.old) index.old }
-    ensures { IsSound (column_of store.new) index.new }
+    requires { IsRow store.old index.old }
+    ensures { IsRow store.new index.new }
 {
     if let Some(n) = index.first(store) {
         index.unlink(store, n);
@@ -231,8 +231,8 @@ fn unlink_first(store: &mut NodeStore<u64>, index: &mut RowIndex)
 }
 
 fn unlink_last(store: &mut NodeStore<u64>, index: &mut RowIndex)
-    requires { IsSound (column_of store.old) index.old }
-    ensures { IsSound (column_of store.new) index.new }
+    requires { IsRow store.old index.old }
+    ensures { IsRow store.new index.new }
 {
     if let Some(n) = index.last(store) {
         index.unlink(store, n);
@@ -240,8 +240,8 @@ fn unlink_last(store: &mut NodeStore<u64>, index: &mut RowIndex)
 }
 
 fn remove_last(store: &mut NodeStore<u64>, index: &mut RowIndex)
-    requires { IsSound (column_of store.old) index.old }
-    ensures { IsSound (column_of store.new) index.new }
+    requires { IsRow store.old index.old }
+    ensures { IsRow store.new index.new }
 {
     if let Some(n) = index.last(store) {
         index.unlink(store, n);
@@ -306,8 +306,8 @@ fn rearrange_each(
     alloc: Global,
     count: u64,
 ) -> Result<(), AllocError>
-    requires { IsSound (column_of store.old) index.old }
-    ensures { IsSound (column_of store.new) index.new }
+    requires { IsRow store.old index.old }
+    ensures { IsRow store.new index.new }
 {
     let nodes = in_order(store, index, alloc)?;
     for _ in 0..count {
@@ -323,8 +323,8 @@ fn insert_each(
     alloc: Global,
     count: u64,
 ) -> Result<(), AllocError>
-    requires { IsSound (column_of store.old) index.old }
-    ensures { IsSound (column_of store.new) index.new }
+    requires { IsRow store.old index.old }
+    ensures { IsRow store.new index.new }
 {
     let nodes = in_order(store, index, alloc)?;
     let middle = nodes.len() as u64 / 2;
@@ -335,9 +335,9 @@ fn insert_each(
 }
 
 fn insert_new(store: &mut NodeStore<u64>, index: &mut RowIndex, place: u64)
-    requires sound { IsSound (column_of store.old) index.old }
+    requires sound { IsRow store.old index.old }
     requires place { place ≤ length (spelled (column_of store.old) index.old) }
-    ensures sound { IsSound (column_of store.new) index.new }
+    ensures sound { IsRow store.new index.new }
     ensures place { place ≤ length (spelled (column_of store.new) index.new) }
 {
     if store.added() == u64::MAX || index.reserve_one(store).is_err() {

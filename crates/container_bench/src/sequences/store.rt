@@ -1,7 +1,7 @@
 //! The calls of the store.
-ghost use Rattle.std.specs.Prelude.{◌≡◌};
+ghost use Rattle.std.specs.Prelude.{◌≡◌, ◌<◌};
 ghost use Rattle.std.specs.List.{AllByRecursion};
-ghost use Rattle.node_store.specs.Store.{IsNodeOf, nodes as nodes_of};
+ghost use Rattle.node_store.specs.Store.{IsNodeOf, width_of, nodes as nodes_of};
 
 use bench_report::Report;
 use node_store::{Link, Node, NodeStore};
@@ -32,7 +32,7 @@ pub(crate) fn times<R: Runtime>(
     report: &mut Report,
     count: u64,
 ) -> io::Result<()> {
-    let mut store = NodeStore::new(alloc);
+    let mut store = NodeStore::new(alloc, 2);
     time_calls(rt, alloc, report, &mut store, count)?;
     time_drop(rt, report, store, count)
 }
@@ -43,7 +43,9 @@ fn time_calls<R: Runtime>(
     report: &mut Report,
     store: &mut NodeStore<u64>,
     count: u64,
-) -> io::Result<()> {
+) -> io::Result<()>
+    requires { 1 < width_of store.old }
+{
     let start = Instant::now(rt)?;
     let nodes = add_each(store, alloc, count);
     report.line(
@@ -64,7 +66,8 @@ fn time_each<R: Runtime>(
     nodes: &[Node],
     count: u64,
 ) -> io::Result<()>
-    requires { AllByRecursion (IsNodeOf store.old) nodes.now }
+    requires nodes { AllByRecursion (IsNodeOf store.old) nodes.now }
+    requires column { 1 < width_of store.old }
 {
     for (name, call) in &CALLS {
         let start = Instant::now(rt)?;
@@ -88,7 +91,8 @@ fn time_drop<R: Runtime>(
 
 // Adds so many records, and keeps their nodes, as far as there is memory.
 fn add_each(store: &mut NodeStore<u64>, alloc: Global, count: u64) -> Vec<Node>
-    ensures { AllByRecursion (IsNodeOf store.new) result.items }
+    ensures nodes { AllByRecursion (IsNodeOf store.new) result.items }
+    ensures width { width_of store.new ≡ width_of store.old }
 {
     let mut nodes = Vec::new(alloc);
     for number in 0..count {
@@ -105,8 +109,10 @@ fn add_each(store: &mut NodeStore<u64>, alloc: Global, count: u64) -> Vec<Node>
 
 // Makes the call at each of the nodes.
 fn each(call: Call, store: &mut NodeStore<u64>, nodes: &[Node]) -> u64
-    requires { AllByRecursion (IsNodeOf store.old) nodes.now }
-    ensures { nodes_of store.new ≡ nodes_of store.old }
+    requires nodes { AllByRecursion (IsNodeOf store.old) nodes.now }
+    requires column { 1 < width_of store.old }
+    ensures nodes { nodes_of store.new ≡ nodes_of store.old }
+    ensures width { width_of store.new ≡ width_of store.old }
 {
     let mut met = 0u64;
     for n in nodes {
@@ -116,8 +122,10 @@ fn each(call: Call, store: &mut NodeStore<u64>, nodes: &[Node]) -> u64
 }
 
 fn step(call: Call, store: &mut NodeStore<u64>, n: Node) -> u64
-    requires { IsNodeOf store.old n }
-    ensures { nodes_of store.new ≡ nodes_of store.old }
+    requires node { IsNodeOf store.old n }
+    requires column { 1 < width_of store.old }
+    ensures nodes { nodes_of store.new ≡ nodes_of store.old }
+    ensures width { width_of store.new ≡ width_of store.old }
 {
     match call {
         Call::Get => return *store.get(n),

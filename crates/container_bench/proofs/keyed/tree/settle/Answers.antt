@@ -24,4 +24,4 @@ settle-requires-clause-others c =
     }
 
 pub returns : goal.returns
-returns c = sorted_settled c.args.store.now c.args.tree.now c.in_ok-n.n c.args.changed c.requires (c.find.ensures c.in_ok-n.n c.in_ok-n.was) c.settle.new.store c.settle.new.self c.settle.ensures.contents c.settle.ensures.list
+returns c = sorted_settled c.args.store.now c.args.tree.now c.in_ok-n.n c.args.changed c.requires (c.find.ensures c.in_ok-n.n c.in_ok-n.was) c.settle.new.store c.settle.new.self c.settle.ensures.col c.settle.ensures.contents c.settle.ensures.list

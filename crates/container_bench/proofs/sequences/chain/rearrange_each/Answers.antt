@@ -3,6 +3,7 @@ use Rattle.std.specs.Prelude.{IsPermutation}
 use Rattle.std.proofs.lemmas.List.Sorted.{IsPermutation-refl}
 use Rattle.node_store.specs.declared.Node.{Node}
 use Rattle.seq_index.proofs.Laws.{IsSound_from, spelled_is}
+use Rattle.container_bench.proofs.InColumns.{chain_becomes}
 use Rattle.container_bench.proofs.sequences.chain.rearrange_each.Goals as goal
 
 pub rearrange-requires-clause-same : goal.rearrange-requires-clause-same
@@ -10,6 +11,6 @@ rearrange-requires-clause-same c = subst (λ (z : List Node). IsPermutation z c.
 
 pub loop-preserved : goal.loop-preserved
 loop-preserved c = record {
-  sound = IsSound_from _ _ _ c.rearrange.ensures.chain.list;
+  sound = chain_becomes c.loop.invariant.sound c.rearrange.ensures.chain;
   same = spelled_is _ _ _ c.rearrange.ensures.chain.list ∙ c.deref.ensures.value;
 }

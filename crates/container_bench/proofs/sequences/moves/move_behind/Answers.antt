@@ -2,10 +2,11 @@ use Rattle.std.proofs.Common.{sym, arith}
 use Rattle.node_store.specs.ByNode.{column_of}
 use Rattle.row_index.specs.Spelled.{spelled}
 use Rattle.row_index.proofs.Laws.{IsSound_from, Holds_at, within_at}
+use Rattle.container_bench.proofs.InColumns.{row_becomes}
 use Rattle.container_bench.proofs.sequences.moves.move_behind.Goals as goal
 
 pub move_to-requires-clause-node : goal.move_to-requires-clause-node
-move_to-requires-clause-node c = record { row = c.requires; held = Holds_at _ _ c.in-Some-nth.n (sym c.in-Some-nth.ensures) }
+move_to-requires-clause-node c = record { row = c.requires.sound; held = Holds_at _ _ c.in-Some-nth.n (sym c.in-Some-nth.ensures) }
 
 pub move_to-requires-clause-place : goal.move_to-requires-clause-place
 move_to-requires-clause-place c =
@@ -13,4 +14,4 @@ move_to-requires-clause-place c =
     omega (arith, below)
 
 pub returns : goal.returns
-returns c = IsSound_from _ _ _ c.move_to.ensures.row.list
+returns c = row_becomes c.requires c.move_to.ensures.row

@@ -1,9 +1,10 @@
 use Rattle.std.proofs.Common.{sym}
 use Rattle.row_index.proofs.Laws.{IsSound_from, Holds_last}
+use Rattle.container_bench.proofs.InColumns.{row_becomes}
 use Rattle.container_bench.proofs.sequences.row.move_last.Goals as goal
 
 pub move_to-requires-clause-node : goal.move_to-requires-clause-node
-move_to-requires-clause-node c = record { row = c.requires; held = Holds_last _ c.in-Some.n (sym c.in-Some.ensures) }
+move_to-requires-clause-node c = record { row = c.requires.sound; held = Holds_last _ c.in-Some.n (sym c.in-Some.ensures) }
 
 pub returns-in-Some : goal.returns-in-Some
-returns-in-Some c = IsSound_from _ _ _ c.move_to.ensures.row.list
+returns-in-Some c = row_becomes c.requires c.move_to.ensures.row

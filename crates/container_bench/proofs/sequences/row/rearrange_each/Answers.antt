@@ -3,6 +3,7 @@ use Rattle.std.specs.Prelude.{IsPermutation}
 use Rattle.std.proofs.lemmas.List.Sorted.{IsPermutation-refl}
 use Rattle.node_store.specs.declared.Node.{Node}
 use Rattle.row_index.proofs.Laws.{IsSound_from, spelled_is}
+use Rattle.container_bench.proofs.InColumns.{row_becomes}
 use Rattle.container_bench.proofs.sequences.row.rearrange_each.Goals as goal
 
 pub rearrange-requires-clause-same : goal.rearrange-requires-clause-same
@@ -10,6 +11,6 @@ rearrange-requires-clause-same c = subst (λ (z : List Node). IsPermutation z c.
 
 pub loop-preserved : goal.loop-preserved
 loop-preserved c = record {
-  sound = IsSound_from _ _ _ c.rearrange.ensures.row.list;
+  sound = row_becomes c.loop.invariant.sound c.rearrange.ensures.row;
   same = spelled_is _ _ _ c.rearrange.ensures.row.list ∙ c.deref.ensures.value;
 }
