@@ -1,5 +1,5 @@
 -- Heads that are right of their nodes.
-use Rattle.std.proofs.Common.{◌≡◌, ◌≢◌, ℕ, zero, suc, Bool, true, false, cond, ◌+◌, ◌/◌, ◌^◌, ◌≤◌, List, [], ◌∷◌, map, get_or, set, Option, Some, None, refl, sym, ap, ◌∙◌, subst, arith}
+use Rattle.std.proofs.Common.{◌≡◌, ◌≢◌, ℕ, zero, suc, Bool, true, false, cond, ◌+◌, ◌/◌, ◌^◌, ◌≤◌, List, [], ◌∷◌, map, get_or, set, Option, Some, None, sym, ap, ◌∙◌, subst, arith}
 use Rattle.std.specs.List.{AllByRecursion, slice_get}
 use Rattle.std.proofs.lemmas.Option.{slice_get_within, slice_get-map, get_or_from_slice_get}
 use Rattle.std.specs.Option.{option_map, is_some}
@@ -10,7 +10,7 @@ use Rattle.node_store.specs.Nodes.{Lacks, IsSameAt, first_or, last_or}
 use Rattle.list_model.proofs.Lists.{All-at}
 use Rattle.list_model.proofs.Kept.{All-split}
 use Rattle.hash_index.specs.declared.head.Head.{Head}
-use Rattle.hash_index.specs.Heads.{first_in, start_in, IsRight, AreRight}
+use Rattle.hash_index.specs.Heads.{first_in, hinted_in, IsRight, AreRight}
 use Rattle.hash_index.specs.Chains.{IsIn, IsChain, AreChains, joined}
 
 -- ---- the ends of a list
@@ -61,21 +61,21 @@ pub right_none : (c : Column) (h : Head) → first_in h ≡ None → IsRight c h
 right_none c h none = λ alone n l first at. cc
 
 -- the head of a node that was put first
-pub right_new : (c : Column) (h : Head) (n : Node) (hash : ℕ) (after : Option Node) (followed : Bool) → first_in h ≡ Some n → h.hint ≡ hash / 4 + cond followed (2 ^ 63) (2 ^ 62) → followed ≡ is_some after → c n ≡ Some (record { a = None; b = after; up = None; tag = hash; height = 0 }) → IsRight c h
+pub right_new : (c : Column) (h : Head) (n : Node) (hash : ℕ) (after : Option Node) (followed : Bool) → first_in h ≡ Some n → h.mark ≡ hash / 2 ^ 58 + cond followed 128 64 → followed ≡ is_some after → c n ≡ Some (record { a = None; b = after; up = None; tag = hash; height = 0 }) → IsRight c h
 right_new c h n hash None followed begin hint is at = λ alone m l first there.
     let same : m ≡ n = cc in
     let link : l ≡ record { a = None; b = None; up = None; tag = hash; height = 0 } = cc in
-    (ap (λ (k : Link). k.b) link, hint ∙ (ap (λ b. hash / 4 + cond b (2 ^ 63) (2 ^ 62)) is ∙ ap (λ k. k / 4 + 2 ^ 62) (sym (ap (λ (k : Link). k.tag) link))))
+    (ap (λ (k : Link). k.b) link, hint ∙ (ap (λ b. hash / 2 ^ 58 + cond b 128 64) is ∙ ap (λ k. k / 2 ^ 58 + 64) (sym (ap (λ (k : Link). k.tag) link))))
 right_new c h n hash (Some o) followed begin hint is at = λ alone m l first there.
-    let far : h.hint ≡ hash / 4 + 2 ^ 63 = hint ∙ ap (λ b. hash / 4 + cond b (2 ^ 63) (2 ^ 62)) is in
+    let far : h.mark ≡ hash / 2 ^ 58 + 128 = hint ∙ ap (λ b. hash / 2 ^ 58 + cond b 128 64) is in
     absurd (omega (arith, alone, far))
 
-start_by : (b : Bool) (o : Option Node) → o ≡ None → cond b None o ≡ None
-start_by true o none = refl
-start_by false o none = none
+hinted_by : (b : Bool) (o : Option Node) (n : Node) → cond b o None ≡ Some n → o ≡ Some n
+hinted_by true o n e = e
+hinted_by false o n e = cc
 
-pub start_none : (hash : ℕ) (h : Head) → first_in h ≡ None → start_in hash h ≡ None
-start_none hash h none = start_by _ (first_in h) none
+pub hinted_first : (hash : ℕ) (h : Head) (n : Node) → hinted_in hash h ≡ Some n → first_in h ≡ Some n
+hinted_first hash h n e = hinted_by _ (first_in h) n e
 
 pub all_none : (c : Column) (hs : List Head) → AllByRecursion (λ o. o ≡ None) (map first_in hs) → AreRight c hs
 all_none c [] none = tt

@@ -1,4 +1,5 @@
 pub mod Masks
+pub mod Paired
 pub mod InSegments
 pub mod Levels
 pub mod Untagged

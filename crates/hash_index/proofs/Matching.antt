@@ -232,6 +232,9 @@ module _ {R : Type 0} (s : Store R) (col : ℕ) (hash : R → ℕ) (key_hash : �
 -- ---- hashes that are kept, along a walk
 
 module _ {R : Type 0} (hash : R → ℕ) (s : Store R) (col : ℕ) where
+  pub hashed_here : (l : List Node) (n : Node) (tail : List Node) → l ≡ n ∷ tail → IsHashed hash s col l → KeepsHash hash s col n
+  hashed_here l n tail e h = (subst (λ z. IsHashed hash s col z) e h).0
+
   pub hashed_rest : (l : List Node) (n : Node) (tail : List Node) → l ≡ n ∷ tail → IsHashed hash s col l → IsHashed hash s col tail
   hashed_rest l n tail e h = (subst (λ z. IsHashed hash s col z) e h).1
 

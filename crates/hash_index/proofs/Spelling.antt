@@ -1,7 +1,8 @@
 -- What an index spells, by its buckets.
-use Rattle.std.proofs.Common.{◌≡◌, ◌≢◌, ℕ, Bool, true, false, cond, not, ◌&&◌, ◌==◌, ◌+◌, ◌*◌, ◌/◌, ◌^◌, ◌<◌, ◌≤◌, List, [], ◌∷◌, ◌++◌, length, map, get_or, drop, Option, Some, None, option_and_then, refl, sym, ap, ◌∙◌, subst, arith, append_assoc, length-append}
+use Rattle.std.proofs.Common.{◌≡◌, ◌≢◌, ℕ, zero, suc, Bool, true, false, cond, not, ◌&&◌, ◌==◌, ◌+◌, ◌*◌, ◌/◌, ◌^◌, ◌<◌, ◌≤◌, List, [], ◌∷◌, ◌++◌, length, map, get_or, drop, Option, Some, None, option_and_then, refl, sym, ap, ◌∙◌, subst, arith, append_assoc, length-append}
 use Rattle.std.specs.List.{AllByRecursion, slice_get}
 use Rattle.std.proofs.lemmas.List.{length-map}
+use Rattle.std.proofs.lemmas.Option.{slice_get_within}
 use Rattle.std.specs.Option.{option_map}
 use Rattle.std.specs.Prelude.{nat_lt}
 use Rattle.std.proofs.lemmas.Bool.{eq-eqb, ltb-true}
@@ -262,27 +263,22 @@ passed cs i hash first apart h = record {
 }
 
 -- a chain of a node that is alone and has another hash has none of this one
-others_hash : (c : Column) (hash : ℕ) (head : Head) (xs : List Node) → Leads (untagged c) (first_in head) xs → IsRight c head → head.hint < 2 ^ 63 → head.hint ≢ hash / 4 + 2 ^ 62 → AllByRecursion (λ n. tag_at c n ≢ Some hash) xs
+others_hash : (c : Column) (hash : ℕ) (head : Head) (xs : List Node) → Leads (untagged c) (first_in head) xs → IsRight c head → head.mark < 128 → head.mark ≢ hash / 2 ^ 58 + 64 → AllByRecursion (λ n. tag_at c n ≢ Some hash) xs
 others_hash c hash head [] leads right alone ne = tt
 others_hash c hash head (x ∷ xs) leads right alone ne =
     let node = tagged_node c x leads.1 in
     let is = right alone x node.block leads.0 node.is in
     let none : following (untagged c) x ≡ None = ap (λ o. option_and_then (λ (l : Link). l.b) (option_map untagged_link o)) node.is ∙ is.0 in
     let tag : tag_at c x ≡ Some node.block.tag = tag_is c x node.block node.is in
-    let apart : tag_at c x ≢ Some hash = λ e. let same : node.block.tag ≡ hash = cc in ne (is.1 ∙ ap (λ k. k / 4 + 2 ^ 62) same) in
+    let apart : tag_at c x ≢ Some hash = λ e. let same : node.block.tag ≡ hash = cc in ne (is.1 ∙ ap (λ k. k / 2 ^ 58 + 64) same) in
     (apart, no_more c hash (following (untagged c) x) xs none leads.2)
 
-start_at : (cs : ℕ → Column) (i : HashIndex) (hash : ℕ) (head : Head) (alone apart : Bool) → nat_lt head.hint (2 ^ 63) ≡ alone → not (head.hint == hash / 4 + 2 ^ 62) ≡ apart → IsRight (cs i.col) head → HasHash cs i hash (first_in head) → HasHash cs i hash (cond (alone && apart) None (first_in head))
+start_at : (cs : ℕ → Column) (i : HashIndex) (hash : ℕ) (head : Head) (alone apart : Bool) → nat_lt head.mark (128) ≡ alone → not (head.mark == hash / 2 ^ 58 + 64) ≡ apart → IsRight (cs i.col) head → HasHash cs i hash (first_in head) → HasHash cs i hash (cond (alone && apart) None (first_in head))
 start_at cs i hash head false apart is ne right h = h
 start_at cs i hash head true false is ne right h = h
 start_at cs i hash head true true is ne right h =
-    let differ : head.hint ≢ hash / 4 + 2 ^ 62 = λ e. let bad = sym ne ∙ ap not (eq-eqb head.hint (hash / 4 + 2 ^ 62) e) in cc in
-    passed cs i hash (first_in head) (others_hash (cs i.col) hash head (rest_of cs i (first_in head)) h.ends right (ltb-true head.hint (2 ^ 63) is) differ) h
-
-pub has_start : (cs : ℕ → Column) (i : HashIndex) (hash : ℕ) (head : Head) → leads_to i hash < i.buckets.len → slice_get (all_of i) (leads_to i hash) ≡ Some head → IsSound cs i → HasHash cs i hash (start_in hash head)
-has_start cs i hash head lt at h =
-    let whole = has_hash cs i hash (first_in head) lt (slice_first (heads_of i) (all_of i) (leads_to i hash) refl head at) h in
-    start_at cs i hash head (nat_lt head.hint (2 ^ 63)) (not (head.hint == hash / 4 + 2 ^ 62)) refl refl (right_at (cs i.col) (all_of i) (leads_to i hash) head h.right at) whole
+    let differ : head.mark ≢ hash / 2 ^ 58 + 64 = λ e. let bad = sym ne ∙ ap not (eq-eqb head.mark (hash / 2 ^ 58 + 64) e) in cc in
+    passed cs i hash (first_in head) (others_hash (cs i.col) hash head (rest_of cs i (first_in head)) h.ends right (ltb-true head.mark (128) is) differ) h
 
 pub none_long : {X : Type 0} (xs : List X) → length xs ≤ 0 → xs ≡ []
 none_long [] le = refl
@@ -309,3 +305,21 @@ has_none cs i hash none h =
       before = tt;
       after = tt;
     }
+
+past : (hs : List Head) (k : ℕ) → slice_get hs k ≡ None → length hs ≤ k
+past [] k e = omega arith
+past (h ∷ hs) zero e = cc
+past (h ∷ hs) (suc k) e = let le = past hs k e in omega (arith, le)
+
+start_of : (cs : ℕ → Column) (i : HashIndex) (hash : ℕ) (at : Option Head) → slice_get (all_of i) (leads_to i hash) ≡ at → IsSound cs i → HasHash cs i hash (option_and_then (start_in hash) at)
+start_of cs i hash None e h =
+    let none : ¬ (0 < i.buckets.len) = λ some. omega (arith, past (all_of i) (leads_to i hash) e, leads_within i hash some, i.buckets.ok) in
+    has_none cs i hash (omega (arith, none)) h
+start_of cs i hash (Some head) e h =
+    let lt : leads_to i hash < i.buckets.len = omega (arith, slice_get_within (all_of i) (leads_to i hash) head e, i.buckets.ok) in
+    let whole = has_hash cs i hash (first_in head) lt (slice_first (heads_of i) (all_of i) (leads_to i hash) refl head e) h in
+    start_at cs i hash head (nat_lt head.mark 128) (not (head.mark == hash / 2 ^ 58 + 64)) refl refl (right_at (cs i.col) (all_of i) (leads_to i hash) head h.right e) whole
+
+-- what a look-up begins with has each node of the hash
+pub has_start : (cs : ℕ → Column) (i : HashIndex) (hash : ℕ) (first : Option Node) → first ≡ option_and_then (start_in hash) (slice_get (all_of i) (leads_to i hash)) → IsSound cs i → HasHash cs i hash first
+has_start cs i hash first is h = subst (HasHash cs i hash) (sym is) (start_of cs i hash (slice_get (all_of i) (leads_to i hash)) refl h)

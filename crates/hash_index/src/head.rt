@@ -1,22 +1,37 @@
-//! The first node of a chain, with a hint at its hash.
+//! The first node of a chain, with a mark of its hash.
 ghost use Rattle.std.specs.Prelude.{◌≡◌, ◌+◌, ◌/◌, ◌^◌, cond, Option, Some, None};
 ghost use Rattle.node_store.specs.declared.Node.{Node};
-ghost use Rattle.hash_index.specs.Heads.{first_in, start_in};
+ghost use Rattle.hash_index.specs.Heads.{first_in, hinted_in, passes};
 
 use node_store::Node;
 
-// What a hint has beside a quarter of a hash: that the node is the only one of its chain, or that others may follow.
-const ALONE: u64 = 0x4000_0000_0000_0000;
+// What a mark has beside the top six bits of a hash: that the node is the only one of its chain, or that others may
+// follow.
+const ALONE: u8 = 0x40;
 
-const FOLLOWED: u64 = 0x8000_0000_0000_0000;
+const FOLLOWED: u8 = 0x80;
 
-// The first node of a chain, if there is one. The hint is 0 where there is no node, and else has a quarter of the hash
-// that the node was put in with. A look-up reads the record of a node that hints at its hash before it reads any link,
-// and reads nothing of a node that is alone and hints at another.
+// The first node of a chain, if there is one. The mark is 0 where there is no node, and else has the top six bits of the
+// hash that the node was put in with. A look-up reads the record of a node that has its bits before it reads any link,
+// and reads nothing of a node that is alone and has others.
 #[derive(Clone, Copy)]
 pub(crate) struct Head {
-    hint: u64,
-    node: Node,
+    pub(crate) mark: u8,
+    pub(crate) node: Node,
+}
+
+// The top six bits of a hash.
+fn top(hash: u64) -> u8
+    ensures { result ≡ hash / 2 ^ 58 }
+{
+    (hash >> 58) as u8
+}
+
+// Whether a look-up of a hash passes a chain with this mark: it has no node, or one that is alone and has other bits.
+pub(crate) fn passes(hash: u64, mark: u8) -> bool
+    ensures { result ≡ passes hash mark }
+{
+    mark < FOLLOWED && mark != top(hash) + ALONE
 }
 
 impl Head {
@@ -25,7 +40,7 @@ impl Head {
         ensures { first_in result ≡ None }
     {
         Head {
-            hint: 0,
+            mark: 0,
             node: Node::nowhere(),
         }
     }
@@ -33,11 +48,11 @@ impl Head {
     // The head of a chain that begins with this node, which has this hash, and which others may follow or not.
     pub(crate) fn of(node: Node, hash: u64, followed: bool) -> Head
         ensures first { first_in result ≡ Some node }
-        ensures hint { result.hint ≡ hash / 4 + cond followed (2 ^ 63) (2 ^ 62) }
+        ensures mark { result.mark ≡ hash / 2 ^ 58 + cond followed 128 64 }
     {
         let beside = if followed { FOLLOWED } else { ALONE };
         Head {
-            hint: hash / 4 + beside,
+            mark: top(hash) + beside,
             node,
         }
     }
@@ -46,32 +61,21 @@ impl Head {
     pub(crate) fn node(self) -> Option<Node>
         ensures { result ≡ first_in self }
     {
-        if self.hint == 0 {
+        if self.mark == 0 {
             None
         } else {
             Some(self.node)
         }
     }
 
-    // The node, if the hint is that of this hash.
+    // The node, if it has the bits of this hash.
     pub(crate) fn hinted(self, hash: u64) -> Option<Node>
-        ensures { (n : Node) → result ≡ Some n → first_in self ≡ Some n }
+        ensures { result ≡ hinted_in hash self }
     {
-        if self.hint % ALONE == hash / 4 {
+        if self.mark % ALONE == top(hash) {
             self.node()
         } else {
             None
-        }
-    }
-
-    // The node, unless it is alone and hints at another hash than this one.
-    pub(crate) fn start(self, hash: u64) -> Option<Node>
-        ensures { result ≡ start_in hash self }
-    {
-        if self.hint < FOLLOWED && self.hint != hash / 4 + ALONE {
-            None
-        } else {
-            self.node()
         }
     }
 }

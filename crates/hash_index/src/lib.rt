@@ -19,6 +19,7 @@ mod chain;
 mod grow;
 mod head;
 mod search;
+mod segment;
 mod segments;
 mod settle;
 

@@ -1,5 +1,5 @@
 //! Look-ups by a key.
-ghost use Rattle.std.specs.Prelude.{◌≡◌, ℕ, ◌<◌, IsTrue, false, not, ◌&&◌, List, length, slice_get, Option, Some, None};
+ghost use Rattle.std.specs.Prelude.{◌≡◌, ◌≢◌, IsTrue, false, not, ◌&&◌, length, slice_get, option_and_then, Option, Some, None};
 ghost use Rattle.std.specs.Option.{option_map_or};
 ghost use Rattle.std.specs.Ordering.{is_eq};
 ghost use Rattle.node_store.specs.declared.Node.{Node};
@@ -8,13 +8,12 @@ ghost use Rattle.node_store.specs.ByNode.{column_of, same_node};
 ghost use Rattle.list_model.specs.Place.{count_equal, find_equal};
 ghost use Rattle.list_model.specs.Walk.{next as the_next};
 ghost use Rattle.seq_index.specs.Links.{AreNodesOf};
-ghost use Rattle.hash_index.specs.Spelled.{IsSound, col_of, index_of, Holds};
+ghost use Rattle.hash_index.specs.Spelled.{col_of, index_of, all_of, leads_to, Holds};
 ghost use Rattle.hash_index.specs.Stored.{nodes_of, side_in, record_side_in, matches_in, HasKey, HasItsHash, HaveTheirHash, IsHashedBut, CanSearch};
 ghost use Rattle.hash_index.specs.Hashed.{others};
 ghost use Rattle.hash_index.specs.Chains.{tag_at};
 ghost use Rattle.hash_index.specs.Heads.{first_in, start_in};
-ghost use Rattle.hash_index.specs.Walks.{rest_of, Ends, HasHash};
-ghost use Rattle.node_store.specs.Column.{Column};
+ghost use Rattle.hash_index.specs.Walks.{rest_of, Ends};
 
 use crate::HashIndex;
 use crate::head::Head;
@@ -47,7 +46,7 @@ impl HashIndex {
             (others except (nodes_of self.now store.now)) }
     {
         let hash = keys.hash(self.index, r);
-        let mut at = self.head(hash).start(hash);
+        let mut at = self.head(hash).node();
         while let Some(n) = at {
             let tag = store.link(n, self.col).tag;
             if self.is_other(store, keys, r, hash, except, n, tag) {
@@ -76,7 +75,7 @@ impl HashIndex {
                 return Some(n);
             }
         }
-        self.match_from(store, keys, probe, hash, head.start(hash))
+        self.match_from(store, keys, probe, hash, head.node())
     }
 
     /// The node after `n` among those whose records have the whole key, each of which is answered once in a walk from
@@ -105,7 +104,7 @@ impl HashIndex {
     {
         let hash = keys.hash_probe(self.index, probe);
         let mut count = 0;
-        let mut at = self.head(hash).start(hash);
+        let mut at = self.head(hash).node();
         while let Some(n) = at {
             let link = store.link(n, self.col);
             if self.has_key(store, keys, probe, hash, n, link.tag) {
@@ -214,16 +213,16 @@ impl HashIndex {
         keys.order_probe(self.index, store.get(n), probe) == Ordering::Equal
     }
 
-    // The head of the chain of a hash.
+    // The head of the chain of a hash as a look-up sees it: that of no node where the look-up passes the chain.
     fn head(&self, hash: u64) -> Head
-        ensures all { (cs : ℕ → Column) → IsSound cs self.now →
-            HasHash cs self.now hash (first_in result) }
-        ensures start { (cs : ℕ → Column) → IsSound cs self.now →
-            HasHash cs self.now hash (start_in hash result) }
+        ensures first { first_in result ≡
+            option_and_then (start_in hash) (slice_get (all_of self.now) (leads_to self.now hash)) }
+        ensures head { first_in result ≢ None →
+            slice_get (all_of self.now) (leads_to self.now hash) ≡ Some result }
     {
         if self.buckets.is_empty() {
             return Head::none();
         }
-        self.buckets.head(self.bucket(hash))
+        self.buckets.seen(self.bucket(hash), hash)
     }
 }

@@ -1,8 +1,10 @@
 //! The heads of the chains, in segments that are never moved.
-ghost use Rattle.std.specs.Prelude.{◌≡◌, ◌==◌, ℕ, ◌+◌, ◌*◌, ◌<◌, ◌≤◌, ◌^◌, min, vec_len, vec_capacity, [], ◌∷◌, ◌++◌, length, get_or, slice_get, set, true, Some, None, OnOk, OnErr};
+ghost use Rattle.std.specs.Prelude.{◌≡◌, ◌≢◌, ◌==◌, ℕ, ◌+◌, ◌*◌, ◌<◌, ◌≤◌, ◌^◌, min, vec_len, vec_capacity, [], ◌∷◌, ◌++◌, length, get_or, slice_get, set, option_and_then, true, Some, None, OnOk, OnErr};
+ghost use Rattle.hash_index.specs.Heads.{start_in};
 ghost use Rattle.hash_index.specs.Segments.{first_in, all_in, heads_in, spare, AreSegments, AreSegments_prop, IsAt};
 
 use crate::head::Head;
+use crate::segment::Segment;
 use node_store::Node;
 use std::alloc::{AllocError, Global};
 
@@ -15,7 +17,7 @@ const SEGMENTS: usize = 64;
 // The heads of the chains. Each segment has room for twice as many as the one before it, which is full.
 #[derive(Drop)]
 pub(crate) struct Segments {
-    segments: Vec<Vec<Head>>,
+    segments: Vec<Segment>,
     len: usize,
     ghost ok: { len ≡ length (all_in segments.items) },
     ghost never_moved: { min 1 (vec_len segments) * 64 ≤ vec_capacity segments },
@@ -70,7 +72,19 @@ impl Segments {
         ensures { slice_get (all_in self.now.segments.items) bucket ≡ Some result }
     {
         let (segment, place) = locate(bucket);
-        self.segments[segment][place]
+        self.segments[segment].head(place)
+    }
+
+    // The head of a chain as a look-up of this hash sees it: where it passes the chain, no node is read. O(1).
+    pub(crate) fn seen(&self, bucket: usize, hash: u64) -> Head
+        requires { bucket < self.now.len }
+        ensures first { first_in result ≡
+            option_and_then (start_in hash) (slice_get (all_in self.now.segments.items) bucket) }
+        ensures head { first_in result ≢ None →
+            slice_get (all_in self.now.segments.items) bucket ≡ Some result }
+    {
+        let (segment, place) = locate(bucket);
+        self.segments[segment].seen(place, hash)
     }
 
     // Gives a chain another head. O(1).
@@ -82,7 +96,7 @@ impl Segments {
         ensures room { spare self.new.segments.items ≡ spare self.old.segments.items }
     {
         let (segment, place) = locate(bucket);
-        self.segments[segment][place] = head;
+        self.segments[segment].set(place, head);
     }
 
     // Makes room for two more. Where all segments are full it takes the next one whole, and moves nothing. Where memory
@@ -109,7 +123,7 @@ impl Segments {
         ensures room { OnOk result (2 ≤ spare self.new.segments.items) }
         ensures unchanged { OnErr result (self.new ≡ self.old) }
     {
-        let segment = Vec::with_capacity(alloc, self.len + FIRST)?;
+        let segment = Segment::with_capacity(alloc, self.len + FIRST)?;
         self.reserve_segments(alloc)?;
         self.segments.push_reserved(segment);
         Ok(())
@@ -134,7 +148,7 @@ impl Segments {
         ensures { result ≡ spare self.now.segments.items }
     {
         match self.segments.last() {
-            Some(last) => last.capacity() - last.len(),
+            Some(last) => last.spare(),
             None => 0,
         }
     }

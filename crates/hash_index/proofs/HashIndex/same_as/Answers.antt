@@ -1,13 +1,17 @@
-use Rattle.std.proofs.Common.{◌∙◌, sym, ap, subst, length, arith}
+use Rattle.std.proofs.Common.{◌∙◌, sym, ap, length, arith}
 use Rattle.std.specs.Ordering.{is_eq}
 use Rattle.node_store.proofs.ByNode.{node_of_column}
 use Rattle.node_store.specs.ByNode.{column_of}
 use Rattle.hash_index.specs.Spelled.{col_of, index_of}
 use Rattle.hash_index.specs.Hashed.{side_of, others}
-use Rattle.hash_index.specs.Walks.{rest_of, HasHash}
+use Rattle.hash_index.specs.Walks.{rest_of}
 use Rattle.std.specs.Prelude.{find}
+use Rattle.hash_index.proofs.Spelling.{has_start}
 use Rattle.hash_index.proofs.Matching.{walk_node, walk_rest, walk_step, rest_none, others_in, others_hit, others_miss, others_first, others_hashed}
 use Rattle.hash_index.proofs.HashIndex.same_as.Goals as goal
+
+pub link-tag-requires-clause-node : goal.link-tag-requires-clause-node
+link-tag-requires-clause-node g c = walk_node (column_of c.args.store.now) c.args.self.now c.loop-at.at c.in-Some.n c.loop-at.invariant.ends c.in-Some.is
 
 pub is_other-requires-clause-node : goal.is_other-requires-clause-node
 is_other-requires-clause-node g c = node_of_column c.args.store.now (col_of c.args.self.now) c.in-Some.n (walk_node (column_of c.args.store.now) c.args.self.now c.loop-at.at c.in-Some.n c.loop-at.invariant.ends c.in-Some.is)
@@ -24,13 +28,13 @@ loop-at-smaller g c =
 
 pub loop-at-init : goal.loop-at-init
 loop-at-init g c =
-    let at = subst (HasHash (column_of c.args.store.now) c.args.self.now c.hash-hash.result) (sym c.start-at.ensures) (c.head.ensures.start (column_of c.args.store.now) c.requires.others.chain) in
+    let at = has_start (column_of c.args.store.now) c.args.self.now c.hash-hash.result c.node-at.result (c.node-at.ensures ∙ c.head.ensures.first) c.requires.others.chain in
     record {
       ends = at.ends;
       hashed = others_hashed c.args.store.now c.args.self.now (g.E.Extract.hash_of c.args.keys.now (index_of c.args.self.now)) c.hash-hash.result (λ a. g.E.Extract.order_of c.args.keys.now (index_of c.args.self.now) a c.args.r.now)
-          (λ a e. g.met.E.Extract.same_hash c.args.keys.now (index_of c.args.self.now) a c.args.r.now c.requires.others.has_key e ∙ sym c.hash-hash.ensures) c.start-at.result at c.args.except c.requires.others.hashed;
+          (λ a e. g.met.E.Extract.same_hash c.args.keys.now (index_of c.args.self.now) a c.args.r.now c.requires.others.has_key e ∙ sym c.hash-hash.ensures) c.node-at.result at c.args.except c.requires.others.hashed;
       same = sym (others_in c.args.store.now c.args.self.now (g.E.Extract.hash_of c.args.keys.now (index_of c.args.self.now)) c.hash-hash.result (λ a. g.E.Extract.order_of c.args.keys.now (index_of c.args.self.now) a c.args.r.now)
-          (λ a e. g.met.E.Extract.same_hash c.args.keys.now (index_of c.args.self.now) a c.args.r.now c.requires.others.has_key e ∙ sym c.hash-hash.ensures) c.start-at.result at c.args.except c.requires.others.hashed);
+          (λ a e. g.met.E.Extract.same_hash c.args.keys.now (index_of c.args.self.now) a c.args.r.now c.requires.others.has_key e ∙ sym c.hash-hash.ensures) c.node-at.result at c.args.except c.requires.others.hashed);
     }
 
 pub returns-then-is_other : goal.returns-then-is_other

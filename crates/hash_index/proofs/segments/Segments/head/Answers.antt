@@ -1,28 +1,25 @@
-use Rattle.std.proofs.Common.{◌<◌, Some, length, get_or, ap, sym, ◌∙◌, arith}
-use Rattle.hash_index.specs.Segments.{all_in}
-use Rattle.hash_index.proofs.InSegments.{part_at, part_is, part_below, part_get}
+use Rattle.std.proofs.Common.{length, ap, sym, ◌∙◌, arith}
+use Rattle.std.specs.List.{slice_get}
+use Rattle.hash_index.specs.Segments.{items_of}
+use Rattle.hash_index.proofs.InSegments.{stands, part_is, part_below, part_get}
 use Rattle.hash_index.proofs.segments.Segments.head.Goals as goal
-use Rattle.std.proofs.lemmas.Option.{slice_get-get_or}
 
 pub index-requires : goal.index-requires
 index-requires c =
     let s = c.args.self.now in
-    let part = part_at 8 s.segments.items c.locate-segment.result.0 c.locate-segment.result.1 c.args.bucket s.shape (omega (arith, s.ok, c.requires)) c.locate-segment.ensures.at c.locate-segment.ensures.within in
-    omega (arith, part_below s.segments.items c.locate-segment.result.0 c.locate-segment.result.1 c.args.bucket part, s.segments.ok.0)
+    let part = stands s.segments.items c.args.bucket _ _ s.shape (omega (arith, s.ok, c.requires)) c.locate-segment.ensures in
+    omega (arith, part_below _ _ _ _ part, s.segments.ok.0)
 
-pub index-requires-2 : goal.index-requires-2
-index-requires-2 c =
+pub head-requires : goal.head-requires
+head-requires c =
     let s = c.args.self.now in
-    let part = part_at 8 s.segments.items c.locate-segment.result.0 c.locate-segment.result.1 c.args.bucket s.shape (omega (arith, s.ok, c.requires)) c.locate-segment.ensures.at c.locate-segment.ensures.within in
-    let is = part_is s.segments.items c.locate-segment.result.0 c.locate-segment.result.1 c.args.bucket part c.index.result.now c.index.ensures in
-    omega (arith, part.within, ap (λ v. length v.items) is, c.index.result.now.ok.0)
+    let part = stands s.segments.items c.args.bucket _ _ s.shape (omega (arith, s.ok, c.requires)) c.locate-segment.ensures in
+    let is = part_is _ _ _ _ part c.index.result.now c.index.ensures in
+    omega (arith, part.within, ap (λ v. length (items_of v)) is)
 
 pub returns : goal.returns
 returns c =
     let s = c.args.self.now in
-    let part = part_at 8 s.segments.items c.locate-segment.result.0 c.locate-segment.result.1 c.args.bucket s.shape (omega (arith, s.ok, c.requires)) c.locate-segment.ensures.at c.locate-segment.ensures.within in
-    let is = part_is s.segments.items c.locate-segment.result.0 c.locate-segment.result.1 c.args.bucket part c.index.result.now c.index.ensures in
-    let within : c.locate-segment.result.1 < length c.index.result.now.items = omega (arith, part.within, ap (λ v. length v.items) is) in
-    let at = slice_get-get_or (all_in s.segments.items) c.args.bucket c.index-2.result.now (omega (arith, s.ok, c.requires)) in
-    at ∙ ap Some (part_get s.segments.items c.locate-segment.result.0 c.locate-segment.result.1 c.args.bucket part c.index-2.result.now
-    ∙ (ap (λ v. get_or v.items c.locate-segment.result.1 c.index-2.result.now) (sym is) ∙ sym c.index-2.ensures))
+    let part = stands s.segments.items c.args.bucket _ _ s.shape (omega (arith, s.ok, c.requires)) c.locate-segment.ensures in
+    let is = part_is _ _ _ _ part c.index.result.now c.index.ensures in
+    part_get _ _ _ _ part ∙ (ap (λ v. slice_get (items_of v) c.locate-segment.result.1) (sym is) ∙ c.head.ensures)

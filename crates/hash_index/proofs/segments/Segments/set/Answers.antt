@@ -1,47 +1,47 @@
 use Rattle.std.proofs.Common.{length, set, ap, sym, ◌∙◌, arith}
-use Rattle.hash_index.specs.Segments.{all_in}
-use Rattle.hash_index.proofs.InSegments.{part_at, part_is, part_below, part_set, put_shape, put_spare}
-use Rattle.hash_index.proofs.segments.Segments.set.Goals as goal
-use Rattle.std.specs.Vec.{vec_len, vec_capacity, with_item}
 use Rattle.std.proofs.lemmas.List.{length-set}
+use Rattle.hash_index.specs.Segments.{all_in, items_of, capacity_of}
+use Rattle.hash_index.proofs.InSegments.{stands, part_is, part_below, part_set, put_shape, put_spare}
+use Rattle.hash_index.proofs.segments.Segments.set.Goals as goal
 
 pub index_mut-requires : goal.index_mut-requires
 index_mut-requires c =
     let s = c.args.self.now in
-    let part = part_at 8 s.segments.items c.locate-segment.result.0 c.locate-segment.result.1 c.args.bucket s.shape (omega (arith, s.ok, c.requires)) c.locate-segment.ensures.at c.locate-segment.ensures.within in
-    omega (arith, part_below s.segments.items c.locate-segment.result.0 c.locate-segment.result.1 c.args.bucket part, s.segments.ok.0)
+    let part = stands s.segments.items c.args.bucket _ _ s.shape (omega (arith, s.ok, c.requires)) c.locate-segment.ensures in
+    omega (arith, part_below _ _ _ _ part, s.segments.ok.0)
 
-pub index_mut-requires-2 : goal.index_mut-requires-2
-index_mut-requires-2 c =
+pub set-requires : goal.set-requires
+set-requires c =
     let s = c.args.self.now in
-    let part = part_at 8 s.segments.items c.locate-segment.result.0 c.locate-segment.result.1 c.args.bucket s.shape (omega (arith, s.ok, c.requires)) c.locate-segment.ensures.at c.locate-segment.ensures.within in
-    let is = part_is s.segments.items c.locate-segment.result.0 c.locate-segment.result.1 c.args.bucket part c.index_mut.result.now c.index_mut.ensures.value in
-    omega (arith, part.within, ap (λ v. length v.items) is, c.index_mut.result.now.ok.0)
+    let part = stands s.segments.items c.args.bucket _ _ s.shape (omega (arith, s.ok, c.requires)) c.locate-segment.ensures in
+    let is = part_is _ _ _ _ part c.index_mut.result.now c.index_mut.ensures.value in
+    omega (arith, part.within, ap (λ v. length (items_of v)) is)
 
 pub invariant_of-self : goal.invariant_of-self
 invariant_of-self c =
     let s = c.args.self.now in
-    let part = part_at 8 s.segments.items c.locate-segment.result.0 c.locate-segment.result.1 c.args.bucket s.shape (omega (arith, s.ok, c.requires)) c.locate-segment.ensures.at c.locate-segment.ensures.within in
-    let is = part_is s.segments.items c.locate-segment.result.0 c.locate-segment.result.1 c.args.bucket part c.index_mut.result.now c.index_mut.ensures.value in
-    let new = with_item c.index_mut.result.now c.locate-segment.result.1 c.args.head in
-    let heads = part_set s.segments.items c.locate-segment.result.0 c.locate-segment.result.1 c.args.bucket part new c.args.head (ap (λ v. set v.items c.locate-segment.result.1 c.args.head) is) in
+    let part = stands s.segments.items c.args.bucket _ _ s.shape (omega (arith, s.ok, c.requires)) c.locate-segment.ensures in
+    let is = part_is _ _ _ _ part c.index_mut.result.now c.index_mut.ensures.value in
+    let items = c.set.ensures.heads ∙ ap (λ v. set (items_of v) c.locate-segment.result.1 c.args.head) is in
+    let heads = part_set _ _ _ _ part c.set.new.self c.args.head items in
     record {
       ok = s.ok ∙ (sym (length-set (all_in s.segments.items) c.args.bucket c.args.head) ∙ ap length (sym heads));
       never_moved = s.never_moved;
       small = s.small;
-      shape = put_shape s.segments.items c.locate-segment.result.0 c.locate-segment.result.1 c.args.bucket part new (ap vec_len is) (ap vec_capacity is) 8 s.shape;
+      shape = put_shape _ _ _ _ part c.set.new.self (ap length items ∙ length-set _ _ _) (c.set.ensures.capacity ∙ ap capacity_of is) 8 s.shape;
     }
 
 pub returns-clause-heads : goal.returns-clause-heads
 returns-clause-heads c =
     let s = c.args.self.now in
-    let part = part_at 8 s.segments.items c.locate-segment.result.0 c.locate-segment.result.1 c.args.bucket s.shape (omega (arith, s.ok, c.requires)) c.locate-segment.ensures.at c.locate-segment.ensures.within in
-    let is = part_is s.segments.items c.locate-segment.result.0 c.locate-segment.result.1 c.args.bucket part c.index_mut.result.now c.index_mut.ensures.value in
-    part_set s.segments.items c.locate-segment.result.0 c.locate-segment.result.1 c.args.bucket part _ c.args.head (ap (λ v. set v.items c.locate-segment.result.1 c.args.head) is)
+    let part = stands s.segments.items c.args.bucket _ _ s.shape (omega (arith, s.ok, c.requires)) c.locate-segment.ensures in
+    let is = part_is _ _ _ _ part c.index_mut.result.now c.index_mut.ensures.value in
+    part_set _ _ _ _ part c.set.new.self c.args.head (c.set.ensures.heads ∙ ap (λ v. set (items_of v) c.locate-segment.result.1 c.args.head) is)
 
 pub returns-clause-room : goal.returns-clause-room
 returns-clause-room c =
     let s = c.args.self.now in
-    let part = part_at 8 s.segments.items c.locate-segment.result.0 c.locate-segment.result.1 c.args.bucket s.shape (omega (arith, s.ok, c.requires)) c.locate-segment.ensures.at c.locate-segment.ensures.within in
-    let is = part_is s.segments.items c.locate-segment.result.0 c.locate-segment.result.1 c.args.bucket part c.index_mut.result.now c.index_mut.ensures.value in
-    put_spare s.segments.items c.locate-segment.result.0 c.locate-segment.result.1 c.args.bucket part _ (ap vec_len is) (ap vec_capacity is)
+    let part = stands s.segments.items c.args.bucket _ _ s.shape (omega (arith, s.ok, c.requires)) c.locate-segment.ensures in
+    let is = part_is _ _ _ _ part c.index_mut.result.now c.index_mut.ensures.value in
+    let items = c.set.ensures.heads ∙ ap (λ v. set (items_of v) c.locate-segment.result.1 c.args.head) is in
+    put_spare _ _ _ _ part c.set.new.self (ap length items ∙ length-set _ _ _) (c.set.ensures.capacity ∙ ap capacity_of is)
