@@ -7,7 +7,7 @@ use Rattle.std.proofs.Math.Seq.{get_or-append_seam, set-append_seam}
 use Rattle.hash_index.specs.declared.head.Head.{Head}
 use Rattle.hash_index.specs.declared.segment.Segment.{Segment}
 use Rattle.hash_index.specs.Segments.{all_in, items_of, capacity_of, AreSegments, spare, IsAt}
-use Rattle.hash_index.proofs.Paired.{items_fit, capacity_small}
+use Rattle.hash_index.proofs.Paired.{items_fit}
 
 -- ---- the highest bit
 
@@ -204,7 +204,7 @@ shape_more size (s ∷ (t ∷ ss)) new e room h =
 
 -- the last segment is no larger than a block may be, and so there are fewer of them than bits
 count_fits : (size : ℕ) (s : Segment) (ss : List Segment) → AreSegments size (s ∷ ss) → size * 2 ^ length ss < 2 ^ 63
-count_fits size s [] h = omega (arith, h, capacity_small s)
+count_fits size s [] h = omega (arith, h, s.nodes.small)
 count_fits size s (t ∷ ss) h =
     let w = twice size (length ss) in
     let r = count_fits (size * 2) t ss h.1 in

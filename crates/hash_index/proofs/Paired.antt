@@ -1,5 +1,5 @@
 -- Marks and nodes side by side.
-use Rattle.std.proofs.Common.{◌≡◌, ℕ, zero, suc, ◌^◌, ◌≤◌, ◌<◌, List, [], ◌∷◌, ◌++◌, length, get_or, set, Some, None, option_and_then, true, false, cond, refl, sym, ap, ◌∙◌, arith}
+use Rattle.std.proofs.Common.{◌≡◌, ℕ, zero, suc, ◌≤◌, ◌<◌, List, [], ◌∷◌, ◌++◌, length, get_or, set, Some, None, option_and_then, true, false, cond, refl, sym, ap, ◌∙◌, arith}
 use Rattle.std.specs.List.{slice_get}
 use Rattle.std.proofs.lemmas.Option.{slice_get-get_or}
 use Rattle.node_store.specs.declared.Node.{Node}
@@ -62,6 +62,3 @@ count_is s = length-paired s.marks.items s.nodes.items (omega (arith, s.marks.ok
 
 pub items_fit : (s : Segment) → length (items_of s) ≤ capacity_of s
 items_fit s = omega (arith, count_is s, s.nodes.ok.0, s.nodes.ok.1)
-
-pub capacity_small : (s : Segment) → capacity_of s < 2 ^ 63
-capacity_small s = s.nodes.small

@@ -10,8 +10,8 @@ use Rattle.hash_index.proofs.Spelling.{has_start}
 use Rattle.hash_index.proofs.Matching.{walk_node, walk_step, counted_in, count_hit, count_miss, hashed_here, hashed_rest, rest_hashed, rest_none, walk_rest}
 use Rattle.hash_index.proofs.HashIndex.count.Goals as goal
 
-pub link-link-requires-clause-node : goal.link-link-requires-clause-node
-link-link-requires-clause-node g c = walk_node (column_of c.args.store.now) c.args.self.now c.loop-at.at c.in-Some.n c.loop-at.invariant.ends c.in-Some.is
+pub link-link-requires : goal.link-link-requires
+link-link-requires g c = walk_node (column_of c.args.store.now) c.args.self.now c.loop-at.at c.in-Some.n c.loop-at.invariant.ends c.in-Some.is
 
 pub has_key-requires-clause-hashed : goal.has_key-requires-clause-hashed
 has_key-requires-clause-hashed g c =

@@ -10,8 +10,8 @@ use Rattle.hash_index.proofs.Spelling.{has_start}
 use Rattle.hash_index.proofs.Matching.{walk_node, walk_rest, walk_step, rest_none, others_in, others_hit, others_miss, others_first, others_hashed}
 use Rattle.hash_index.proofs.HashIndex.same_as.Goals as goal
 
-pub link-tag-requires-clause-node : goal.link-tag-requires-clause-node
-link-tag-requires-clause-node g c = walk_node (column_of c.args.store.now) c.args.self.now c.loop-at.at c.in-Some.n c.loop-at.invariant.ends c.in-Some.is
+pub link-tag-requires : goal.link-tag-requires
+link-tag-requires g c = walk_node (column_of c.args.store.now) c.args.self.now c.loop-at.at c.in-Some.n c.loop-at.invariant.ends c.in-Some.is
 
 pub is_other-requires-clause-node : goal.is_other-requires-clause-node
 is_other-requires-clause-node g c = node_of_column c.args.store.now (col_of c.args.self.now) c.in-Some.n (walk_node (column_of c.args.store.now) c.args.self.now c.loop-at.at c.in-Some.n c.loop-at.invariant.ends c.in-Some.is)
