@@ -1,6 +1,6 @@
 //! A store of records in heap blocks that never move.
 //!
-//! A node has a record and, in each column of the store, links to other nodes with a tag and a height. What the
+//! A node has a record and, in each of the store's columns, links to other nodes with a tag and a height. What the
 //! links mean is for the layers above: the store only keeps them. Every call is O(1) but the store's drop, which
 //! is O(length). `add` allocates one block; no other call allocates.
 #![tactic(auto)]
@@ -25,7 +25,7 @@ use std::marker::Model;
 use std::mem::size_of;
 use stored::Row;
 
-/// How many columns of links a store can have. A column is named by a number below it.
+/// How many columns a store can have at most. A column is named by its number, the first by 0.
 pub const COLUMNS: usize = 8;
 
 /// A node of a store, until the store removes it. Nodes are compared by the number of their add, so only those of
@@ -52,13 +52,13 @@ pub struct NoRoom<R> {
     pub value: R,
 }
 
-/// The bytes of the block of a record of 8 bytes with links in one column, and in all of them.
+/// The bytes of the block of a record of 8 bytes with links in one column, of which they take 64.
 pub const LEAST_BLOCK_BYTES: usize = size_of::<Block<u64, Row<1>>>();
 
-/// The same with links in all columns.
+/// The same with links in as many columns as a store can have.
 pub const BLOCK_BYTES: usize = size_of::<Block<u64, Row<8>>>();
 
-// The call on the shelf, which are the same whatever its width.
+// Makes the call on the shelf, whatever its width.
 macro_rules! on_shelf {
     ($shelves:expr, $shelf:ident => $call:expr) => {
         match $shelves {
@@ -70,8 +70,8 @@ macro_rules! on_shelf {
     };
 }
 
-/// Records with their links, each in a heap block of its own. The blocks have links in one, two, four or eight columns,
-/// the fewest that are enough.
+/// Records with their links, each in a heap block of its own. The blocks have links in one, two, four or eight columns:
+/// the fewest that the store was made for.
 #[derive(Drop)]
 pub struct NodeStore<R> {
     shelves: Shelves<R>,
@@ -148,7 +148,7 @@ impl<R> NodeStore<R> {
     ghost use Rattle.node_store.specs.declared.Node.{Node};
     ghost use Rattle.node_store.specs.declared.Link.{Link};
 
-    /// A store with no node, whose nodes are to have so many columns or more. It allocates nothing until the first `add`.
+    /// A store with no node, and with so many columns or a few more. It allocates nothing until the first `add`.
     pub fn new(alloc: Global, columns: usize) -> NodeStore<R>
         requires { columns ≤ 8 }
         ensures empty { result ≡ empty_store (width_of result) }
