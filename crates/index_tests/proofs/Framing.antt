@@ -1,10 +1,12 @@
 -- What a change of one index leaves of those beside it.
 use Rattle.std.proofs.Common.{◌≡◌, ℕ, zero, suc, ◌+◌, ◌<◌, ◌≤◌, List, [], ◌∷◌, length, get_or, set, sym, ◌∙◌, subst, arith}
+use Rattle.std.proofs.lemmas.List.{length-set}
 use Rattle.node_store.specs.declared.Node.{Node}
-use Rattle.node_store.specs.Column.{Column, KeepsOthers}
+use Rattle.node_store.specs.Column.{Column, IsNode, KeepsOthers}
 use Rattle.node_store.specs.Nodes.{Lacks}
-use Rattle.node_store.specs.Store.{Store}
+use Rattle.node_store.specs.Store.{Store, IsNodeOf}
 use Rattle.node_store.specs.ByNode.{column_of, contents, AddsNode}
+use Rattle.node_store.proofs.ByNode.{width_kept, node_in_column}
 use Rattle.seq_index.proofs.Laws as chains
 use Rattle.row_index.proofs.Laws as rows
 use Rattle.ord_tree.proofs.Laws as trees
@@ -14,7 +16,7 @@ use Rattle.index_tests.specs.declared.keys.Keyed.{Keyed}
 use Rattle.index_tests.specs.declared.index.Index.{Index}
 use Rattle.index_tests.specs.declared.index.Index.TheVariants.{Chain, Row, Ordered, Ranked, Hashed}
 use Rattle.index_tests.specs.Kinds.{IsSoundIn, listed, col_in}
-use Rattle.index_tests.specs.Every.{AreSound, LackFrom}
+use Rattle.index_tests.specs.Every.{AreSound, HaveColumns, LackFrom}
 use Rattle.index_tests.proofs.Ordered.{tree_kept, tree_added}
 
 listed_kept : (cs ds : ℕ → Column) (i : Index) → ds (col_in i) ≡ cs (col_in i) → listed ds i ≡ listed cs i
@@ -39,6 +41,10 @@ sound_at s col (i ∷ is) zero d lt h = record { is = omega (arith, h.0); sound 
 sound_at s col (i ∷ is) (suc k) d lt h =
     let r = sound_at s (suc col) is k d (omega (arith, lt)) h.2 in
     record { is = omega (arith, r.is); sound = r.sound }
+
+-- a node of the store has links in the column of an index
+pub node_at : {T : Type 0} (s : Store (Keyed T)) (is : List Index) (n : Node) (k : ℕ) (d : Index) → k < length is → HaveColumns s is → IsNodeOf s n → IsNode (column_of s (col_in (get_or is k d))) n
+node_at s is n k d lt h here = node_in_column s _ n (omega (arith, lt, (sound_at s 0 is k d lt h.sound).is, h.width)) here
 
 pub lacks_at : (cs : ℕ → Column) (is : List Index) (n : Node) (k : ℕ) (d : Index) → k < length is → LackFrom cs k is n → Lacks (listed cs (get_or is k d)) n
 lacks_at cs [] n k d lt h = absurd (omega (arith, lt))
@@ -81,10 +87,13 @@ module _ {T : Type 0} (old new : Store (Keyed T)) (e : contents new ≡ contents
       let next : KeepsOthers (column_of old) (column_of new) (suc col + k) = λ j ne. keep j (λ f. ne (omega (arith, f))) in
       lacks_set (suc col) is n k now (omega (arith, lt)) h.2 next l
 
-  pub sound_changed : (is : List Index) (k : ℕ) (d now : Index) → k < length is → AreSound old 0 is → col_in now ≡ col_in (get_or is k d) → IsSoundIn new now → KeepsOthers (column_of old) (column_of new) (col_in (get_or is k d)) → AreSound new 0 (set is k now)
-  sound_changed is k d now lt h c s keep =
-      let at = (sound_at old 0 is k d lt h).is in
-      sound_set 0 is k now lt h (c ∙ at) s (subst (KeepsOthers (column_of old) (column_of new)) at keep)
+  pub columns_changed : (is : List Index) (k : ℕ) (d now : Index) → k < length is → HaveColumns old is → col_in now ≡ col_in (get_or is k d) → IsSoundIn new now → KeepsOthers (column_of old) (column_of new) (col_in (get_or is k d)) → HaveColumns new (set is k now)
+  columns_changed is k d now lt h c s keep =
+      let at = (sound_at old 0 is k d lt h.sound).is in
+      record {
+        sound = sound_set 0 is k now lt h.sound (c ∙ at) s (subst (KeepsOthers (column_of old) (column_of new)) at keep);
+        width = omega (arith, h.width, length-set is k now, width_kept old new e);
+      }
 
   pub lacks_changed : (is : List Index) (n : Node) (k : ℕ) (d now : Index) → k < length is → AreSound old 0 is → KeepsOthers (column_of old) (column_of new) (col_in (get_or is k d)) → LackFrom (column_of old) k is n → LackFrom (column_of new) (k + 1) (set is k now) n
   lacks_changed is n k d now lt h keep l =
@@ -108,9 +117,12 @@ module _ {T : Type 0} (old new : Store (Keyed T)) (n : Node) (value : Keyed T) (
   index_lacks (Ranked i) h = ranked.Lacks_spelled_added old new n value i a h.0
   index_lacks (Hashed i) h = buckets.Lacks_spelled_added old new n value i a h
 
-  pub sound_added : (col : ℕ) (is : List Index) → AreSound old col is → AreSound new col is
+  sound_added : (col : ℕ) (is : List Index) → AreSound old col is → AreSound new col is
   sound_added col [] h = tt
   sound_added col (i ∷ is) h = (h.0, index_added i h.1, sound_added (suc col) is h.2)
+
+  pub columns_added : (is : List Index) → HaveColumns old is → HaveColumns new is
+  columns_added is h = record { sound = sound_added 0 is h.sound; width = omega (arith, h.width, a.width) }
 
   pub lacks_added : (col : ℕ) (is : List Index) → AreSound old col is → LackFrom (column_of new) 0 is n
   lacks_added col [] h = tt

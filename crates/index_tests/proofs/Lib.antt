@@ -1,3 +1,4 @@
 pub mod Ordered
+pub mod Added
 pub mod Framing
 pub mod Walks

@@ -1,5 +1,6 @@
 //! Records with equal keys, through several growths.
 ghost use Rattle.std.specs.Prelude.{◌≡◌, ◌+◌, ◌<◌, ◌≤◌, IsTrue};
+ghost use Rattle.node_store.specs.Store.{width_of};
 ghost use Rattle.node_store.specs.ByNode.{column_of};
 ghost use Rattle.hash_index.specs.Spelled.{IsSound, spelled, col_of, index_of};
 ghost use Rattle.hash_index.specs.Hashed.{IsHashed};
@@ -21,12 +22,14 @@ fn insert_new<R: Drop, E: Extract<R>>(
     requires hashed { IsHashed (E.hash_of keys.now (index_of index.old)) store.old
         (col_of index.old) (spelled (column_of store.old) index.old) }
     requires has_key { IsTrue (E.has_key keys.now (index_of index.old)) }
+    requires column { col_of index.old < width_of store.old }
     requires count { store.old.added < 1000 }
     ensures chain { IsSound (column_of store.new) index.new }
     ensures hashed { IsHashed (E.hash_of keys.now (index_of index.old)) store.new (col_of index.old)
         (spelled (column_of store.new) index.new) }
     ensures col { col_of index.new ≡ col_of index.old }
     ensures index { index_of index.new ≡ index_of index.old }
+    ensures column { col_of index.new < width_of store.new }
     ensures count { store.new.added ≤ store.old.added + 1 }
 {
     let Ok(()) = index.reserve_one(store) else {
@@ -44,7 +47,7 @@ fn counts<E: Extract<Row>>(alloc: Global, keys: &E, sought: &E::Probe) -> Option
     requires has_key { IsTrue (E.has_key keys.now 0) }
     requires whole { IsTrue (E.is_whole keys.now 0 sought.now) }
 {
-    let mut store = NodeStore::new(alloc);
+    let mut store = NodeStore::new(alloc, 4);
     let mut index = HashIndex::new(alloc, 3, 0);
     for i in 0..40u64 {
         let group = if i % 16 == 3 { 7 } else { i as i64 + 100 };

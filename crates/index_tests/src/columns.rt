@@ -1,4 +1,5 @@
 //! One node in six columns at once, and in eight, and records of nodes that no index has.
+ghost use Rattle.std.specs.Prelude.{◌≤◌, length};
 ghost use Rattle.node_store.specs.Store.{Store};
 ghost use Rattle.index_tests.specs.Every.{AreSound};
 ghost use Rattle.index_tests.specs.declared.keys.Keyed.{Keyed};
@@ -79,9 +80,10 @@ fn only_lost(
 // What the lists are once the node 2 of five was taken out of each in turn, if each time the others stayed. The keys
 // of the five are 0, 3, 1, 4 and 2.
 fn taken_from_each(indices: &mut [Index], alloc: Global) -> Option<Vec<Vec<u64>>>
-    requires { (s : Store (Keyed (Unit {0}))) → AreSound s 0 indices.old }
+    requires sound { (s : Store (Keyed (Unit {0}))) → AreSound s 0 indices.old }
+    requires few { length indices.old ≤ 8 }
 {
-    let mut store = NodeStore::new(alloc);
+    let mut store = NodeStore::new(alloc, indices.len());
     for name in 0..5u64 {
         let key = name * 3 % 5;
         add(&mut store, indices, Keyed { key, rest: () });
@@ -147,7 +149,7 @@ impl Drop for Dropped<'_> {
 
 // Drops a store of 100 such records, every second of which stands in a sequence. How many stood there.
 fn drop_half_linked(count: &Cell<u64>, names: &Cell<u64>, alloc: Global) -> Option<usize> {
-    let mut store = NodeStore::new(alloc);
+    let mut store = NodeStore::new(alloc, 1);
     let mut indices = [Index::Chain(SeqIndex::new(0))];
     for name in 0..100u64 {
         let rest = Dropped { name, count, names };

@@ -115,7 +115,7 @@ fn evens(end: End, alloc: Global) -> Option<Vec<u64>> {
 // The most comparisons of a call of an ordered tree of a thousand ids.
 fn tree_at(call: Call, end: End, alloc: Global) -> Option<u64> {
     let keys = Numbers::new();
-    let mut store = NodeStore::new(alloc);
+    let mut store = NodeStore::new(alloc, 3);
     let mut index = OrdTree::new(2, 5);
     tree::fill(&mut store, &mut index, &keys, evens(end, alloc)?)?;
     most_in_tree(call, &store, &index, &keys)
@@ -124,7 +124,7 @@ fn tree_at(call: Call, end: End, alloc: Global) -> Option<u64> {
 // The most comparisons of a call of a ranked tree of a thousand ids.
 fn ranks_at(call: Call, end: End, alloc: Global) -> Option<u64> {
     let keys = Numbers::new();
-    let mut store = NodeStore::new(alloc);
+    let mut store = NodeStore::new(alloc, 3);
     let mut index = RankTree::new(2, 5);
     ranks::fill(&mut store, &mut index, &keys, evens(end, alloc)?)?;
     most_in_ranks(call, &store, &index, &keys)
@@ -133,7 +133,7 @@ fn ranks_at(call: Call, end: End, alloc: Global) -> Option<u64> {
 // The most links that lead to a place of a ranked tree of a thousand ids.
 fn links_at(end: End, alloc: Global) -> Option<u64> {
     let keys = Numbers::new();
-    let mut store = NodeStore::new(alloc);
+    let mut store = NodeStore::new(alloc, 3);
     let mut index = RankTree::new(2, 5);
     ranks::fill(&mut store, &mut index, &keys, evens(end, alloc)?)?;
     ranks::most_followed(&store, &index, 1000)

@@ -6,7 +6,7 @@ ghost use Rattle.node_store.specs.Store.{IsNodeOf};
 ghost use Rattle.node_store.specs.Nodes.{Holds};
 ghost use Rattle.node_store.specs.ByNode.{column_of, contents};
 ghost use Rattle.index_tests.specs.Kinds.{IsSoundIn, listed, col_in};
-ghost use Rattle.index_tests.specs.Every.{AreSound, LackFrom};
+ghost use Rattle.index_tests.specs.Every.{HaveColumns, LackFrom};
 
 use crate::index::Index;
 use crate::keys::Keyed;
@@ -66,7 +66,7 @@ pub(crate) fn views<T>(
     indices: &[Index],
     alloc: Global,
 ) -> Option<Vec<Vec<u64>>>
-    requires { AreSound store.now 0 indices.now }
+    requires { HaveColumns store.now indices.now }
 {
     let mut all = Vec::new(alloc);
     for index in indices {
@@ -77,8 +77,8 @@ pub(crate) fn views<T>(
 
 /// Adds a node and puts it into each index, if there is room.
 pub(crate) fn add<T: Drop>(store: &mut NodeStore<Keyed<T>>, indices: &mut [Index], value: Keyed<T>)
-    requires { AreSound store.old 0 indices.old }
-    ensures { AreSound store.new 0 indices.new }
+    requires { HaveColumns store.old indices.old }
+    ensures { HaveColumns store.new indices.new }
 {
     if store.added() == u64::MAX {
         return;
@@ -89,10 +89,10 @@ pub(crate) fn add<T: Drop>(store: &mut NodeStore<Keyed<T>>, indices: &mut [Index
 }
 
 fn put_into_each<T>(store: &mut NodeStore<Keyed<T>>, indices: &mut [Index], n: Node)
-    requires sound { AreSound store.old 0 indices.old }
+    requires columns { HaveColumns store.old indices.old }
     requires node { IsNodeOf store.old n }
     requires new { LackFrom (column_of store.old) 0 indices.old n }
-    ensures { AreSound store.new 0 indices.new }
+    ensures { HaveColumns store.new indices.new }
 {
     for place in 0..indices.len() {
         indices[place].put(store, n);
@@ -106,8 +106,8 @@ pub(crate) fn unlink_from<T>(
     place: usize,
     number: u64,
 )
-    requires { AreSound store.old 0 indices.old }
-    ensures { AreSound store.new 0 indices.new }
+    requires { HaveColumns store.old indices.old }
+    ensures { HaveColumns store.new indices.new }
 {
     if place >= indices.len() {
         return;

@@ -1,8 +1,7 @@
 //! An index of one of five kinds.
 ghost use Rattle.std.specs.Prelude.{◌≡◌, Some};
 ghost use Rattle.node_store.specs.declared.Node.{Node};
-ghost use Rattle.node_store.specs.Column.{KeepsOthers};
-ghost use Rattle.node_store.specs.Store.{IsNodeOf};
+ghost use Rattle.node_store.specs.Column.{IsNode, KeepsOthers};
 ghost use Rattle.node_store.specs.Nodes.{Lacks, Holds};
 ghost use Rattle.node_store.specs.ByNode.{column_of, contents};
 ghost use Rattle.index_tests.specs.Kinds.{IsSoundIn, listed, col_in};
@@ -56,7 +55,7 @@ impl Index {
     /// Puts `n` last in a chain, first in a row, and by its record's key elsewhere, if there is room.
     pub(crate) fn put<T>(&mut self, store: &mut NodeStore<Keyed<T>>, n: Node)
         requires sound { IsSoundIn store.old self.old }
-        requires node { IsNodeOf store.old n }
+        requires node { IsNode (column_of store.old (col_in self.old)) n }
         requires new { Lacks (listed (column_of store.old) self.old) n }
         ensures sound { IsSoundIn store.new self.new }
         ensures col { col_in self.new ≡ col_in self.old }

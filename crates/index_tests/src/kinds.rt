@@ -1,9 +1,10 @@
 //! Records of one key in an index of each kind that has keys.
 ghost use Rattle.std.specs.Prelude.{◌≡◌, ◌+◌, ◌<◌, ◌≤◌, IsTrue};
 ghost use Rattle.container_model.specs.State.{has_key_kind};
+ghost use Rattle.node_store.specs.Store.{width_of};
 ghost use Rattle.node_store.specs.ByNode.{column_of};
 ghost use Rattle.any_index.specs.Keyed.{IsKeyed};
-ghost use Rattle.any_index.specs.Spelled.{IsSound, kind_of, index_of};
+ghost use Rattle.any_index.specs.Spelled.{IsSound, kind_of, col_of, index_of};
 
 use crate::rows::{keys, probe, row};
 use any_index::AnyIndex;
@@ -22,11 +23,13 @@ fn enter_new<R: Drop, E: Extract<R>>(
     requires sound { IsSound (column_of store.old) index.old }
     requires key { E.has_key keys.now (index_of index.old) ≡ has_key_kind (kind_of index.old) }
     requires keyed { IsKeyed (E.order_of keys.now) (E.hash_of keys.now) store.old index.old }
+    requires column { col_of index.old < width_of store.old }
     requires count { store.old.added < 1000 }
     ensures sound { IsSound (column_of store.new) index.new }
     ensures keyed { IsKeyed (E.order_of keys.now) (E.hash_of keys.now) store.new index.new }
     ensures kind { kind_of index.new ≡ kind_of index.old }
     ensures index { index_of index.new ≡ index_of index.old }
+    ensures column { col_of index.new < width_of store.new }
     ensures count { store.new.added ≤ store.old.added + 1 }
 {
     let Ok(()) = index.reserve_one(store) else {
@@ -50,6 +53,7 @@ fn fill<E: Extract<Row>>(
     requires sound { IsSound (column_of store.old) index.old }
     requires key { E.has_key keys.now (index_of index.old) ≡ has_key_kind (kind_of index.old) }
     requires keyed { IsKeyed (E.order_of keys.now) (E.hash_of keys.now) store.old index.old }
+    requires column { col_of index.old < width_of store.old }
     requires empty { store.old.added ≡ 0 }
     requires few { count ≤ 100 }
     ensures sound { IsSound (column_of store.new) index.new }
@@ -72,7 +76,7 @@ fn finds<E: Extract<Row>>(alloc: Global, kind: Kind, keys: &E, sought: &E::Probe
     requires key { IsTrue (E.has_key keys.now 0) }
     requires whole { IsTrue (E.is_whole keys.now 0 sought.now) }
 {
-    let mut store = NodeStore::new(alloc);
+    let mut store = NodeStore::new(alloc, 1);
     let mut index = AnyIndex::new(alloc, kind, 0);
     fill(alloc, &mut store, &mut index, keys, 12)?;
     let count = index.count(&store, keys, sought);

@@ -34,11 +34,15 @@ fn tell(rt: &impl Print, case: &str, holds: Option<bool>) -> io::Result<()> {
 }
 
 // The cases of the store and of the slots, each with whether it holds.
-fn of_stores(rt: &impl Threads, alloc: Global) -> [(&'static str, Option<bool>); 5] {
+fn of_stores(rt: &impl Threads, alloc: Global) -> [(&'static str, Option<bool>); 6] {
     [
         (
             "links are kept by column",
             store::links_are_kept_by_column(alloc),
+        ),
+        (
+            "links are kept apart whatever the columns",
+            store::any_columns_keep_links(alloc),
         ),
         ("sizes in bytes", Some(store::are_sizes())),
         (

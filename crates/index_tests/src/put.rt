@@ -1,7 +1,6 @@
 //! Puts a node into an index of each kind, if there is room.
 ghost use Rattle.std.specs.Prelude.{◌≡◌};
-ghost use Rattle.node_store.specs.Column.{KeepsOthers};
-ghost use Rattle.node_store.specs.Store.{IsNodeOf};
+ghost use Rattle.node_store.specs.Column.{IsNode, KeepsOthers};
 ghost use Rattle.node_store.specs.Nodes.{Lacks};
 ghost use Rattle.node_store.specs.ByNode.{column_of, contents};
 ghost use Rattle.seq_index.specs.Spelled as chains;
@@ -21,7 +20,7 @@ use seq_index::SeqIndex;
 
 pub(crate) fn put_last<R>(chain: &mut SeqIndex, store: &mut NodeStore<R>, n: Node)
     requires sound { chains.IsSound (column_of store.old) chain.old }
-    requires node { IsNodeOf store.old n }
+    requires node { IsNode (column_of store.old (chains.col_of chain.old)) n }
     requires new { Lacks (chains.spelled (column_of store.old) chain.old) n }
     ensures sound { chains.IsSound (column_of store.new) chain.new }
     ensures col { chains.col_of chain.new ≡ chains.col_of chain.old }
@@ -36,7 +35,7 @@ pub(crate) fn put_last<R>(chain: &mut SeqIndex, store: &mut NodeStore<R>, n: Nod
 
 pub(crate) fn put_first<R>(row: &mut RowIndex, store: &mut NodeStore<R>, n: Node)
     requires sound { rows.IsSound (column_of store.old) row.old }
-    requires node { IsNodeOf store.old n }
+    requires node { IsNode (column_of store.old (rows.col_of row.old)) n }
     requires new { Lacks (rows.spelled (column_of store.old) row.old) n }
     ensures sound { rows.IsSound (column_of store.new) row.new }
     ensures col { rows.col_of row.new ≡ rows.col_of row.old }
@@ -51,7 +50,7 @@ pub(crate) fn put_first<R>(row: &mut RowIndex, store: &mut NodeStore<R>, n: Node
 pub(crate) fn put_by_key<T>(tree: &mut OrdTree<NoTally>, store: &mut NodeStore<Keyed<T>>, n: Node)
     requires sound { trees.IsSound (column_of store.old) tree.old }
     requires order { IsByKey store.old (trees.spelled (column_of store.old) tree.old) }
-    requires node { IsNodeOf store.old n }
+    requires node { IsNode (column_of store.old (trees.col_of tree.old)) n }
     requires new { Lacks (trees.spelled (column_of store.old) tree.old) n }
     ensures sound { trees.IsSound (column_of store.new) tree.new }
     ensures order { IsByKey store.new (trees.spelled (column_of store.new) tree.new) }
@@ -68,7 +67,7 @@ pub(crate) fn put_by_key<T>(tree: &mut OrdTree<NoTally>, store: &mut NodeStore<K
 pub(crate) fn put_by_rank<T>(tree: &mut RankTree, store: &mut NodeStore<Keyed<T>>, n: Node)
     requires sound { ranked.IsSound (column_of store.old) tree.old }
     requires order { IsByKey store.old (ranked.spelled (column_of store.old) tree.old) }
-    requires node { IsNodeOf store.old n }
+    requires node { IsNode (column_of store.old (ranked.col_of tree.old)) n }
     requires new { Lacks (ranked.spelled (column_of store.old) tree.old) n }
     ensures sound { ranked.IsSound (column_of store.new) tree.new }
     ensures order { IsByKey store.new (ranked.spelled (column_of store.new) tree.new) }
@@ -84,7 +83,7 @@ pub(crate) fn put_by_rank<T>(tree: &mut RankTree, store: &mut NodeStore<Keyed<T>
 
 pub(crate) fn put_by_hash<T>(index: &mut HashIndex, store: &mut NodeStore<Keyed<T>>, n: Node)
     requires sound { buckets.IsSound (column_of store.old) index.old }
-    requires node { IsNodeOf store.old n }
+    requires node { IsNode (column_of store.old (buckets.col_of index.old)) n }
     requires new { Lacks (buckets.spelled (column_of store.old) index.old) n }
     ensures sound { buckets.IsSound (column_of store.new) index.new }
     ensures col { buckets.col_of index.new ≡ buckets.col_of index.old }

@@ -1,6 +1,7 @@
 //! A thousand ids: each place and its node are found by few links, also once every second id has gone.
 ghost use Rattle.std.specs.Prelude.{◌≡◌, ◌+◌, ◌<◌, ◌≤◌, IfSome};
-ghost use Rattle.rank_tree.specs.Spelled.{index_of};
+ghost use Rattle.node_store.specs.Store.{width_of};
+ghost use Rattle.rank_tree.specs.Spelled.{col_of, index_of};
 ghost use Rattle.rank_tree.specs.Stored.{IsTreeOf, IsOrdered};
 
 use crate::rows::{keys, row};
@@ -17,9 +18,11 @@ fn insert_new<R: Drop, E: Extract<R>>(
     value: R,
 ) -> Option<()>
     requires ordered { IsOrdered E.Extract tree.old store.old keys.now }
+    requires column { col_of tree.old < width_of store.old }
     requires count { store.old.added < 1000 }
     ensures index { index_of tree.new ≡ index_of tree.old }
     ensures ordered { IsOrdered E.Extract tree.new store.new keys.now }
+    ensures column { col_of tree.new < width_of store.new }
     ensures count { store.new.added ≤ store.old.added + 1 }
 {
     let Ok(()) = tree.reserve_one(store) else {
@@ -40,6 +43,7 @@ pub(crate) fn fill<R: Drop, E: Extract<R>>(
     mut values: Vec<R>,
 ) -> Option<()>
     requires ordered { IsOrdered E.Extract tree.old store.old keys.now }
+    requires column { col_of tree.old < width_of store.old }
     requires count { store.old.added ≡ 0 }
     ensures index { index_of tree.new ≡ index_of tree.old }
     ensures ordered { IsOrdered E.Extract tree.new store.new keys.now }
@@ -133,7 +137,7 @@ fn filled(alloc: Global, ids: u16, step: u16) -> Option<(NodeStore<Row>, RankTre
         let id = u32::from(ids - 1 - left).wrapping_mul(u32::from(step)) % 1000;
         rows.push(row(alloc, i64::from(id)).ok()?).ok()?;
     }
-    let mut store = NodeStore::new(alloc);
+    let mut store = NodeStore::new(alloc, 1);
     let mut tree = RankTree::new(0, 0);
     let Some(()) = fill(&mut store, &mut tree, &keys, rows) else {
         return None;

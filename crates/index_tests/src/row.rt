@@ -1,5 +1,6 @@
 //! Two rows over one store, each in a column of its own.
-ghost use Rattle.std.specs.Prelude.{◌≡◌};
+ghost use Rattle.std.specs.Prelude.{◌≡◌, ◌≤◌};
+ghost use Rattle.node_store.specs.Store.{width_of};
 ghost use Rattle.node_store.specs.ByNode.{column_of};
 ghost use Rattle.row_index.specs.Spelled.{IsSound, spelled, col_of};
 ghost use Rattle.row_index.specs.Props.{Spells_prop};
@@ -13,6 +14,7 @@ struct Pair {
     store: NodeStore<u64>,
     left: RowIndex,
     right: RowIndex,
+    ghost columns: { 3 ≤ width_of store },
     ghost left_col: { col_of left ≡ 1 },
     ghost right_col: { col_of right ≡ 2 },
     ghost left_sound: { IsSound (column_of store) left } by { Spells_prop (column_of store) left (spelled (column_of store) left) },
@@ -22,7 +24,7 @@ struct Pair {
 impl Pair {
     fn new(alloc: Global) -> Pair {
         Pair {
-            store: NodeStore::new(alloc),
+            store: NodeStore::new(alloc, 3),
             left: RowIndex::new(alloc, 1),
             right: RowIndex::new(alloc, 2),
         }

@@ -1,8 +1,9 @@
 //! A drawn script on a sequence and on a plain list.
 ghost use Rattle.std.specs.Prelude.{◌≡◌, ◌+◌, ◌<◌, ◌≤◌, IfOk, Some};
 ghost use Rattle.node_store.specs.declared.Node.{Node};
+ghost use Rattle.node_store.specs.Store.{width_of};
 ghost use Rattle.node_store.specs.ByNode.{column_of};
-ghost use Rattle.seq_index.specs.Spelled.{IsSound, spelled, Holds};
+ghost use Rattle.seq_index.specs.Spelled.{IsSound, spelled, Holds, col_of};
 
 use node_store::{Node, NodeStore};
 use seq_index::SeqIndex;
@@ -40,8 +41,10 @@ fn insert_new(
     alloc: Global,
 ) -> Option<Node>
     requires sound { IsSound (column_of store.old) index.old }
+    requires column { col_of index.old < width_of store.old }
     requires count { store.old.added < 1000 }
     ensures sound { IsSound (column_of store.new) index.new }
+    ensures column { col_of index.new < width_of store.new }
     ensures count { store.new.added ≤ store.old.added + 1 }
 {
     let Ok(nodes) = in_order(store, index, alloc) else {
@@ -91,8 +94,10 @@ fn agrees(store: &NodeStore<u64>, index: &SeqIndex, plain: &[Node]) -> bool
 
 // Takes out the node at the place.
 fn take_out(store: &mut NodeStore<u64>, index: &mut SeqIndex, place: u64)
-    requires { IsSound (column_of store.old) index.old }
+    requires sound { IsSound (column_of store.old) index.old }
+    requires column { col_of index.old < width_of store.old }
     ensures sound { IsSound (column_of store.new) index.new }
+    ensures column { col_of index.new < width_of store.new }
     ensures count { store.new.added ≡ store.old.added }
 {
     if let Some(n) = nth(store, index, place) {
@@ -108,8 +113,10 @@ fn relocate(
     place: u64,
     alloc: Global,
 ) -> Option<()>
-    requires { IsSound (column_of store.old) index.old }
+    requires sound { IsSound (column_of store.old) index.old }
+    requires column { col_of index.old < width_of store.old }
     ensures sound { IsSound (column_of store.new) index.new }
+    ensures column { col_of index.new < width_of store.new }
     ensures count { store.new.added ≡ store.old.added }
 {
     let Ok(nodes) = in_order(store, index, alloc) else {
@@ -124,8 +131,10 @@ fn relocate(
 
 // Turns the order round.
 fn turn(store: &mut NodeStore<u64>, index: &mut SeqIndex)
-    requires { IsSound (column_of store.old) index.old }
+    requires sound { IsSound (column_of store.old) index.old }
+    requires column { col_of index.old < width_of store.old }
     ensures sound { IsSound (column_of store.new) index.new }
+    ensures column { col_of index.new < width_of store.new }
     ensures count { store.new.added ≡ store.old.added }
 {
     index.reverse(store);
@@ -140,8 +149,10 @@ fn change(
     alloc: Global,
 ) -> Option<()>
     requires sound { IsSound (column_of store.old) index.old }
+    requires column { col_of index.old < width_of store.old }
     requires count { store.old.added < 1000 }
     ensures sound { IsSound (column_of store.new) index.new }
+    ensures column { col_of index.new < width_of store.new }
     ensures count { store.new.added ≤ store.old.added + 1 }
 {
     let len = plain.len();
@@ -172,7 +183,7 @@ fn change(
 
 /// Whether the sequence and the plain list agree after each of sixty changes.
 pub(crate) fn script(alloc: Global) -> Option<bool> {
-    let mut store = NodeStore::new(alloc);
+    let mut store = NodeStore::new(alloc, 4);
     let mut index = SeqIndex::new(3);
     let mut plain = Vec::new(alloc);
     let mut drawn = 7u64;

@@ -1,10 +1,11 @@
 //! A thousand ids put in from one end, from both or in the middle, and the comparisons that find each.
 ghost use Rattle.std.specs.Prelude.{◌≡◌, ◌+◌, ◌<◌, ◌≤◌};
 ghost use Rattle.std.specs.Ordering.{nat_cmp};
+ghost use Rattle.node_store.specs.Store.{width_of};
 ghost use Rattle.node_store.specs.ByNode.{column_of, record_of};
 ghost use Rattle.list_model.specs.Order.{IsInOrder};
 ghost use Rattle.ord_tree.specs.Side.{order_at};
-ghost use Rattle.ord_tree.specs.Spelled.{IsSound, spelled, index_of};
+ghost use Rattle.ord_tree.specs.Spelled.{IsSound, spelled, col_of, index_of};
 ghost use Rattle.ord_tree.specs.Stored.{IsOrdered};
 
 use crate::numbers::{End, Numbers, a_thousand};
@@ -22,9 +23,11 @@ fn insert_new<R: Drop, E: Extract<R>>(
     value: R,
 ) -> Option<()>
     requires ordered { IsOrdered E.Extract tree.old store.old keys.now }
+    requires column { col_of tree.old < width_of store.old }
     requires count { store.old.added < 1000 }
     ensures index { index_of tree.new ≡ index_of tree.old }
     ensures ordered { IsOrdered E.Extract tree.new store.new keys.now }
+    ensures column { col_of tree.new < width_of store.new }
     ensures count { store.new.added ≤ store.old.added + 1 }
 {
     let Ok(()) = tree.reserve_one(store) else {
@@ -45,6 +48,7 @@ pub(crate) fn fill<R: Drop, E: Extract<R>>(
     mut values: Vec<R>,
 ) -> Option<()>
     requires ordered { IsOrdered E.Extract tree.old store.old keys.now }
+    requires column { col_of tree.old < width_of store.old }
     requires count { store.old.added ≡ 0 }
     ensures index { index_of tree.new ≡ index_of tree.old }
     ensures ordered { IsOrdered E.Extract tree.new store.new keys.now }
@@ -97,7 +101,7 @@ fn most_at(end: End, alloc: Global) -> Option<u64> {
         rows.push(row(alloc, i64::from(*id)).ok()?).ok()?;
         probes.push(probe(alloc, i64::from(*id)).ok()?).ok()?;
     }
-    let mut store = NodeStore::new(alloc);
+    let mut store = NodeStore::new(alloc, 1);
     let mut tree = OrdTree::new(0, 0);
     fill(&mut store, &mut tree, &keys, rows)?;
     most_compared(&store, &tree, &keys, &probes)
@@ -147,7 +151,7 @@ fn most_of(alloc: Global, count: u64) -> Option<u64>
     for id in 0..count {
         values.push(id).ok()?;
     }
-    let mut store = NodeStore::new(alloc);
+    let mut store = NodeStore::new(alloc, 3);
     let mut tree = OrdTree::new(2, 5);
     let keys = Numbers::new();
     fill(&mut store, &mut tree, &keys, values)?;

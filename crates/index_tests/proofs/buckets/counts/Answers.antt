@@ -14,6 +14,7 @@ loop-i-init g c =
     record {
       chain = IsSound_from (column_of c.new-store.result) c.new-index.result [] empty;
       hashed = subst (λ (z : List Node). IsHashed (g.E.Extract.hash_of c.args.keys.now (index_of c.new-index.result)) c.new-store.result (col_of c.new-index.result) z) (sym (spelled_is (column_of c.new-store.result) c.new-index.result [] empty)) tt;
+      column = omega (arith, c.new-index.ensures.col, c.new-store.ensures.enough);
       index = c.new-index.ensures.index;
-      count = omega (arith, ap (λ (s : Store Row). s.added) c.new-store.ensures);
+      count = omega (arith, ap (λ (s : Store Row). s.added) c.new-store.ensures.empty);
     }

@@ -1,9 +1,10 @@
 use Rattle.std.proofs.Common.{sym, subst, arith}
-use Rattle.node_store.proofs.ByNode.{IsNodeOf_added, added_kept}
+use Rattle.node_store.proofs.ByNode.{added_kept, width_kept}
 use Rattle.rank_tree.specs.declared.tree.RankTree.{RankTree}
 use Rattle.rank_tree.specs.Spelled.{index_of}
 use Rattle.rank_tree.specs.Stored.{IsOrdered}
 use Rattle.rank_tree.proofs.Laws.{Lacks_spelled_added}
+use Rattle.index_tests.proofs.Added.{new_in_column}
 use Rattle.index_tests.proofs.Ordered.{IsOrdered_added, IsOrdered_linked}
 use Rattle.index_tests.proofs.ranks.insert_new.Goals as goal
 
@@ -12,8 +13,8 @@ link-requires-clause-ordered g c =
     IsOrdered_added g.E.Extract c.args.store.now c.add.new.self c.args.keys.now c.in-Ok-add.n c.args.value c.reserve_one.new.self.tree c.in-Ok-add.ensures.added
     (subst (λ (t : RankTree). IsOrdered g.E.Extract t c.args.store.now c.args.keys.now) (sym c.reserve_one.ensures.same) c.requires.ordered)
 
-pub link-requires : goal.link-requires
-link-requires g c = IsNodeOf_added c.args.store.now c.add.new.self c.in-Ok-add.n c.args.value c.in-Ok-add.ensures.added
+pub link-requires-clause-node : goal.link-requires-clause-node
+link-requires-clause-node g c = new_in_column c.args.store.now c.add.new.self c.in-Ok-add.n c.args.value _ c.in-Ok-add.ensures.added (omega (arith, c.requires.column, c.reserve_one.ensures.col))
 
 pub link-requires-clause-new : goal.link-requires-clause-new
 link-requires-clause-new g c =
@@ -26,6 +27,11 @@ returns-clause-ordered g c =
     let before = IsOrdered_added g.E.Extract c.args.store.now c.add.new.self c.args.keys.now c.in-Ok-add.n c.args.value c.reserve_one.new.self.tree c.in-Ok-add.ensures.added ordered in
     let total = g.met.E.Extract.order_total c.args.keys.now (index_of c.reserve_one.new.self) ordered.key in
     IsOrdered_linked g.E.Extract c.add.new.self c.link.new.store c.args.keys.now c.reserve_one.new.self.tree c.link.new.self.tree c.in-Ok-add.n total before c.link.ensures
+
+pub returns-clause-column : goal.returns-clause-column
+returns-clause-column g c =
+    let kept = width_kept c.add.new.self c.link.new.store c.link.ensures.contents in
+    omega (arith, c.requires.column, c.reserve_one.ensures.col, c.in-Ok-add.ensures.added.width, c.link.ensures.col, kept)
 
 pub returns-clause-count : goal.returns-clause-count
 returns-clause-count g c =

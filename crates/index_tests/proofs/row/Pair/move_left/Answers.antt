@@ -1,6 +1,7 @@
 use Rattle.std.proofs.Common.{◌<◌, length, sym, ◌∙◌, arith}
 use Rattle.node_store.specs.ByNode.{column_of}
 use Rattle.row_index.specs.Spelled.{spelled}
+use Rattle.node_store.proofs.ByNode.{width_kept}
 use Rattle.row_index.proofs.Laws.{IsSound_from, IsSound_kept, Holds_at, within_at}
 use Rattle.index_tests.proofs.row.Pair.move_left.Goals as goal
 
@@ -14,6 +15,7 @@ move_to-requires-clause-place c =
 
 pub invariant_of-self-2 : goal.invariant_of-self-2
 invariant_of-self-2 c = record {
+  columns = omega (arith, c.args.self.now.columns, width_kept c.args.self.now.store c.move_to.new.store c.move_to.ensures.row.contents);
   left_col = c.move_to.ensures.row.col ∙ c.args.self.now.left_col;
   right_col = c.args.self.now.right_col;
   left_sound = IsSound_from _ _ _ c.move_to.ensures.row.list;

@@ -1,4 +1,5 @@
 use Rattle.std.proofs.Common.{sym, ◌∙◌, arith}
+use Rattle.node_store.proofs.ByNode.{width_kept}
 use Rattle.row_index.proofs.Laws.{IsSound_from, IsSound_kept, Holds_at}
 use Rattle.index_tests.proofs.row.Pair.unlink_left.Goals as goal
 
@@ -7,6 +8,7 @@ unlink-requires c = record { row = c.args.self.now.left_sound; held = Holds_at _
 
 pub invariant_of-self : goal.invariant_of-self
 invariant_of-self c = record {
+  columns = omega (arith, c.args.self.now.columns, width_kept c.args.self.now.store c.unlink.new.store c.unlink.ensures.row.contents);
   left_col = c.unlink.ensures.row.col ∙ c.args.self.now.left_col;
   right_col = c.args.self.now.right_col;
   left_sound = IsSound_from _ _ _ c.unlink.ensures.row.list;
