@@ -1,5 +1,5 @@
 -- Sequences and rows stay in a column that the store has.
-use Rattle.std.proofs.Common.{◌≡◌, ℕ, List, sym, arith}
+use Rattle.std.proofs.Common.{◌≡◌, ℕ, List, arith}
 use Rattle.node_store.specs.declared.Node.{Node}
 use Rattle.node_store.specs.Column.{Column}
 use Rattle.node_store.specs.Nodes.{Lacks}

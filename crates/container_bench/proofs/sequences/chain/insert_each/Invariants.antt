@@ -1,6 +1,6 @@
 use Rattle.std.proofs.Common.{◌≤◌, length}
 use Rattle.node_store.specs.ByNode.{column_of}
-use Rattle.seq_index.specs.Spelled.{IsSound, spelled}
+use Rattle.seq_index.specs.Spelled.{spelled}
 use Rattle.container_bench.specs.InColumns.{IsChain}
 use Rattle.container_bench.proofs.sequences.chain.insert_each.Given as goal
 

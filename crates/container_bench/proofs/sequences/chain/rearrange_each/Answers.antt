@@ -2,7 +2,7 @@ use Rattle.std.proofs.Common.{List, sym, subst, ◌∙◌}
 use Rattle.std.specs.Prelude.{IsPermutation}
 use Rattle.std.proofs.lemmas.List.Sorted.{IsPermutation-refl}
 use Rattle.node_store.specs.declared.Node.{Node}
-use Rattle.seq_index.proofs.Laws.{IsSound_from, spelled_is}
+use Rattle.seq_index.proofs.Laws.{spelled_is}
 use Rattle.container_bench.proofs.InColumns.{chain_becomes}
 use Rattle.container_bench.proofs.sequences.chain.rearrange_each.Goals as goal
 

@@ -1,4 +1,3 @@
-use Rattle.seq_index.proofs.Laws.{IsSound_from}
 use Rattle.container_bench.proofs.InColumns.{chain_becomes}
 use Rattle.container_bench.proofs.sequences.chain.step.Goals as goal
 

@@ -1,5 +1,5 @@
 use Rattle.std.proofs.Common.{sym}
-use Rattle.seq_index.proofs.Laws.{IsSound_from, Holds_first}
+use Rattle.seq_index.proofs.Laws.{Holds_first}
 use Rattle.container_bench.proofs.InColumns.{chain_becomes}
 use Rattle.container_bench.proofs.sequences.chain.unlink_first.Goals as goal
 

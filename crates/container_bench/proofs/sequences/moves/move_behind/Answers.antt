@@ -1,7 +1,7 @@
 use Rattle.std.proofs.Common.{sym, arith}
 use Rattle.node_store.specs.ByNode.{column_of}
 use Rattle.row_index.specs.Spelled.{spelled}
-use Rattle.row_index.proofs.Laws.{IsSound_from, Holds_at, within_at}
+use Rattle.row_index.proofs.Laws.{Holds_at, within_at}
 use Rattle.container_bench.proofs.InColumns.{row_becomes}
 use Rattle.container_bench.proofs.sequences.moves.move_behind.Goals as goal
 

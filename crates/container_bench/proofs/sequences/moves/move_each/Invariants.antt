@@ -1,5 +1,3 @@
-use Rattle.node_store.specs.ByNode.{column_of}
-use Rattle.row_index.specs.Spelled.{IsSound}
 use Rattle.container_bench.specs.InColumns.{IsRow}
 use Rattle.container_bench.proofs.sequences.moves.move_each.Given as goal
 

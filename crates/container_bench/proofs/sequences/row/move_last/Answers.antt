@@ -1,5 +1,5 @@
 use Rattle.std.proofs.Common.{sym}
-use Rattle.row_index.proofs.Laws.{IsSound_from, Holds_last}
+use Rattle.row_index.proofs.Laws.{Holds_last}
 use Rattle.container_bench.proofs.InColumns.{row_becomes}
 use Rattle.container_bench.proofs.sequences.row.move_last.Goals as goal
 

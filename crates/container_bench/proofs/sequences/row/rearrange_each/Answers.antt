@@ -2,7 +2,7 @@ use Rattle.std.proofs.Common.{List, sym, subst, ◌∙◌}
 use Rattle.std.specs.Prelude.{IsPermutation}
 use Rattle.std.proofs.lemmas.List.Sorted.{IsPermutation-refl}
 use Rattle.node_store.specs.declared.Node.{Node}
-use Rattle.row_index.proofs.Laws.{IsSound_from, spelled_is}
+use Rattle.row_index.proofs.Laws.{spelled_is}
 use Rattle.container_bench.proofs.InColumns.{row_becomes}
 use Rattle.container_bench.proofs.sequences.row.rearrange_each.Goals as goal
 

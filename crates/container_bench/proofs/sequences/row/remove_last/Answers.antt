@@ -2,7 +2,7 @@ use Rattle.std.proofs.Common.{sym, subst}
 use Rattle.node_store.specs.Nodes.{Lacks}
 use Rattle.node_store.specs.ByNode.{column_of}
 use Rattle.node_store.proofs.ByNode.{IsNodeOf_kept}
-use Rattle.row_index.proofs.Laws.{IsSound_from, IsSound_removed, Holds_last, Lacks_without, node_held, spelled_is}
+use Rattle.row_index.proofs.Laws.{Holds_last, Lacks_without, node_held, spelled_is}
 use Rattle.container_bench.proofs.InColumns.{row_becomes, row_removed}
 use Rattle.container_bench.proofs.sequences.row.remove_last.Goals as goal
 

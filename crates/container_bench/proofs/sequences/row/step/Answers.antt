@@ -1,4 +1,3 @@
-use Rattle.row_index.proofs.Laws.{IsSound_from}
 use Rattle.container_bench.proofs.InColumns.{row_becomes}
 use Rattle.container_bench.proofs.sequences.row.step.Goals as goal
 

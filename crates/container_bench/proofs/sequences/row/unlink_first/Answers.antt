@@ -1,5 +1,5 @@
 use Rattle.std.proofs.Common.{sym}
-use Rattle.row_index.proofs.Laws.{IsSound_from, Holds_first}
+use Rattle.row_index.proofs.Laws.{Holds_first}
 use Rattle.container_bench.proofs.InColumns.{row_becomes}
 use Rattle.container_bench.proofs.sequences.row.unlink_first.Goals as goal
 
