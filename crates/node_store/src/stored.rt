@@ -4,17 +4,18 @@ ghost use Rattle.node_store.specs.Stored.{link_of};
 
 use crate::{Link, Node};
 
-/// Links in which an absent node has a flag in place of a tag of its own, so that the whole is shorter.
+/// Links in which an absent node has a flag in place of a tag of its own, so that the whole is shorter. What a walk
+/// along a chain reads, the tag, the flags and `b`, stands beside the record of a block's first column.
 #[derive(Clone, Copy)]
 pub(crate) struct Stored {
-    a: Node,
-    b: Node,
-    up: Node,
     tag: u64,
     height: u8,
     has_a: bool,
     has_b: bool,
     has_up: bool,
+    b: Node,
+    a: Node,
+    up: Node,
 }
 
 /// Links in so many columns.
@@ -36,14 +37,14 @@ impl Stored {
         ensures { link_of result ≡ link }
     {
         Stored {
-            a: link.a.unwrap_or(filler),
-            b: link.b.unwrap_or(filler),
-            up: link.up.unwrap_or(filler),
             tag: link.tag,
             height: link.height,
             has_a: link.a.is_some(),
             has_b: link.b.is_some(),
             has_up: link.up.is_some(),
+            b: link.b.unwrap_or(filler),
+            a: link.a.unwrap_or(filler),
+            up: link.up.unwrap_or(filler),
         }
     }
 
