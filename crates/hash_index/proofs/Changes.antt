@@ -150,7 +150,7 @@ right_put cs ds i j b head Q h puts all same is =
     (right_set (cs i.col) (ds i.col) (leads_to i) Q 0 b (all_of i) k.chains head k.are (subst (AllByRecursion Q) (sym k.whole) all) (λ j m ne. same j m (λ e. ne (omega (arith, e)))) is h.right))
 
 module _ (cs ds : ℕ → Column) (d : Column) (i j : HashIndex) (n : Node) (b : ℕ) (h : IsSound cs i) (within : b < i.buckets.len) where
-  module _ (hash : ℕ) (head : Option Node) (begins : Head) (puts : PutsHead i j b begins) (begin : first_in begins ≡ Some n) (right : IsRight (ds i.col) begins) (len : j.len ≡ i.len + 1) (load : j.len * 2 ≤ j.buckets.len) (new : Lacks (spelled cs i) n) (bucket : b ≡ leads_to i hash) (first : head ≡ get_or (heads_of i) b None)
+  module _ (hash : ℕ) (head : Option Node) (begins : Head) (puts : PutsHead i j b begins) (begin : first_in begins ≡ Some n) (right : IsRight (ds i.col) begins) (len : j.len ≡ i.len + 1) (load : j.len * 4 ≤ j.buckets.len) (new : Lacks (spelled cs i) n) (bucket : b ≡ leads_to i hash) (first : head ≡ get_or (heads_of i) b None)
       (put : IsPut (cs i.col) d n (record { a = None; b = head; up = None; tag = hash; height = 0 })) (prev : SetsPrev (untagged d) (untagged (ds i.col)) head (Some n)) (tags : KeepsTags d (ds i.col)) (same : KeepsOtherNodes d (ds i.col) head) where
     put_both : IsSound ds j × IsPermutation (n ∷ spelled cs i) (spelled ds j)
     put_both =
@@ -171,7 +171,7 @@ module _ (cs ds : ℕ → Column) (d : Column) (i j : HashIndex) (n : Node) (b :
     pub put_moved : IsPermutation (n ∷ spelled cs i) (spelled ds j)
     put_moved = put_both.1
 
-  pub out_done : (link : Link) (head : Head) → PutsHead i j b head → first_in head ≡ end_beside link.a (get_or (heads_of i) b None) link.b → ((m : Node) → link.a ≡ Some m → slice_get (all_of i) b ≡ Some head) → (link.a ≡ None → IsRight (ds i.col) head) → j.len + 1 ≡ i.len → j.len * 2 ≤ j.buckets.len → Holds (spelled cs i) n → b ≡ leads_to i link.tag → cs i.col n ≡ Some link
+  pub out_done : (link : Link) (head : Head) → PutsHead i j b head → first_in head ≡ end_beside link.a (get_or (heads_of i) b None) link.b → ((m : Node) → link.a ≡ Some m → slice_get (all_of i) b ≡ Some head) → (link.a ≡ None → IsRight (ds i.col) head) → j.len + 1 ≡ i.len → j.len * 4 ≤ j.buckets.len → Holds (spelled cs i) n → b ≡ leads_to i link.tag → cs i.col n ≡ Some link
       → SetsNext (untagged (cs i.col)) (untagged d) link.a link.b → KeepsOtherNodes (cs i.col) d link.a → SetsPrev (untagged d) (untagged (ds i.col)) link.b link.a → KeepsOtherNodes d (ds i.col) link.b → KeepsTags (cs i.col) (ds i.col) → Spells ds j (without (same_node n) (spelled cs i))
   out_done link head puts first kept right len load held bucket is next same_next prev same_prev tags =
       let f = focus_of cs i (spelled cs i) b within h in

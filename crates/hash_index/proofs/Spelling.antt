@@ -32,7 +32,7 @@ use Rattle.hash_index.proofs.Heads.{same_of, slice_first, right_at, right_kept, 
 use Rattle.hash_index.proofs.OneBucket.{Hangs, Focus, IsElsewhere, focus, chains_are, chains_same, chains_nodes, heads_first, follow_leads, leads_runs}
 
 -- an index whose buckets hold these nodes spells them
-pub Spells_from : (cs : ℕ → Column) (i : HashIndex) (xs : List Node) → Hangs (cs i.col) (leads_to i) 0 (heads_of i) xs → IsDistinct xs → i.len ≡ length xs → i.len * 2 ≤ i.buckets.len → AreRight (cs i.col) (all_of i) → Spells cs i xs
+pub Spells_from : (cs : ℕ → Column) (i : HashIndex) (xs : List Node) → Hangs (cs i.col) (leads_to i) 0 (heads_of i) xs → IsDistinct xs → i.len ≡ length xs → i.len * 4 ≤ i.buckets.len → AreRight (cs i.col) (all_of i) → Spells cs i xs
 unfolding spelled
 Spells_from cs i xs h dist len load right =
     let fits : length (joined h.chains) ≤ i.len = omega (arith, len, ap length h.whole) in

@@ -1,4 +1,4 @@
--- Chains of nodes, two for each bucket, by their numbers.
+-- Chains of nodes, four for each bucket, by their numbers.
 use Rattle.std.specs.Prelude.{◌≡◌, ◌≢◌, ℕ, ◌+◌, List, [], ◌∷◌, ◌++◌, length, map, filter, fold, max, Bool, false, ◌==◌, Option, Some, None}
 use Rattle.std.specs.List.{AllByRecursion}
 use Rattle.std.specs.Option.{option_map, option_map_or}

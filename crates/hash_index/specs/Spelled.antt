@@ -30,9 +30,9 @@ all_of i = all_in i.buckets.segments.items
 abbrev pub heads_of : HashIndex → List (Option Node)
 heads_of i = heads_in i.buckets.segments.items
 
--- how many buckets it has, each of two chains
+-- how many buckets it has, each of four chains
 abbrev pub buckets_of : HashIndex → ℕ
-buckets_of i = i.buckets.len / 2
+buckets_of i = i.buckets.len / 4
 
 -- how many buckets have room for one node more: as many as there are, or one more where there are no more than nodes
 abbrev pub grown : ℕ → ℕ → ℕ
@@ -57,7 +57,7 @@ pub record Spells (cs : ℕ → Column) (i : HashIndex) (xs : List Node) : Type 
   pub chains : AreChains (cs i.col) (leads_to i) 0 (heads_of i) (chains_of cs i)
   pub distinct : IsDistinct xs
   pub len : i.len ≡ length xs
-  pub load : i.len * 2 ≤ i.buckets.len
+  pub load : i.len * 4 ≤ i.buckets.len
   pub right : AreRight (cs i.col) (all_of i)
 
 -- the index is chains of distinct nodes
@@ -66,4 +66,4 @@ IsSound cs i = Spells cs i (spelled cs i)
 
 -- one more node needs no more buckets
 abbrev pub HasRoom : HashIndex → Type 0
-HasRoom i = (i.len + 1) * 2 ≤ i.buckets.len
+HasRoom i = (i.len + 1) * 4 ≤ i.buckets.len

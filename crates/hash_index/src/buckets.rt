@@ -13,6 +13,9 @@ ghost use Rattle.hash_index.specs.Walks.{rest_of, Ends};
 use crate::HashIndex;
 use node_store::{Link, Node, NodeStore};
 
+// How many chains a bucket has.
+const CHAINS: usize = 4;
+
 impl HashIndex {
     /// How many nodes there are. O(1).
     pub fn len<R>(&self, store: &NodeStore<R>) -> usize
@@ -22,11 +25,11 @@ impl HashIndex {
         self.len
     }
 
-    /// How many buckets there are, each of two chains, and no fewer than nodes. O(1).
+    /// How many buckets there are, each of four chains, and no fewer than nodes. O(1).
     pub fn buckets(&self) -> usize
         ensures { result ≡ buckets_of self.now }
     {
-        self.buckets.len() / 2
+        self.buckets.len() / CHAINS
     }
 
     /// How many nodes the longest chain has. O(buckets + nodes).

@@ -1,4 +1,4 @@
-//! Growth of the buckets, one at a time: two chains.
+//! Growth of the buckets, one at a time: four chains.
 ghost use Rattle.std.specs.Prelude.{◌≡◌, ℕ, ◌+◌, ◌*◌, ◌<◌, ◌≤◌, OnOk, OnErr, IsPermutation, length};
 ghost use Rattle.node_store.specs.declared.Node.{Node};
 ghost use Rattle.node_store.specs.ByNode.{column_of, contents};
@@ -44,19 +44,44 @@ impl HashIndex {
             return Ok(());
         }
         self.reserve_chains()?;
-        self.grow(store);
-        self.grow(store);
+        self.grow_twice(store);
+        self.grow_twice(store);
         Ok(())
     }
 
-    // Makes room for two more chains. Where memory is refused, everything is as before.
+    // Makes room for one more bucket. Where memory is refused, everything is as before.
     fn reserve_chains(&mut self) -> Result<(), AllocError>
         ensures same { IsSame self.old self.new }
         ensures count { self.new.buckets.len ≡ self.old.buckets.len }
-        ensures room { OnOk result (2 ≤ spare self.new.buckets.segments.items) }
+        ensures room { OnOk result (4 ≤ spare self.new.buckets.segments.items) }
         ensures unchanged { OnErr result (self.new ≡ self.old) }
     {
-        self.buckets.reserve_two(self.alloc)
+        self.buckets.reserve_bucket(self.alloc)
+    }
+
+    // Adds two chains, for which there is room.
+    fn grow_twice<R>(&mut self, store: &mut NodeStore<R>)
+        requires chain { AreBucketsOf self.old store.old }
+        requires room { 2 ≤ spare self.old.buckets.segments.items }
+        ensures chain { AreBucketsOf self.new store.new }
+        ensures list { IsPermutation (nodes_of self.old store.old) (nodes_of self.new store.new) }
+        ensures order { (b : ℕ) →
+            members (column_of store.old (col_of self.old)) (leads_to self.new) b
+            (nodes_of self.new store.new) ≡
+            members (column_of store.old (col_of self.old)) (leads_to self.new) b
+            (nodes_of self.old store.old) }
+        ensures tags { KeepsTags (column_of store.old (col_of self.old))
+            (column_of store.new (col_of self.old)) }
+        ensures leads { 0 < self.old.buckets.len → (hash : ℕ) →
+            leads_to self.old (leads_to self.new hash) ≡ leads_to self.old hash }
+        ensures len { self.new.len ≡ self.old.len }
+        ensures count { self.new.buckets.len ≡ self.old.buckets.len + 2 }
+        ensures room { spare self.new.buckets.segments.items + 2 ≡
+            spare self.old.buckets.segments.items }
+        ensures rest { KeepsRest self.old self.new store.old store.new }
+    {
+        self.grow(store);
+        self.grow(store);
     }
 
     // Adds a chain, for which there is room. A hash led to the chain from which the one was cut that it leads to now.

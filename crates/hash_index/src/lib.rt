@@ -1,4 +1,4 @@
-//! A hashed index: nodes in chains through one column of the store's links, two chains for each bucket.
+//! A hashed index: nodes in chains through one column of the store's links, four chains for each bucket.
 //!
 //! Each call takes the store. It reads and writes the links of its own column alone, so a node may
 //! stand in one index of each column at once.
@@ -31,8 +31,8 @@ use segments::Segments;
 use std::alloc::Global;
 
 /// Nodes in buckets by the hashes of their keys, at most one a bucket on average. The `tag` of a node's link is the
-/// hash that it was put in with. A bucket is two chains, so that most chains have one node or none. Chains are added
-/// two at a time: from `level` on, each takes over nodes of the one that stands `level` before it, until there are
+/// hash that it was put in with. A bucket is four chains, so that few chains have more than one node. Chains are added
+/// four at a time: from `level` on, each takes over nodes of the one that stands `level` before it, until there are
 /// `level * 2`. `buckets` has the head of each chain.
 #[derive(Drop)]
 pub struct HashIndex {

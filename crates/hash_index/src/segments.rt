@@ -99,18 +99,18 @@ impl Segments {
         self.segments[segment].set(place, head);
     }
 
-    // Makes room for two more. Where all segments are full it takes the next one whole, and moves nothing. Where memory
-    // is refused, everything is as before. Room for one alone is never left, since two are added at a time: there it
-    // refuses, too.
-    pub(crate) fn reserve_two(&mut self, alloc: Global) -> Result<(), AllocError>
+    // Makes room for one bucket more. Where all segments are full it takes the next one whole, and moves nothing. Where
+    // memory is refused, everything is as before. Room for less than a bucket is never left, since a bucket is added at
+    // a time: there it refuses, too.
+    pub(crate) fn reserve_bucket(&mut self, alloc: Global) -> Result<(), AllocError>
         ensures heads { all_in self.new.segments.items ≡ all_in self.old.segments.items }
         ensures len { self.new.len ≡ self.old.len }
-        ensures room { OnOk result (2 ≤ spare self.new.segments.items) }
+        ensures room { OnOk result (4 ≤ spare self.new.segments.items) }
         ensures unchanged { OnErr result (self.new ≡ self.old) }
     {
         match self.spare() {
             0 => self.add_segment(alloc),
-            1 => Err(AllocError),
+            1..=3 => Err(AllocError),
             _ => Ok(()),
         }
     }
@@ -120,7 +120,7 @@ impl Segments {
         requires { spare self.old.segments.items ≡ 0 }
         ensures heads { all_in self.new.segments.items ≡ all_in self.old.segments.items }
         ensures len { self.new.len ≡ self.old.len }
-        ensures room { OnOk result (2 ≤ spare self.new.segments.items) }
+        ensures room { OnOk result (4 ≤ spare self.new.segments.items) }
         ensures unchanged { OnErr result (self.new ≡ self.old) }
     {
         let segment = Segment::with_capacity(alloc, self.len + FIRST)?;

@@ -20,7 +20,7 @@ returns-clause-chain g c =
     let at = focus_of (column_of c.args.store.now) i (spelled (column_of c.args.store.now) i) c.bucket-bucket.result c.bucket-bucket.ensures.within c.requires.chain in
     let stays = c.set_prev.ensures.same c.args.n (λ e. head_lacks _ _ _ _ _ at c.args.n c.requires.new (sym first ∙ e)) ∙ c.set_link.ensures.put.at in
     let right = right_new (column_of c.set_prev.new.store i.col) c.of.result c.args.n c.args.hash c.get-head.result c.is_some.result c.of.ensures.first c.of.ensures.mark c.is_some.ensures stays in
-    let load : (i.len + 1) * 2 ≤ c.set.new.self.len = omega (arith, c.requires.room, c.set.ensures.len) in
+    let load : (i.len + 1) * 4 ≤ c.set.new.self.len = omega (arith, c.requires.room, c.set.ensures.len) in
     put_sound (column_of c.args.store.now) (column_of c.set_prev.new.store) _ i _ c.args.n c.bucket-bucket.result c.requires.chain c.bucket-bucket.ensures.within
     c.args.hash c.get-head.result c.of.result (record { col = refl; level = refl; count = c.set.ensures.len; heads = c.set.ensures.heads }) c.of.ensures.first right refl load c.requires.new c.bucket-bucket.ensures.is first
     c.set_link.ensures.put c.set_prev.ensures.ends c.set_prev.ensures.tags c.set_prev.ensures.same
@@ -32,7 +32,7 @@ returns-clause-list g c =
     let at = focus_of (column_of c.args.store.now) i (spelled (column_of c.args.store.now) i) c.bucket-bucket.result c.bucket-bucket.ensures.within c.requires.chain in
     let stays = c.set_prev.ensures.same c.args.n (λ e. head_lacks _ _ _ _ _ at c.args.n c.requires.new (sym first ∙ e)) ∙ c.set_link.ensures.put.at in
     let right = right_new (column_of c.set_prev.new.store i.col) c.of.result c.args.n c.args.hash c.get-head.result c.is_some.result c.of.ensures.first c.of.ensures.mark c.is_some.ensures stays in
-    let load : (i.len + 1) * 2 ≤ c.set.new.self.len = omega (arith, c.requires.room, c.set.ensures.len) in
+    let load : (i.len + 1) * 4 ≤ c.set.new.self.len = omega (arith, c.requires.room, c.set.ensures.len) in
     put_moved (column_of c.args.store.now) (column_of c.set_prev.new.store) _ i _ c.args.n c.bucket-bucket.result c.requires.chain c.bucket-bucket.ensures.within
     c.args.hash c.get-head.result c.of.result (record { col = refl; level = refl; count = c.set.ensures.len; heads = c.set.ensures.heads }) c.of.ensures.first right refl load c.requires.new c.bucket-bucket.ensures.is first
     c.set_link.ensures.put c.set_prev.ensures.ends c.set_prev.ensures.tags c.set_prev.ensures.same
