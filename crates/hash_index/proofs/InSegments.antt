@@ -1,22 +1,12 @@
 -- Buckets in segments: where each stands, and what changes one, adds one or adds a segment.
-use Rattle.std.proofs.Common.{◌≡◌, ◌⊎◌, inl, inr, ℕ, zero, suc, ◌+◌, ◌-◌, ◌*◌, ◌^◌, ◌<◌, ◌≤◌, List, [], ◌∷◌, ◌++◌, length, get_or, set, Some, refl, sym, ap, ◌∙◌, subst, arith, append_assoc, length-append, pow_mono, pow-add, pow-suc, lt_of_not-le}
+use Rattle.std.proofs.Common.{◌≡◌, ◌⊎◌, inl, inr, ℕ, zero, suc, ◌+◌, ◌-◌, ◌*◌, ◌<◌, ◌≤◌, List, [], ◌∷◌, ◌++◌, length, get_or, set, Some, refl, sym, ap, ◌∙◌, subst, arith, append_assoc, length-append}
 use Rattle.std.specs.List.{slice_get}
-use Rattle.std.proofs.lemmas.Nat.{pow_pos}
 use Rattle.std.proofs.lemmas.List.{append-nil, set-append_left, set-append_right}
 use Rattle.std.proofs.Math.Seq.{get_or-append_seam, set-append_seam}
 use Rattle.hash_index.specs.declared.head.Head.{Head}
 use Rattle.hash_index.specs.declared.segment.Segment.{Segment}
 use Rattle.hash_index.specs.Segments.{all_in, items_of, capacity_of, AreSegments, spare, IsAt}
 use Rattle.hash_index.proofs.Paired.{items_fit}
-
--- ---- the highest bit
-
-module _ (n top : ℕ) (low : 2 ^ top ≤ n) (high : n < 2 * 2 ^ top) (some : 8 ≤ n) where
-  pub top_above : 3 ≤ top
-  top_above = lt_of_not-le (λ (le : top ≤ 2). let p : 2 ^ top ≤ 4 = pow_mono le in omega arith)
-
-  pub eight_times : 8 * 2 ^ (top - 3) ≡ 2 ^ top
-  eight_times = let e : 3 + (top - 3) ≡ top = omega (arith, top_above) in sym (pow-add 2 3 (top - 3)) ∙ ap (λ (k : ℕ). 2 ^ k) e
 
 -- ---- one segment among all
 
@@ -32,32 +22,19 @@ pub record Part (ss : List Segment) (k j b : ℕ) : Type 0 where
   pub within : j < length (items_of segment)
   pub place : b ≡ length (all_in front) + j
 
--- a segment further on starts past this one
-twice : (size k : ℕ) → (size * 2 ^ suc k ≡ (size * 2) * 2 ^ k) × (size * 2 ≤ (size * 2) * 2 ^ k)
-twice size k =
-    let p = pow_pos k in
-    let q : 2 ^ suc k ≡ 2 ^ k * 2 = pow-suc 2 k in
-    (ap (λ z. size * z) q ∙ grind arith, grind (arith, p))
+first_part : (s : Segment) (ss : List Segment) (j b : ℕ) → 512 ≤ length (items_of s) ⊎ (b < length (items_of s)) → b ≡ 512 * zero + j → j < 512 → Part (s ∷ ss) zero j b
+first_part s ss j b h at lt = record { front = []; segment = s; back = ss; whole = refl; count = refl; within = grind (arith, h, at, lt); place = omega (arith, at) }
 
-first_part : (s : Segment) (ss : List Segment) (size j b : ℕ) → size ≤ length (items_of s) ⊎ (b < length (items_of s)) → b + size ≡ size * 2 ^ zero + j → j < size * 2 ^ zero → Part (s ∷ ss) zero j b
-first_part s ss size j b h at lt = record { front = []; segment = s; back = ss; whole = refl; count = refl; within = grind (arith, h, at, lt); place = omega (arith, at) }
-
-part_at : (size : ℕ) (ss : List Segment) (k j b : ℕ) → AreSegments size ss → b < length (all_in ss) → b + size ≡ size * 2 ^ k + j → j < size * 2 ^ k → Part ss k j b
-part_at size [] k j b h lt at within = absurd (omega (arith, lt))
-part_at size (s ∷ []) zero j b h lt at within = first_part s [] size j b (inr (omega (arith, lt, last_count_is s))) at within
-part_at size (s ∷ []) (suc k) j b h lt at within =
-    let t = twice size k in
-    absurd (omega (arith, lt, last_count_is s, at, t.0, t.1, h, items_fit s))
-part_at size (s ∷ (t ∷ ss)) zero j b h lt at within = first_part s (t ∷ ss) size j b (inl (omega (arith, h.0))) at within
-part_at size (s ∷ (t ∷ ss)) (suc k) j b h lt at within =
-    let w = twice size k in
+pub stands : (ss : List Segment) (b k j : ℕ) → AreSegments 512 ss → b < length (all_in ss) → IsAt b k j → Part ss k j b
+stands [] b k j h lt is = absurd (omega (arith, lt))
+stands (s ∷ []) b zero j h lt is = first_part s [] j b (inr (omega (arith, lt, last_count_is s))) is.at is.within
+stands (s ∷ []) b (suc k) j h lt is = absurd (omega (arith, lt, last_count_is s, is.at, h, items_fit s))
+stands (s ∷ (t ∷ ss)) b zero j h lt is = first_part s (t ∷ ss) j b (inl (omega (arith, h.0))) is.at is.within
+stands (s ∷ (t ∷ ss)) b (suc k) j h lt is =
     let both = length-append (items_of s) (all_in (t ∷ ss)) in
-    let r = part_at (size * 2) (t ∷ ss) k j (b - size) h.1 (omega (arith, lt, both, h.0, at, w.0, w.1)) (omega (arith, at, w.0, w.1)) (omega (arith, within, w.0)) in
+    let r = stands (t ∷ ss) (b - 512) k j h.1 (omega (arith, lt, both, h.0, is.at)) (record { at = omega (arith, is.at); within = is.within }) in
     let more = length-append (items_of s) (all_in r.front) in
-    record { front = s ∷ r.front; segment = r.segment; back = r.back; whole = ap (λ z. s ∷ z) r.whole; count = ap suc r.count; within = r.within; place = omega (arith, more, r.place, h.0, at, w.0, w.1) }
-
-pub stands : (ss : List Segment) (b k j : ℕ) → AreSegments 8 ss → b < length (all_in ss) → IsAt b k j → Part ss k j b
-stands ss b k j h lt is = part_at 8 ss k j b h lt is.at is.within
+    record { front = s ∷ r.front; segment = r.segment; back = r.back; whole = ap (λ z. s ∷ z) r.whole; count = ap suc r.count; within = r.within; place = omega (arith, more, r.place, h.0, is.at) }
 
 get_before : (xs ys : List Head) (k : ℕ) → k < length xs → slice_get (xs ++ ys) k ≡ slice_get xs k
 get_before [] ys k lt = absurd (omega (arith, lt))
@@ -103,8 +80,8 @@ module _ (ss : List Segment) (k j b : ℕ) (p : Part ss k j b) where
 swapped_shape : (size : ℕ) (front : List Segment) (s t : Segment) (back : List Segment) → length (items_of t) ≡ length (items_of s) → capacity_of t ≡ capacity_of s → AreSegments size (front ++ s ∷ back) → AreSegments size (front ++ t ∷ back)
 swapped_shape size [] s t [] len cap h = cap ∙ h
 swapped_shape size [] s t (b ∷ back) len cap h = (len ∙ h.0, h.1)
-swapped_shape size (f ∷ []) s t back len cap h = (h.0, swapped_shape (size * 2) [] s t back len cap h.1)
-swapped_shape size (f ∷ (g ∷ front)) s t back len cap h = (h.0, swapped_shape (size * 2) (g ∷ front) s t back len cap h.1)
+swapped_shape size (f ∷ []) s t back len cap h = (h.0, swapped_shape size [] s t back len cap h.1)
+swapped_shape size (f ∷ (g ∷ front)) s t back len cap h = (h.0, swapped_shape size (g ∷ front) s t back len cap h.1)
 
 swapped_spare : (front : List Segment) (s t : Segment) (back : List Segment) → length (items_of t) ≡ length (items_of s) → capacity_of t ≡ capacity_of s → spare (front ++ t ∷ back) ≡ spare (front ++ s ∷ back)
 swapped_spare [] s t [] len cap = ap (λ k. capacity_of t - k) len ∙ ap (λ k. k - length (items_of s)) cap
@@ -154,7 +131,7 @@ spare_last (s ∷ ss) e = last_of s ss
 last_shape : (size : ℕ) (front : List Segment) (s t : Segment) → capacity_of t ≡ capacity_of s → AreSegments size (front ++ s ∷ []) → AreSegments size (front ++ t ∷ [])
 last_shape size [] s t cap h = cap ∙ h
 last_shape size (f ∷ []) s t cap h = (h.0, cap ∙ h.1)
-last_shape size (f ∷ (g ∷ front)) s t cap h = (h.0, last_shape (size * 2) (g ∷ front) s t cap h.1)
+last_shape size (f ∷ (g ∷ front)) s t cap h = (h.0, last_shape size (g ∷ front) s t cap h.1)
 
 module _ (ss : List Segment) (p : Last ss) where
   pub last_count : 0 < length ss
@@ -193,45 +170,7 @@ heads_more ss new e = heads_parts ss new [] ∙ (ap (λ z. all_in ss ++ (z ++ []
 full : (s : Segment) → capacity_of s - length (items_of s) ≡ 0 → length (items_of s) ≡ capacity_of s
 full s e = omega (arith, e, items_fit s)
 
-pub shape_more : (size : ℕ) (ss : List Segment) (new : Segment) → spare ss ≡ 0 → capacity_of new ≡ length (all_in ss) + size → AreSegments size ss → AreSegments size (ss ++ new ∷ [])
-shape_more size [] new e room h = omega (arith, room)
-shape_more size (s ∷ []) new e room h =
-    let is = full s e in
-    (is ∙ h, omega (arith, room, last_count_is s, is, h))
-shape_more size (s ∷ (t ∷ ss)) new e room h =
-    let both = length-append (items_of s) (all_in (t ∷ ss)) in
-    (h.0, shape_more (size * 2) (t ∷ ss) new e (omega (arith, room, both, h.0)) h.1)
-
--- the last segment is no larger than a block may be, and so there are fewer of them than bits
-count_fits : (size : ℕ) (s : Segment) (ss : List Segment) → AreSegments size (s ∷ ss) → size * 2 ^ length ss < 2 ^ 63
-count_fits size s [] h = omega (arith, h, s.nodes.small)
-count_fits size s (t ∷ ss) h =
-    let w = twice size (length ss) in
-    let r = count_fits (size * 2) t ss h.1 in
-    omega (arith, w.0, r)
-
-under_sixty : (k : ℕ) → 8 * 2 ^ k < 9223372036854775808 → k < 60
-under_sixty k fits = lt_of_not-le (λ (le : 60 ≤ k). let p : 1152921504606846976 ≤ 2 ^ k = pow_mono le in omega (arith, p, fits))
-
-pub count_small : (ss : List Segment) → AreSegments 8 ss → length ss < 64
-count_small [] h = omega arith
-count_small (s ∷ ss) h =
-    let below = under_sixty (length ss) (count_fits 8 s ss h) in
-    omega (arith, below)
-
-heads_count : (size : ℕ) (ss : List Segment) → AreSegments size ss → length (all_in ss) + size ≤ size * 2 ^ length ss
-heads_count size [] h = omega arith
-heads_count size (s ∷ []) h = omega (arith, last_count_is s, items_fit s, h)
-heads_count size (s ∷ (t ∷ ss)) h =
-    let w = twice size (length (t ∷ ss)) in
-    let both = length-append (items_of s) (all_in (t ∷ ss)) in
-    let r = heads_count (size * 2) (t ∷ ss) h.1 in
-    omega (arith, both, r, h.0, w.0)
-
-pub heads_small : (ss : List Segment) → AreSegments 8 ss → length (all_in ss) + 8 ≤ 2 ^ 63
-heads_small [] h = omega arith
-heads_small (s ∷ ss) h =
-    let below = under_sixty (length ss) (count_fits 8 s ss h) in
-    let le : length (s ∷ ss) ≤ 60 = omega (arith, below) in
-    let p : 2 ^ length (s ∷ ss) ≤ 1152921504606846976 = pow_mono le in
-    omega (arith, heads_count 8 (s ∷ ss) h, p)
+pub shape_more : (size : ℕ) (ss : List Segment) (new : Segment) → spare ss ≡ 0 → capacity_of new ≡ size → AreSegments size ss → AreSegments size (ss ++ new ∷ [])
+shape_more size [] new e room h = room
+shape_more size (s ∷ []) new e room h = (full s e ∙ h, room)
+shape_more size (s ∷ (t ∷ ss)) new e room h = (h.0, shape_more size (t ∷ ss) new e room h.1)

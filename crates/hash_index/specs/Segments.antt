@@ -1,5 +1,5 @@
--- The first nodes of chains in segments, each twice as large as the one before it.
-use Rattle.std.specs.Prelude.{◌≡◌, ℕ, ◌+◌, ◌-◌, ◌*◌, ◌^◌, ◌<◌, List, [], ◌∷◌, ◌++◌, length, map, Option}
+-- The first nodes of chains in segments, all of one size.
+use Rattle.std.specs.Prelude.{◌≡◌, ℕ, ◌+◌, ◌-◌, ◌*◌, ◌<◌, List, [], ◌∷◌, ◌++◌, length, map, Option}
 use Rattle.std.specs.Vec.{vec_capacity}
 use Rattle.std.specs.Coded.{coded_ℕ}
 use denote.Struct.Props.{≡_prop}
@@ -31,11 +31,11 @@ all_in (s ∷ ss) = items_of s ++ all_in ss
 abbrev pub heads_in : List Segment → List (Option Node)
 heads_in ss = map first_in (all_in ss)
 
--- the first segment is of this size and each further one twice as large, and all but the last are full
+-- each segment is of this size, and all but the last are full
 abbrev pub AreSegments : ℕ → List Segment → Type 0
 AreSegments size [] = Unit {0}
 AreSegments size (s ∷ []) = capacity_of s ≡ size
-AreSegments size (s ∷ (t ∷ ss)) = (length (items_of s) ≡ size) × AreSegments (size * 2) (t ∷ ss)
+AreSegments size (s ∷ (t ∷ ss)) = (length (items_of s) ≡ size) × AreSegments size (t ∷ ss)
 
 -- how many more the last has room for
 abbrev pub spare : List Segment → ℕ
@@ -43,12 +43,12 @@ spare [] = 0
 spare (s ∷ []) = capacity_of s - length (items_of s)
 spare (s ∷ (t ∷ ss)) = spare (t ∷ ss)
 
--- where the first segment is of size 8, the chain stands at this place of this segment
+-- where each segment is of size 512, the chain stands at this place of this segment
 pub record IsAt (bucket segment place : ℕ) : Type 0 where
-  pub at : bucket + 8 ≡ 8 * 2 ^ segment + place
-  pub within : place < 8 * 2 ^ segment
+  pub at : bucket ≡ 512 * segment + place
+  pub within : place < 512
 
 pub AreSegments_prop : (size : ℕ) (ss : List Segment) → IsProp (AreSegments size ss)
 AreSegments_prop size [] = λ a b k. tt
 AreSegments_prop size (s ∷ []) = ≡_prop coded_ℕ (capacity_of s) size
-AreSegments_prop size (s ∷ (t ∷ ss)) = λ a b k. (≡_prop coded_ℕ (length (items_of s)) size a.0 b.0 k, AreSegments_prop (size * 2) (t ∷ ss) a.1 b.1 k)
+AreSegments_prop size (s ∷ (t ∷ ss)) = λ a b k. (≡_prop coded_ℕ (length (items_of s)) size a.0 b.0 k, AreSegments_prop size (t ∷ ss) a.1 b.1 k)

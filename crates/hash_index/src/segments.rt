@@ -1,5 +1,5 @@
 //! The heads of the chains, in segments that are never moved.
-ghost use Rattle.std.specs.Prelude.{◌≡◌, ◌≢◌, ◌==◌, ℕ, ◌+◌, ◌*◌, ◌<◌, ◌≤◌, ◌^◌, min, vec_len, vec_capacity, [], ◌∷◌, ◌++◌, length, get_or, slice_get, set, option_and_then, true, Some, None, OnOk, OnErr};
+ghost use Rattle.std.specs.Prelude.{◌≡◌, ◌≢◌, ◌==◌, ℕ, ◌+◌, ◌<◌, ◌≤◌, ◌^◌, vec_len, vec_capacity, [], ◌∷◌, ◌++◌, length, get_or, slice_get, set, option_and_then, true, Some, None, OnOk, OnErr};
 ghost use Rattle.hash_index.specs.Heads.{start_in};
 ghost use Rattle.hash_index.specs.Segments.{first_in, all_in, heads_in, spare, AreSegments, AreSegments_prop, IsAt};
 
@@ -8,31 +8,27 @@ use crate::segment::Segment;
 use node_store::Node;
 use std::alloc::{AllocError, Global};
 
-// How many chains the first segment has room for.
-const FIRST: usize = 8;
+// How many chains each segment has room for.
+const SIZE: usize = 512;
 
-// More segments than memory has room for.
-const SEGMENTS: usize = 64;
+// More chains than memory has room for.
+const MOST: usize = 1 << 62;
 
-// The heads of the chains. Each segment has room for twice as many as the one before it, which is full.
+// The heads of the chains, in segments of one size, of which all but the last are full.
 #[derive(Drop)]
 pub(crate) struct Segments {
     segments: Vec<Segment>,
     len: usize,
     ghost ok: { len ≡ length (all_in segments.items) },
-    ghost never_moved: { min 1 (vec_len segments) * 64 ≤ vec_capacity segments },
-    ghost small: { len + 8 ≤ 2 ^ 63 },
-    ghost shape: { AreSegments 8 segments.items } by { AreSegments_prop 8 segments.items },
+    ghost small: { len + spare segments.items + 8 ≤ 2 ^ 63 },
+    ghost shape: { AreSegments 512 segments.items } by { AreSegments_prop 512 segments.items },
 }
 
-// The segment of a chain, and its place there: the highest bit of its number counts the segments before it.
+// The segment of a chain, and its place there.
 fn locate(bucket: usize) -> (usize, usize)
-    requires { bucket + 8 < 2 ^ 64 }
     ensures { IsAt bucket result.0 result.1 }
 {
-    let number = bucket + FIRST;
-    let top = number.ilog2();
-    ((top - 3) as usize, number - (1 << top))
+    (bucket / SIZE, bucket % SIZE)
 }
 
 impl Segments {
@@ -99,7 +95,7 @@ impl Segments {
         self.segments[segment].set(place, head);
     }
 
-    // Makes room for one bucket more. Where all segments are full it takes the next one whole, and moves nothing. Where
+    // Makes room for one bucket more. Where all segments are full it takes the next one whole, and moves no head. Where
     // memory is refused, everything is as before. Room for less than a bucket is never left, since a bucket is added at
     // a time: there it refuses, too.
     pub(crate) fn reserve_bucket(&mut self, alloc: Global) -> Result<(), AllocError>
@@ -123,23 +119,30 @@ impl Segments {
         ensures room { OnOk result (4 ≤ spare self.new.segments.items) }
         ensures unchanged { OnErr result (self.new ≡ self.old) }
     {
-        let segment = Segment::with_capacity(alloc, self.len + FIRST)?;
-        self.reserve_segments(alloc)?;
+        if MOST < self.len {
+            return Err(AllocError);
+        }
+        let segment = Segment::with_capacity(alloc, SIZE)?;
+        self.reserve_segment(alloc)?;
         self.segments.push_reserved(segment);
         Ok(())
     }
 
-    // Makes room for as many segments as there can be, where there are none yet. Where memory is refused, everything
-    // is as before.
-    fn reserve_segments(&mut self, alloc: Global) -> Result<(), AllocError>
+    // Makes room for one segment more: where there is none, a block of twice as many takes over those that are there,
+    // and no head is moved. Where memory is refused, everything is as before.
+    fn reserve_segment(&mut self, alloc: Global) -> Result<(), AllocError>
         ensures same { self.new.segments.items ≡ self.old.segments.items }
         ensures len { self.new.len ≡ self.old.len }
-        ensures room { OnOk result (64 ≤ vec_capacity self.new.segments) }
+        ensures room { OnOk result (vec_len self.new.segments < vec_capacity self.new.segments) }
         ensures unchanged { OnErr result (self.new ≡ self.old) }
     {
-        if self.segments.is_empty() {
-            self.segments = Vec::with_capacity(alloc, SEGMENTS)?;
+        let count = self.segments.len();
+        if count < self.segments.capacity() {
+            return Ok(());
         }
+        let mut larger = Vec::with_capacity(alloc, count * 2 + 1)?;
+        larger.append(&mut self.segments)?;
+        self.segments = larger;
         Ok(())
     }
 

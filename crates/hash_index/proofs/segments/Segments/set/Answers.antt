@@ -24,11 +24,11 @@ invariant_of-self c =
     let is = part_is _ _ _ _ part c.index_mut.result.now c.index_mut.ensures.value in
     let items = c.set.ensures.heads ∙ ap (λ v. set (items_of v) c.locate-segment.result.1 c.args.head) is in
     let heads = part_set _ _ _ _ part c.set.new.self c.args.head items in
+    let room = put_spare _ _ _ _ part c.set.new.self (ap length items ∙ length-set _ _ _) (c.set.ensures.capacity ∙ ap capacity_of is) in
     record {
       ok = s.ok ∙ (sym (length-set (all_in s.segments.items) c.args.bucket c.args.head) ∙ ap length (sym heads));
-      never_moved = s.never_moved;
-      small = s.small;
-      shape = put_shape _ _ _ _ part c.set.new.self (ap length items ∙ length-set _ _ _) (c.set.ensures.capacity ∙ ap capacity_of is) 8 s.shape;
+      small = omega (arith, s.small, room);
+      shape = put_shape _ _ _ _ part c.set.new.self (ap length items ∙ length-set _ _ _) (c.set.ensures.capacity ∙ ap capacity_of is) 512 s.shape;
     }
 
 pub returns-clause-heads : goal.returns-clause-heads
