@@ -3,18 +3,24 @@
 use crate::book::Book;
 use crate::by_hand::ByHand;
 use crate::by_hand_times::Call;
+use crate::keys::Key;
 use crate::{by_hand_times, container_times};
 use std::alloc::Global;
 use std::rt::Runtime;
 use std::{fmt, io};
 
-// Each way to find by hand, with the index of the container that finds the same.
-const FINDS: [(&str, usize, Call); 5] = [
-    ("ranked, by price", 2, Call::FindPrice),
-    ("ordered and unique, by id", 3, Call::FindId),
-    ("hashed, by owner", 4, Call::FindOwner),
-    ("hashed and unique, by id", 5, Call::FindHashedId),
-    ("ordered, by owner and price", 6, Call::FindOwnerAndPrice),
+// Each way to find by hand, with the index of the container that finds the same, and its key.
+const FINDS: [(&str, usize, Key, Call); 5] = [
+    ("ranked, by price", 2, Key::Price, Call::FindPrice),
+    ("ordered and unique, by id", 3, Key::Id, Call::FindId),
+    ("hashed, by owner", 4, Key::Owner, Call::FindOwner),
+    ("hashed and unique, by id", 5, Key::Id, Call::FindHashedId),
+    (
+        "ordered, by owner and price",
+        6,
+        Key::OwnerAndPrice,
+        Call::FindOwnerAndPrice,
+    ),
 ];
 
 // The sums of what both answer to the same calls.
@@ -65,10 +71,10 @@ fn print_both<R: Runtime>(
 }
 
 fn print_finds<R: Runtime>(rt: &R, book: &Book, kept: &mut ByHand, count: u64) -> io::Result<()> {
-    for (name, index, call) in &FINDS {
+    for (name, index, key, call) in &FINDS {
         let answers = Answers {
             name,
-            container: container_times::find_each(book, *index, count),
+            container: container_times::find_each(book, *index, *key, count),
             by_hand: by_hand_times::each(*call, kept, count),
         };
         println!(rt; "{answers}")?;

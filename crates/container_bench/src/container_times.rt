@@ -1,6 +1,7 @@
 //! The calls of the container.
 
-use crate::book::{Book, INDICES};
+use crate::book::Book;
+use crate::keys::Key;
 use crate::measured::{Measured, Span, time_calls};
 use crate::record::{looked_for, nth_record};
 use bench_report::Report;
@@ -11,7 +12,7 @@ use std::rt::Runtime;
 #[derive(Clone, Copy)]
 pub(crate) enum Call {
     Insert,
-    Find(usize),
+    Find(usize, Key),
     List(usize),
     EraseKey(usize, (u64, u64)),
 }
@@ -30,11 +31,19 @@ const THREE: [(&str, Call, Span); 1] = [("container, 3 indices: insert", Call::I
 
 const SEVEN: [(&str, Call, Span); 13] = [
     ("container, 7 indices: insert", Call::Insert, Span::All),
-    ("find: ordered, unique", Call::Find(3), Span::All),
-    ("find: ordered, two parts", Call::Find(6), Span::All),
-    ("find: ranked", Call::Find(2), Span::All),
-    ("find: hashed, unique", Call::Find(5), Span::All),
-    ("find: hashed, four records a key", Call::Find(4), Span::All),
+    ("find: ordered, unique", Call::Find(3, Key::Id), Span::All),
+    (
+        "find: ordered, two parts",
+        Call::Find(6, Key::OwnerAndPrice),
+        Span::All,
+    ),
+    ("find: ranked", Call::Find(2, Key::Price), Span::All),
+    ("find: hashed, unique", Call::Find(5, Key::Id), Span::All),
+    (
+        "find: hashed, four records a key",
+        Call::Find(4, Key::Owner),
+        Span::All,
+    ),
     ("list, a record: sequenced", Call::List(0), Span::All),
     ("list, a record: random access", Call::List(1), Span::All),
     ("list, a record: ordered, unique", Call::List(3), Span::All),
@@ -47,6 +56,31 @@ const SEVEN: [(&str, Call, Span); 13] = [
     ("list, a record: hashed, unique", Call::List(5), Span::All),
     ("list, a record: hashed", Call::List(4), Span::All),
 ];
+
+// The first is by owner, and the second unique and by id.
+const TWO_HASHED: [(&str, Call, Span); 3] = [
+    (
+        "container, 2 hashed indices: insert",
+        Call::Insert,
+        Span::All,
+    ),
+    (
+        "container, 2 hashed indices: find, unique",
+        Call::Find(1, Key::Id),
+        Span::All,
+    ),
+    (
+        "container, 2 hashed indices: find, four records a key",
+        Call::Find(0, Key::Owner),
+        Span::All,
+    ),
+];
+
+const HASHED: Script = Script {
+    first: 4,
+    indices: 2,
+    calls: &TWO_HASHED,
+};
 
 const SCRIPTS: [Script; 3] = [
     Script {
@@ -79,6 +113,16 @@ pub(crate) fn times<R: Runtime>(
     Ok(())
 }
 
+/// Finds at hashed indices alone, at a size.
+pub(crate) fn hashed_finds<R: Runtime>(
+    rt: &R,
+    alloc: Global,
+    report: &mut Report,
+    count: u64,
+) -> io::Result<()> {
+    run(rt, alloc, report, HASHED, count)
+}
+
 fn run<R: Runtime>(
     rt: &R,
     alloc: Global,
@@ -98,7 +142,7 @@ impl Measured for Book {
     fn make(&mut self, call: Call, _from: u64, to: u64) -> u64 {
         match call {
             Call::Insert => insert_each(self, to),
-            Call::Find(index) => find_each(self, index, to),
+            Call::Find(index, key) => find_each(self, index, key, to),
             Call::List(index) => self.list(index),
             Call::EraseKey(index, probe) => self.erase_key(index, probe),
         }
@@ -114,12 +158,8 @@ pub(crate) fn insert_each(book: &mut Book, count: u64) -> u64 {
     met
 }
 
-/// Finds so many records at one of the seven indices. Answers the sum of the answers.
-pub(crate) fn find_each(book: &Book, index: usize, count: u64) -> u64 {
-    if index >= INDICES.len() {
-        return 0;
-    }
-    let key = INDICES[index].2;
+/// Finds so many records at one of the indices, by its key. Answers the sum of the answers.
+pub(crate) fn find_each(book: &Book, index: usize, key: Key, count: u64) -> u64 {
     let mut met = 0u64;
     for step in 0..count {
         let probe = key.numbers(&looked_for(step, count));

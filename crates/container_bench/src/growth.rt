@@ -1,7 +1,8 @@
-//! Calls that must not take longer with every record that is there: an insertion into a hashed index and a find in it, a
-//! near move in a row, and the removal of a key's records beside a row, which may take as much longer as they are.
+//! Calls that must not take longer with every record that is there: an insertion into a hashed index and a find in it, also
+//! in a container, a near move in a row, and the removal of a key's records beside a row, which may take as much longer as
+//! they are.
 
-use crate::{erasures, keyed, sequences};
+use crate::{container_times, erasures, keyed, sequences};
 use bench_report::Report;
 use std::alloc::Global;
 use std::io;
@@ -15,6 +16,7 @@ pub(crate) fn times<R: Runtime>(
     count: u64,
 ) -> io::Result<()> {
     keyed::hashed_growth(rt, alloc, report, count)?;
+    container_times::hashed_finds(rt, alloc, report, count)?;
     sequences::near_moves(rt, alloc, report, count)?;
     erasures::times(rt, alloc, report, count)
 }
