@@ -4,6 +4,7 @@ pub mod InPlace
 pub mod Inserted
 pub mod Made
 pub mod Named
+pub mod OneOfAKey
 pub mod Ordered
 pub mod Places
 pub mod Rearranged
