@@ -1,10 +1,10 @@
 //! The container.
 ghost use Rattle.std.specs.Prelude.{◌≡◌, ◌↔◌, ◌<◌, ◌≤◌, ◌^◌, ◌-◌, ◌==◌, IsTrue, false, length, [], None, unwrap_or, Some, IfOk, IfErr, IfSome, OnOk, OnErr};
-ghost use Rattle.list_model.specs.Place.{count_equal, find_equal};
+ghost use Rattle.list_model.specs.Place.{find_equal};
 ghost use Rattle.container_model.specs.State.{IsState, KeysMatch, empty, list_at, row_of, has_key_kind, is_hashed_kind, is_sorted_kind};
-ghost use Rattle.container_model.specs.Find.{counted, found, kind_at, is_unique_at};
+ghost use Rattle.container_model.specs.Find.{counted, found, kind_at};
 ghost use Rattle.container_model.specs.Insert.{insert_at_refusal, insert_refusal, new_handle, with_inserted};
-ghost use Rattle.index_set.specs.Set.{keys_of, specs_of, list_of, probe_side, IsSound, IsKeyed, kind_at as index_kind};
+ghost use Rattle.index_set.specs.Set.{keys_of, specs_of, list_of, kind_at as set_kind_at, probe_side, IsSound, IsKeyed, IsUniqueExcept};
 ghost use Rattle.linked_set.specs.ByRow.{has_by_row, order_by_row, hash_by_row, probe_by_row};
 
 use container_model::{Entry, Handle, Kind, Refused, Spec, Why};
@@ -36,35 +36,6 @@ impl<R: Drop, E: Extract<R> + Drop> Model for MultiIndex<R, E> {
     ghost view = { λ c. seen c.set c.max c.writes };
 
     ghost invariant = { λ c. IsContainer E.has_key E.order_of E.hash_of c.set c.slots.items c.max c.writes };
-}
-
-// The first node of the index that has the key. Where no more than one has it, none is looked for behind that.
-fn first_with<R, E: Extract<R>>(
-    set: &IndexSet<Entry<R>, ByRow<E>>,
-    index: usize,
-    probe: &E::Probe,
-    one: bool,
-) -> Option<Node>
-    requires sound { IsSound (has_by_row E.has_key) set.now }
-    requires in_range { index < length (specs_of set.now) }
-    requires kind { IsTrue (has_key_kind (index_kind set.now index)) }
-    requires fits { IsTrue (is_sorted_kind (index_kind set.now index)) →
-        IsTrue (E.does_fit (keys_of set.now).keys index probe.now) }
-    requires whole { IsTrue (is_hashed_kind (index_kind set.now index)) →
-        IsTrue (E.is_whole (keys_of set.now).keys index probe.now) }
-    requires keyed { IsKeyed (order_by_row E.order_of) (hash_by_row E.hash_of) set.now }
-    requires one { IsTrue one →
-        count_equal (probe_side (probe_by_row E.probe_order_of) set.now index probe.now)
-        (list_of set.now index) ≤ 1 }
-    ensures { result ≡ find_equal
-        (probe_side (probe_by_row E.probe_order_of) set.now index probe.now)
-        (list_of set.now index) }
-{
-    if one {
-        set.find_any(index, probe)
-    } else {
-        set.find(index, probe)
-    }
 }
 
 impl<R: Drop, E: Extract<R> + Drop> MultiIndex<R, E> {
@@ -177,8 +148,8 @@ impl<R: Drop, E: Extract<R> + Drop> MultiIndex<R, E> {
     }
 
     /// The first record of the index that has the key, if any does, and in a hashed index the one put in first of those that
-    /// have it; a sequence has none, and answers `Kind`. O(log n), in a hashed index expected O(1) where it is unique, and
-    /// else O(1 + the records that have the key).
+    /// have it; a sequence has none, and answers `Kind`. O(log n); expected O(1) in a unique hashed index, and O(1 + the
+    /// records that have the key) in another hashed one.
     pub fn find(&self, index: usize, probe: &E::Probe) -> Result<Option<Handle>, Why>
         requires in_range { index < length self.now.specs }
         requires fits { IsTrue (has_key_kind (kind_at self.now index)) →
@@ -190,8 +161,7 @@ impl<R: Drop, E: Extract<R> + Drop> MultiIndex<R, E> {
         if !self.has_key(index) {
             return Err(Why::Kind);
         }
-        let one = self.is_hashed(index) && self.is_unique(index);
-        match first_with(&self.set, index, probe, one) {
+        match first_with(&self.set, index, probe) {
             Some(node) => Ok(Some(handle_at(&self.set, node))),
             None => Ok(None),
         }
@@ -243,14 +213,6 @@ impl<R: Drop, E: Extract<R> + Drop> MultiIndex<R, E> {
             Kind::Hashed => true,
             Kind::Sequenced | Kind::Random | Kind::Ordered | Kind::Ranked => false,
         }
-    }
-
-    // Whether the index has each key once.
-    fn is_unique(&self, index: usize) -> bool
-        requires { index < length self.now.specs }
-        ensures { result ≡ is_unique_at self.now index }
-    {
-        self.set.specs()[index].unique
     }
 
     // Whether the index has a key.
@@ -330,5 +292,32 @@ impl<R: Drop, E: Extract<R> + Drop> MultiIndex<R, E> {
             return Some(Why::Spent);
         }
         None
+    }
+}
+
+// The first node of the index that has the key. In a hashed index that is unique no other node has it, so that the search
+// need not go on behind it.
+fn first_with<R, E: Extract<R>>(
+    set: &IndexSet<Entry<R>, ByRow<E>>,
+    index: usize,
+    probe: &E::Probe,
+) -> Option<Node>
+    requires sound { IsSound (has_by_row E.has_key) set.now }
+    requires keyed { IsKeyed (order_by_row E.order_of) (hash_by_row E.hash_of) set.now }
+    requires unique { IsUniqueExcept (order_by_row E.order_of) set.now None }
+    requires in_range { index < length (specs_of set.now) }
+    requires has { IsTrue (has_key_kind (set_kind_at set.now index)) }
+    requires fits { IsTrue (is_sorted_kind (set_kind_at set.now index)) →
+        IsTrue (E.does_fit (keys_of set.now).keys index probe.now) }
+    requires whole { IsTrue (is_hashed_kind (set_kind_at set.now index)) →
+        IsTrue (E.is_whole (keys_of set.now).keys index probe.now) }
+    ensures { result ≡ find_equal
+        (probe_side (probe_by_row E.probe_order_of) set.now index probe.now)
+        (list_of set.now index) }
+{
+    let spec = &set.specs()[index];
+    match (spec.kind, spec.unique) {
+        (Kind::Hashed, true) => set.find_any(index, probe),
+        _ => set.find(index, probe),
     }
 }
