@@ -1,55 +1,18 @@
--- The node of the least number, by a walk over some nodes in any order.
-use Rattle.std.proofs.Common.{◌≡◌, ℕ, suc, ◌+◌, ◌<◌, Bool, true, false, cond, List, [], ◌∷◌, ◌++◌, drop, Option, Some, None, refl, ap, sym, ◌∙◌, subst, arith, append_assoc, slice_get}
+-- The first of a list by number is the node of the least number.
+use Rattle.std.proofs.Common.{◌≡◌, ℕ, suc, ◌+◌, ◌<◌, Bool, true, false, cond, List, [], ◌∷◌, Some, None, refl, ap, ◌∙◌, arith, slice_get}
 use Rattle.std.specs.Prelude.{insert}
 use Rattle.std.specs.Ordering.{is_gt, is_le, nat_cmp}
-use Rattle.std.proofs.Math.Seq.{drop-append_seam}
 use Rattle.std.proofs.lemmas.Bool.Decides.{nat_tests}
 use Rattle.std.proofs.lemmas.Map.Keys.{le_from_not_gt}
 use Rattle.list_model.specs.Order.{IsInOrder}
 use Rattle.list_model.specs.Place.{not_above, insert_sorted, sorted_onto}
-use Rattle.list_model.specs.Walk.{place_of, next}
 use Rattle.list_model.proofs.Counts.{count_by-cons, count_by_none}
 use Rattle.list_model.proofs.InOrder.{All-map, IsInOrder-insert_sorted}
 use Rattle.node_store.specs.declared.Node.{Node}
-use Rattle.node_store.specs.Nodes.{Holds, IsDistinct, first_or}
 use Rattle.node_store.specs.Store.{number_of}
-use Rattle.node_store.specs.ByNode.{same_node}
-use Rattle.seq_index.proofs.Walks.{place_at, next_at}
-use Rattle.any_index.specs.Earliest.{earlier, earliest_of}
+use Rattle.hash_index.specs.Earliest.{earlier, earliest_of}
 use Rattle.any_index.specs.Spelled.{number_cmp, by_number}
 use Rattle.any_index.proofs.ByNumber.{number_total}
-
--- ---- the walk
-
--- the nodes of a list from this one on
-abbrev pub rest_from : Option Node → List Node → List Node
-rest_from None xs = []
-rest_from (Some n) xs = drop (place_of (same_node n) xs) xs
-
-rest_at : (before : List Node) (n : Node) (after : List Node) → IsDistinct (before ++ n ∷ after) → rest_from (Some n) (before ++ n ∷ after) ≡ n ∷ after
-rest_at before n after distinct =
-    ap (λ k. drop k (before ++ n ∷ after)) (place_at before n after distinct) ∙ drop-append_seam before (n ∷ after)
-
-pub rest_held : (xs : List Node) (n : Node) (h : Holds xs n) → IsDistinct xs → rest_from (Some n) xs ≡ n ∷ h.after
-rest_held xs n h distinct = ap (rest_from (Some n)) h.is ∙ rest_at h.before n h.after (subst IsDistinct h.is distinct)
-
-pub rest_first : (xs : List Node) → IsDistinct xs → rest_from (slice_get xs 0) xs ≡ xs
-rest_first [] distinct = refl
-rest_first (x ∷ xs) distinct = rest_at [] x xs distinct
-
-rest_after : (before : List Node) (n : Node) (after : List Node) → IsDistinct (before ++ n ∷ after) → rest_from (first_or after None) (before ++ n ∷ after) ≡ after
-rest_after before n [] distinct = refl
-rest_after before n (m ∷ after) distinct =
-    let e : before ++ n ∷ (m ∷ after) ≡ (before ++ n ∷ []) ++ m ∷ after = sym (append_assoc before (n ∷ []) (m ∷ after)) in
-    ap (rest_from (Some m)) e ∙ rest_at (before ++ n ∷ []) m after (subst IsDistinct e distinct)
-
-pub rest_next : (xs : List Node) (n : Node) (h : Holds xs n) → IsDistinct xs → rest_from (next (same_node n) xs) xs ≡ h.after
-rest_next xs n h distinct =
-    let d = subst IsDistinct h.is distinct in
-    ap (λ z. rest_from (next (same_node n) z) z) h.is
-    ∙ (ap (λ o. rest_from o (h.before ++ n ∷ h.after)) (next_at h.before n h.after d) ∙ rest_after h.before n h.after d)
-
--- ---- the first of a list by number
 
 first_stays : (a b : ℕ) → is_le (nat_cmp a b) ≡ false → b < a
 first_stays a b h = grind (arith, nat_tests)

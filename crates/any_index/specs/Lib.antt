@@ -2,5 +2,4 @@ pub mod Spelled
 pub mod Lists
 pub mod Side
 pub mod Keyed
-pub mod Earliest
 pub mod Stored

@@ -10,7 +10,6 @@ ghost use Rattle.node_store.specs.ByNode.{column_of, record_of};
 ghost use Rattle.any_index.specs.Side.{AreNodesOf, equal_but};
 ghost use Rattle.any_index.specs.Side.{side_of};
 ghost use Rattle.any_index.specs.Spelled.{Holds, kind_of, by_number};
-ghost use Rattle.any_index.specs.Earliest.{earlier as the_earlier};
 
 use crate::AnyIndex;
 use hash_index::HashIndex;
@@ -21,8 +20,9 @@ use ord_tree::{NoTally, OrdTree};
 impl AnyIndex {
     ghost use Rattle.any_index.specs.Stored.{nodes_of, side_in, record_side_in, IsFiledOnce, CanFind, CanSearch};
 
-    /// The first node that has the key: of a hashed index, the one that was added first. O(log n) in a tree, expected
-    /// O(1 + the nodes that have the key) in buckets. A sequence has no such call.
+    /// The first node that has the key: of a hashed index, the one that was added first. O(log n) in a tree; in buckets
+    /// expected O(1) while the first node that went into the key's chain is there, and else O(1 + the nodes that have the
+    /// key). A sequence has no such call.
     pub fn find<R, E: Extract<R>>(
         &self,
         store: &NodeStore<R>,
@@ -245,21 +245,5 @@ fn first_added<R, E: Extract<R>>(
         (λ a. E.probe_order_of keys.now (hash.index_of buckets.now) a probe.now))
         (by_number (hash.spelled (column_of store.now) buckets.now)) }
 {
-    let mut first = None;
-    let mut at = buckets.first_of(store, keys, probe);
-    while let Some(n) = at {
-        first = Some(earlier(first, n));
-        at = buckets.next_of(store, keys, probe, n);
-    }
-    first
-}
-
-// The one of two nodes that was added first.
-fn earlier(first: Option<Node>, n: Node) -> Node
-    ensures { result ≡ the_earlier first n }
-{
-    match first {
-        Some(m) if m.number() <= n.number() => m,
-        _ => n,
-    }
+    buckets.earliest_of(store, keys, probe)
 }

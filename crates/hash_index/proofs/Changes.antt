@@ -1,5 +1,5 @@
 -- A node goes into a bucket, and out of it.
-use Rattle.std.proofs.Common.{◌≡◌, ◌≢◌, ℕ, ◌+◌, ◌-◌, ◌*◌, ◌<◌, ◌≤◌, List, [], ◌∷◌, ◌++◌, length, map, get_or, set, Option, Some, None, refl, sym, ap, ◌∙◌, subst, arith, append_assoc}
+use Rattle.std.proofs.Common.{◌≡◌, ◌≢◌, ℕ, Bool, true, false, ◌+◌, ◌-◌, ◌*◌, ◌<◌, ◌≤◌, List, [], ◌∷◌, ◌++◌, length, map, get_or, set, Option, Some, None, refl, sym, ap, ◌∙◌, subst, arith, append_assoc}
 use Rattle.std.specs.Prelude.{IsPermutation}
 use Rattle.std.proofs.lemmas.List.Sorted.{IsPermutation-sym, IsPermutation-middle}
 use Rattle.std.specs.List.{AllByRecursion, slice_get}
@@ -8,13 +8,15 @@ use Rattle.std.specs.Option.{option_map}
 use Rattle.node_store.specs.declared.Node.{Node}
 use Rattle.node_store.specs.declared.Link.{Link}
 use Rattle.node_store.specs.Column.{Column, IsPut, IsNode}
-use Rattle.node_store.specs.ByNode.{same_node}
+use Rattle.node_store.specs.ByNode.{same_node, column_of}
 use Rattle.list_model.specs.Walk.{without}
 use Rattle.seq_index.proofs.Walks.{without_at}
 use Rattle.hash_index.specs.declared.HashIndex.{HashIndex}
 use Rattle.hash_index.specs.Buckets.{bucket_of}
 use Rattle.hash_index.specs.declared.head.Head.{Head}
 use Rattle.hash_index.specs.Heads.{first_in, IsRight, AreRight}
+use Rattle.hash_index.specs.Oldest.{IsOldestOf, IsOldest, AreOldest}
+use Rattle.hash_index.proofs.Oldest.{old_tags, old_more, old_less, oldest_at, oldest_set}
 use Rattle.hash_index.specs.Spelled.{all_of, heads_of, Spells, IsSound, spelled, leads_to, Holds}
 use Rattle.node_store.specs.Nodes.{Lacks, AreApart, IsDistinct, IsSameAt, first_or, last_or}
 use Rattle.node_store.proofs.Members.{each_node}
@@ -26,9 +28,12 @@ use Rattle.seq_index.specs.Links.{Runs, chain_link, SetsNext, SetsPrev, end_besi
 use Rattle.seq_index.proofs.Runs.{Runs-insert, Runs-remove, SetsNext-none, IsSameAt-end, LacksEnd-first, LacksEnd-last, Lacks-first, Lacks-last, AreNodes-first, Distinct-insert, Distinct-remove}
 use Rattle.seq_index.proofs.ChainLists.{first-remove, length-insert, length-remove}
 use Rattle.hash_index.specs.Chains.{untagged_link, untagged, tag_at, KeepsTags, KeepsOtherNodes, IsIn}
-use Rattle.hash_index.proofs.Untagged.{put_untagged, tag_put, tag_other, tagged_node}
+use Rattle.node_store.specs.Store.{Store, number_of}
+use Rattle.hash_index.proofs.Untagged.{put_untagged, tag_put, tag_other, tag_is, tagged_node}
 use Rattle.hash_index.proofs.Heads.{first_has, last_has, others_of, one_chain, right_at, right_set, slice_first}
-use Rattle.hash_index.proofs.OneBucket.{Focus, Hangs}
+use Rattle.hash_index.proofs.OneBucket.{Focus, Hangs, IsElsewhere}
+use Rattle.std.specs.Prelude.{nat_lt}
+use Rattle.std.proofs.lemmas.Bool.{ltb-true, ltb-false}
 use Rattle.hash_index.proofs.Spelling.{hangs_of, Spells_nodes, neighbours, Spells_from, IsSound_from, focus_of, held_chain, is_in, split_at}
 
 in_tags : (c f : Column) (to : ℕ → ℕ) (b : ℕ) (n : Node) (xs : List Node) → ((m : Node) → m ≢ n → tag_at f m ≡ tag_at c m) → Lacks xs n → AllByRecursion (IsIn c to b) xs → AllByRecursion (IsIn f to b) xs
@@ -149,8 +154,27 @@ right_put cs ds i j b head Q h puts all same is =
     subst (λ c. AreRight (ds c) (all_of j)) (sym puts.col) (subst (AreRight (ds i.col)) (sym puts.heads)
     (right_set (cs i.col) (ds i.col) (leads_to i) Q 0 b (all_of i) k.chains head k.are (subst (AllByRecursion Q) (sym k.whole) all) (λ j m ne. same j m (λ e. ne (omega (arith, e)))) is h.right))
 
+-- the head of a chain that another node stays first of is the one that it was
+old_beside : (c : Column) (hs : List Head) (xs : List Node) (b : ℕ) (head : Head) (before : Option Node) → AreOldest c xs hs → ((m : Node) → before ≡ Some m → slice_get hs b ≡ Some head) → (before ≡ None → head.mark < 192) → IsOldest c xs head
+old_beside c hs xs b head None old kept plain = λ says n first. let below = plain refl in absurd (omega (arith, says, below))
+old_beside c hs xs b head (Some m) old kept plain = oldest_at c hs xs b head old (kept m refl)
+
+-- where a node comes, the oldest of other hashes stay that
+old_put : (cs ds : ℕ → Column) (i j : HashIndex) (b : ℕ) (head : Head) (n : Node) (hash : ℕ) (front back : List Node) → IsSound cs i → PutsHead i j b head → spelled cs i ≡ front ++ back → Lacks (spelled cs i) n → leads_to i hash ≡ b → tag_at (ds i.col) n ≡ Some hash → ((m : Node) → m ≢ n → tag_at (ds i.col) m ≡ tag_at (cs i.col) m)
+    → IsOldest (ds i.col) (front ++ n ∷ back) head → AreOldest (ds j.col) (front ++ n ∷ back) (all_of j)
+old_put cs ds i j b head n hash front back h puts whole new bucket tag kept is =
+    let k = hangs_of cs i (spelled cs i) h in
+    let lacks = subst (λ z. Lacks z n) whole new in
+    let change : (q : ℕ) (m : Node) → q ≢ b → m ≢ n → IsIn (cs i.col) (leads_to i) q m → IsOldestOf (cs i.col) (spelled cs i) m → IsOldestOf (ds i.col) (front ++ n ∷ back) m = λ q m ne other there old.
+    let apart : tag_at (ds i.col) n ≢ tag_at (ds i.col) m = λ e.
+    let same : Some b ≡ Some q = ap Some (sym bucket) ∙ (ap (option_map (leads_to i)) (sym tag ∙ (e ∙ kept m other)) ∙ there) in
+    ne (cc) in
+    old_more (cs i.col) (ds i.col) front n back m kept other lacks (λ e ne. absurd (apart e)) (subst (λ z. IsOldestOf (cs i.col) z m) whole old) in
+    subst (λ c. AreOldest (ds c) (front ++ n ∷ back) (all_of j)) (sym puts.col) (subst (AreOldest (ds i.col) (front ++ n ∷ back)) (sym puts.heads)
+    (oldest_set (cs i.col) (ds i.col) (leads_to i) (λ m. m ≢ n) (spelled cs i) (front ++ n ∷ back) 0 b (all_of i) k.chains head k.are (subst (AllByRecursion (λ m. m ≢ n)) (sym k.whole) (others_of (spelled cs i) n new)) (λ q m ne. change q m (λ e. ne (omega (arith, e)))) is h.oldest))
+
 module _ (cs ds : ℕ → Column) (d : Column) (i j : HashIndex) (n : Node) (b : ℕ) (h : IsSound cs i) (within : b < i.buckets.len) where
-  module _ (hash : ℕ) (head : Option Node) (begins : Head) (puts : PutsHead i j b begins) (begin : first_in begins ≡ Some n) (right : IsRight (ds i.col) begins) (len : j.len ≡ i.len + 1) (load : j.len * 4 ≤ j.buckets.len) (new : Lacks (spelled cs i) n) (bucket : b ≡ leads_to i hash) (first : head ≡ get_or (heads_of i) b None)
+  module _ (hash : ℕ) (head : Option Node) (begins : Head) (puts : PutsHead i j b begins) (begin : first_in begins ≡ Some n) (right : IsRight (ds i.col) begins) (plain : begins.mark < 192) (len : j.len ≡ i.len + 1) (load : j.len * 4 ≤ j.buckets.len) (new : Lacks (spelled cs i) n) (bucket : b ≡ leads_to i hash) (first : head ≡ get_or (heads_of i) b None)
       (put : IsPut (cs i.col) d n (record { a = None; b = head; up = None; tag = hash; height = 0 })) (prev : SetsPrev (untagged d) (untagged (ds i.col)) head (Some n)) (tags : KeepsTags d (ds i.col)) (same : KeepsOtherNodes d (ds i.col) head) where
     put_both : IsSound ds j × IsPermutation (n ∷ spelled cs i) (spelled ds j)
     put_both =
@@ -160,8 +184,10 @@ module _ (cs ds : ℕ → Column) (d : Column) (i j : HashIndex) (n : Node) (b :
         let here : (m : Node) → head ≡ Some m → IsIn (cs i.col) (leads_to i) b m = λ m e. first_has (IsIn (cs i.col) (leads_to i) b) f.chain m f.here.members (sym f.here.first ∙ (sym first ∙ e)) in
         let are = right_put cs ds i j b begins (λ m. m ≢ n) h puts (others_of (spelled cs i) n new)
         (λ k m ne other is. same m (λ e. ne (one_chain (cs i.col) (leads_to i) b k m (here m e) is)) ∙ put.others m other) right in
+        let link : Link = record { a = None; b = head; up = None; tag = hash; height = 0 } in
+        let old = old_put cs ds i j b begins n hash f.front (f.chain ++ f.back) h puts f.whole new (sym bucket) (tags n ∙ tag_put (cs i.col) d n link put) (λ m ne. tags m ∙ tag_other (cs i.col) d n m link put ne) (λ says m begin. absurd (omega (arith, says, plain))) in
         let dist = Distinct-insert f.front n (f.chain ++ f.back) (subst IsDistinct f.whole h.distinct) (subst (λ z. Lacks z n) f.whole new) in
-        let s = Spells_from ds j ys hangs dist (len ∙ (ap (λ k. k + 1) (h.len ∙ ap length f.whole) ∙ length-insert f.front n (f.chain ++ f.back))) load are in
+        let s = Spells_from ds j ys hangs dist (len ∙ (ap (λ k. k + 1) (h.len ∙ ap length f.whole) ∙ length-insert f.front n (f.chain ++ f.back))) load are old in
         let moved : IsPermutation (n ∷ (f.front ++ (f.chain ++ f.back))) ys = IsPermutation-sym _ _ (IsPermutation-middle f.front n (f.chain ++ f.back)) in
         (IsSound_from ds j ys s, subst (λ z. IsPermutation (n ∷ spelled cs i) z) s.is (subst (λ z. IsPermutation (n ∷ z) ys) (sym f.whole) moved))
 
@@ -171,9 +197,9 @@ module _ (cs ds : ℕ → Column) (d : Column) (i j : HashIndex) (n : Node) (b :
     pub put_moved : IsPermutation (n ∷ spelled cs i) (spelled ds j)
     put_moved = put_both.1
 
-  pub out_done : (link : Link) (head : Head) → PutsHead i j b head → first_in head ≡ end_beside link.a (get_or (heads_of i) b None) link.b → ((m : Node) → link.a ≡ Some m → slice_get (all_of i) b ≡ Some head) → (link.a ≡ None → IsRight (ds i.col) head) → j.len + 1 ≡ i.len → j.len * 4 ≤ j.buckets.len → Holds (spelled cs i) n → b ≡ leads_to i link.tag → cs i.col n ≡ Some link
+  pub out_done : (link : Link) (head : Head) → PutsHead i j b head → first_in head ≡ end_beside link.a (get_or (heads_of i) b None) link.b → ((m : Node) → link.a ≡ Some m → slice_get (all_of i) b ≡ Some head) → (link.a ≡ None → IsRight (ds i.col) head) → (link.a ≡ None → head.mark < 192) → j.len + 1 ≡ i.len → j.len * 4 ≤ j.buckets.len → Holds (spelled cs i) n → b ≡ leads_to i link.tag → cs i.col n ≡ Some link
       → SetsNext (untagged (cs i.col)) (untagged d) link.a link.b → KeepsOtherNodes (cs i.col) d link.a → SetsPrev (untagged d) (untagged (ds i.col)) link.b link.a → KeepsOtherNodes d (ds i.col) link.b → KeepsTags (cs i.col) (ds i.col) → Spells ds j (without (same_node n) (spelled cs i))
-  out_done link head puts first kept right len load held bucket is next same_next prev same_prev tags =
+  out_done link head puts first kept right plain len load held bucket is next same_next prev same_prev tags =
       let f = focus_of cs i (spelled cs i) b within h in
       let here : IsIn (cs i.col) (leads_to i) b n = subst (λ k. IsIn (cs i.col) (leads_to i) k n) (sym bucket) (is_in (cs i.col) (leads_to i) n link is) in
       let k = held_chain (cs i.col) (leads_to i) 0 b b (heads_of i) (spelled cs i) n f here held in
@@ -191,7 +217,137 @@ module _ (cs ds : ℕ → Column) (d : Column) (i j : HashIndex) (n : Node) (b :
       same_prev m (λ e. ne (one_chain (cs i.col) (leads_to i) b q m (first_has (IsIn (cs i.col) (leads_to i) b) k.after m beside.1.1 (sym near.b ∙ e)) away))
       ∙ same_next m (λ e. ne (one_chain (cs i.col) (leads_to i) b q m (last_has (IsIn (cs i.col) (leads_to i) b) k.before m beside.0 (sym near.a ∙ e)) away)))
       (right_beside (cs i.col) (ds i.col) (all_of i) b head link.a k.before n k.after near.a (slice_first (heads_of i) (all_of i) b refl) (f.here.first ∙ ap (λ z. first_or z None) k.is) runs h.right kept right) in
+      let change : (m : Node) → IsOldestOf (cs i.col) (spelled cs i) m → IsOldestOf (ds i.col) ys m =
+      λ m old. old_tags (cs i.col) (ds i.col) ys m tags (old_less (cs i.col) (f.front ++ k.before) n (k.after ++ f.back) m (subst (λ z. IsOldestOf (cs i.col) z m) split old)) in
+      let chains = hangs_of cs i (spelled cs i) h in
+      let old = subst (λ c. AreOldest (ds c) ys (all_of j)) (sym puts.col) (subst (AreOldest (ds i.col) ys) (sym puts.heads)
+      (oldest_set (cs i.col) (ds i.col) (leads_to i) (IsNode (cs i.col)) (spelled cs i) ys 0 b (all_of i) chains.chains head chains.are (subst (AllByRecursion (IsNode (cs i.col))) (sym chains.whole) (each_node (cs i.col) (spelled cs i) (Spells_nodes cs i (spelled cs i) h)))
+      (λ q m ne node is. change m) (λ says m begin. change m (old_beside (cs i.col) (all_of i) (spelled cs i) b head link.a h.oldest kept plain says m begin)) h.oldest)) in
       let dist : IsDistinct ((f.front ++ k.before) ++ n ∷ (k.after ++ f.back)) = subst IsDistinct split h.distinct in
       let left : length ((f.front ++ k.before) ++ n ∷ (k.after ++ f.back)) - 1 ≡ length ys = length-remove (f.front ++ k.before) n (k.after ++ f.back) in
-      let s = Spells_from ds j ys (hangs_kept ds i j b head ys puts (subst (λ o. Hangs (ds i.col) (leads_to i) 0 (set (heads_of i) b o) ys) (sym first) hangs)) (Distinct-remove (f.front ++ k.before) n (k.after ++ f.back) dist) (omega (arith, left, len, h.len, ap length split)) load are in
+      let s = Spells_from ds j ys (hangs_kept ds i j b head ys puts (subst (λ o. Hangs (ds i.col) (leads_to i) 0 (set (heads_of i) b o) ys) (sym first) hangs)) (Distinct-remove (f.front ++ k.before) n (k.after ++ f.back) dist) (omega (arith, left, len, h.len, ap length split)) load are old in
       subst (λ z. Spells ds j z) (sym (ap (λ z. without (same_node n) z) split ∙ without_at (f.front ++ k.before) n (k.after ++ f.back) dist)) s
+
+-- ---- a node behind the first of a chain
+
+first_split : (xs : List Node) (n : Node) → first_or xs None ≡ Some n → (tail : List Node) × (xs ≡ n ∷ tail)
+first_split [] n e = absurd (cc)
+first_split (x ∷ xs) n e = let is : x ≡ n = cc in (xs, ap (λ z. z ∷ xs) is)
+
+-- the node of a head is one of the column
+pub head_there : {R : Type 0} (s : Store R) (i : HashIndex) (b : ℕ) (head : Head) → b < i.buckets.len → slice_get (all_of i) b ≡ Some head → IsSound (column_of s) i → (n : Node) → first_in head ≡ Some n → IsNode (column_of s i.col) n
+head_there s i b head within at h n begin = head_node _ _ _ _ _ (focus_of (column_of s) i (spelled (column_of s) i) b within h) n (sym (slice_first (heads_of i) (all_of i) b refl head at) ∙ begin)
+
+-- the first node of a chain is one of all
+pub began_held : (cs : ℕ → Column) (i : HashIndex) (b : ℕ) (first : Node) → b < i.buckets.len → get_or (heads_of i) b None ≡ Some first → IsSound cs i → Holds (spelled cs i) first
+began_held cs i b first within began h =
+    let f = focus_of cs i (spelled cs i) b within h in
+    let tail = first_split f.chain first (sym f.here.first ∙ began) in
+    record { before = f.front; after = tail.0 ++ f.back; is = f.whole ∙ ap (λ z. f.front ++ (z ++ f.back)) tail.1 }
+
+none_first : (xs : List Node) → first_or xs None ≡ None → xs ≡ []
+none_first [] e = refl
+none_first (x ∷ xs) e = absurd (cc)
+
+-- a node that is alone is the only one of its hash
+alone_oldest : (cs : ℕ → Column) (i : HashIndex) (b : ℕ) (head : Head) (first : Node) (link : Link) → b < i.buckets.len → slice_get (all_of i) b ≡ Some head → first_in head ≡ Some first → cs i.col first ≡ Some link → IsSound cs i → head.mark < 128 → IsOldestOf (cs i.col) (spelled cs i) first
+alone_oldest cs i b head first link within at begin is h alone =
+    let c = cs i.col in
+    let f = focus_of cs i (spelled cs i) b within h in
+    let began = sym (slice_first (heads_of i) (all_of i) b refl head at) ∙ begin in
+    let tail = first_split f.chain first (sym f.here.first ∙ began) in
+    let near = neighbours c [] first tail.0 link (subst (λ z. Runs (untagged c) None z None) tail.1 f.here.runs) is in
+    let none = none_first tail.0 (sym near.b ∙ (right_at c (all_of i) b head h.right at alone first link begin is).0) in
+    let here = (subst (AllByRecursion (IsIn c (leads_to i) b)) tail.1 f.here.members).0 in
+    let Old : Node → Type 0 = λ m. tag_at c m ≡ tag_at c first → m ≢ first → number_of first < number_of m in
+    let apart : (m : Node) → IsElsewhere c (leads_to i) b m → Old m = λ m away same ne. absurd (away (ap (option_map (leads_to i)) same ∙ here)) in
+    let whole : spelled cs i ≡ f.front ++ first ∷ f.back = f.whole ∙ ap (λ z. f.front ++ (z ++ f.back)) (tail.1 ∙ ap (λ z. first ∷ z) none) in
+    subst (λ z. IsOldestOf c z first) (sym whole)
+    (All-join Old f.front (first ∷ f.back) (All-map (IsElsewhere c (leads_to i) b) Old apart f.front f.before) ((λ same ne. absurd (ne refl)), All-map (IsElsewhere c (leads_to i) b) Old apart f.back f.after))
+
+oldest_by : (c : Column) (hs : List Head) (xs : List Node) (b : ℕ) (head new : Head) (first : Node) (few : Bool) → nat_lt head.mark 128 ≡ few → AreOldest c xs hs → slice_get hs b ≡ Some head → first_in head ≡ Some first → (head.mark < 128 → IsOldestOf c xs first) → (192 ≤ new.mark → 128 ≤ head.mark → 192 ≤ head.mark) → 192 ≤ new.mark → IsOldestOf c xs first
+oldest_by c hs xs b head new first true is old at begin alone says big = alone (ltb-true head.mark 128 is)
+oldest_by c hs xs b head new first false is old at begin alone says big = oldest_at c hs xs b head old at (says big (ltb-false head.mark 128 is)) first begin
+
+-- where another node comes behind the first of a chain, it stays the oldest
+pub joined_oldest : (cs : ℕ → Column) (i : HashIndex) (b : ℕ) (head new : Head) (first : Node) (link : Link) → b < i.buckets.len → slice_get (all_of i) b ≡ Some head → first_in head ≡ Some first → cs i.col first ≡ Some link → IsSound cs i → (192 ≤ new.mark → 128 ≤ head.mark → 192 ≤ head.mark) → 192 ≤ new.mark → IsOldestOf (cs i.col) (spelled cs i) first
+joined_oldest cs i b head new first link within at begin is h says =
+    oldest_by (cs i.col) (all_of i) (spelled cs i) b head new first (nat_lt head.mark 128) refl h.oldest at begin (alone_oldest cs i b head first link within at begin is h) says
+
+-- the links of a node that is not there stay
+pub second_same : (cs : ℕ → Column) (i : HashIndex) (b : ℕ) (first : Node) (link : Link) → b < i.buckets.len → get_or (heads_of i) b None ≡ Some first → cs i.col first ≡ Some link → IsSound cs i → (m : Node) → Lacks (spelled cs i) m → (f e d : Column) → KeepsOtherNodes e f link.b → KeepsOtherNodes d e (Some first) → f m ≡ d m
+second_same cs i b first link within began is h m lacks f e d same_prev same_next =
+    let at = focus_of cs i (spelled cs i) b within h in
+    let tail = first_split at.chain first (sym at.here.first ∙ began) in
+    let near = neighbours (cs i.col) [] first tail.0 link (subst (λ z. Runs (untagged (cs i.col)) None z None) tail.1 at.here.runs) is in
+    let l = subst (λ z. Lacks z m) tail.1 (Lacks-front at.chain at.back m (Lacks-back at.front (at.chain ++ at.back) m (subst (λ z. Lacks z m) at.whole lacks))) in
+    same_prev m (λ e. Lacks-first tail.0 m l.1 (sym near.b ∙ e)) ∙ same_next m (λ e. let same : first ≡ m = cc in l.0 (sym same))
+
+second_hangs : (c d e f : Column) (to : ℕ → ℕ) (b : ℕ) (heads : List (Option Node)) (xs : List Node) (n first : Node) (hash : ℕ) (after : Option Node) (qs : List Node) (at : Focus c to 0 b b heads xs) → IsDistinct xs → Lacks xs n → to hash ≡ b → at.chain ≡ first ∷ qs → after ≡ first_or qs None
+    → IsPut c d n (record { a = Some first; b = after; up = None; tag = hash; height = 0 }) → SetsNext (untagged d) (untagged e) (Some first) (Some n) → KeepsOtherNodes d e (Some first) → SetsPrev (untagged e) (untagged f) after (Some n) → KeepsOtherNodes e f after → KeepsTags d f → Hangs f to 0 (set heads b (Some first)) (at.front ++ ((first ∷ (n ∷ qs)) ++ at.back))
+second_hangs c d e f to b heads xs n first hash after qs at dist new bucket is near put next same_next prev same_prev tags =
+    let link : Link = record { a = Some first; b = after; up = None; tag = hash; height = 0 } in
+    let put2 : IsPut (untagged c) (untagged d) n (chain_link (Some first) (first_or qs None)) = subst (λ o. IsPut (untagged c) (untagged d) n (chain_link (Some first) o)) near (put_untagged c d n link put) in
+    let prev2 = subst (λ o. SetsPrev (untagged e) (untagged f) o (Some n)) near prev in
+    let same_prev2 = subst (λ o. KeepsOtherNodes e f o) near same_prev in
+    let lacks = subst (λ z. Lacks z n) at.whole new in
+    let lacks_rest = Lacks-back at.front (at.chain ++ at.back) n lacks in
+    let lacks_chain = subst (λ z. Lacks z n) is (Lacks-front at.chain at.back n lacks_rest) in
+    let p = apart_of at.front at.chain at.back (subst IsDistinct at.whole dist) in
+    let kept : (zs : List Node) → Lacks zs n → AreApart at.chain zs → IsSameAt c f zs =
+    λ zs l a.
+    let q = AreApart-append (first ∷ []) qs zs (subst (λ z. AreApart z zs) is a) in
+    IsSameAt-trans c d f zs (IsSameAt-others c d n put.others zs l)
+    (IsSameAt-trans d e f zs (IsSameAt-end d e (Some first) same_next zs (LacksEnd-last (first ∷ []) zs q.0)) (IsSameAt-end e f (first_or qs None) same_prev2 zs (LacksEnd-first zs qs (AreApart-sym qs zs q.1)))) in
+    let members = in_tags c f to b n (first ∷ qs) (λ m ne. tags m ∙ tag_other c d n m link put ne) lacks_chain (subst (AllByRecursion (IsIn c to b)) is at.here.members) in
+    at.with_chain f to (λ k ne. refl) (Some first) (first ∷ (n ∷ qs))
+    (kept at.front (Lacks-front at.front (at.chain ++ at.back) n lacks) p.before)
+    (kept at.back (Lacks-back at.chain at.back n lacks_rest) p.after)
+    (record {
+      first = refl;
+      runs = Runs-insert (untagged c) (untagged d) (untagged e) (untagged f) (first ∷ []) n qs (subst IsDistinct is p.chain_distinct) lacks_chain put2 next prev2 (subst (λ z. Runs (untagged c) None z None) is at.here.runs);
+      members = (members.0, (ap (option_map to) (tags n ∙ tag_put c d n link put) ∙ ap Some bucket, members.1));
+    })
+
+module _ (cs ds : ℕ → Column) (d e : Column) (i j : HashIndex) (n first : Node) (b hash : ℕ) (link : Link) (head : Head) (h : IsSound cs i) (within : b < i.buckets.len) (puts : PutsHead i j b head) (begin : first_in head ≡ Some first) (followed : 128 ≤ head.mark) (len : j.len ≡ i.len + 1) (load : j.len * 4 ≤ j.buckets.len) (new : Lacks (spelled cs i) n) (bucket : b ≡ leads_to i hash)
+    (began : get_or (heads_of i) b None ≡ Some first) (is : cs i.col first ≡ Some link) (put : IsPut (cs i.col) d n (record { a = Some first; b = link.b; up = None; tag = hash; height = 0 })) (next : SetsNext (untagged d) (untagged e) (Some first) (Some n)) (same_next : KeepsOtherNodes d e (Some first)) (prev : SetsPrev (untagged e) (untagged (ds i.col)) link.b (Some n)) (same_prev : KeepsOtherNodes e (ds i.col) link.b) (tags : KeepsTags d (ds i.col))
+    (oldest : 192 ≤ head.mark → IsOldestOf (cs i.col) (spelled cs i) first) (later : link.tag ≡ hash → number_of first < number_of n) where
+  second_both : IsSound ds j × IsPermutation (n ∷ spelled cs i) (spelled ds j)
+  second_both =
+      let c = cs i.col in
+      let f = focus_of cs i (spelled cs i) b within h in
+      let tail = first_split f.chain first (sym f.here.first ∙ began) in
+      let qs = tail.0 in
+      let near = neighbours c [] first qs link (subst (λ z. Runs (untagged c) None z None) tail.1 f.here.runs) is in
+      let members = subst (AllByRecursion (IsIn c (leads_to i) b)) tail.1 f.here.members in
+      let between : Link = record { a = Some first; b = link.b; up = None; tag = hash; height = 0 } in
+      let front = f.front ++ first ∷ [] in
+      let back = qs ++ f.back in
+      let ys : List Node = front ++ n ∷ back in
+      let joins : f.front ++ ((first ∷ (n ∷ qs)) ++ f.back) ≡ ys = sym (append_assoc f.front (first ∷ []) (n ∷ back)) in
+      let whole : spelled cs i ≡ front ++ back = f.whole ∙ (ap (λ z. f.front ++ (z ++ f.back)) tail.1 ∙ sym (append_assoc f.front (first ∷ []) back)) in
+      let lacks = subst (λ z. Lacks z n) whole new in
+      let hangs = hangs_kept ds i j b head ys puts (subst (λ o. Hangs (ds i.col) (leads_to i) 0 (set (heads_of i) b o) ys) (sym begin) (subst (λ z. Hangs (ds i.col) (leads_to i) 0 (set (heads_of i) b (Some first)) z) joins
+      (second_hangs c d e (ds i.col) (leads_to i) b (heads_of i) (spelled cs i) n first hash link.b qs f h.distinct new (sym bucket) tail.1 near.b put next same_next prev same_prev tags))) in
+      let are = right_put cs ds i j b head (λ m. m ≢ n) h puts (others_of (spelled cs i) n new)
+      (λ k m ne other there.
+      same_prev m (λ at. ne (one_chain c (leads_to i) b k m (first_has (IsIn c (leads_to i) b) qs m members.1 (sym near.b ∙ at)) there))
+      ∙ (same_next m (λ at. let same : first ≡ m = cc in ne (one_chain c (leads_to i) b k m (subst (IsIn c (leads_to i) b) same members.0) there)) ∙ put.others m other))
+      (λ alone m l from there. absurd (omega (arith, alone, followed))) in
+      let tag : tag_at (ds i.col) n ≡ Some hash = tags n ∙ tag_put c d n between put in
+      let kept : (m : Node) → m ≢ n → tag_at (ds i.col) m ≡ tag_at c m = λ m ne. tags m ∙ tag_other c d n m between put ne in
+      let apart : first ≢ n = λ same. (Lacks-back f.front (first ∷ back) n (subst (λ z. Lacks z n) (append_assoc f.front (first ∷ []) back) lacks)).0 (sym same) in
+      let comes : tag_at (ds i.col) n ≡ tag_at (ds i.col) first → n ≢ first → number_of first < number_of n =
+      λ same ne. let both : Some hash ≡ Some link.tag = sym tag ∙ (same ∙ (kept first apart ∙ tag_is c first link is)) in later (cc) in
+      let old = old_put cs ds i j b head n hash front back h puts whole new (sym bucket) tag kept
+      (λ says m at. let same : first ≡ m = cc in subst (IsOldestOf (ds i.col) ys) same (old_more c (ds i.col) front n back first kept apart lacks comes (subst (λ z. IsOldestOf c z first) whole (oldest says)))) in
+      let dist = Distinct-insert front n back (subst IsDistinct whole h.distinct) lacks in
+      let s = Spells_from ds j ys hangs dist (len ∙ (ap (λ k. k + 1) (h.len ∙ ap length whole) ∙ length-insert front n back)) load are old in
+      let moved : IsPermutation (n ∷ (front ++ back)) ys = IsPermutation-sym _ _ (IsPermutation-middle front n back) in
+      (IsSound_from ds j ys s, subst (λ z. IsPermutation (n ∷ spelled cs i) z) s.is (subst (λ z. IsPermutation (n ∷ z) ys) (sym whole) moved))
+
+  pub second_sound : IsSound ds j
+  second_sound = second_both.0
+
+  pub second_moved : IsPermutation (n ∷ spelled cs i) (spelled ds j)
+  second_moved = second_both.1

@@ -20,6 +20,8 @@ use Rattle.hash_index.specs.declared.chain.Chain.{Chain}
 use Rattle.hash_index.specs.declared.head.Head.{Head}
 use Rattle.hash_index.specs.Heads.{first_in, IsRight, AreRight}
 use Rattle.hash_index.specs.Buckets.{bucket_of}
+use Rattle.hash_index.specs.Oldest.{IsOldestOf, IsOldest, AreOldest}
+use Rattle.hash_index.proofs.Oldest.{old_tags, old_cut, oldest_set}
 use Rattle.hash_index.specs.Chains.{tag_at, leads, members, IsIn, IsChain, AreChains, joined, KeepsTags}
 use Rattle.hash_index.specs.Spelled.{all_of, heads_of, Spells, IsSound, spelled, leads_to}
 use Rattle.hash_index.specs.Walks.{rest_of}
@@ -43,6 +45,7 @@ same_spells cs i j xs same h =
     Spells_from cs j xs (subst (λ b. Hangs (cs b) (leads_to j) 0 (heads_of j) xs) (sym same.col) (subst (λ z. Hangs (cs i.col) (leads_to j) 0 z xs) (sym (ap (map first_in) same.buckets)) hangs))
     h.distinct (same.len ∙ h.len) (omega (arith, same.len, h.load, i.buckets.ok, j.buckets.ok, ap length same.buckets))
     (subst (λ b. AreRight (cs b) (all_of j)) (sym same.col) (subst (AreRight (cs i.col)) (sym same.buckets) h.right))
+    (subst (λ b. AreOldest (cs b) xs (all_of j)) (sym same.col) (subst (AreOldest (cs i.col) xs) (sym same.buckets) h.oldest))
 
 pub same_sound : (cs : ℕ → Column) (i j : HashIndex) → IsSame i j → IsSound cs i → IsSound cs j
 same_sound cs i j same h = IsSound_from cs j (spelled cs i) (same_spells cs i j (spelled cs i) same h)
@@ -211,7 +214,8 @@ module _ (i j : HashIndex) (level : j.level ≡ i.level) (count : j.buckets.len 
 
   module _ (cs ds : ℕ → Column) (stay moved : Chain) (head : Option Node) (from : ℕ) (h : IsSound cs i) (from_is : from ≡ i.buckets.len - i.level) (at : head ≡ get_or (heads_of i) from None)
       (stay_is : Builds (ds i.col) stay (left (cs i.col) i (rest_of cs i head))) (moved_is : Builds (ds i.col) moved (taken (cs i.col) i (rest_of cs i head))) (tags : KeepsTags (cs i.col) (ds i.col)) (same : (m : Node) → Lacks (rest_of cs i head) m → ds i.col m ≡ cs i.col m)
-      (col : j.col ≡ i.col) (len : j.len ≡ i.len) (cuts : CutsHeads i j from stay.first moved.first) (stay_right : IsRight (ds i.col) cuts.stays) (moved_right : IsRight (ds i.col) cuts.goes) where
+      (col : j.col ≡ i.col) (len : j.len ≡ i.len) (cuts : CutsHeads i j from stay.first moved.first) (stay_right : IsRight (ds i.col) cuts.stays) (moved_right : IsRight (ds i.col) cuts.goes)
+      (stay_old : 192 ≤ cuts.stays.mark → (n : Node) → first_in cuts.stays ≡ Some n → IsOldestOf (cs i.col) (spelled cs i) n) (moved_old : 192 ≤ cuts.goes.mark → (n : Node) → first_in cuts.goes ≡ Some n → IsOldestOf (cs i.col) (spelled cs i) n) where
     abbrev c : Column
     c = cs i.col
 
@@ -278,12 +282,23 @@ module _ (i j : HashIndex) (level : j.level ≡ i.level) (count : j.buckets.len 
         (λ b m ne node is. apart b m (λ e. ne (omega (arith, e))) is) stay_right h.right in
         subst (λ b. AreRight (ds b) (all_of j)) (sym col) (subst (AreRight d) (sym cuts.heads) (All-join (IsRight d) (set (all_of i) from cuts.stays) (cuts.goes ∷ []) most (moved_right, tt)))
 
+    old_there : (n : Node) → IsOldestOf c (spelled cs i) n → IsOldestOf d new_list n
+    old_there n old = old_tags c d new_list n tags (old_cut c (goes c i) focused.front focused.chain focused.back n (subst (λ z. IsOldestOf c z n) focused.whole old))
+
+    grown_oldest : AreOldest (ds j.col) new_list (all_of j)
+    grown_oldest =
+        let k = hangs_of cs i (spelled cs i) h in
+        let most = oldest_set c d (leads_to i) (IsNode c) (spelled cs i) new_list 0 from (all_of i) k.chains cuts.stays k.are (subst (AllByRecursion (IsNode c)) (sym k.whole) (each_node c (spelled cs i) (Spells_nodes cs i (spelled cs i) h)))
+        (λ b m ne node is. old_there m) (λ says n first. old_there n (stay_old says n first)) h.oldest in
+        subst (λ b. AreOldest (ds b) new_list (all_of j)) (sym col) (subst (AreOldest d new_list) (sym cuts.heads)
+        (All-join (IsOldest d new_list) (set (all_of i) from cuts.stays) (cuts.goes ∷ []) most ((λ says n first. old_there n (moved_old says n first)), tt)))
+
     grown_spells : Spells ds j new_list
     grown_spells =
         let hangs = subst (λ k. Hangs (ds k) (leads_to j) 0 (heads_of j) new_list) (sym col) (subst (λ z. Hangs d (leads_to j) 0 z new_list) (sym (cut_firsts i j from stay.first moved.first cuts)) grown_hangs) in
         let count_kept = length_permutation _ _ (cut_moved (goes c i) focused.front focused.chain focused.back) in
         Spells_from ds j new_list hangs (cut_distinct (goes c i) focused.front focused.chain focused.back (subst IsDistinct focused.whole h.distinct))
-        (omega (arith, len, h.len, ap length focused.whole, count_kept)) (omega (arith, len, h.load, count)) grown_right
+        (omega (arith, len, h.len, ap length focused.whole, count_kept)) (omega (arith, len, h.load, count)) grown_right grown_oldest
 
     pub grown_sound : IsSound ds j
     grown_sound = IsSound_from ds j new_list grown_spells

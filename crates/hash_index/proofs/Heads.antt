@@ -1,8 +1,9 @@
 -- Heads that are right of their nodes.
-use Rattle.std.proofs.Common.{◌≡◌, ◌≢◌, ℕ, zero, suc, Bool, true, false, cond, ◌+◌, ◌/◌, ◌^◌, ◌≤◌, List, [], ◌∷◌, map, get_or, set, Option, Some, None, sym, ap, ◌∙◌, subst, arith}
+use Rattle.std.proofs.Common.{◌≡◌, ◌≢◌, ℕ, zero, suc, Bool, true, false, cond, ◌+◌, ◌/◌, ◌^◌, ◌<◌, ◌≤◌, List, [], ◌∷◌, map, get_or, set, Option, Some, None, sym, ap, ◌∙◌, subst, arith}
 use Rattle.std.specs.List.{AllByRecursion, slice_get}
 use Rattle.std.proofs.lemmas.Option.{slice_get_within, slice_get-map, get_or_from_slice_get}
 use Rattle.std.specs.Option.{option_map, is_some}
+use Rattle.std.proofs.lemmas.Bool.{ne_eqb}
 use Rattle.node_store.specs.declared.Node.{Node}
 use Rattle.node_store.specs.declared.Link.{Link}
 use Rattle.node_store.specs.Column.{Column}
@@ -69,6 +70,10 @@ right_new c h n hash None followed begin hint is at = λ alone m l first there.
 right_new c h n hash (Some o) followed begin hint is at = λ alone m l first there.
     let far : h.mark ≡ hash / 2 ^ 58 + 128 = hint ∙ ap (λ b. hash / 2 ^ 58 + cond b 128 64) is in
     absurd (omega (arith, alone, far))
+
+-- a mark that is not 0 is of a node
+pub first_at : (h : Head) → 0 < h.mark → first_in h ≡ Some h.node
+first_at h some = ap (λ b. cond b None (Some h.node)) (ne_eqb h.mark 0 (λ e. omega (arith, some, e)))
 
 hinted_by : (b : Bool) (o : Option Node) (n : Node) → cond b o None ≡ Some n → o ≡ Some n
 hinted_by true o n e = e

@@ -4,10 +4,12 @@ pub mod InSegments
 pub mod Levels
 pub mod Untagged
 pub mod Heads
+pub mod Oldest
 pub mod OneBucket
 pub mod Spelling
 pub mod Changes
 pub mod Matching
+pub mod AddedFirst
 pub mod Cutting
 pub mod Growing
 pub mod Laws

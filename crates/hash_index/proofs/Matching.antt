@@ -203,6 +203,16 @@ module _ {R : Type 0} (s : Store R) (col : ℕ) (hash : R → ℕ) (key_hash : �
   differs_by None tag e ne = refl
   differs_by (Some a) tag e ne = not_equal (side a) (λ k. ne (e ∙ ap Some (agree a k)))
 
+  key_by : (o : Option R) (tag : Option ℕ) → tag ≡ option_map hash o → is_eq (option_map_or side o Less) ≡ true → tag ≡ Some key_hash
+  key_by None tag e eq = absurd (cc)
+  key_by (Some a) tag e eq = e ∙ ap Some (agree a (eq_is_equal (side a) eq))
+
+  -- nodes of the key have one hash
+  pub same_tags : (n : Node) → is_eq (side_of side s n) ≡ true → (xs : List Node) → IsHashed hash s col xs → KeepsHash hash s col n → AllByRecursion (λ m. is_eq (side_of side s m) ≡ true → tag_at (column_of s col) m ≡ tag_at (column_of s col) n) xs
+  same_tags n eq [] h own = tt
+  same_tags n eq (x ∷ xs) h own =
+      ((λ e. key_by (record_of s x) (tag_at (column_of s col) x) h.0 e ∙ sym (key_by (record_of s n) (tag_at (column_of s col) n) own eq)), same_tags n eq xs h.1 own)
+
   -- a node of another hash has another key
   pub none_match : (xs : List Node) → IsHashed hash s col xs → AllByRecursion (λ n. tag_at (column_of s col) n ≢ Some key_hash) xs → AllByRecursion (λ n. is_eq (side_of side s n) ≡ false) xs
   none_match [] h ne = tt

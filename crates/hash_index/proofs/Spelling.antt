@@ -7,7 +7,7 @@ use Rattle.std.specs.Option.{option_map}
 use Rattle.std.specs.Prelude.{nat_lt}
 use Rattle.std.proofs.lemmas.Bool.{eq-eqb, ltb-true}
 use Rattle.seq_index.specs.Spelled.{following}
-use Rattle.list_model.proofs.Lists.{All-join}
+use Rattle.list_model.proofs.Lists.{All-both, All-join}
 use Rattle.node_store.specs.declared.Node.{Node}
 use Rattle.node_store.specs.declared.Link.{Link}
 use Rattle.node_store.specs.Column.{Column, IsNode}
@@ -24,6 +24,8 @@ use Rattle.hash_index.specs.declared.HashIndex.{HashIndex}
 use Rattle.hash_index.specs.declared.head.Head.{Head}
 use Rattle.hash_index.specs.Chains.{untagged_link, untagged, tag_at, IsIn, AreChains, joined, first_head}
 use Rattle.hash_index.specs.Heads.{first_in, start_in, IsRight, AreRight}
+use Rattle.hash_index.specs.Oldest.{AreOldest}
+use Rattle.hash_index.proofs.Oldest.{oldest_kept, none_oldest}
 use Rattle.hash_index.specs.Spelled.{all_of, heads_of, Spells, IsSound, spelled, chains_of, leads_to, Holds}
 use Rattle.hash_index.specs.Walks.{Leads, rest_of, Ends, HasHash}
 use Rattle.hash_index.proofs.Levels.{leads_within}
@@ -32,9 +34,9 @@ use Rattle.hash_index.proofs.Heads.{same_of, slice_first, right_at, right_kept, 
 use Rattle.hash_index.proofs.OneBucket.{Hangs, Focus, IsElsewhere, focus, chains_are, chains_same, chains_nodes, heads_first, follow_leads, leads_runs}
 
 -- an index whose buckets hold these nodes spells them
-pub Spells_from : (cs : ℕ → Column) (i : HashIndex) (xs : List Node) → Hangs (cs i.col) (leads_to i) 0 (heads_of i) xs → IsDistinct xs → i.len ≡ length xs → i.len * 4 ≤ i.buckets.len → AreRight (cs i.col) (all_of i) → Spells cs i xs
+pub Spells_from : (cs : ℕ → Column) (i : HashIndex) (xs : List Node) → Hangs (cs i.col) (leads_to i) 0 (heads_of i) xs → IsDistinct xs → i.len ≡ length xs → i.len * 4 ≤ i.buckets.len → AreRight (cs i.col) (all_of i) → AreOldest (cs i.col) xs (all_of i) → Spells cs i xs
 unfolding spelled
-Spells_from cs i xs h dist len load right =
+Spells_from cs i xs h dist len load right oldest =
     let fits : length (joined h.chains) ≤ i.len = omega (arith, len, ap length h.whole) in
     let e : chains_of cs i ≡ h.chains = chains_are (cs i.col) (leads_to i) 0 i.len (heads_of i) h.chains fits h.are in
     record {
@@ -44,6 +46,7 @@ Spells_from cs i xs h dist len load right =
       len = len;
       load = load;
       right = right;
+      oldest = oldest;
     }
 
 pub hangs_of : (cs : ℕ → Column) (i : HashIndex) (xs : List Node) → Spells cs i xs → Hangs (cs i.col) (leads_to i) 0 (heads_of i) xs
@@ -69,10 +72,13 @@ IsSound_from cs i xs h = subst (λ (z : List Node). Spells cs i z) h.is h
 pub Spells_same : (cs ds : ℕ → Column) (i : HashIndex) (xs : List Node) → IsSameAt (cs i.col) (ds i.col) xs → Spells cs i xs → Spells ds i xs
 Spells_same cs ds i xs s h =
     let k = hangs_of cs i xs h in
+    let all = same_of (cs i.col) (ds i.col) (joined k.chains) (subst (λ z. IsSameAt (cs i.col) (ds i.col) z) (sym k.whole) s) in
     Spells_from ds i xs
     (record { chains = k.chains; are = chains_same (cs i.col) (ds i.col) (leads_to i) (leads_to i) 0 (λ b le hash e. e) (heads_of i) k.chains (subst (λ z. IsSameAt (cs i.col) (ds i.col) z) (sym k.whole) s) k.are; whole = k.whole })
     h.distinct h.len h.load
     (right_kept (cs i.col) (ds i.col) (leads_to i) (λ m. ds i.col m ≡ cs i.col m) 0 (all_of i) k.chains k.are (same_of (cs i.col) (ds i.col) (joined k.chains) (subst (λ z. IsSameAt (cs i.col) (ds i.col) z) (sym k.whole) s)) (λ j m le same is. same) h.right)
+    (oldest_kept (cs i.col) (ds i.col) (leads_to i) (λ m. ds i.col m ≡ cs i.col m) xs xs 0 (all_of i) k.chains k.are all
+    (λ j m le same is old. All-map _ _ (λ q both tag ne. both.1 (sym (ap (option_map (λ (l : Link). l.tag)) both.0) ∙ (tag ∙ ap (option_map (λ (l : Link). l.tag)) same)) ne) xs (All-both _ _ xs (same_of (cs i.col) (ds i.col) xs s) old)) h.oldest)
 
 pub Spells_nodes : (cs : ℕ → Column) (i : HashIndex) (xs : List Node) → Spells cs i xs → AllNodes (cs i.col) xs
 Spells_nodes cs i xs h =
@@ -87,7 +93,7 @@ empty_hangs c to k (head ∷ heads) h =
     record { chains = [] ∷ r.chains; are = (record { first = h.0; runs = tt; members = tt }, r.are); whole = r.whole }
 
 pub empty_sound : (cs : ℕ → Column) (i : HashIndex) → AllByRecursion (λ o. o ≡ None) (heads_of i) → i.len ≡ 0 → IsSound cs i
-empty_sound cs i h e = IsSound_from cs i [] (Spells_from cs i [] (empty_hangs (cs i.col) (leads_to i) 0 (heads_of i) h) tt e (omega (arith, e)) (all_none (cs i.col) (all_of i) h))
+empty_sound cs i h e = IsSound_from cs i [] (Spells_from cs i [] (empty_hangs (cs i.col) (leads_to i) 0 (heads_of i) h) tt e (omega (arith, e)) (all_none (cs i.col) (all_of i) h) (none_oldest (cs i.col) [] (all_of i) h))
 
 -- ---- nodes of a list
 

@@ -3,6 +3,8 @@ pub mod Heads
 pub mod Segments
 pub mod Buckets
 pub mod Chains
+pub mod Oldest
+pub mod Earliest
 pub mod Spelled
 pub mod Split
 pub mod Hashed

@@ -11,6 +11,7 @@ pub use Rattle.hash_index.specs.Chains.{KeepsTags}
 use Rattle.hash_index.specs.declared.head.Head.{Head}
 use Rattle.hash_index.specs.Segments.{all_in, heads_in}
 use Rattle.hash_index.specs.Heads.{AreRight}
+use Rattle.hash_index.specs.Oldest.{AreOldest}
 use Rattle.hash_index.specs.Buckets.{bucket_of}
 use Rattle.hash_index.specs.Chains.{AreChains, joined, untagged}
 
@@ -59,6 +60,7 @@ pub record Spells (cs : ℕ → Column) (i : HashIndex) (xs : List Node) : Type 
   pub len : i.len ≡ length xs
   pub load : i.len * 4 ≤ i.buckets.len
   pub right : AreRight (cs i.col) (all_of i)
+  pub oldest : AreOldest (cs i.col) xs (all_of i)
 
 -- the index is chains of distinct nodes
 abbrev pub IsSound : (ℕ → Column) → HashIndex → Type 0

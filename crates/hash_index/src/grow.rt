@@ -148,11 +148,12 @@ impl HashIndex {
         ensures rest { KeepsRest self.old self.new store.old store.new }
     {
         let from = self.buckets.len() - self.level;
-        let (stay, moved) = self.cut(store, self.buckets.get(from));
+        let head = self.buckets.head(from);
+        let (stay, moved) = self.cut(store, head.node());
         let stay = self.head_of(store, stay.first);
         let moved = self.head_of(store, moved.first);
-        self.buckets.set(from, stay);
-        self.buckets.push_reserved(moved);
+        self.buckets.set(from, stay.cut_from(head));
+        self.buckets.push_reserved(moved.cut_from(head));
     }
 
     // Cuts a chain in two: the nodes that stay in it once there is one more, and those that go there.

@@ -1,15 +1,18 @@
 //! The first node of a chain, with a mark of its hash.
-ghost use Rattle.std.specs.Prelude.{◌≡◌, ◌+◌, ◌/◌, ◌^◌, cond, Option, Some, None};
+ghost use Rattle.std.specs.Prelude.{◌≡◌, ◌≢◌, ◌↔◌, ◌+◌, ◌/◌, ◌<◌, ◌≤◌, ◌^◌, IsTrue, cond, Option, Some, None};
 ghost use Rattle.node_store.specs.declared.Node.{Node};
+ghost use Rattle.node_store.specs.Store.{number_of};
 ghost use Rattle.hash_index.specs.Heads.{first_in, hinted_in, passes};
 
 use node_store::Node;
 
-// What a mark has beside the top six bits of a hash: that the node is the only one of its chain, or that others may
-// follow.
+// What a mark has beside the top six bits of a hash: that the node is the only one of its chain, that others may follow,
+// or that others may follow, of which those that have its hash were added after it.
 const ALONE: u8 = 0x40;
 
 const FOLLOWED: u8 = 0x80;
+
+const OLDEST: u8 = 0xC0;
 
 // The first node of a chain, if there is one. The mark is 0 where there is no node, and else has the top six bits of the
 // hash that the node was put in with. A look-up reads the record of a node that has its bits before it reads any link,
@@ -49,12 +52,56 @@ impl Head {
     pub(crate) fn of(node: Node, hash: u64, followed: bool) -> Head
         ensures first { first_in result ≡ Some node }
         ensures mark { result.mark ≡ hash / 2 ^ 58 + cond followed 128 64 }
+        ensures plain { result.mark < 192 }
     {
         let beside = if followed { FOLLOWED } else { ALONE };
         Head {
             mark: top(hash) + beside,
             node,
         }
+    }
+
+    // The head of the chain once another node comes behind the first, and after it if it has its hash.
+    pub(crate) fn joined(self) -> Head
+        requires { 0 < self.mark }
+        ensures first { first_in result ≡ first_in self }
+        ensures followed { 128 ≤ result.mark }
+        ensures oldest { 192 ≤ result.mark → 128 ≤ self.mark → 192 ≤ self.mark }
+    {
+        if self.mark < FOLLOWED {
+            Head {
+                mark: self.mark + FOLLOWED,
+                node: self.node,
+            }
+        } else {
+            self
+        }
+    }
+
+    // The head of a chain that a longer one was cut to: where both begin with the same node, the oldest of its hash stays
+    // that.
+    pub(crate) fn cut_from(self, longer: Head) -> Head
+        requires { self.mark < 192 }
+        ensures first { first_in result ≡ first_in self }
+        ensures kept { result.mark < 128 → result ≡ self }
+        ensures oldest { 192 ≤ result.mark → 192 ≤ longer.mark }
+        ensures same { 192 ≤ result.mark → number_of result.node ≡ number_of longer.node }
+    {
+        if FOLLOWED <= self.mark && OLDEST <= longer.mark && self.node == longer.node {
+            Head {
+                mark: self.mark % ALONE + OLDEST,
+                node: self.node,
+            }
+        } else {
+            self
+        }
+    }
+
+    // Whether no other node of the chain that has the first one's hash was added before it, as the mark says.
+    pub(crate) fn is_oldest(self) -> bool
+        ensures { IsTrue result ↔ 192 ≤ self.mark }
+    {
+        OLDEST <= self.mark
     }
 
     // The node, if there is one.

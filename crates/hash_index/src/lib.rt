@@ -5,6 +5,7 @@
 #![tactic(auto)]
 
 ghost use Rattle.std.specs.Prelude.{◌≡◌, ◌≢◌, ℕ, ◌+◌, ◌*◌, ◌<◌, ◌≤◌, max, List, [], ◌∷◌, ◌++◌, length, get_or, slice_get, Option, Some, None, IsPermutation};
+ghost use Rattle.node_store.specs.Store.{number_of};
 ghost use Rattle.node_store.specs.declared.Node.{Node};
 ghost use Rattle.node_store.specs.Column.{Column, IsNode};
 ghost use Rattle.node_store.specs.Nodes.{Lacks};
@@ -16,6 +17,7 @@ ghost use Rattle.hash_index.specs.Heads.{first_in, IsRight};
 
 mod buckets;
 mod chain;
+mod earliest;
 mod grow;
 mod head;
 mod search;
@@ -51,7 +53,7 @@ pub struct HashIndex {
 
 impl HashIndex {
     ghost use Rattle.hash_index.specs.Stored.{nodes_of, AreBucketsOf, HasNode, HasKey, HaveTheirHash, KeepsRest};
-    ghost use Rattle.hash_index.specs.Spelled.{Spells, col_of, index_of, all_of, heads_of, buckets_of, HasRoom, KeepsTags};
+    ghost use Rattle.hash_index.specs.Spelled.{Spells, col_of, index_of, all_of, heads_of, buckets_of, HasRoom, KeepsTags, leads_to};
     ghost use Rattle.hash_index.specs.Chains.{tag_at};
 
     /// An index of no nodes in column `col`, for the keys of the container's index `index`. It has no buckets yet,
@@ -118,8 +120,39 @@ impl HashIndex {
         self.len -= 1;
     }
 
-    // Puts `n` first into the chain of a hash.
+    // Puts `n` into the chain of a hash: behind the first node, which so stays the oldest of its hash if it is, and
+    // before it only where it is younger and has the same hash.
     pub(crate) fn put<R>(&mut self, store: &mut NodeStore<R>, n: Node, hash: u64)
+        requires chain { AreBucketsOf self.old store.old }
+        requires node { IsNode (column_of store.old (col_of self.old)) n }
+        requires new { Lacks (nodes_of self.old store.old) n }
+        requires room { HasRoom self.old }
+        ensures chain { AreBucketsOf self.new store.new }
+        ensures list { IsPermutation (n ∷ nodes_of self.old store.old)
+            (nodes_of self.new store.new) }
+        ensures tag { tag_at (column_of store.new (col_of self.old)) n ≡ Some hash }
+        ensures tags { (m : Node) → m ≢ n → tag_at (column_of store.new (col_of self.old)) m ≡
+            tag_at (column_of store.old (col_of self.old)) m }
+        ensures same { (m : Node) → m ≢ n → Lacks (nodes_of self.old store.old) m →
+            column_of store.new (col_of self.old) m ≡ column_of store.old (col_of self.old) m }
+        ensures len { self.new.len ≡ self.old.len + 1 }
+        ensures buckets { buckets_of self.new ≡ buckets_of self.old }
+        ensures rest { KeepsRest self.old self.new store.old store.new }
+    {
+        let bucket = self.bucket(hash);
+        let head = self.buckets.head(bucket);
+        if let Some(first) = head.node() {
+            let link = store.link(first, self.col);
+            if link.tag != hash || first.number() < n.number() {
+                self.put_second(store, n, hash, head, first, link);
+                return;
+            }
+        }
+        self.put_first(store, n, hash);
+    }
+
+    // Puts `n` first into the chain of a hash.
+    fn put_first<R>(&mut self, store: &mut NodeStore<R>, n: Node, hash: u64)
         requires chain { AreBucketsOf self.old store.old }
         requires node { IsNode (column_of store.old (col_of self.old)) n }
         requires new { Lacks (nodes_of self.old store.old) n }
@@ -151,6 +184,52 @@ impl HashIndex {
         self.len += 1;
     }
 
+    // Puts `n` behind the first node of the chain of a hash.
+    fn put_second<R>(
+        &mut self,
+        store: &mut NodeStore<R>,
+        n: Node,
+        hash: u64,
+        head: Head,
+        first: Node,
+        link: Link,
+    )
+        requires chain { AreBucketsOf self.old store.old }
+        requires node { IsNode (column_of store.old (col_of self.old)) n }
+        requires new { Lacks (nodes_of self.old store.old) n }
+        requires room { HasRoom self.old }
+        requires head { slice_get (all_of self.old) (leads_to self.old hash) ≡ Some head }
+        requires first { first_in head ≡ Some first }
+        requires link { column_of store.old (col_of self.old) first ≡ Some link }
+        requires later { link.tag ≡ hash → number_of first < number_of n }
+        ensures chain { AreBucketsOf self.new store.new }
+        ensures list { IsPermutation (n ∷ nodes_of self.old store.old)
+            (nodes_of self.new store.new) }
+        ensures tag { tag_at (column_of store.new (col_of self.old)) n ≡ Some hash }
+        ensures tags { (m : Node) → m ≢ n → tag_at (column_of store.new (col_of self.old)) m ≡
+            tag_at (column_of store.old (col_of self.old)) m }
+        ensures same { (m : Node) → m ≢ n → Lacks (nodes_of self.old store.old) m →
+            column_of store.new (col_of self.old) m ≡ column_of store.old (col_of self.old) m }
+        ensures len { self.new.len ≡ self.old.len + 1 }
+        ensures buckets { buckets_of self.new ≡ buckets_of self.old }
+        ensures rest { KeepsRest self.old self.new store.old store.new }
+    {
+        let bucket = self.bucket(hash);
+        let after = link.b;
+        let between = Link {
+            a: Some(first),
+            b: after,
+            up: None,
+            tag: hash,
+            height: 0,
+        };
+        store.set_link(n, self.col, between);
+        set_next(store, self.col, Some(first), Some(n));
+        set_prev(store, self.col, after, Some(n));
+        self.buckets.set(bucket, head.joined());
+        self.len += 1;
+    }
+
     // The head of a chain once the node between two neighbours has gone.
     fn head_beside<R>(
         &self,
@@ -167,6 +246,7 @@ impl HashIndex {
             slice_get (all_of self.now) bucket ≡ Some result }
         ensures right { before ≡ None →
             IsRight (column_of store.now (col_of self.now)) result }
+        ensures plain { before ≡ None → result.mark < 192 }
     {
         match before {
             Some(_) => self.buckets.head(bucket),
@@ -179,6 +259,7 @@ impl HashIndex {
         requires { AreNodes (column_of store.now (col_of self.now)) first }
         ensures first { first_in result ≡ first }
         ensures right { IsRight (column_of store.now (col_of self.now)) result }
+        ensures plain { result.mark < 192 }
     {
         match first {
             Some(n) => {

@@ -174,7 +174,7 @@ impl HashIndex {
 
     // Whether the node's record has the whole key, which has this hash. Where the tag in the node's link is another, no
     // record is read.
-    fn has_key<R, E: Extract<R>>(
+    pub(crate) fn has_key<R, E: Extract<R>>(
         &self,
         store: &NodeStore<R>,
         keys: &E,
@@ -198,7 +198,7 @@ impl HashIndex {
     }
 
     // Whether the node's record has the whole key.
-    fn is_match<R, E: Extract<R>>(
+    pub(crate) fn is_match<R, E: Extract<R>>(
         &self,
         store: &NodeStore<R>,
         keys: &E,
@@ -214,7 +214,7 @@ impl HashIndex {
     }
 
     // The head of the chain of a hash as a look-up sees it: that of no node where the look-up passes the chain.
-    fn head(&self, hash: u64) -> Head
+    pub(crate) fn head(&self, hash: u64) -> Head
         ensures first { first_in result ≡
             option_and_then (start_in hash) (slice_get (all_of self.now) (leads_to self.now hash)) }
         ensures head { first_in result ≢ None →

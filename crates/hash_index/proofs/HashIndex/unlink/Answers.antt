@@ -29,5 +29,5 @@ returns-clause-list g c =
     let len : (i.len - 1) + 1 ≡ i.len = omega arith in
     let load : (i.len - 1) * 4 ≤ c.set.new.self.len = omega (arith, c.requires.chain.load, c.set.ensures.len) in
     out_done (column_of c.args.store.now) (column_of c.set_prev.new.store) _ i _ c.args.n c.bucket-bucket.result c.requires.chain c.bucket-bucket.ensures.within
-    c.link-before.result c.head_beside-head.result (record { col = refl; level = refl; count = c.set.ensures.len; heads = c.set.ensures.heads }) c.head_beside-head.ensures.first c.head_beside-head.ensures.kept c.head_beside-head.ensures.right len load c.requires.held c.bucket-bucket.ensures.is c.link-before.ensures
+    c.link-before.result c.head_beside-head.result (record { col = refl; level = refl; count = c.set.ensures.len; heads = c.set.ensures.heads }) c.head_beside-head.ensures.first c.head_beside-head.ensures.kept c.head_beside-head.ensures.right c.head_beside-head.ensures.plain len load c.requires.held c.bucket-bucket.ensures.is c.link-before.ensures
     c.set_next.ensures.ends c.set_next.ensures.same c.set_prev.ensures.ends c.set_prev.ensures.same (λ m. c.set_prev.ensures.tags m ∙ c.set_next.ensures.tags m)

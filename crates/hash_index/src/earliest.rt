@@ -1,0 +1,80 @@
+//! Look-ups of the node that was added first.
+ghost use Rattle.std.specs.Prelude.{◌≡◌, IsTrue, None};
+ghost use Rattle.node_store.specs.ByNode.{column_of};
+ghost use Rattle.hash_index.specs.Earliest.{earlier as the_earlier, earliest_of};
+ghost use Rattle.hash_index.specs.Hashed.{matches};
+ghost use Rattle.hash_index.specs.Spelled.{index_of};
+ghost use Rattle.hash_index.specs.Stored.{side_in, matches_in, HasKey, HaveTheirHash, CanSearch};
+ghost use Rattle.hash_index.specs.Walks.{rest_of, Ends};
+
+use crate::HashIndex;
+use key_extract::Extract;
+use node_store::{Node, NodeStore};
+
+// The one of two nodes that was added first.
+fn earlier(first: Option<Node>, n: Node) -> Node
+    ensures { result ≡ the_earlier first n }
+{
+    match first {
+        Some(m) if m.number() <= n.number() => m,
+        _ => n,
+    }
+}
+
+impl HashIndex {
+    /// The node that was added first of those whose records have the whole key. Expected O(1) while the first node that
+    /// went into the key's chain is still there, and else O(1 + those nodes).
+    pub fn earliest_of<R, E: Extract<R>>(
+        &self,
+        store: &NodeStore<R>,
+        keys: &E,
+        probe: &E::Probe,
+    ) -> Option<Node>
+        requires { CanSearch E.Extract self.now store.now keys.now probe.now }
+        ensures { result ≡ earliest_of None
+            (matches_in E.Extract self.now store.now keys.now probe.now) }
+    {
+        let hash = keys.hash_probe(self.index, probe);
+        let head = self.head(hash);
+        if head.is_oldest() {
+            if let Some(n) = head.hinted(hash) {
+                if self.is_match(store, keys, probe, n) {
+                    return Some(n);
+                }
+            }
+        }
+        self.earliest_from(store, keys, probe, hash, head.node())
+    }
+
+    // The node that was added first of those whose records have the whole key, which has this hash, of a chain from `at`
+    // on.
+    fn earliest_from<R, E: Extract<R>>(
+        &self,
+        store: &NodeStore<R>,
+        keys: &E,
+        probe: &E::Probe,
+        hash: u64,
+        at: Option<Node>,
+    ) -> Option<Node>
+        requires ends { Ends (column_of store.now) self.now at }
+        requires hashed { HaveTheirHash E.Extract self.now store.now keys.now
+            (rest_of (column_of store.now) self.now at) }
+        requires hash { hash ≡ E.probe_hash_of keys.now (index_of self.now) probe.now }
+        requires has_key { HasKey E.Extract self.now keys.now }
+        requires whole { IsTrue (E.is_whole keys.now (index_of self.now) probe.now) }
+        ensures { result ≡ earliest_of None
+            (matches (side_in E.Extract self.now store.now keys.now probe.now)
+            (rest_of (column_of store.now) self.now at)) }
+    {
+        let mut first = None;
+        let mut at = at;
+        while let Some(n) = at {
+            let link = store.link(n, self.col);
+            if self.has_key(store, keys, probe, hash, n, link.tag) {
+                first = Some(earlier(first, n));
+            }
+            at = link.b;
+        }
+        first
+    }
+}
