@@ -121,7 +121,7 @@ impl HashIndex {
     }
 
     // Puts `n` into the chain of a hash: behind the first node, which so stays the oldest of its hash if it is, and
-    // before it only where it is younger and has the same hash.
+    // before it only where it is older and has the same hash.
     pub(crate) fn put<R>(&mut self, store: &mut NodeStore<R>, n: Node, hash: u64)
         requires chain { AreBucketsOf self.old store.old }
         requires node { IsNode (column_of store.old (col_of self.old)) n }
