@@ -60,7 +60,15 @@ impl Out {
         ensures bytes { self.new.bytes ≡ self.old.bytes }
         ensures room { MakesRoom result self.old.room self.new.room READY_ROOM }
     {
-        self.buffer.reserve(READY_ROOM).map_err(|_| OutOfRoom)
+        self.reserve(READY_ROOM)
+    }
+
+    /// Sees to it that so many further bytes need no memory. O(length), and O(1) where there is room.
+    pub fn reserve(&mut self, bytes: usize) -> Result<(), OutOfRoom>
+        ensures bytes { self.new.bytes ≡ self.old.bytes }
+        ensures room { MakesRoom result self.old.room self.new.room bytes }
+    {
+        self.buffer.reserve(bytes).map_err(|_| OutOfRoom)
     }
 
     /// Appends bytes that fit the room. O(length of the piece).

@@ -4,4 +4,5 @@
 mod table;
 
 pub use table::Table;
+pub use table_changes::is_change;
 pub use table_terms::{Outcome, refuse, refuse_memory};

@@ -1,6 +1,7 @@
 //! A table and one step of it.
 
-ghost use Rattle.std.specs.Prelude.{◌≡◌, ◌≤◌, IfOk};
+ghost use Rattle.std.specs.Prelude.{◌≡◌, ◌≤◌, IfOk, false};
+ghost use Rattle.table_changes.specs.Change.{is_change};
 ghost use Rattle.table_reply.specs.Buffer.{Keeps};
 ghost use Rattle.table_step.specs.Step.{IsShort, Steps, new_table, step_of};
 
@@ -68,6 +69,22 @@ impl Table {
             change(self.alloc, &mut self.records, command, out)
         } else {
             read(self.alloc, &self.records, command, out)
+        }
+    }
+
+    /// Carries out a command that changes no table, as `step` does. O(what the read costs).
+    #[tactic(auto, unfolding(crate::specs::Step::step_of))]
+    pub fn read(&self, command: &Command, out: &mut Out) -> Outcome
+        requires ready { READY_ROOM ≤ out.old.room }
+        requires reads { is_change command.now ≡ false }
+        ensures answer { Steps result out.old.bytes out.new.bytes self.now self.now (step_of self.now command.now) }
+        ensures short { IsShort result out.old.bytes out.new.bytes }
+        ensures kept { Keeps out.old out.new }
+    {
+        if command.table() == self.name() {
+            read(self.alloc, &self.records, command, out)
+        } else {
+            refuse(Fault::Table, out)
         }
     }
 }
