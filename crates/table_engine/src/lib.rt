@@ -1,6 +1,7 @@
 //! Answers streams of lines over the tables of a schema, however they come in pieces.
 #![tactic(auto)]
 
+mod again;
 mod carry;
 mod count;
 mod cutter;
@@ -14,6 +15,7 @@ mod source;
 mod stream;
 mod waiting;
 
+pub use again::{MOST_TRIES, is_interrupted};
 pub use cutter::{Cut, LineCutter, MAX_LINE, is_blank};
 pub use engine::Engine;
 pub use event::{Event, Stop};

@@ -1,12 +1,14 @@
 //! A writer whose failures are counted.
-ghost use Rattle.std.specs.Prelude.{◌≡◌, length, OnOk, OnErr};
+ghost use Rattle.std.specs.Prelude.{◌≡◌, ◌≢◌, length, IfErr, OnOk, OnErr};
 ghost use Rattle.std.specs.Io.{WritesAtMost};
 ghost use Rattle.std.specs.Io.KnownBytes.{Appends, WriteAppends};
+ghost use Rattle.std.specs.IoError.{error_kind};
 ghost use Rattle.table_engine.specs.Devices.{AppendsFront, failures_after, failures_after_write};
 
+use crate::again;
 use crate::count::raise;
 use std::io;
-use std::io::Write;
+use std::io::{ErrorKind, Write};
 
 /// A writer, and how often it failed: how many of its writes failed, or had a byte to take and took none. The count stays
 /// at `u64::MAX` once it is there.
@@ -37,16 +39,25 @@ impl<W> Sink<W> {
     {
         self.failures
     }
+
+    /// The writer, which is not flushed. O(1).
+    pub fn into_inner(self) -> W
+        ensures { result ≡ self.inner }
+    {
+        self.inner
+    }
 }
 
 impl<W: Write> Sink<W> {
-    /// Writes once, as the writer does.
+    /// Writes once, as the writer does. A write that a signal interrupts is made again, up to `MOST_TRIES` times in all, and
+    /// all of them are at most one failure.
     pub fn write(&mut self, bytes: &[u8]) -> io::Result<usize>
         ensures bound { WritesAtMost result bytes.now }
         ensures bytes { WriteAppends (W.contents self.old.inner) (W.contents self.new.inner) result bytes.now }
+        ensures again { IfErr result (λ error. error_kind error ≢ ErrorKind.Interrupted) }
         ensures failures { self.new.failures ≡ failures_after_write result (length bytes.now) self.old.failures }
     {
-        let written = self.inner.write(bytes);
+        let written = again::write(&mut self.inner, bytes);
         match written {
             Ok(0) if !bytes.is_empty() => raise(&mut self.failures),
             Ok(_) => {}

@@ -1,12 +1,14 @@
 //! A reader whose reads are counted.
-ghost use Rattle.std.specs.Prelude.{◌≡◌, length};
+ghost use Rattle.std.specs.Prelude.{◌≡◌, ◌≢◌, IfErr, length};
 ghost use Rattle.std.specs.Io.{ReadsAtMost};
 ghost use Rattle.std.specs.Io.KnownBytes.{ReadConsumes};
+ghost use Rattle.std.specs.IoError.{error_kind};
 ghost use Rattle.table_engine.specs.Devices.{ends_after_read, failures_after_read, raised};
 
+use crate::again;
 use crate::count::raise;
 use std::io;
-use std::io::Read;
+use std::io::{ErrorKind, Read};
 
 /// A reader, and how often it was read, failed and told its end. Each count stays at `u64::MAX` once it is there.
 #[derive(Debug, Drop)]
@@ -53,16 +55,18 @@ impl<R> Source<R> {
 }
 
 impl<R: Read> Source<R> {
-    /// Reads once, as the reader does.
+    /// Reads once, as the reader does. A read that a signal interrupts is made again, up to `MOST_TRIES` times in all, and
+    /// all of them are one read here, and at most one failure.
     pub fn read(&mut self, buf: &mut [u8]) -> io::Result<usize>
         ensures bound { ReadsAtMost result buf.new }
         ensures bytes { ReadConsumes (R.remaining self.old.inner) (R.remaining self.new.inner) result buf.new }
+        ensures again { IfErr result (λ error. error_kind error ≢ ErrorKind.Interrupted) }
         ensures reads { self.new.reads ≡ raised self.old.reads }
         ensures failures { self.new.failures ≡ failures_after_read result self.old.failures }
         ensures ends { self.new.ends ≡ ends_after_read result (length buf.old) self.old.ends }
     {
         raise(&mut self.reads);
-        let read = self.inner.read(buf);
+        let read = again::read(&mut self.inner, buf);
         match read {
             Ok(0) if !buf.is_empty() => raise(&mut self.ends),
             Ok(_) => {}
