@@ -5,6 +5,7 @@ pub mod Hears
 pub mod Schemas
 pub mod Prefixes
 pub mod Passes
+pub mod Failures
 pub mod Tables
 pub mod Fresh
 pub mod Lines

@@ -1,5 +1,5 @@
 -- What a writer holds after some lines of several.
-use Rattle.std.proofs.Common.{◌≡◌, ℕ, ◌+◌, ◌<◌, ◌≤◌, List, [], ◌∷◌, ◌++◌, length, map, take, drop, get_or, refl, sym, ap, subst, ◌∙◌, append_assoc, append-nil, take-append-drop}
+use Rattle.std.proofs.Common.{◌≡◌, ℕ, ◌+◌, ◌<◌, ◌≤◌, List, [], ◌∷◌, ◌++◌, length, map, take, drop, get_or, refl, sym, ap, subst, ◌∙◌, append_assoc, append-nil, arith, take-append-drop}
 use Rattle.std.specs.Prelude.{Option}
 use Rattle.std.specs.List.{flat_map}
 use Rattle.std.specs.Io.KnownBytes.{Appends}
@@ -8,7 +8,7 @@ use Rattle.std.proofs.lemmas.Grind.{flat_map-append}
 use Rattle.std.proofs.lemmas.List.{drop_more, map-append, take_all, take_more}
 use Rattle.table_engine.specs.Devices.{AppendsFront}
 use Rattle.shared_tables.specs.Journal.{EntryData}
-use Rattle.shared_tables.specs.Text.{AppendsEntries, entries_in, entry_line, journal_text}
+use Rattle.shared_tables.specs.Text.{AppendsFitting, entries_in, entry_line, journal_text}
 
 -- the first ones, one, and those after it
 split_at_one : {A : Type 0} (xs : List A) (k : ℕ) (x : A) → k < length xs → x ≡ get_or xs k x → take k xs ++ x ∷ drop (k + 1) xs ≡ xs
@@ -51,10 +51,14 @@ lines_shown line shown [] = refl
 lines_shown line shown (x ∷ xs) = ap (λ t. line (shown x) ++ t) (lines_shown line shown xs)
 
 -- the lines of the entries before one for which there is no room
-pub entries_before : (old mid new : Option (List ℕ)) (entries : List EntryData) (k : ℕ) (e : EntryData) → k < length entries → e ≡ get_or entries k e
-    → Appends old mid (journal_text (take k entries)) → new ≡ mid → AppendsEntries old new entries
-entries_before old mid new entries k e h is first same =
-    (take k entries, e, drop (k + 1) entries, split_at_one entries k e h is, subst (λ known. Appends old known (journal_text (take k entries))) (sym same) first)
+pub entries_before : (room : ℕ) (old mid new : Option (List ℕ)) (entries : List EntryData) (k : ℕ) (e : EntryData) → k < length entries → e ≡ get_or entries k e
+    → Appends old mid (journal_text (take k entries)) → new ≡ mid → room < length (entry_line e) → AppendsFitting room old new entries
+entries_before room old mid new entries k e h is first same long =
+    (take k entries, e, drop (k + 1) entries, split_at_one entries k e h is, subst (λ known. Appends old known (journal_text (take k entries))) (sym same) first, long)
+
+-- a buffer with more room has less for which there is no room
+pub less_fits : (room room' : ℕ) (old new : Option (List ℕ)) (entries : List EntryData) → room ≤ room' → AppendsFitting room' old new entries → AppendsFitting room old new entries
+less_fits room room' old new entries le fits = (fits.0, fits.1, fits.2, fits.3, fits.4, let long = fits.5 in omega arith)
 
 -- the same of the first journals and of one more
 module _ {A : Type 0} (shown : A → List EntryData) where
@@ -62,9 +66,9 @@ module _ {A : Type 0} (shown : A → List EntryData) where
   joined_lines [] = refl
   joined_lines (x ∷ xs) = ap (λ t. journal_text (shown x) ++ t) (joined_lines xs) ∙ sym (flat_map-append entry_line (shown x) (entries_in (map shown xs)))
 
-  pub journals_before : (old mid new : Option (List ℕ)) (xs : List A) (k : ℕ) (x : A) → k < length xs → x ≡ get_or xs k x
-      → Appends old mid (flat_map (λ y. journal_text (shown y)) (take k xs)) → AppendsEntries mid new (shown x) → AppendsEntries old new (entries_in (map shown xs))
-  journals_before old mid new xs k x h is first one =
+  pub journals_before : (room : ℕ) (old mid new : Option (List ℕ)) (xs : List A) (k : ℕ) (x : A) → k < length xs → x ≡ get_or xs k x
+      → Appends old mid (flat_map (λ y. journal_text (shown y)) (take k xs)) → AppendsFitting room mid new (shown x) → AppendsFitting room old new (entries_in (map shown xs))
+  journals_before room old mid new xs k x h is first one =
       let rest = drop (k + 1) xs in
       let done = entries_in (map shown (take k xs)) in
       let later = entries_in (map shown rest) in
@@ -79,4 +83,5 @@ module _ {A : Type 0} (shown : A → List EntryData) where
             ∙ ap (λ ys. entries_in (map shown ys)) (split_at_one xs k x h is),
         subst (λ t. Appends old new t) (sym (flat_map-append entry_line done one.0))
             (Appends-trans old mid new (journal_text done) (journal_text one.0) (subst (λ t. Appends old mid t) (joined_lines (take k xs)) first) one.4),
+        one.5,
       )

@@ -6,7 +6,8 @@ use Rattle.std.proofs.lemmas.List.Elements.{filter-append, filter_more, filter_p
 use Rattle.std.proofs.lemmas.Bool.Decides.{nat_tests}
 use Rattle.std.proofs.lemmas.Bool.{cond-true}
 use Rattle.shared_tables.specs.Pass.{PassData}
-use Rattle.shared_tables.specs.Gathered.{AgreesWith, FirstFailure, SessionAgrees, passes_of}
+use Rattle.shared_tables.specs.Gathered.{FirstFailure, passes_of}
+use Rattle.shared_tables.specs.Looks.{WritesAgree, WritesAgreeWith}
 use Rattle.shared_tables.specs.Holders.{IsHolder}
 use Rattle.shared_tables.specs.Call.{CellData}
 use Rattle.shared_tables.specs.Journal.{own}
@@ -41,7 +42,7 @@ known_session : (tables workers : ℕ) (p : PassData) (a b : Bool) → (a && b) 
 known_session tables workers p true b e = e
 known_session tables workers p false b e = cc
 
-none_of : (cell : CellData) (session : ℕ) (passes : List PassData) → cell.workers ≤ session → All (λ p. (p.session == session) ≡ true) passes → AgreesWith cell session passes → passes ≡ []
+none_of : (cell : CellData) (session : ℕ) (passes : List PassData) → cell.workers ≤ session → All (λ p. (p.session == session) ≡ true) passes → WritesAgreeWith cell session passes → passes ≡ []
 none_of cell session [] h mine agrees = refl
 none_of cell session (p ∷ []) h mine agrees =
     let same : (p.session == session) ≡ true = mine 0 p (omega arith) in
@@ -51,15 +52,15 @@ none_of cell session (p ∷ q ∷ passes) h mine agrees = absurd agrees
 
 -- beyond the sessions, that none has a pass is that they agree
 module _ (cell : CellData) (passes : List PassData) (session : ℕ) where
-  no_passes : cell.workers ≤ session → SessionAgrees passes cell session → passes_of session passes ≡ []
+  no_passes : cell.workers ≤ session → WritesAgree passes cell session → passes_of session passes ≡ []
   no_passes h agrees = none_of cell session (passes_of session passes) h (filter_passes (λ p. p.session == session) passes) agrees
 
-  no_entries : own session cell.journal ≡ [] → passes_of session passes ≡ [] → SessionAgrees passes cell session
-  no_entries none e = subst (λ ps. AgreesWith cell session ps) (sym e) none
+  no_entries : own session cell.journal ≡ [] → passes_of session passes ≡ [] → WritesAgree passes cell session
+  no_entries none e = subst (λ ps. WritesAgreeWith cell session ps) (sym e) none
 
 agrees_at : (cell : CellData) (passes : List PassData) (session : ℕ) (b : Bool) → nat_lt session cell.workers ≡ b
-    → (session < cell.workers → SessionAgrees passes cell session) → (cell.workers ≤ session → own session cell.journal ≡ [])
-    → (cell.workers ≤ session → passes_of session passes ≡ []) → SessionAgrees passes cell session
+    → (session < cell.workers → WritesAgree passes cell session) → (cell.workers ≤ session → own session cell.journal ≡ [])
+    → (cell.workers ≤ session → passes_of session passes ≡ []) → WritesAgree passes cell session
 agrees_at cell passes session true e below others none = below (grind (arith, nat_tests))
 agrees_at cell passes session false e below others none =
     let beyond : cell.workers ≤ session = grind (arith, nat_tests) in
@@ -67,10 +68,10 @@ agrees_at cell passes session false e below others none =
 
 -- where the sessions agree, the first failure is that of a pass beyond them
 pub first_of_all : (cell : CellData) (passes : List PassData) (first : Option ℕ)
-    → ((session : ℕ) → session < cell.workers → SessionAgrees passes cell session)
+    → ((session : ℕ) → session < cell.workers → WritesAgree passes cell session)
     → ((session : ℕ) → cell.workers ≤ session → own session cell.journal ≡ [])
     → FirstFailure (λ session. cell.workers ≤ session → passes_of session passes ≡ []) first
-    → FirstFailure (SessionAgrees passes cell) first
+    → FirstFailure (WritesAgree passes cell) first
 first_of_all cell passes None below others all = λ n. agrees_at cell passes n (nat_lt n cell.workers) refl (below n) (others n) (all n)
 first_of_all cell passes (Some n) below others fails = (
   λ agrees. fails.0 (λ beyond. no_passes cell passes n beyond agrees),

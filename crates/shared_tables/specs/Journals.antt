@@ -1,5 +1,5 @@
 -- The journals of all tables.
-use Rattle.std.specs.Prelude.{◌≡◌, ℕ, List, [], ◌∷◌, length, take, All, Option, Some, None, slice_get}
+use Rattle.std.specs.Prelude.{◌≡◌, ℕ, List, [], ◌∷◌, length, map, take, All, Option, Some, None, slice_get}
 use Rattle.table_schema.specs.Shape.{TableShape}
 use Rattle.shared_tables.specs.Journal.{EntryData, IsLegal}
 use Rattle.shared_tables.specs.Pass.{PassData}
@@ -20,6 +20,10 @@ cells_of [] workers journals = []
 cells_of (shape ∷ schema) workers [] = []
 cells_of (shape ∷ schema) workers (journal ∷ journals) =
     record { shape = shape; workers = workers; journal = journal } ∷ cells_of schema workers journals
+
+-- empty tables with empty journals
+abbrev pub fresh_cells : List TableShape → ℕ → List CellData
+fresh_cells schema workers = map (λ shape. record { shape = shape; workers = workers; journal = [] }) schema
 
 abbrev pub IsLegalCell : CellData → Type 0
 IsLegalCell cell = IsLegal cell.shape cell.journal

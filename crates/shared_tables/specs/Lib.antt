@@ -4,6 +4,7 @@ pub mod Kept
 pub mod Call
 pub mod Hears
 pub mod Gathered
+pub mod Looks
 pub mod Journals
 pub mod Holders
 pub mod Text

@@ -1,6 +1,6 @@
 //! A table with the journal of its writes.
 
-ghost use Rattle.std.specs.Prelude.{◌≡◌, ◌+◌, ◌<◌, ◌≤◌, ◌∷◌, ◌++◌, [], length, vec_len, vec_capacity, OnErr, OnOk, IfOk, IfSome, IsTrue};
+ghost use Rattle.std.specs.Prelude.{◌≡◌, ◌+◌, ◌<◌, ◌≤◌, ◌↔◌, ◌∷◌, ◌++◌, [], length, vec_len, vec_capacity, OnErr, OnOk, IfOk, IfSome, IsTrue};
 ghost use Rattle.table_reply.specs.Buffer.{Keeps};
 ghost use Rattle.shared_tables.specs.Journal.{IsLegal, own};
 ghost use Rattle.shared_tables.specs.Call.{Told, TrackTold, fault_of, fault_in};
@@ -103,7 +103,7 @@ impl TableCell {
 
     /// Whether it is the table of this declaration, for so many sessions. O(columns + indices).
     pub(crate) fn is_of(&self, spec: &TableSpec, workers: u32) -> bool
-        ensures same { IsTrue result → (self.now.shape ≡ spec.now) × (self.now.workers ≡ workers) }
+        ensures same { IsTrue result ↔ ((self.now.shape ≡ spec.now) × (self.now.workers ≡ workers)) }
         ensures legal { IsLegal self.now.shape self.now.journal }
     {
         self.tallies.len() == workers as usize && is_same_table(&self.spec, spec)

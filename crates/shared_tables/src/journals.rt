@@ -3,7 +3,7 @@
 ghost use Rattle.std.specs.Prelude.{◌≡◌, Err, OnErr, OnOk, map};
 ghost use Rattle.std.specs.Io.KnownBytes.{Appends};
 ghost use Rattle.table_engine.specs.Devices.{AppendsFront, failures_after_stream};
-ghost use Rattle.shared_tables.specs.Text.{AppendsEntries, entries_in, journals_text};
+ghost use Rattle.shared_tables.specs.Text.{AppendsEntries, AppendsFitting, entries_in, journals_text, whole_room};
 
 use crate::entry::Entry;
 use crate::write::write_journals;
@@ -58,6 +58,67 @@ impl Journals {
         ensures memory { result ≡ Err StreamFault.Memory → AppendsEntries (W.contents sink.old.inner) (W.contents sink.new.inner) (entries_in self.now.tables) }
     {
         let mut line = Out::new(*self.tables.allocator());
-        write_journals(&self.tables, &mut line, sink)
+        self.write_through(&mut line, sink)
+    }
+
+    /// As `write`, with a buffer of the caller's for the lines. It takes memory only for a line that is longer than the whole
+    /// room of the buffer, whose text is lost.
+    pub fn write_through<W: Write>(
+        &self,
+        line: &mut Out,
+        sink: &mut Sink<W>,
+    ) -> Result<(), StreamFault>
+        ensures written { OnOk result (Appends (W.contents sink.old.inner) (W.contents sink.new.inner) (journals_text self.now.tables)) }
+        ensures front { OnErr result (AppendsFront (W.contents sink.old.inner) (W.contents sink.new.inner) (journals_text self.now.tables)) }
+        ensures no_read { result ≡ Err StreamFault.Read → ⊥ }
+        ensures write_cause { sink.new.failures ≡ failures_after_stream result sink.old.failures }
+        ensures memory { result ≡ Err StreamFault.Memory → AppendsFitting (whole_room line.old) (W.contents sink.old.inner) (W.contents sink.new.inner) (entries_in self.now.tables) }
+    {
+        write_journals(&self.tables, line, sink)
+    }
+}
+
+/// The journals of tables as they stand, of which nothing was compared with what the passes know.
+#[derive(Drop)]
+pub struct UncomparedJournals {
+    journals: Journals,
+}
+
+impl Model for UncomparedJournals {
+    ghost use Rattle.shared_tables.specs.Journals.{JournalsData};
+
+    ghost Value = { JournalsData };
+
+    ghost view = { λ u. u.journals };
+}
+
+impl UncomparedJournals {
+    /// These journals.
+    pub(crate) fn new(journals: Journals) -> UncomparedJournals
+        ensures { result ≡ journals }
+    {
+        UncomparedJournals { journals }
+    }
+
+    /// The journals, in the order of the schema. O(1).
+    pub fn tables(&self) -> &[Vec<Entry>]
+        ensures { map (λ entries. entries.items) result.now ≡ self.now.tables }
+    {
+        self.journals.tables()
+    }
+
+    /// Writes them as `Journals::write_through` does.
+    pub fn write_through<W: Write>(
+        &self,
+        line: &mut Out,
+        sink: &mut Sink<W>,
+    ) -> Result<(), StreamFault>
+        ensures written { OnOk result (Appends (W.contents sink.old.inner) (W.contents sink.new.inner) (journals_text self.now.tables)) }
+        ensures front { OnErr result (AppendsFront (W.contents sink.old.inner) (W.contents sink.new.inner) (journals_text self.now.tables)) }
+        ensures no_read { result ≡ Err StreamFault.Read → ⊥ }
+        ensures write_cause { sink.new.failures ≡ failures_after_stream result sink.old.failures }
+        ensures memory { result ≡ Err StreamFault.Memory → AppendsFitting (whole_room line.old) (W.contents sink.old.inner) (W.contents sink.new.inner) (entries_in self.now.tables) }
+    {
+        self.journals.write_through(line, sink)
     }
 }

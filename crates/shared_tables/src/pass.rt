@@ -5,6 +5,7 @@ ghost use Rattle.std.specs.Option.{option_copied};
 ghost use Rattle.shared_tables.specs.Journal.{last_number};
 ghost use Rattle.shared_tables.specs.Pass.{fresh, fresh_pass};
 ghost use Rattle.shared_tables.specs.Call.{is_known};
+ghost use Rattle.shared_tables.specs.Looks.{look_of};
 
 use crate::entry::Entry;
 use arrayvec::ArrayVec;
@@ -120,6 +121,13 @@ impl Pass {
             tracks.push(Track::new(alloc))?;
         }
         Ok(Pass { session, tracks })
+    }
+
+    /// The last look at the table at this place, where the pass is of so many tables and has one. O(1).
+    pub(crate) fn look(&self, place: usize) -> Option<&Answered>
+        ensures { option_copied result ≡ look_of place self.now }
+    {
+        self.tracks.get(place)?.look()
     }
 
     /// Whether the pass is of so many tables, and one of so many sessions.

@@ -3,14 +3,17 @@
 ghost use Rattle.std.specs.Prelude.{◌≡◌, ◌≤◌, OnErr, OnOk, IfErr, IfOk, length};
 ghost use Rattle.table_reply.specs.Buffer.{Keeps};
 ghost use Rattle.shared_tables.specs.Hears.{Hears, Refuses, table_at};
+ghost use Rattle.shared_tables.specs.Journals.{fresh_cells};
 ghost use Rattle.shared_tables.specs.Pass.{fresh_passes};
 
 use crate::cell::TableCell;
+use crate::entry::Entry;
 use crate::fault::CallFault;
+use crate::locks::Locked;
 use crate::pass::Pass;
 use std::alloc::{AllocError, Global};
 use std::marker::Model;
-use std::sync::{Mutex, Wait};
+use std::sync::Wait;
 use table_cmd::Command;
 use table_reply::{Fault, Out, READY_ROOM};
 use table_schema::{Schema, TableSpec};
@@ -34,19 +37,22 @@ impl Gate for OpenGate {
 pub struct Shared<G: Gate> {
     pub(crate) schema: Schema,
     pub(crate) workers: u32,
-    pub(crate) cells: Vec<Mutex<TableCell>>,
+    pub(crate) tables: Locked<TableCell>,
     pub(crate) gate: G,
+    /// Room for what is gathered: of the journals, and of the answers that looks are compared with.
+    pub(crate) journals: Vec<Vec<Entry>>,
+    pub(crate) answer: Out,
 }
 
 impl<G: Gate> Model for Shared<G> {
-    ghost use Rattle.std.specs.Prelude.{◌≡◌, length};
+    ghost use Rattle.std.specs.Prelude.{◌≡◌, ◌≤◌, length, vec_len, vec_capacity};
     ghost use Rattle.shared_tables.specs.Hears.{SharedData};
 
     ghost Value = { SharedData };
 
     ghost view = { λ s. record { schema = s.schema; workers = s.workers } };
 
-    ghost invariant = { λ s. length s.cells.items ≡ length s.schema };
+    ghost invariant = { λ s. (s.tables ≡ length s.schema) × (vec_len s.journals ≡ 0) × (length s.schema ≤ vec_capacity s.journals) };
 }
 
 impl<G: Gate + Drop> Shared<G> {
@@ -61,30 +67,30 @@ impl<G: Gate + Drop> Shared<G> {
         ensures shared { IfOk result (λ made. made.0 ≡ record { schema = schema; workers = workers }) }
         ensures passes { IfOk result (λ made. made.1.items ≡ fresh_passes (length schema) workers) }
     {
-        let cells = new_cells(alloc, &schema, workers)?;
+        let cells = fresh_cells(alloc, &schema, workers)?;
         let passes = new_passes(alloc, schema.tables().len(), workers)?;
+        let mut answer = Out::new(alloc);
+        answer.ready().map_err(|_| AllocError)?;
         let shared = Shared {
+            journals: Vec::with_capacity(alloc, cells.len())?,
+            tables: Locked::new(alloc, cells)?,
             schema,
             workers,
-            cells,
             gate,
+            answer,
         };
         Ok((shared, passes))
     }
 }
 
-// Empty tables under locks.
-fn new_cells(
-    alloc: Global,
-    schema: &Schema,
-    workers: u32,
-) -> Result<Vec<Mutex<TableCell>>, AllocError>
-    ensures { IfOk result (λ cells. length cells.items ≡ length schema.now) }
+// Empty tables with empty journals.
+fn fresh_cells(alloc: Global, schema: &Schema, workers: u32) -> Result<Vec<TableCell>, AllocError>
+    ensures { IfOk result (λ cells. cells.items ≡ fresh_cells schema.now workers) }
 {
     let specs = schema.tables();
     let mut cells = Vec::with_capacity(alloc, specs.len())?;
     for spec in specs {
-        cells.push(Mutex::new(TableCell::new(alloc, spec, workers)?))?;
+        cells.push(TableCell::new(alloc, spec, workers)?)?;
     }
     Ok(cells)
 }
@@ -136,7 +142,7 @@ impl<G: Gate> Shared<G> {
             drop(command);
             return Ok(());
         };
-        let mut cell = self.cells[place].lock(rt);
+        let mut cell = self.tables.at(place).lock(rt);
         // It always is, but of what a lock holds only its type is known.
         if !cell.is_of(&tables[place], self.workers) {
             refuse_memory(out);

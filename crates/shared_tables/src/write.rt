@@ -1,9 +1,10 @@
 //! Writes journals.
 
-ghost use Rattle.std.specs.Prelude.{◌≡◌, Err, OnErr, OnOk, map};
+ghost use Rattle.std.specs.Prelude.{◌≡◌, ◌<◌, Err, OnErr, OnOk, length, map};
 ghost use Rattle.std.specs.Io.KnownBytes.{Appends};
 ghost use Rattle.table_engine.specs.Devices.{AppendsFront, failures_after_stream};
-ghost use Rattle.shared_tables.specs.Text.{AppendsEntries, entries_in, entry_line, journal_text, journals_text};
+ghost use Rattle.table_reply.specs.Buffer.{Keeps};
+ghost use Rattle.shared_tables.specs.Text.{AppendsFitting, entries_in, entry_line, journal_text, journals_text, whole_room};
 
 use crate::entry::Entry;
 use command_text::write_command;
@@ -13,7 +14,9 @@ use table_reply::{Out, OutOfRoom};
 
 // Puts the line of an entry into the buffer, in place of what stands there.
 fn set_line(entry: &Entry, line: &mut Out) -> Result<(), OutOfRoom>
-    ensures { OnOk result (line.new.bytes ≡ entry_line entry.now) }
+    ensures line { OnOk result (line.new.bytes ≡ entry_line entry.now) }
+    ensures cause { OnErr result (whole_room line.old < length (entry_line entry.now)) }
+    ensures kept { Keeps line.old line.new }
 {
     line.clear();
     write_command(&entry.command, line)?;
@@ -30,7 +33,8 @@ fn write_entry<W: Write>(
     ensures front { OnErr result (AppendsFront (W.contents sink.old.inner) (W.contents sink.new.inner) (entry_line entry.now)) }
     ensures no_read { result ≡ Err StreamFault.Read → ⊥ }
     ensures write_cause { sink.new.failures ≡ failures_after_stream result sink.old.failures }
-    ensures memory { result ≡ Err StreamFault.Memory → sink.new ≡ sink.old }
+    ensures memory { result ≡ Err StreamFault.Memory → (sink.new ≡ sink.old) × (whole_room line.old < length (entry_line entry.now)) }
+    ensures kept { Keeps line.old line.new }
 {
     if set_line(entry, line).is_err() {
         return Err(StreamFault::Memory);
@@ -51,7 +55,8 @@ fn write_journal<W: Write>(
     ensures front { OnErr result (AppendsFront (W.contents sink.old.inner) (W.contents sink.new.inner) (journal_text journal.now)) }
     ensures no_read { result ≡ Err StreamFault.Read → ⊥ }
     ensures write_cause { sink.new.failures ≡ failures_after_stream result sink.old.failures }
-    ensures memory { result ≡ Err StreamFault.Memory → AppendsEntries (W.contents sink.old.inner) (W.contents sink.new.inner) journal.now }
+    ensures memory { result ≡ Err StreamFault.Memory → AppendsFitting (whole_room line.old) (W.contents sink.old.inner) (W.contents sink.new.inner) journal.now }
+    ensures kept { Keeps line.old line.new }
 {
     for entry in journal {
         match write_entry(entry, line, sink) {
@@ -72,7 +77,7 @@ pub(crate) fn write_journals<W: Write>(
     ensures front { OnErr result (AppendsFront (W.contents sink.old.inner) (W.contents sink.new.inner) (journals_text (map (λ entries. entries.items) journals.now))) }
     ensures no_read { result ≡ Err StreamFault.Read → ⊥ }
     ensures write_cause { sink.new.failures ≡ failures_after_stream result sink.old.failures }
-    ensures memory { result ≡ Err StreamFault.Memory → AppendsEntries (W.contents sink.old.inner) (W.contents sink.new.inner) (entries_in (map (λ entries. entries.items) journals.now)) }
+    ensures memory { result ≡ Err StreamFault.Memory → AppendsFitting (whole_room line.old) (W.contents sink.old.inner) (W.contents sink.new.inner) (entries_in (map (λ entries. entries.items) journals.now)) }
 {
     for journal in journals {
         match write_journal(journal, line, sink) {

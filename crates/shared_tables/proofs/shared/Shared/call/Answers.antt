@@ -32,7 +32,7 @@ found g c =
     let within : c.in-Some.place < length shared.schema = (position-Some _ shared.schema c.in-Some.place shape (named g c)).0 in
     let is : shape ≡ get_or shared.schema c.in-Some.place shape = c.index-tables-place.is ∙ ap (λ ts. get_or ts c.in-Some.place shape) (sym (schema_is g c)) in
     let same : c.deref_mut.result.now ≡ c.deref.result.now = c.deref_mut.ensures.value ∙ sym c.deref.ensures in
-    let declared = c.is_of.ensures.same c.if-not-is_of.false in
+    let declared = c.is_of.ensures.same.0 c.if-not-is_of.false in
     is_found shared c.in-Some.place shape c.deref_mut.result.now valid within is
     (ap (λ (d : CellData). d.shape) same ∙ declared.0)
     (ap (λ (d : CellData). d.workers) same ∙ declared.1 ∙ sym (workers_is g c))
