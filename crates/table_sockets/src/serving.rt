@@ -2,7 +2,7 @@
 ghost use Rattle.std.specs.Prelude.{◌≡◌, length, vec_len};
 
 use crate::end::{Done, End};
-use crate::listening::Listening;
+use crate::listening::{Connection, Listening};
 use shared_tables::{Gate, Pass, ServeFault, Shared};
 use std::alloc::Global;
 use std::io::{Read, Write};
@@ -99,19 +99,16 @@ fn serve_next<G: Gate>(
     shared: &Shared<G>,
     pass: &mut Pass,
 ) -> Option<End> {
-    let served = match listening {
-        Listening::Unix(listener) => match listener.accept() {
-            Ok((stream, _)) => serve(alloc, rt, shared, pass, &stream, &stream),
-            Err(_) => return Some(End::Listen),
-        },
-        Listening::Tcp(listener) => match listener.accept() {
-            Ok((stream, _)) => {
-                // Answers are written in whole pieces, so there is nothing to wait for.
-                let _ = stream.set_nodelay(true);
-                serve(alloc, rt, shared, pass, &stream, &stream)
-            }
-            Err(_) => return Some(End::Listen),
-        },
+    let Ok(connection) = listening.accept() else {
+        return Some(End::Listen);
+    };
+    let served = match &connection {
+        Connection::Unix(stream) => serve(alloc, rt, shared, pass, stream, stream),
+        Connection::Tcp(stream) => {
+            // Answers are written in whole pieces, so there is nothing to wait for.
+            let _ = stream.set_nodelay(true);
+            serve(alloc, rt, shared, pass, stream, stream)
+        }
     };
     match served {
         Ok(()) => None,
