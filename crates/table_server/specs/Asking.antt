@@ -26,13 +26,13 @@ AsksService (Some (run files)) = ⊥
 AsksService (Some (serve serving)) = ⊤
 
 -- what is asked for is done: lines are answered, or connections were served
-abbrev pub DoesAsked : {F M : Type 0} → (List ℕ → F → Type 0) → (F → Option (List ℕ)) → (List ℕ → M → Type 0) → (M → Option (List ℕ))
+abbrev pub DoesAsked : {F M : Type 0} → (List ℕ → F → Type 0) → (F → Option (List ℕ)) → (is_made is_put : List ℕ → M → Type 0) → (M → Option (List ℕ))
     → Option Asking → Option (List ℕ) → Option (List ℕ) → Option (List ℕ) → Option (List ℕ) → Type 0
-DoesAsked is_at remaining is_made contents None input_before input_after output_before output_after = ⊥
-DoesAsked is_at remaining is_made contents (Some (run files)) input_before input_after output_before output_after =
+DoesAsked is_at remaining is_made is_put contents None input_before input_after output_before output_after = ⊥
+DoesAsked is_at remaining is_made is_put contents (Some (run files)) input_before input_after output_before output_after =
     Done is_at remaining files input_before input_after output_before output_after
-DoesAsked is_at remaining is_made contents (Some (serve serving)) input_before input_after output_before output_after =
-    Served is_at remaining is_made contents serving.schema serving.workers serving.journal output_before output_after
+DoesAsked is_at remaining is_made is_put contents (Some (serve serving)) input_before input_after output_before output_after =
+    Served is_at remaining is_made is_put contents serving.schema serving.workers serving.journal output_before output_after
 
 -- what is asked for reads the input to its end, or does not touch it
 abbrev pub LeavesInput : {I : Type 0} → Option Asking → Source I → Source I → Type 0

@@ -66,6 +66,11 @@ abbrev pub of_file : ErrorKind → Fault
 of_file OutOfMemory = Memory
 of_file _ = Read
 
+-- the fault of a file that is to be written, by the kind of its error
+abbrev pub of_written : ErrorKind → Fault
+of_written OutOfMemory = Memory
+of_written _ = Write
+
 -- the fault of journals that are not gathered
 abbrev pub of_gathering : GatherWhy → Fault
 of_gathering gathering.Memory = Memory

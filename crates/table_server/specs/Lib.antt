@@ -1,4 +1,5 @@
 pub mod Asking
 pub mod Done
 pub mod Fault
+pub mod Place
 pub mod Serving

@@ -12,21 +12,22 @@ use Rattle.table_server.specs.Done.{IsSchema}
 abbrev pub announcement : List ℕ
 announcement = codes "listening\n"
 
--- The text was written to a file that had just been made at this path. Where no path is given it is written nowhere.
-abbrev pub IsWritten : {M : Type 0} → (List ℕ → M → Type 0) → (M → Option (List ℕ)) → Option (List ℕ) → List ℕ → Type 0
-IsWritten is_made contents None text = ⊤
-IsWritten {M} is_made contents (Some path) text = (made : M) × (closed : M) × is_made path made × Appends (contents made) (contents closed) text
+-- The text was written to a file that had just been made for this path, and that file, with the text, was put there. Where no path is given it is written nowhere.
+abbrev pub IsWritten : {M : Type 0} → (is_made is_put : List ℕ → M → Type 0) → (M → Option (List ℕ)) → Option (List ℕ) → List ℕ → Type 0
+IsWritten is_made is_put contents None text = ⊤
+IsWritten {M} is_made is_put contents (Some path) text =
+    (made : M) × (whole : M) × is_made path made × Appends (contents made) (contents whole) text × is_put path whole
 
 -- The journals of a schema's tables are what the sessions' passes know of them, and are written to the file of a path, if there is one.
-pub record IsKept {M : Type 0} (is_made : List ℕ → M → Type 0) (contents : M → Option (List ℕ)) (path : Option (List ℕ)) (schema : List TableShape) (workers : ℕ) : Type 0 where
+pub record IsKept {M : Type 0} (is_made is_put : List ℕ → M → Type 0) (contents : M → Option (List ℕ)) (path : Option (List ℕ)) (schema : List TableShape) (workers : ℕ) : Type 0 where
   pub passes : List PassData
   pub tables : List (List EntryData)
   pub gathered : Gathered schema workers tables passes
-  pub written : IsWritten is_made contents path (journals_text tables)
+  pub written : IsWritten is_made is_put contents path (journals_text tables)
 
 -- Connections were served on the tables of a schema file, which the output was told, and what came of them is kept.
-pub record Served {F M : Type 0} (is_at : List ℕ → F → Type 0) (remaining : F → Option (List ℕ)) (is_made : List ℕ → M → Type 0) (contents : M → Option (List ℕ)) (file : List ℕ) (workers : ℕ) (journal output_before output_after : Option (List ℕ)) : Type 0 where
+pub record Served {F M : Type 0} (is_at : List ℕ → F → Type 0) (remaining : F → Option (List ℕ)) (is_made is_put : List ℕ → M → Type 0) (contents : M → Option (List ℕ)) (file : List ℕ) (workers : ℕ) (journal output_before output_after : Option (List ℕ)) : Type 0 where
   pub schema : List TableShape
   pub is_schema : IsSchema is_at remaining (Some file) schema
   pub announced : Appends output_before output_after announcement
-  pub kept : IsKept is_made contents journal schema workers
+  pub kept : IsKept is_made is_put contents journal schema workers

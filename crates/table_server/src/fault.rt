@@ -1,7 +1,7 @@
 //! Why the program ends before its lines do.
 ghost use Rattle.std.specs.Prelude.{◌≡◌};
 ghost use Rattle.std.specs.IoError.{error_kind};
-ghost use Rattle.table_server.specs.Fault.{of_file, of_gathering, of_schema, of_stream, of_words, status_of, text_of};
+ghost use Rattle.table_server.specs.Fault.{of_file, of_gathering, of_schema, of_stream, of_words, of_written, status_of, text_of};
 
 use program_words::WordsFault;
 use shared_tables::GatherWhy;
@@ -39,6 +39,16 @@ impl Fault {
     {
         let _ = faults.write_all(self.text().as_bytes());
         self.status()
+    }
+
+    /// The fault of a file that is to be written.
+    pub(crate) fn of_write(error: io::Error) -> Fault
+        ensures { result ≡ of_written (error_kind error) }
+    {
+        match error.kind() {
+            ErrorKind::OutOfMemory => Fault::Memory,
+            _ => Fault::Write,
+        }
     }
 
     /// The exit status.

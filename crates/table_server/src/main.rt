@@ -1,8 +1,11 @@
 //! Answers lines of commands on tables that are kept in memory.
 #![tactic(auto)]
 
+mod beside;
 mod fault;
+mod journal;
 mod opens;
+mod place;
 mod program;
 mod serve;
 

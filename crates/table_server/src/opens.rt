@@ -1,5 +1,5 @@
 //! Files that are opened and made at their paths, and sockets that listen.
-ghost use Rattle.std.specs.Prelude.{IfOk, List, ℕ, ⊤};
+ghost use Rattle.std.specs.Prelude.{IfOk, OnOk, List, ℕ, ⊤};
 
 use program_words::Address;
 use std::io::{Read, Write};
@@ -33,28 +33,35 @@ impl<R: Files> Opens for R {
     }
 }
 
-/// What makes files, to be written.
+/// What makes files, and puts them at their paths once they are written.
 pub trait Makes {
+    /// A path that was tried.
+    type Begun: Drop;
+
     /// A file that was made.
     type Made: Write + Drop;
 
-    /// What is known of a file that was just made at a path.
+    /// What is known of a path that was just tried.
+    ghost is_begun: { Self → List ℕ → Self.Begun → Type 0 };
+
+    /// What is known of a file that was just made for a path.
     ghost is_made: { Self → List ℕ → Self.Made → Type 0 };
 
-    /// Makes an empty file at the path, in place of one that is there.
-    fn make(&self, path: &str) -> io::Result<Self::Made>
-        ensures { IfOk result (λ file. is_made self.now path.now file) };
-}
+    /// What is known of a file that was just put at a path.
+    ghost is_put: { Self → List ℕ → Self.Made → Type 0 };
 
-/// Nothing is known of the host's files.
-impl<R: Files> Makes for R {
-    type Made = R::File;
+    /// Tries a path, at which a file is to stand that is not the one at `read`. What stands there stays as it is.
+    fn begin(&self, path: &str, read: &str) -> io::Result<Self::Begun>
+        ensures { IfOk result (λ begun. is_begun self.now path.now begun) };
 
-    ghost is_made = { λ _ _ _. ⊤ };
+    /// The file for a path, with nothing written to it.
+    fn make(&self, path: &str, begun: Self::Begun) -> io::Result<Self::Made>
+        requires { is_begun self.now path.now begun }
+        ensures { IfOk result (λ made. is_made self.now path.now made) };
 
-    fn make(&self, path: &str) -> io::Result<R::File> {
-        fs::create(self, path)
-    }
+    /// Puts a file that was made for a path there, with all that was written to it.
+    fn put(&self, path: &str, made: Self::Made) -> io::Result<()>
+        ensures { OnOk result (is_put self.now path.now made) };
 }
 
 /// What listens at addresses.

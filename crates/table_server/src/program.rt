@@ -34,15 +34,15 @@ pub fn given_words<R: Env + AllocGlobal>(rt: &R) -> Result<Vec<String>, Fault>
 /// Does what the words ask for, and gives the exit status: 0 done, 1 device or memory, 2 words or
 /// address, 3 schema, 4 what a session was told and a journal do not fit. The text of a fault goes to
 /// `faults`, with a newline. Words, schema, file of lines and lines come in this order, or words,
-/// address, schema and connections, and the first fault ends it; of those of connections that are
-/// served the one of the greatest status.
+/// address, schema, the journal's path and connections, and the first fault ends it; of those of
+/// connections that are served the one of the greatest status.
 pub fn main_with<
     R: AllocGlobal + Opens + Makes + Listens + Threads + Wait + Sync,
     I: Read,
     O: Write,
     E: Write,
 >(rt: &R, words: &[String], input: &mut Source<I>, output: &mut Sink<O>, faults: &mut E) -> u8
-    ensures done { result ≡ 0 → DoesAsked (R.is_at rt.now) R.Opened.remaining (R.is_made rt.now) R.Made.contents (asking_of (texts words.now))
+    ensures done { result ≡ 0 → DoesAsked (R.is_at rt.now) R.Opened.remaining (R.is_made rt.now) (R.is_put rt.now) R.Made.contents (asking_of (texts words.now))
         (I.remaining input.old.inner) (I.remaining input.new.inner) (O.contents output.old.inner) (O.contents output.new.inner) }
     ensures input { result ≡ 0 → LeavesInput (asking_of (texts words.now)) input.old input.new }
     ensures words { result ≡ 2 → AsksNothing (asking_of (texts words.now)) }
@@ -66,7 +66,7 @@ fn run<R: AllocGlobal + Opens + Makes + Listens + Threads + Wait + Sync, I: Read
     input: &mut Source<I>,
     output: &mut Sink<O>,
 ) -> Result<(), Fault>
-    ensures done { OnOk result (DoesAsked (R.is_at rt.now) R.Opened.remaining (R.is_made rt.now) R.Made.contents (asking_of (texts words.now))
+    ensures done { OnOk result (DoesAsked (R.is_at rt.now) R.Opened.remaining (R.is_made rt.now) (R.is_put rt.now) R.Made.contents (asking_of (texts words.now))
         (I.remaining input.old.inner) (I.remaining input.new.inner) (O.contents output.old.inner) (O.contents output.new.inner)) }
     ensures input { OnOk result (LeavesInput (asking_of (texts words.now)) input.old input.new) }
     ensures words { IfErr result (λ fault. status_of fault ≡ 2 → AsksNothing (asking_of (texts words.now))) }

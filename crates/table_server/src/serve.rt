@@ -1,16 +1,16 @@
 //! Connections that are served, and the journals that are kept of them.
-ghost use Rattle.std.specs.Prelude.{◌≡◌, ◌≢◌, ◌≤◌, ◌⊎◌, Err, IfErr, OnOk, Some, option_map};
-ghost use Rattle.std.specs.Io.KnownBytes.{Appends};
-ghost use Rattle.shared_tables.specs.Text.{journals_text};
+ghost use Rattle.std.specs.Prelude.{◌≡◌, ◌≢◌, ◌≤◌, ◌⊎◌, Err, IfErr, OnOk, option_map};
+ghost use Rattle.std.specs.Option.{ForSome};
 ghost use Rattle.table_engine.specs.Devices.{AppendsFront};
-ghost use Rattle.table_server.specs.Fault.{status_of};
-ghost use Rattle.table_server.specs.Serving.{IsKept, IsWritten, Served, announcement};
+ghost use Rattle.table_server.specs.Fault.{of_gathering, status_of};
+ghost use Rattle.table_server.specs.Serving.{IsKept, Served, announcement};
 
 use crate::fault::Fault;
+use crate::journal::{Journal, begin, write};
 use crate::opens::{Listens, Makes, Opens};
 use crate::program::schema_of;
 use program_words::Address;
-use shared_tables::{Gate, Journals, OpenGate, Pass, Shared, gather};
+use shared_tables::{Gate, GatherFault, OpenGate, Pass, Shared, gather};
 use std::io::{ErrorKind, Write};
 use std::sync::Wait;
 use std::thread::Threads;
@@ -27,13 +27,14 @@ pub struct Serving<'a> {
     pub journal: Option<&'a str>,
 }
 
-/// Serves connections until all threads have served theirs, and keeps the journals. Schema, address and output come in this
-/// order, and the first fault among them ends it. Of the faults that come later the one of the greatest status is answered.
+/// Serves connections until all threads have served theirs, and keeps the journals. Schema, address, the journal's path and
+/// output come in this order, and the first fault among them ends it. Of the faults that come later the one of the greatest
+/// status is answered.
 pub fn serve_connections<
     R: AllocGlobal + Opens + Makes + Listens + Threads + Wait + Sync,
     O: Write,
 >(rt: &R, serving: &Serving<'_>, output: &mut Sink<O>) -> Result<(), Fault>
-    ensures done { OnOk result (Served (R.is_at rt.now) R.Opened.remaining (R.is_made rt.now) R.Made.contents
+    ensures done { OnOk result (Served (R.is_at rt.now) R.Opened.remaining (R.is_made rt.now) (R.is_put rt.now) R.Made.contents
         serving.now.schema.now serving.now.workers (option_map (λ s. s.now) serving.now.journal)
         (O.contents output.old.inner) (O.contents output.new.inner)) }
     ensures announces { AppendsFront (O.contents output.old.inner) (O.contents output.new.inner) announcement }
@@ -46,23 +47,28 @@ pub fn serve_connections<
         Err(error) if error.kind() == ErrorKind::OutOfMemory => return Err(Fault::Memory),
         Err(_) => return Err(Fault::Listen),
     };
+    let mut journal = begin(rt, serving.journal, serving.schema)?;
     if output.write_all(b"listening\n").is_err() {
         return Err(Fault::Write);
     }
     let done = serve_on(rt.alloc(), rt, listening, shared, passes, serving.each);
-    keep_done(rt, done, serving.journal)
+    keep_done(rt, done, &mut journal)
 }
 
-/// Keeps the journals, but where a pass and a journal did not fit.
+/// Keeps the journals, but where a pass and a journal did not fit: there nothing comes of what was begun.
 fn keep_done<R: AllocGlobal + Makes, G: Gate + Drop>(
     rt: &R,
     done: Done<G>,
-    path: Option<&str>,
+    journal: &mut Option<Journal<'_, R::Begun>>,
 ) -> Result<(), Fault>
-    ensures kept { OnOk result (IsKept (R.is_made rt.now) R.Made.contents
-        (option_map (λ s. s.now) path.entry) done.shared.schema done.shared.workers) }
+    requires { ForSome journal.old (λ j. R.is_begun rt.now j.path.now j.begun) }
+    ensures kept { OnOk result (IsKept (R.is_made rt.now) (R.is_put rt.now) R.Made.contents
+        (option_map (λ j. j.path.now) journal.old) done.shared.schema done.shared.workers) }
     ensures fine { OnOk result (done.end ≡ End.Fine) }
+    ensures memory { done.end ≡ End.Memory → IfErr result (λ fault. status_of fault ≤ 1 → fault ≡ Fault.Memory) }
+    ensures listen { done.end ≡ End.Listen → IfErr result (λ fault. status_of fault ≤ 1 → fault ≡ Fault.Listen) }
     ensures mismatch { done.end ≡ End.Mismatch → result ≡ Err Fault.Mismatch }
+    ensures unwritten { result ≡ Err Fault.Mismatch → journal.new ≡ journal.old }
     ensures fault { IfErr result (λ fault. (status_of fault ≡ 1) ⊎ (status_of fault ≡ 4)) }
 {
     let Done {
@@ -71,9 +77,9 @@ fn keep_done<R: AllocGlobal + Makes, G: Gate + Drop>(
         end,
     } = done;
     match end {
-        End::Fine => keep(rt, shared, passes, path),
-        End::Memory => later(Fault::Memory, keep(rt, shared, passes, path)),
-        End::Listen => later(Fault::Listen, keep(rt, shared, passes, path)),
+        End::Fine => keep(rt, shared, passes, journal),
+        End::Memory => later(Fault::Memory, keep(rt, shared, passes, journal)),
+        End::Listen => later(Fault::Listen, keep(rt, shared, passes, journal)),
         End::Mismatch => Err(Fault::Mismatch),
     }
 }
@@ -96,31 +102,40 @@ fn keep<R: AllocGlobal + Makes, G: Gate + Drop>(
     rt: &R,
     shared: Shared<G>,
     passes: Vec<Pass>,
-    path: Option<&str>,
+    journal: &mut Option<Journal<'_, R::Begun>>,
 ) -> Result<(), Fault>
-    ensures kept { OnOk result (IsKept (R.is_made rt.now) R.Made.contents
-        (option_map (λ s. s.now) path.entry) shared.schema shared.workers) }
+    requires { ForSome journal.old (λ j. R.is_begun rt.now j.path.now j.begun) }
+    ensures kept { OnOk result (IsKept (R.is_made rt.now) (R.is_put rt.now) R.Made.contents
+        (option_map (λ j. j.path.now) journal.old) shared.schema shared.workers) }
+    ensures unwritten { result ≡ Err Fault.Mismatch → journal.new ≡ journal.old }
     ensures fault { IfErr result (λ fault. (status_of fault ≡ 1) ⊎ (status_of fault ≡ 4)) }
 {
-    let journals = match gather(rt.alloc(), shared, passes) {
-        Ok(journals) => journals,
-        Err(fault) => return Err(Fault::from(fault.why)),
-    };
-    match path {
-        None => Ok(()),
-        Some(path) => write(rt, &journals, path),
+    match gather(rt.alloc(), shared, passes) {
+        Ok(journals) => match journal.take() {
+            None => Ok(()),
+            Some(journal) => write(rt, &journals, journal),
+        },
+        Err(fault) => Err(not_gathered(rt, fault, journal)),
     }
 }
 
-/// Writes the journals to a new file at a path.
-fn write<R: Makes>(rt: &R, journals: &Journals, path: &str) -> Result<(), Fault>
-    ensures written { OnOk result (IsWritten (R.is_made rt.now) R.Made.contents (Some path.now) (journals_text journals.now.tables)) }
-    ensures fault { IfErr result (λ fault. status_of fault ≡ 1) }
+/// The fault of journals that are not gathered. Where memory was refused before they were compared they are written as they
+/// stand, as far as that succeeds.
+fn not_gathered<R: Makes, G: Gate + Drop>(
+    rt: &R,
+    fault: GatherFault<G>,
+    journal: &mut Option<Journal<'_, R::Begun>>,
+) -> Fault
+    requires { ForSome journal.old (λ j. R.is_begun rt.now j.path.now j.begun) }
+    ensures fault { result ≡ of_gathering fault.why }
+    ensures unwritten { result ≡ Fault.Mismatch → journal.new ≡ journal.old }
 {
-    let file = match rt.make(path) {
-        Ok(file) => file,
-        Err(error) if error.kind() == ErrorKind::OutOfMemory => return Err(Fault::Memory),
-        Err(_) => return Err(Fault::Write),
+    let told = Fault::from(fault.why);
+    let Ok(journals) = fault.into_uncompared() else {
+        return told;
     };
-    Ok(journals.write(&mut Sink::new(file))?)
+    if let Some(journal) = journal.take() {
+        let _ = write(rt, &journals, journal);
+    }
+    told
 }
