@@ -6,10 +6,10 @@ use crate::report::Report;
 use crate::sending::{Holder, call_line, in_four, step_lines};
 use crate::serving::serve_kept;
 use crate::threads::tell_threads;
-use crate::told::{tell_journals, tell_whether, tell_why};
+use crate::told::{tell_journals, tell_uncompared, tell_whether, tell_why};
 use crate::words::first_word;
 use schema_file::read_schema;
-use shared_tables::{GatherFault, Journals, OpenGate, Pass, Shared, gather};
+use shared_tables::{GatherFault, GatherWhy, Journals, OpenGate, Pass, Shared, gather};
 use std::alloc::{AllocError, Global};
 use std::sync::Wait;
 use std::thread::Threads;
@@ -116,6 +116,8 @@ impl Hall {
             self.open(builtin(self.alloc)?, set, sessions_of(rest))
         } else if verb == b"gather".as_slice() {
             self.gather(set, rest, report)
+        } else if verb == b"uncompared".as_slice() {
+            self.uncompared(set, report)
         } else if verb == b"again".as_slice() {
             self.again(set, rest, report)
         } else if verb == b"narrow".as_slice() {
@@ -277,6 +279,34 @@ impl Hall {
                 Ok(())
             }
             Err(fault) => self.put_back(at, names, fault, report),
+        }
+    }
+
+    // Hands out the journals as they stand, as where memory was refused. Where a mismatch was found they are not handed out.
+    fn uncompared(&mut self, name: &[u8], report: &mut Report) -> Result<(), AllocError> {
+        let at = self.set_of(name);
+        let Some(shared) = self.sets.get_mut(at).and_then(|set| set.shared.take()) else {
+            return report.text("  no tables\n");
+        };
+        let mismatch = GatherFault {
+            shared,
+            passes: Vec::new(self.alloc),
+            why: GatherWhy::Mismatch {
+                table: 0,
+                session: 0,
+            },
+        };
+        let Err(GatherFault { shared, passes, .. }) = mismatch.into_uncompared() else {
+            return report.text("  handed out at a mismatch\n");
+        };
+        let memory = GatherFault {
+            shared,
+            passes,
+            why: GatherWhy::Memory,
+        };
+        match memory.into_uncompared() {
+            Ok(journals) => tell_uncompared(self.alloc, &journals, report),
+            Err(fault) => self.put_back(at, Vec::new(self.alloc), fault, report),
         }
     }
 

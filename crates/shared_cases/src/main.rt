@@ -11,6 +11,8 @@
 //! - `alone PASS`: what the first table of the schema answers, empty, without a lock or a journal, to what is kept for the pass;
 //! - `gather SET PASS ..`: the passes are gathered with the tables. Where they agree, the journals are printed and run again on
 //!   empty tables; otherwise all are put back;
+//! - `uncompared SET`: the journals as they stand, as where memory was refused, with the number of each one's entries; they are
+//!   not handed out where a mismatch was found;
 //! - `narrow SET`: whether writers that are too narrow for the text of these journals take fronts of it;
 //! - `again SET COMMAND`: what these tables answer once the journals were run on them;
 //! - `threads`: two threads insert a hundred records each in a table `p`, which are gathered and run again.

@@ -3,8 +3,10 @@
 use crate::again::{answers_again, answers_of, text_of};
 use crate::report::Report;
 use command_lines::CommandFault;
-use shared_tables::{CallFault, Entry, GatherWhy, Journals};
+use shared_tables::{CallFault, Entry, GatherWhy, Journals, UncomparedJournals};
 use std::alloc::{AllocError, Global};
+use table_engine::Sink;
+use table_reply::Out;
 use table_schema::TableSpec;
 
 /// Adds the answer to a line that is no command.
@@ -65,6 +67,25 @@ fn tell_journal(
         tell_entry(entry, report)?;
     }
     Ok(())
+}
+
+/// Adds how many entries each of the journals has, and their text, written through a buffer for one line.
+pub fn tell_uncompared(
+    alloc: Global,
+    journals: &UncomparedJournals,
+    report: &mut Report,
+) -> Result<(), AllocError> {
+    for journal in journals.tables() {
+        report.text("  entries: ")?;
+        report.number(journal.len() as u64)?;
+        report.text("\n")?;
+    }
+    let mut text = Vec::new(alloc);
+    let mut line = Out::new(alloc);
+    match journals.write_through(&mut line, &mut Sink::new(&mut text)) {
+        Ok(()) => report.push(&text),
+        Err(_) => Err(AllocError),
+    }
 }
 
 /// Adds whether something holds.

@@ -4,16 +4,17 @@ use std::alloc::AllocError;
 use std::io;
 use std::io::{Read, Write};
 
-/// A reader that gives its bytes, so many at a time, and then fails.
+/// A reader that gives its bytes, so many at a time, and then fails, or ends.
 #[derive(Drop)]
 pub struct Broken<'a> {
     pub rest: &'a [u8],
     pub at_a_time: usize,
+    pub fails: bool,
 }
 
 impl Read for Broken<'_> {
     fn read(&mut self, buf: &mut [u8]) -> io::Result<usize> {
-        if self.rest.is_empty() {
+        if self.rest.is_empty() && self.fails {
             return Err(io::Error::from(io::ErrorKind::TimedOut));
         }
         let count = self.rest.len().min(buf.len()).min(self.at_a_time);

@@ -25,6 +25,7 @@ fn is_read_on(sent: Sent, at: usize, at_a_time: usize) -> Result<bool, AllocErro
     let mut broken = Source::new(Broken {
         rest: front,
         at_a_time,
+        fails: true,
     });
     let mut sink = Sink::new(&mut written);
     let first = serve_stream(alloc, &mut engine, 0, &mut broken, &mut sink);

@@ -9,6 +9,7 @@
 mod device;
 mod faulty;
 mod input;
+mod interrupted;
 mod repeats;
 mod sent;
 mod served;

@@ -2,6 +2,7 @@
 
 use crate::faulty::{first_wrong_read, first_wrong_write};
 use crate::input::Stream;
+use crate::interrupted::first_wrong_word;
 use crate::sent::{Sent, each_answer, first_wrong_cut, first_wrong_piece};
 use crate::served::{is_served_alike, is_written_early};
 use crate::sessions::are_shared_alike;
@@ -72,6 +73,11 @@ fn tell_each_device(sent: Sent, report: &mut Vec<u8>) -> Result<(), AllocError> 
     tell_way(
         b"again after a broken write",
         first_wrong_write(sent)?,
+        report,
+    )?;
+    tell_way(
+        b"over interrupted reads and writes",
+        first_wrong_word(sent)?,
         report,
     )
 }
