@@ -10,13 +10,16 @@
         for answer in tables:
             print(answer)
 
-As a program it sends the lines of its input and prints their answers: client.py unix:/tmp/tables < lines
+As a program it sends the lines of its input and prints their answers, each as it comes: client.py unix:/tmp/tables < lines
 """
 import json
-import shutil
+import os
+import signal
 import socket
 import sys
 import threading
+
+HELP = "client.py unix:PATH | tcp:HOST:PORT: sends the lines of its input to a serving table_server, and prints their answers"
 
 
 class Client:
@@ -25,11 +28,15 @@ class Client:
     def __init__(self, address, seconds=None):
         """Connects to `unix:PATH` or `tcp:HOST:PORT`; each later wait fails after so many seconds."""
         kind, _, place = address.partition(":")
-        if kind == "unix":
+        host, _, port = place.rpartition(":")
+        if kind == "unix" and place:
             self.socket = socket.socket(socket.AF_UNIX)
-            self.socket.connect(place)
-        elif kind == "tcp":
-            host, _, port = place.rpartition(":")
+            try:
+                self.socket.connect(place)
+            except OSError:
+                self.socket.close()
+                raise
+        elif kind == "tcp" and host and port.isascii() and port.isdigit() and int(port) < 65536:
             self.socket = socket.create_connection((host.strip("[]"), int(port)))
             self.socket.setsockopt(socket.IPPROTO_TCP, socket.TCP_NODELAY, True)
         else:
@@ -69,20 +76,66 @@ class Client:
         self.socket.close()
 
 
-def pass_on(client):
-    """Sends the input, and then the end."""
-    with client.socket.makefile("wb") as lines:
-        shutil.copyfileobj(sys.stdin.buffer, lines)
-    client.end()
+def pass_on(client, all_sent):
+    """Sends the input as it comes, and then the end. A connection that fails is told where the answers are read."""
+    try:
+        while piece := os.read(0, 65536):
+            client.socket.sendall(piece)
+        all_sent.set()
+        client.end()
+    except OSError:
+        pass
+
+
+def write_out(piece):
+    """Writes all of it to the output. Returns what went wrong, or None."""
+    try:
+        while piece:
+            piece = piece[os.write(1, piece) :]
+    except OSError as why:
+        return f"the output: {why.strerror}"
+    return None
+
+
+def print_answers(client):
+    """Prints the answers as they come, up to the end of the connection. Returns what went wrong, or None."""
+    try:
+        while piece := client.socket.recv(65536):
+            if why := write_out(piece):
+                return why
+    except OSError as why:
+        return f"the connection: {why.strerror}"
+    return None
+
+
+def talk(address):
+    """Sends the input and prints the answers. Returns the status, and what went wrong."""
+    try:
+        client = Client(address)
+    except ValueError as why:
+        return 2, f"{why} (unix:PATH or tcp:HOST:PORT)"
+    except OSError as why:
+        return 1, f"{address}: {why.strerror or why}"
+    all_sent = threading.Event()
+    with client:
+        threading.Thread(target=pass_on, args=(client, all_sent), daemon=True).start()
+        why = print_answers(client)
+    if not why and not all_sent.is_set():
+        why = "the server ended the connection"
+    return 1 if why else 0, why
 
 
 def main():
-    if len(sys.argv) != 2:
-        sys.exit(__doc__)
-    with Client(sys.argv[1]) as client:
-        threading.Thread(target=pass_on, args=(client,), daemon=True).start()
-        shutil.copyfileobj(client.answers, sys.stdout.buffer)
+    signal.signal(signal.SIGINT, signal.SIG_DFL)
+    words = sys.argv[1:]
+    if words in (["-h"], ["--help"]):
+        print(HELP)
+        return 0
+    status, why = talk(*words) if len(words) == 1 else (2, HELP)
+    if why:
+        print(why if why == HELP else f"client.py: {why}", file=sys.stderr)
+    return status
 
 
 if __name__ == "__main__":
-    main()
+    sys.exit(main())

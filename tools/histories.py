@@ -8,8 +8,6 @@ import tempfile
 from built_program import built_program
 from plain_machine import Machine
 
-SERVER = built_program()
-
 WRITES = {"insert", "replace", "modify", "modify_key", "erase", "erase_key", "clear", "move", "rearrange", "reverse", "sort"}
 
 PEOPLE = """
@@ -89,13 +87,13 @@ def views(machine):
             yield b'{"op":"list","t":"%s","i":"%s"}' % (table.name.encode(), index.name.encode())
 
 
-def run_again(schema, text, lines):
-    """What the server answers to the text and to these lines after it."""
+def run_again(schema, text, lines, program=None):
+    """What the server, or this program, answers to the text and to these lines after it."""
     with tempfile.TemporaryDirectory() as room:
         for name, content in (("schema", schema.encode()), ("journals", text + b"".join(it + b"\n" for it in lines))):
             with open(f"{room}/{name}", "wb") as file:
                 file.write(content)
-        ran = subprocess.run([SERVER, "run", "--schema", f"{room}/schema", "--commands", f"{room}/journals"], capture_output=True, timeout=120)
+        ran = subprocess.run([program or built_program(), "run", "--schema", f"{room}/schema", "--commands", f"{room}/journals"], capture_output=True, timeout=120)
     if ran.returncode or ran.stderr:
         raise Wrong(f"the server ended with status {ran.returncode} and {ran.stderr!r}")
     return ran.stdout.split(b"\n")[:-1]

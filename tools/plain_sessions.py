@@ -28,7 +28,7 @@ class Tables:
     """The tables of a schema, with a journal for each: entries of a session, a line and an answer."""
 
     def __init__(self, schema, workers):
-        self.schema, self.workers, self.is_gathered = schema, workers, False
+        self.schema, self.workers, self.is_gathered, self.is_handed_out = schema, workers, False, False
         self.machine = Machine(schema)
         self.names = list(self.machine.tables)
         self.journals = [[] for _ in self.names]
@@ -132,7 +132,7 @@ class Hall:
         return "  " + self.sets[tables].call(self.passes[name], line) if self.is_open(tables) else "  no tables"
 
     def is_open(self, name):
-        return name in self.sets and not self.sets[name].is_gathered
+        return name in self.sets and not self.sets[name].is_gathered and not self.sets[name].is_handed_out
 
     def on_join(self, words, *_):
         passes = [self.passes[it] for it in words[1:] if it in self.passes]
@@ -200,6 +200,13 @@ class Hall:
 
     def text(self, tables):
         return [self.text_of(read(line)) for journal in tables.journals for _, line, _ in journal]
+
+    def on_uncompared(self, words, *_):
+        if not self.is_open(words[0]):
+            return ["  no tables"]
+        tables = self.sets[words[0]]
+        tables.is_handed_out = True
+        return [*(f"  entries: {len(it)}" for it in tables.journals), *self.text(tables)]
 
     def is_told(self, name):
         return name in self.sets and self.sets[name].is_gathered

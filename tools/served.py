@@ -10,7 +10,7 @@ from histories import Wrong
 sys.path.insert(0, os.path.join(TOP, "examples"))
 from client import Client  # noqa: E402, the examples are no package
 
-SERVER, SECONDS = built_program(), 60
+SECONDS = 60
 
 
 class Served:
@@ -25,7 +25,7 @@ class Served:
             os.remove(f"{room}/socket")
         words = ["serve", "--schema", f"{room}/schema", "--listen", self.address, "--workers", str(workers), "--each", str(each)]
         words += ["--journal", self.journal] if journal else []
-        self.process = subprocess.Popen([SERVER, *words], stdin=subprocess.DEVNULL, stdout=subprocess.PIPE, stderr=subprocess.PIPE)
+        self.process = subprocess.Popen([built_program(), *words], stdin=subprocess.DEVNULL, stdout=subprocess.PIPE, stderr=subprocess.PIPE)
         atexit.register(self.process.kill)
         if self.process.stdout.readline() != b"listening\n":
             raise Wrong(f"the server does not listen: {self.process.stderr.read()!r}")
