@@ -14,7 +14,7 @@ use Rattle.container_model.specs.Find.{is_live, probe_side}
 use Rattle.container_model.specs.Insert.{ban, new_handle}
 use Rattle.container_model.specs.Change.{replace_refusal, with_row, with_erased, with_replaced}
 use Rattle.container_model.specs.Undone.{with_undone, with_modified_or_undone}
-use Rattle.container_model.specs.Life.{Write, Inserted, Replaced, Modified, ModifiedOrUndone, Erased, KeyErased, Cleared, Relocated, Reversed, Sorted, Rearranged, after, LivesUntilTakenOut, StaysStale, IsOfPastWrite}
+use Rattle.container_model.specs.Life.{Write, Inserted, Replaced, Modified, ModifiedOrUndone, Erased, KeyErased, Cleared, Relocated, Reversed, Sorted, Rearranged, IndexAdded, IndexDropped, after, LivesUntilTakenOut, StaysStale, IsOfPastWrite}
 use Rattle.container_model.proofs.Found.{is_handle_same}
 
 and_false : (b : Bool) → (b && false) ≡ false
@@ -116,8 +116,10 @@ module _ {E R P : Type 0} (order : E → ℕ → R → R → Ordering) (probe_or
   lives s (Reversed index) h live = live
   lives s (Sorted compare index) h live = live
   lives s (Rearranged index handles) h live = live
+  lives s (IndexAdded spec keys) h live = live
+  lives s (IndexDropped index keys) h live = live
 
-  stale_after : (s : State E R) (w : Write R P) (h : Handle) → h.stamp ≤ s.writes → is_live s h ≡ false → is_live (after order probe_order s w) h ≡ false
+  stale_after : (s : State E R) (w : Write E R P) (h : Handle) → h.stamp ≤ s.writes → is_live s h ≡ false → is_live (after order probe_order s w) h ≡ false
   stale_after s (Inserted at row) h le stale =
       stale-append h (record { handle = new_handle s; row = row }) s.entries (no_later (h.slot == (new_handle s).slot) h.stamp s.writes le) stale
   stale_after s (Replaced g row) h le stale = live-with_row h g row s.entries ∙ stale
@@ -135,8 +137,10 @@ module _ {E R P : Type 0} (order : E → ℕ → R → R → Ordering) (probe_or
   stale_after s (Reversed index) h le stale = stale
   stale_after s (Sorted compare index) h le stale = stale
   stale_after s (Rearranged index handles) h le stale = stale
+  stale_after s (IndexAdded spec keys) h le stale = stale
+  stale_after s (IndexDropped index keys) h le stale = stale
 
-  writes_rise : (s : State E R) (w : Write R P) → s.writes ≤ (after order probe_order s w).writes
+  writes_rise : (s : State E R) (w : Write E R P) → s.writes ≤ (after order probe_order s w).writes
   writes_rise s (Inserted at row) = omega arith
   writes_rise s (Replaced g row) = omega arith
   writes_rise s (Modified g row) = by_ban (ban order s (Some g) row)
@@ -160,6 +164,8 @@ module _ {E R P : Type 0} (order : E → ℕ → R → R → Ordering) (probe_or
   writes_rise s (Reversed index) = omega arith
   writes_rise s (Sorted compare index) = omega arith
   writes_rise s (Rearranged index handles) = omega arith
+  writes_rise s (IndexAdded spec keys) = omega arith
+  writes_rise s (IndexDropped index keys) = omega arith
 
   pub stays_stale : (s : State E R) → StaysStale order probe_order s
   stays_stale s [] h le stale = stale

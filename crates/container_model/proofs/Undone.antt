@@ -134,6 +134,7 @@ module _ {E R : Type 0} (has_key : E → ℕ → Bool) (order : E → ℕ → R 
   pub IsState-undone : (h : Handle) (row was : R) → row_of s.entries h ≡ Some was → ((i : ℕ) → i < length s.specs → IsTrue (has_key_kind (kind_at s i)) → order s.keys i row was ≡ Equal) → IsState has_key order (with_undone s h row)
   IsState-undone h row was had equal = record {
     keys = state.keys;
+    within_most = state.within_most;
     within_max = omega (arith, length-map s.entries (changed h row), state.within_max);
     stamps = All-of_map (changed h row) (λ e. e.handle.stamp ≤ s.writes) s.entries (All-map _ _ (λ e p. subst (λ g. g.stamp ≤ s.writes) (sym (handle-changed h row e)) p) s.entries state.stamps);
     rising = EachPair-with_row h row (λ f g. f.stamp < g.stamp) s.entries state.rising;
