@@ -7,3 +7,4 @@ pub mod Runs
 pub mod First
 pub mod SomeNode
 pub mod Alike
+pub mod Renumbered

@@ -97,6 +97,16 @@ module _ {R : Type 0} (records : Node → Option R) (order : R → R → Orderin
       ∙ (first_alike new old moved (one_at_most new apart (All-passed has_key (filter kept ys)))
       ∙ (sym (find_first has_key (filter kept ys)) ∙ find_filter has_key kept ys))
 
+  -- nor does the order of a list matter
+  pub find_moved : (xs ys : List Node) → IsPermutation xs ys → EachPair (λ m n. is_eq (order_at records order m n) ≡ false) xs → find (λ n. is_eq (side_of records (λ a. order a r) n)) ys ≡ find (λ n. is_eq (side_of records (λ a. order a r) n)) xs
+  unfolding has_key
+  find_moved xs ys moved once =
+      let old = filter has_key xs in
+      let new = filter has_key ys in
+      find_first has_key ys
+      ∙ (first_alike old new (IsPermutation-filter same_node same_node-true same_node-refl has_key xs ys moved) (one_at_most old (EachPair-filter (λ m n. is_eq (order_at records order m n) ≡ false) has_key xs once) (All-passed has_key xs))
+      ∙ sym (find_first has_key xs))
+
 -- the same nodes in another order but for the excepted one
 pub excepted_moved : (except : Option Node) (xs ys : List Node) → IsPermutation xs ys → IsPermutation (without_excepted except xs) (without_excepted except ys)
 excepted_moved None xs ys moved = moved

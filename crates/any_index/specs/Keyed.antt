@@ -2,6 +2,8 @@
 use Rattle.std.specs.Prelude.{◌≡◌, ℕ, Bool, false, List, Option, IsTrue}
 use Rattle.std.specs.Ordering.{is_eq}
 use Rattle.std.specs.declared.cmp.Ordering.{Ordering}
+use Rattle.container_model.specs.declared.handle.Kind.{Kind}
+use Rattle.container_model.specs.State.{has_key_kind}
 use Rattle.list_model.specs.Order.{EachPair, IsInOrder}
 use Rattle.list_model.specs.Walk.{without}
 use Rattle.node_store.specs.declared.Node.{Node}
@@ -14,6 +16,10 @@ use Rattle.hash_index.specs.Spelled as hash
 use Rattle.any_index.specs.declared.index.AnyIndex.{AnyIndex}
 use Rattle.any_index.specs.declared.index.AnyIndex.TheVariants.{Sequenced, Random, Ordered, Ranked, Hashed}
 use Rattle.any_index.specs.Spelled.{index_of, list_of}
+
+-- what an index of the kind orders or hashes records by is the same before and after, if it has a key
+abbrev pub IsSameKey : {A : Type 0} → Kind → (before after : A) → Type 0
+IsSameKey kind before after = IsTrue (has_key_kind kind) → after ≡ before
 
 -- the container has a key for an index that needs one
 abbrev pub HasItsKey : (ℕ → Bool) → AnyIndex → Type 0

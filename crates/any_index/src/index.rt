@@ -1,10 +1,11 @@
 //! An index, and its changes.
-ghost use Rattle.std.specs.Prelude.{◌≡◌, ℕ, ◌<◌, ◌≤◌, Some, [], length, OnOk, OnErr};
+ghost use Rattle.std.specs.Prelude.{◌≡◌, ℕ, ◌<◌, ◌≤◌, cond, Some, [], length, OnOk, OnErr};
 ghost use Rattle.std.specs.declared.cmp.Ordering.{Ordering};
 ghost use Rattle.list_model.specs.Walk.{without};
 ghost use Rattle.node_store.specs.Column.{Column, IsNode};
 ghost use Rattle.node_store.specs.Nodes.{Lacks};
 ghost use Rattle.node_store.specs.ByNode.{column_of, same_node};
+ghost use Rattle.container_model.specs.State.{has_key_kind};
 ghost use Rattle.any_index.specs.Lists.{entered, settled_in};
 
 use container_model::Kind;
@@ -35,23 +36,62 @@ pub enum AnyIndex {
 impl AnyIndex {
     ghost use Rattle.any_index.specs.Stored.{nodes_of, IsIn, HasNode, KeepsRest, order_in, IsFiled, IsFiledBut};
     ghost use Rattle.any_index.specs.Spelled.{IsSound, HasRoom, list_of, kind_of, col_of, index_of};
-    ghost use Rattle.any_index.specs.Keyed.{IsKeyed, IsKeyedBut};
+    ghost use Rattle.any_index.specs.Keyed.{IsKeyed, IsKeyedBut, IsSameKey};
 
-    /// An index of no nodes in column `column`, by the keys of that number. It allocates nothing. O(1).
-    pub fn new(alloc: Global, kind: Kind, column: usize) -> AnyIndex
+    /// An index of no nodes in column `column`, by the keys of number `index` where its kind has keys. It allocates
+    /// nothing. O(1).
+    pub fn new(alloc: Global, kind: Kind, column: usize, index: usize) -> AnyIndex
         requires { column < 8 }
         ensures kind { kind_of result ≡ kind }
         ensures col { col_of result ≡ column }
-        ensures index { index_of result ≡ column }
+        ensures index { index_of result ≡ cond (has_key_kind kind) index column }
         ensures sound { (cs : ℕ → Column) → IsSound cs result }
         ensures empty { (cs : ℕ → Column) → list_of cs result ≡ [] }
     {
         match kind {
             Kind::Sequenced => AnyIndex::Sequenced(SeqIndex::new(column)),
             Kind::Random => AnyIndex::Random(RowIndex::new(alloc, column)),
-            Kind::Ordered => AnyIndex::Ordered(OrdTree::new(column, column)),
-            Kind::Ranked => AnyIndex::Ranked(RankTree::new(column, column)),
-            Kind::Hashed => AnyIndex::Hashed(HashIndex::new(alloc, column, column)),
+            Kind::Ordered => AnyIndex::Ordered(OrdTree::new(column, index)),
+            Kind::Ranked => AnyIndex::Ranked(RankTree::new(column, index)),
+            Kind::Hashed => AnyIndex::Hashed(HashIndex::new(alloc, column, index)),
+        }
+    }
+
+    /// The column of links that the index goes through. O(1).
+    pub fn col(&self) -> usize
+        ensures col { result ≡ col_of self.now }
+        ensures exists { result < 8 }
+    {
+        match self {
+            AnyIndex::Sequenced(sequence) => sequence.col(),
+            AnyIndex::Random(row) => row.col(),
+            AnyIndex::Ordered(tree) => tree.col(),
+            AnyIndex::Ranked(tree) => tree.col(),
+            AnyIndex::Hashed(buckets) => buckets.col(),
+        }
+    }
+
+    /// Goes by the keys of number `index` from now on, where its kind has keys; they are to put its nodes where they are.
+    /// A sequence stays as it is. O(1).
+    pub fn renumber<R>(&mut self, store: &NodeStore<R>, index: usize)
+        requires { IsIn self.old store.now }
+        ensures sound { IsIn self.new store.now }
+        ensures list { nodes_of self.new store.now ≡ nodes_of self.old store.now }
+        ensures kind { kind_of self.new ≡ kind_of self.old }
+        ensures col { col_of self.new ≡ col_of self.old }
+        ensures index { index_of self.new ≡ cond (has_key_kind (kind_of self.old)) index
+            (index_of self.old) }
+        ensures room { HasRoom self.old → HasRoom self.new }
+        ensures keyed { (order after : ℕ → R → R → Ordering) (hash_of hash_after : ℕ → R → ℕ) →
+            IsSameKey (kind_of self.old) (order (index_of self.old)) (after index) →
+            IsSameKey (kind_of self.old) (hash_of (index_of self.old)) (hash_after index) →
+            IsKeyed order hash_of store.now self.old → IsKeyed after hash_after store.now self.new }
+    {
+        match self {
+            AnyIndex::Sequenced(_) | AnyIndex::Random(_) => {}
+            AnyIndex::Ordered(tree) => tree.renumber(index),
+            AnyIndex::Ranked(tree) => tree.renumber(index),
+            AnyIndex::Hashed(buckets) => buckets.renumber(index),
         }
     }
 

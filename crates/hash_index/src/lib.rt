@@ -17,6 +17,7 @@ ghost use Rattle.hash_index.specs.Heads.{first_in, IsRight};
 
 mod buckets;
 mod chain;
+mod column;
 mod earliest;
 mod grow;
 mod head;
@@ -53,7 +54,7 @@ pub struct HashIndex {
 
 impl HashIndex {
     ghost use Rattle.hash_index.specs.Stored.{nodes_of, AreBucketsOf, HasNode, HasKey, HaveTheirHash, KeepsRest};
-    ghost use Rattle.hash_index.specs.Spelled.{Spells, col_of, index_of, all_of, heads_of, buckets_of, HasRoom, KeepsTags, leads_to};
+    ghost use Rattle.hash_index.specs.Spelled.{Spells, col_of, index_of, all_of, heads_of, buckets_of, HasRoom, KeepsTags, leads_to, spelled};
     ghost use Rattle.hash_index.specs.Chains.{tag_at};
 
     /// An index of no nodes in column `col`, for the keys of the container's index `index`. It has no buckets yet,
@@ -73,6 +74,20 @@ impl HashIndex {
             level: 1,
             len: 0,
         }
+    }
+
+    /// Goes by the keys of number `index` from now on, which are to hash the nodes as they were put in. O(1).
+    #[tactic(auto, unfolding(crate::specs::Spelled::spelled))]
+    pub fn renumber(&mut self, index: usize)
+        ensures index { index_of self.new ≡ index }
+        ensures col { col_of self.new ≡ col_of self.old }
+        ensures list { (cs : ℕ → Column) (xs : List Node) → Spells cs self.old xs →
+            Spells cs self.new xs }
+        ensures spelled { (cs : ℕ → Column) → spelled cs self.new ≡ spelled cs self.old }
+        ensures buckets { buckets_of self.new ≡ buckets_of self.old }
+        ensures room { HasRoom self.old → HasRoom self.new }
+    {
+        self.index = index;
     }
 
     /// Puts `n` in, by the hash of its record's key, in room that was reserved. O(1).

@@ -48,6 +48,19 @@ impl<T: Tally> OrdTree<T> {
         }
     }
 
+    /// Goes by the keys of number `index` from now on, which are to put the nodes in the order that they have. O(1).
+    #[tactic(auto, unfolding(crate::specs::Spelled::tree_of))]
+    pub fn renumber(&mut self, index: usize)
+        ensures index { index_of self.new ≡ index }
+        ensures col { col_of self.new ≡ col_of self.old }
+        ensures list { (cs : ℕ → Column) (xs : List Node) → Spells cs self.old xs →
+            Spells cs self.new xs }
+        ensures spelled { (cs : ℕ → Column) → spelled cs self.new ≡ spelled cs self.old }
+        ensures room { HasRoom self.old → HasRoom self.new }
+    {
+        self.index = index;
+    }
+
     /// Makes room for one more node. A tree takes no memory for it: only one of 2^64 - 1 nodes has no room. O(1).
     pub fn reserve_one<R>(&mut self, store: &NodeStore<R>) -> Result<(), AllocError>
         ensures same { self.new ≡ self.old }

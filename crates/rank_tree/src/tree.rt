@@ -36,6 +36,26 @@ impl RankTree {
         }
     }
 
+    /// The column of links that the tree goes through. O(1).
+    pub fn col(&self) -> usize
+        ensures col { result ≡ col_of self.now }
+        ensures exists { result < 8 }
+    {
+        self.tree.col()
+    }
+
+    /// Goes by the keys of number `index` from now on, which are to put the nodes in the order that they have. O(1).
+    pub fn renumber(&mut self, index: usize)
+        ensures index { index_of self.new ≡ index }
+        ensures col { col_of self.new ≡ col_of self.old }
+        ensures list { (cs : ℕ → Column) (xs : List Node) → Spells cs self.old xs →
+            Spells cs self.new xs }
+        ensures spelled { (cs : ℕ → Column) → spelled cs self.new ≡ spelled cs self.old }
+        ensures room { HasRoom self.old → HasRoom self.new }
+    {
+        self.tree.renumber(index);
+    }
+
     /// Makes room for one more node. A tree takes no memory for it: only one of 2^64 - 1 nodes has no room. O(1).
     pub fn reserve_one<R>(&mut self, store: &NodeStore<R>) -> Result<(), AllocError>
         ensures same { self.new ≡ self.old }

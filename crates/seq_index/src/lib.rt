@@ -12,6 +12,7 @@ ghost use Rattle.node_store.specs.ByNode.{column_of, contents, same_node};
 ghost use Rattle.list_model.specs.Walk.{without};
 ghost use Rattle.seq_index.specs.Links.{AreNodesOf};
 
+mod column;
 mod ends;
 mod order;
 mod reads;

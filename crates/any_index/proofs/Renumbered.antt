@@ -1,0 +1,18 @@
+-- An index that goes by other keys, which put its nodes where they are.
+use Rattle.std.proofs.Common.{◌≡◌, ℕ, List, sym, subst}
+use Rattle.std.specs.declared.cmp.Ordering.{Ordering}
+use Rattle.list_model.specs.Order.{IsInOrder}
+use Rattle.node_store.specs.declared.Node.{Node}
+use Rattle.node_store.specs.Store.{Store}
+use Rattle.node_store.specs.ByNode.{record_of}
+use Rattle.hash_index.specs.Hashed.{IsHashed}
+use Rattle.any_index.specs.Side.{order_at}
+
+module _ {R : Type 0} (s : Store R) where
+  pub ordered_by : (old new : R → R → Ordering) (xs ys : List Node) → new ≡ old → ys ≡ xs → IsInOrder (order_at (record_of s) old) xs → IsInOrder (order_at (record_of s) new) ys
+  ordered_by old new xs ys same listed h =
+      subst (λ zs. IsInOrder (order_at (record_of s) new) zs) (sym listed) (subst (λ (f : R → R → Ordering). IsInOrder (order_at (record_of s) f) xs) (sym same) h)
+
+  pub hashed_by : (old new : R → ℕ) (c d : ℕ) (xs ys : List Node) → new ≡ old → d ≡ c → ys ≡ xs → IsHashed old s c xs → IsHashed new s d ys
+  hashed_by old new c d xs ys same col listed h =
+      subst (λ zs. IsHashed new s d zs) (sym listed) (subst (λ z. IsHashed new s z xs) (sym col) (subst (λ (f : R → ℕ). IsHashed f s c xs) (sym same) h))
