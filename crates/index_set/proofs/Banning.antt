@@ -1,11 +1,13 @@
 -- One step of the search for a ban.
-use Rattle.std.proofs.Common.{◌≡◌, ℕ, ◌+◌, ◌<◌, Bool, true, false, cond, List, [], length, get_or, drop, Option, Some, None, refl, sym, ap, ◌∙◌, arith}
+use Rattle.std.proofs.Common.{◌≡◌, ℕ, ◌+◌, ◌<◌, Bool, true, false, cond, List, [], length, get_or, drop, Option, Some, None, refl, sym, ap, ◌∙◌, subst, arith}
 use Rattle.std.specs.Option.{option_map_or}
 use Rattle.std.specs.declared.cmp.Ordering.{Ordering}
 use Rattle.std.proofs.lemmas.List.{drop_more, get_or-map}
 use Rattle.node_store.specs.declared.Node.{Node}
 use Rattle.node_store.specs.Column.{Column}
 use Rattle.container_model.specs.declared.handle.Spec.{Spec}
+use Rattle.container_model.specs.State.{has_key_kind}
+use Rattle.std.specs.Prelude.{IsTrue}
 use Rattle.any_index.specs.declared.index.AnyIndex.{AnyIndex}
 use Rattle.any_index.specs.Spelled.{list_of, index_of}
 use Rattle.any_index.specs.Side.{side_of, equal_but}
@@ -21,10 +23,10 @@ module _ {R : Type 0} (order : ℕ → R → R → Ordering) (records : Node →
   by_at k = equal_but except (side_of records (λ a. order k a row)) (list_at lists k)
 
   -- what one index answers, in the words of all lists
-  pub same_at : ArePlaced cs specs is → (k : ℕ) (e : Spec) (i : AnyIndex) → k < length specs → i ≡ get_or is k i → (answer : Option Node) →
+  pub same_at : ArePlaced cs specs is → (k : ℕ) (e : Spec) (i : AnyIndex) → k < length specs → IsTrue (has_key_kind (get_or specs k e).kind) → i ≡ get_or is k i → (answer : Option Node) →
       answer ≡ equal_but except (side_of records (λ a. order (index_of i) a row)) (list_of cs i) → answer ≡ by_at k
-  same_at p k e i lt read answer a =
-      let number : index_of i ≡ k = ap index_of read ∙ (p.each k e i lt).number in
+  same_at p k e i lt has read answer a =
+      let number : index_of i ≡ k = ap index_of read ∙ (p.each k e i lt).number (subst (λ z. IsTrue (has_key_kind z)) (sym (p.each k e i lt).kind) has) in
       let listed : list_of cs i ≡ list_at lists k = ap (list_of cs) read ∙ sym (get_or-map (list_of cs) is k i [] (omega (arith, p.one_each, lt))) in
       a ∙ (λ z. equal_but except (side_of records (λ a. order (number z) a row)) (listed z))
 

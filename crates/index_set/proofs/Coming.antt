@@ -38,7 +38,8 @@ module _ {R : Type 0} (old new : Store R) (n : Node) (value : R) (specs : List S
   pub placed_added : ArePlaced (column_of new) specs is
   placed_added = record {
     one_each = p.one_each;
-    each = λ j d e lt. let here = p.each j d e lt in record { sound = IsSound_added old new n value (get_or is j e) a here.sound; kind = here.kind; col = here.col; number = here.number };
+    each = λ j d e lt. let here = p.each j d e lt in record { sound = IsSound_added old new n value (get_or is j e) a here.sound; kind = here.kind; number = here.number };
+    apart = p.apart;
   }
 
   pub lists_added : lists_in (column_of new) is ≡ lists_in (column_of old) is
@@ -77,7 +78,8 @@ module _ {R : Type 0} (old new : Store R) (n : Node) (specs : List Spec) (is : L
     one_each = p.one_each;
     each = λ j d e lt.
         let here = p.each j d e lt in
-        record { sound = IsSound_removed old new n (get_or is j e) r (each_lacks (column_of old) specs is n p.one_each all j d e lt) here.sound; kind = here.kind; col = here.col; number = here.number };
+        record { sound = IsSound_removed old new n (get_or is j e) r (each_lacks (column_of old) specs is n p.one_each all j d e lt) here.sound; kind = here.kind; number = here.number };
+    apart = p.apart;
   }
 
   pub lists_removed : lists_in (column_of new) is ≡ lists_in (column_of old) is

@@ -11,9 +11,10 @@ use Rattle.node_store.specs.Age.{last_below, nodes_of}
 use Rattle.node_store.proofs.Age.{none_found, all_below-none, length-nodes_of}
 use Rattle.container_model.specs.declared.handle.Spec.{Spec}
 use Rattle.any_index.specs.declared.index.AnyIndex.{AnyIndex}
-use Rattle.any_index.specs.Spelled.{list_of}
+use Rattle.any_index.specs.Spelled.{list_of, col_of}
 use Rattle.index_set.specs.Each.{EachOf}
-use Rattle.index_set.specs.Indices.{IsPlaced, ArePlaced, lists_in, AreKeyed}
+use Rattle.index_set.specs.Indices.{ArePlaced, AreWithin, lists_in, AreKeyed}
+use Rattle.index_set.proofs.Placing.{IsOwn, own_placed, own_within}
 use Rattle.index_set.specs.Lists.{AreUniqueFrom}
 use Rattle.index_set.proofs.Coming.{keyed_empty}
 use Rattle.index_set.proofs.Each.{each_set, changed_each, changed_not}
@@ -23,7 +24,7 @@ use Rattle.index_set.proofs.Walk.{below_next}
 
 -- an index of this number is placed and has no nodes, in whatever columns
 pub record IsBare (j : ℕ) (spec : Spec) (i : AnyIndex) : Type 0 where
-  pub placed : (cs : ℕ → Column) → IsPlaced cs j spec i
+  pub placed : (cs : ℕ → Column) → IsOwn cs j spec i
   pub empty : (cs : ℕ → Column) → list_of cs i ≡ []
 
 -- so are those before the place k
@@ -40,7 +41,10 @@ module _ (specs : List Spec) (is : List AnyIndex) (k : ℕ) (one : length is ≡
 
 module _ (specs : List Spec) (is : List AnyIndex) (one : length is ≡ length specs) (h : EachOf IsBare specs is) (cs : ℕ → Column) where
   pub bare_placed : ArePlaced cs specs is
-  bare_placed = record { one_each = one; each = λ j d e lt. (h j d e lt).placed cs }
+  bare_placed = own_placed cs specs is one (λ j d e lt. (h j d e lt).placed cs)
+
+  pub bare_within : AreWithin (length specs) specs is
+  bare_within = own_within cs specs is (λ j d e lt. (h j d e lt).placed cs)
 
   pub bare_lists : lists_in cs is ≡ map (λ _. []) specs
   bare_lists =
@@ -70,6 +74,12 @@ module _ {R : Type 0} (s : Store R) (was specs : List Spec) (told : specs ≡ wa
 
   pub emptied_placed : ArePlaced (column_of s) was now
   emptied_placed = subst (λ z. ArePlaced (column_of s) was z) (sym filled) (subst (λ z. ArePlaced (column_of s) z is) told (placed (column_of s)))
+
+  pub emptied_within : (columns : ℕ) → length was ≤ columns → AreWithin (length specs) specs is → AreWithin columns was now
+  emptied_within columns le h = record {
+    each = λ j d e lt.
+        let below = (subst (λ ds. AreWithin (length ds) ds is) told h).each j d e lt in subst (λ z. col_of (get_or z j e) < columns) (sym filled) (omega (arith, below, le));
+  }
 
   pub emptied_lists : lists_in (column_of s) now ≡ map (λ _. []) was
   emptied_lists = ap (lists_in (column_of s)) filled ∙ (empty (column_of s) ∙ ap (map (λ _. [])) told)

@@ -17,3 +17,9 @@ pub mod UniqueSteps
 pub mod StaysUnique
 pub mod Emptied
 pub mod Sinking
+pub mod Clashing
+pub mod Building
+pub mod Rekeyed
+pub mod FreeColumn
+pub mod Joining
+pub mod Dropping

@@ -13,20 +13,23 @@ use Rattle.any_index.specs.declared.index.AnyIndex.{AnyIndex}
 use Rattle.any_index.specs.Spelled.{HasRoom, list_of, col_of}
 use Rattle.any_index.specs.Keyed as any
 use Rattle.index_set.specs.declared.set.IndexSet.{IndexSet}
-use Rattle.index_set.specs.Indices.{IsPlaced, ArePlaced, lists_in, HaveRoom, AreKeyed}
+use Rattle.index_set.specs.Indices.{IsPlaced, ArePlaced, AreWithin, lists_in, HaveRoom, AreKeyed}
 use Rattle.index_set.specs.Set.{IsSound, lists_of, kind_at}
 use Rattle.index_set.proofs.ByKind.{AreKeyed_sequence}
 use Rattle.index_set.proofs.Each.{each_set, each_listed, same_lists}
-use Rattle.index_set.proofs.Frame.{Steps, placed_set, list_kept, keyed_kept}
+use Rattle.index_set.proofs.Frame.{Steps, IsFar, are_far, placed_set, within_set, list_kept, keyed_kept}
 use Rattle.index_set.proofs.Reading.{some_spec, kind_here}
 
 module _ {R E : Type 0} {has_key : E → ℕ → Bool} (s : IndexSet R E) (sound : IsSound has_key s) (k : ℕ) (lt : k < length s.specs.items) (i new : AnyIndex) (e : i ≡ get_or s.indices.items k i)
     (t : Store R) (step : Steps (column_of s.store) (column_of t) i new) where
-  keep : KeepsOthers (column_of s.store) (column_of t) k
-  keep = subst (KeepsOthers (column_of s.store) (column_of t)) (ap col_of e ∙ (sound.placed.each k some_spec i lt).col) step.others
+  keep : KeepsOthers (column_of s.store) (column_of t) (col_of (get_or s.indices.items k i))
+  keep = subst (KeepsOthers (column_of s.store) (column_of t)) (ap col_of e) step.others
 
   pub placed_moved : ArePlaced (column_of t) s.specs.items (set s.indices.items k new)
   placed_moved = placed_set (column_of s.store) (column_of t) s.specs.items s.indices.items k i new lt sound.placed (subst (λ (z : AnyIndex). Steps (column_of s.store) (column_of t) z new) e step)
+
+  pub within_moved : AreWithin s.columns s.specs.items (set s.indices.items k new)
+  within_moved = within_set s.columns s.specs.items s.indices.items k i new (step.col ∙ ap col_of e) lt sound.placed.one_each sound.within
 
   pub lists_moved : (xs : List Node) → list_of (column_of t) new ≡ xs → lists_in (column_of t) (set s.indices.items k new) ≡ set (lists_of s) k xs
   lists_moved xs is =
@@ -47,7 +50,7 @@ module _ {R E : Type 0} {has_key : E → ℕ → Bool} (s : IndexSet R E) (sound
       let there : j < length s.specs.items = omega (arith, within, one) in
       seen
       ∙ (ap (list_of (column_of t)) (get_or-set_other s.indices.items k j new i apart)
-      ∙ (list_kept (column_of s.store) (column_of t) k j _ (get_or s.indices.items j i) (sound.placed.each j some_spec i there) keep apart
+      ∙ (list_kept (column_of s.store) (column_of t) _ j _ (get_or s.indices.items j i) (sound.placed.each j some_spec i there) keep (sound.placed.apart j k i i there lt apart)
       ∙ (each_listed (list_of (column_of s.store)) s.specs.items s.indices.items one j some_spec i there ∙ sym (get_or-set_other (lists_of s) k j xs [] apart)))))
       (cases_eq j k))
 
@@ -63,8 +66,8 @@ module _ {R E : Type 0} {has_key : E → ℕ → Bool} (s : IndexSet R E) (sound
   pub keyed_moved : IsTrue (is_sequence_kind (kind_at s k)) → contents t ≡ contents s.store → (order : ℕ → R → R → Ordering) (hash_of : ℕ → R → ℕ) → AreKeyed order hash_of s.store s.specs.items s.indices.items → AreKeyed order hash_of t s.specs.items (set s.indices.items k new)
   keyed_moved kind same order hash_of h = record {
     each =
-        each_set (λ j spec x. IsPlaced (column_of s.store) j spec x × any.IsKeyed order hash_of s.store x) (λ _ _ x. any.IsKeyed order hash_of t x) s.specs.items s.indices.items k new sound.placed.one_each lt
-        (λ j d x below. (sound.placed.each j d x below, h.each j d x below))
+        each_set (λ j spec x. (IsPlaced (column_of s.store) j spec x × IsFar s.indices.items k i j x) × any.IsKeyed order hash_of s.store x) (λ _ _ x. any.IsKeyed order hash_of t x) s.specs.items s.indices.items k new sound.placed.one_each lt
+        (λ j d x below. ((sound.placed.each j d x below, are_far s.specs.items s.indices.items k i lt sound.placed.apart j d x below), h.each j d x below))
         (λ d. AreKeyed_sequence order hash_of t new _ (subst (λ z. IsTrue (is_sequence_kind z)) (sym (step.kind ∙ kind_here s sound k lt i e)) kind))
-        (λ j spec x apart p. keyed_kept order hash_of s.store t k j spec x _ _ p.0 keep same apart (list_kept (column_of s.store) (column_of t) k j spec x p.0 keep apart) p.1);
+        (λ j spec x apart p. keyed_kept order hash_of s.store t _ j spec x _ _ p.0.0 keep same (p.0.1 apart) (list_kept (column_of s.store) (column_of t) _ j spec x p.0.0 keep (p.0.1 apart)) p.1);
   }

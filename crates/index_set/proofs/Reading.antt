@@ -1,5 +1,5 @@
 -- What a call at one index of a set reads.
-use Rattle.std.proofs.Common.{◌≡◌, ℕ, ◌<◌, Bool, List, length, get_or, Option, sym, ap, ◌∙◌, subst, false}
+use Rattle.std.proofs.Common.{◌≡◌, ℕ, ◌<◌, Bool, List, length, get_or, Option, sym, ap, ◌∙◌, subst, false, refl}
 use Rattle.std.specs.Prelude.{IsTrue}
 use Rattle.std.specs.Option.{option_map_or}
 use Rattle.std.specs.declared.cmp.Ordering.{Ordering}
@@ -7,8 +7,9 @@ use Rattle.list_model.proofs.Lists.{slice_get_at}
 use Rattle.node_store.specs.declared.Node.{Node}
 use Rattle.node_store.specs.ByNode.{column_of, record_of}
 use Rattle.container_model.specs.declared.handle.Spec.{Spec}
-use Rattle.container_model.specs.declared.handle.Kind.TheVariants.{Sequenced}
-use Rattle.container_model.specs.State.{has_key_kind, is_sorted_kind, is_hashed_kind}
+use Rattle.container_model.specs.declared.handle.Kind.{Kind}
+use Rattle.container_model.specs.declared.handle.Kind.TheVariants.{Sequenced, Random, Ordered, Ranked, Hashed}
+use Rattle.container_model.specs.State.{has_key_kind, is_sorted_kind, is_hashed_kind, is_ranked_kind}
 use Rattle.any_index.specs.declared.index.AnyIndex.{AnyIndex}
 use Rattle.any_index.specs.Spelled as any
 use Rattle.any_index.specs.Side.{side_of}
@@ -20,6 +21,21 @@ use Rattle.index_set.specs.Set.{IsSound, IsKeyed, list_of, kind_at, probe_side}
 use Rattle.index_set.proofs.Each.{each_listed}
 use Rattle.index_set.proofs.Frame.{key_here}
 use Rattle.index_set.proofs.ByKind.{Accepts_from}
+
+-- an index in the order of a key has one
+pub sorted_key : (kind : Kind) → IsTrue (is_sorted_kind kind) → IsTrue (has_key_kind kind)
+sorted_key Sequenced h = h
+sorted_key Random h = h
+sorted_key Ordered h = refl
+sorted_key Ranked h = refl
+sorted_key Hashed h = refl
+
+pub ranked_key : (kind : Kind) → IsTrue (is_ranked_kind kind) → IsTrue (has_key_kind kind)
+ranked_key Sequenced h = h
+ranked_key Random h = h
+ranked_key Ordered h = refl
+ranked_key Ranked h = refl
+ranked_key Hashed h = refl
 
 -- a spec, where there has to be one
 abbrev pub some_spec : Spec
@@ -40,8 +56,10 @@ module _ {R E : Type 0} {has_key : E → ℕ → Bool} (s : IndexSet R E) (sound
       ap any.kind_of e ∙ ((sound.placed.each k some_spec i lt).kind
       ∙ ap (λ (o : Option Spec). option_map_or (λ (d : Spec). d.kind) o Sequenced) (sym (slice_get_at s.specs.items k some_spec lt)))
 
-  pub number_here : any.index_of i ≡ k
-  number_here = ap any.index_of e ∙ (sound.placed.each k some_spec i lt).number
+  pub number_here : IsTrue (has_key_kind (kind_at s k)) → any.index_of i ≡ k
+  number_here has =
+      ap any.index_of e
+      ∙ (sound.placed.each k some_spec i lt).number (subst (λ z. IsTrue (has_key_kind z)) (sym kind_here ∙ ap any.kind_of e) has)
 
   pub list_here : any.list_of (column_of s.store) i ≡ list_of s k
   list_here = ap (any.list_of (column_of s.store)) e ∙ each_listed (any.list_of (column_of s.store)) s.specs.items s.indices.items sound.placed.one_each k some_spec i lt
@@ -55,28 +73,28 @@ module _ {R E : Type 0} {has_key : E → ℕ → Bool} (s : IndexSet R E) (sound
   pub keyed_here : (order : E → ℕ → R → R → Ordering) (hash_of : E → ℕ → R → ℕ) → IsKeyed order hash_of s → keyed.IsKeyed (order s.keys) (hash_of s.keys) s.store i
   keyed_here order hash_of h = subst (λ (z : AnyIndex). keyed.IsKeyed (order s.keys) (hash_of s.keys) s.store z) (sym e) (h.each k some_spec i lt)
 
-  pub fits_here : (p : ℕ → Bool) → IsTrue (p k) → IsTrue (p (any.index_of i))
-  fits_here p h = subst (λ z. IsTrue (p z)) (sym number_here) h
+  pub fits_here : IsTrue (has_key_kind (kind_at s k)) → (p : ℕ → Bool) → IsTrue (p k) → IsTrue (p (any.index_of i))
+  fits_here has p h = subst (λ z. IsTrue (p z)) (sym (number_here has)) h
 
   pub accepts_here : (does_fit is_whole : ℕ → Bool) → IsTrue (has_key_kind (kind_at s k)) → (IsTrue (is_sorted_kind (kind_at s k)) → IsTrue (does_fit k)) → (IsTrue (is_hashed_kind (kind_at s k)) → IsTrue (is_whole k)) → keyed.Accepts does_fit is_whole i
   accepts_here does_fit is_whole key fits whole =
       Accepts_from does_fit is_whole i (is_kind has_key_kind key)
-      (λ h. fits_here does_fit (fits (subst (λ z. IsTrue (is_sorted_kind z)) kind_here h)))
-      (λ h. fits_here is_whole (whole (subst (λ z. IsTrue (is_hashed_kind z)) kind_here h)))
+      (λ h. fits_here key does_fit (fits (subst (λ z. IsTrue (is_sorted_kind z)) kind_here h)))
+      (λ h. fits_here key is_whole (whole (subst (λ z. IsTrue (is_hashed_kind z)) kind_here h)))
 
   -- what the index answers, in the words of the set
   pub read_here : {A : Type 0} (f : List Node → A) (answer : A) → answer ≡ f (any.list_of (column_of s.store) i) → answer ≡ f (list_of s k)
   read_here f answer h = h ∙ ap f list_here
 
-  pub sought_here : {A P : Type 0} (f : (Node → Ordering) → List Node → A) (order : E → ℕ → R → P → Ordering) (probe : P) (answer : A) →
+  pub sought_here : {A P : Type 0} → IsTrue (has_key_kind (kind_at s k)) → (f : (Node → Ordering) → List Node → A) (order : E → ℕ → R → P → Ordering) (probe : P) (answer : A) →
       answer ≡ f (side_of (record_of s.store) (λ a. order s.keys (any.index_of i) a probe)) (any.list_of (column_of s.store) i) → answer ≡ f (probe_side order s k probe) (list_of s k)
-  sought_here f order probe answer h =
-      h ∙ (λ z. f (side_of (record_of s.store) (λ a. order s.keys (number_here z) a probe)) (list_here z))
+  sought_here has f order probe answer h =
+      h ∙ (λ z. f (side_of (record_of s.store) (λ a. order s.keys (number_here has z) a probe)) (list_here z))
 
   -- the same of what the index says of its answer
-  pub told_here : {P : Type 0} (says : (Node → Ordering) → List Node → Type 0) (order : E → ℕ → R → P → Ordering) (probe : P) →
+  pub told_here : {P : Type 0} → IsTrue (has_key_kind (kind_at s k)) → (says : (Node → Ordering) → List Node → Type 0) (order : E → ℕ → R → P → Ordering) (probe : P) →
       says (side_of (record_of s.store) (λ a. order s.keys (any.index_of i) a probe)) (any.list_of (column_of s.store) i) → says (probe_side order s k probe) (list_of s k)
-  told_here says order probe h = subst (λ z. says (probe_side order s k probe) z) list_here (subst (λ z. says (side_of (record_of s.store) (λ a. order s.keys z a probe)) (any.list_of (column_of s.store) i)) number_here h)
+  told_here has says order probe h = subst (λ z. says (probe_side order s k probe) z) list_here (subst (λ z. says (side_of (record_of s.store) (λ a. order s.keys z a probe)) (any.list_of (column_of s.store) i)) (number_here has) h)
 
 module _ {R E P : Type 0} (X : Ghosts E R P) (s : IndexSet R E) (sound : IsSound X.has_key s) (k : ℕ) (lt : k < length s.specs.items) (i : AnyIndex) (e : i ≡ get_or s.indices.items k i) where
   -- so nodes can be looked for there by a probe of the index's key
@@ -88,10 +106,10 @@ module _ {R E P : Type 0} (X : Ghosts E R P) (s : IndexSet R E) (sound : IsSound
     keyed = keyed_here s sound k lt i e X.order_of X.hash_of keyed;
   }
 
-  pub can_search : (probe : P) → IsTrue (X.does_fit s.keys k probe) → IsKeyed X.order_of X.hash_of s → CanSearch X i s.store s.keys probe
-  can_search probe fits keyed = record {
+  pub can_search : (probe : P) → IsTrue (has_key_kind (kind_at s k)) → IsTrue (X.does_fit s.keys k probe) → IsKeyed X.order_of X.hash_of s → CanSearch X i s.store s.keys probe
+  can_search probe has fits keyed = record {
     sound = sound_here s sound k lt i e;
     key = its_key s sound k lt i e;
-    fits = fits_here s sound k lt i e (λ j. X.does_fit s.keys j probe) fits;
+    fits = fits_here s sound k lt i e has (λ j. X.does_fit s.keys j probe) fits;
     keyed = keyed_here s sound k lt i e X.order_of X.hash_of keyed;
   }

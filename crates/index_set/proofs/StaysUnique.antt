@@ -52,7 +52,7 @@ key_at s sound j lt unique =
     ap (λ (o : Option Spec). has_key_kind (option_map_or (λ (d : Spec). d.kind) o kind.Sequenced)) (slice_get_at s.specs.items j some_spec lt) ∙ sound.keys.unique j some_spec lt unique
 
 itself : {R E : Type 0} (s : IndexSet R E) → IsOfSame s s
-itself s = record { keys = refl; specs = refl }
+itself s = record { keys = refl; specs = refl; columns = refl }
 
 module _ {R E : Type 0} (order : E → ℕ → R → R → Ordering) where
   -- the same lists of the same records in another set
@@ -77,6 +77,10 @@ module _ {R E : Type 0} {has_key : E → ℕ → Bool} (order : E → ℕ → R 
         from_lists order s t (record_of t.store) (lists_of s) None same refl listed
         (unique_loose (order s.keys) s.specs.items (lists_of s) (one_list_each s sound) (record_of s.store) (record_of t.store) n removes.records.others lacks (to_lists s None sound h))
 
+    -- neither records nor lists changed
+    pub unique_kept : lists_of t ≡ lists_of s → contents t.store ≡ contents s.store → IsUniqueExcept order s None → IsUniqueExcept order t None
+    unique_kept listed kept h = from_lists order s t (record_of s.store) (lists_of s) None same (records_kept s.store t.store kept) listed (to_lists s None sound h)
+
     -- a node left all indices, whatever became of its record
     pub unique_after_leave : (n : Node) → lists_of t ≡ map (without (same_node n)) (lists_of s) → contents t.store ≡ contents s.store → IsUniqueExcept order s (Some n) → IsUniqueExcept order t None
     unique_after_leave n listed kept h =
@@ -99,14 +103,14 @@ module _ {R E : Type 0} {has_key : E → ℕ → Bool} (order : E → ℕ → R 
     pub unique_after_write : (r : R) → IsNodeOf s.store n → IsUniqueExcept order s None → IsUniqueExcept order (with_record s n r) (Some n)
     unique_after_write r is h =
         let t = with_record s n r in
-        from_lists order s t (record_of t.store) (lists_of s) (Some n) (record { keys = refl; specs = refl }) refl (lists_written s n r)
+        from_lists order s t (record_of t.store) (lists_of s) (Some n) (record { keys = refl; specs = refl; columns = refl }) refl (lists_written s n r)
         (unique_written (order s.keys) s.specs.items (lists_of s) (one_list_each s sound) (record_of s.store) (record_of t.store) n (others_written s.store n r is) (to_lists s None sound h))
 
     -- a record was written, and then as it was before
     pub unique_put_back : (r w : R) → record_of s.store n ≡ Some r → IsNodeOf s.store n → IsUniqueExcept order s None → IsUniqueExcept order (with_record (with_record s n w) n r) None
     unique_put_back r w had is h =
         let t = with_record s n w in
-        from_lists order s (with_record t n r) (record_of s.store) (lists_of s) None (record { keys = refl; specs = refl })
+        from_lists order s (with_record t n r) (record_of s.store) (lists_of s) None (record { keys = refl; specs = refl; columns = refl })
         (written_back s n r w had is) (lists_written t n r ∙ lists_written s n w) (to_lists s None sound h)
 
   module _ (total : (keys : E) (index : ℕ) → IsTrue (has_key keys index) → IsTotalOrder (order keys index)) where
@@ -129,7 +133,7 @@ module _ {R E : Type 0} {has_key : E → ℕ → Bool} (order : E → ℕ → R 
         ban_from (order s.keys) (record_of s.store) (lists_of s) None row 0 s.specs.items ≡ None → IsUniqueExcept order s None → IsUniqueExcept order u None
     unique_after_enter s t u sound first second n row at listed adds lacks entered kept none h =
         from_lists order s u (record_of t.store) (changed_from (entered_at (order s.keys) (record_of t.store) at n) 0 s.specs.items (lists_of s)) None
-        (record { keys = second.keys ∙ first.keys; specs = second.specs ∙ first.specs }) (records_kept t.store u.store kept)
+        (record { keys = second.keys ∙ first.keys; specs = second.specs ∙ first.specs; columns = second.columns ∙ first.columns }) (records_kept t.store u.store kept)
         (entered ∙ (λ i. changed_from (entered_at (order (first.keys i)) (record_of t.store) at n) 0 (first.specs i) (listed i)))
         (unique_entered (order s.keys) s.specs.items (lists_of s) (one_list_each s sound) (record_of s.store) (record_of t.store) n adds.records.others (total_at s sound) row adds.records.changed at
         (subst (λ ls. LackIt ls n) listed lacks) none (to_lists s None sound h))

@@ -1,17 +1,19 @@
 -- A walk over all indices that changes one after the other.
 use Rattle.std.proofs.Common.{◌≡◌, ◌≢◌, ℕ, Bool, true, Option, Some, None, cond, ◌==◌, ◌+◌, ◌<◌, ◌≤◌, List, length, get_or, set, sym, ap, ◌∙◌, subst, arith, refl, false, ⊎_elim, Result, Ok, Err}
-use Rattle.std.specs.Prelude.{OnErr}
+use Rattle.std.specs.Prelude.{OnErr, IsTrue}
 use Rattle.std.specs.declared.cmp.Ordering.{Ordering}
 use Rattle.std.proofs.lemmas.List.{length-map}
 use Rattle.node_store.specs.declared.Node.{Node}
-use Rattle.node_store.specs.Column.{Column, KeepsOthers}
+use Rattle.node_store.specs.Column.{Column}
 use Rattle.node_store.specs.Store.{Store}
 use Rattle.node_store.specs.ByNode.{column_of, record_of, contents}
 use Rattle.node_store.proofs.ByNode.{records_kept}
 use Rattle.container_model.specs.declared.handle.Spec.{Spec}
-use Rattle.container_model.specs.declared.handle.Kind.TheVariants.{Sequenced}
+use Rattle.container_model.specs.declared.handle.Kind.{Kind}
+use Rattle.container_model.specs.declared.handle.Kind.TheVariants.{Sequenced, Random, Ordered, Ranked, Hashed}
+use Rattle.container_model.specs.State.{has_key_kind}
 use Rattle.any_index.specs.declared.index.AnyIndex.{AnyIndex}
-use Rattle.any_index.specs.Spelled.{HasRoom, list_of, kind_of, index_of}
+use Rattle.any_index.specs.Spelled.{HasRoom, list_of, kind_of, col_of, index_of}
 use Rattle.any_index.specs.Keyed.{AreKeyed}
 use Rattle.std.proofs.lemmas.Bool.{eqb-true, cases_lt}
 use Rattle.std.proofs.lemmas.Option.{same_Some}
@@ -19,10 +21,10 @@ use Rattle.container_model.specs.Insert.{At, place_in}
 use Rattle.any_index.specs.Side.{order_at}
 use Rattle.any_index.specs.Lists.{entered, settled_in}
 use Rattle.index_set.specs.Each.{EachOf, changed_from, list_at}
-use Rattle.index_set.specs.Indices.{IsPlaced, ArePlaced, lists_in, HaveRoom}
+use Rattle.index_set.specs.Indices.{IsPlaced, ArePlaced, AreWithin, lists_in, HaveRoom}
 use Rattle.index_set.specs.Lists.{entered_at, settled_at}
 use Rattle.index_set.proofs.Each.{each_set, each_listed, changed_each, changed_not}
-use Rattle.index_set.proofs.Frame.{Steps, placed_set, list_kept, keyed_kept}
+use Rattle.index_set.proofs.Frame.{Steps, IsFar, are_far, placed_set, within_set, list_kept, keyed_kept}
 
 pub below_next : (j k : ℕ) → j < k + 1 → j ≢ k → j < k
 below_next j k lt ne = omega (arith, ne)
@@ -33,6 +35,7 @@ ListedTo cs change was k j spec i = (j < k → list_of cs i ≡ change j spec (l
 
 pub record Walks {R : Type 0} (change : ℕ → Spec → List Node → List Node) (s : Store R) (specs : List Spec) (is : List AnyIndex) (k : ℕ) (t : Store R) (now : List AnyIndex) : Type 0 where
   pub placed : ArePlaced (column_of t) specs now
+  pub within : (columns : ℕ) → AreWithin columns specs is → AreWithin columns specs now
   pub contents : contents t ≡ contents s
   pub lists : EachOf (ListedTo (column_of t) change (lists_in (column_of s) is) k) specs now
 
@@ -40,6 +43,7 @@ module _ {R : Type 0} (change : ℕ → Spec → List Node → List Node) (s : S
   pub walk_start : ArePlaced (column_of s) specs is → Walks change s specs is 0 s is
   walk_start p = record {
     placed = p;
+    within = λ columns h. h;
     contents = refl;
     lists = λ j d e lt. ((λ below. absurd (omega (arith, below))), (λ _. each_listed (list_of (column_of s)) specs is p.one_each j d e lt));
   }
@@ -52,14 +56,14 @@ module _ {R : Type 0} (change : ℕ → Spec → List Node → List Node) (s : S
       ((e : Spec) → list_of (column_of u) new ≡ change k (get_or specs k e) (list_of (column_of t) (get_or now k d))) → Walks change s specs is (k + 1) u (set now k new)
   walk_step k t u now d new lt w step same listed = record {
     placed = placed_set (column_of t) (column_of u) specs now k d new lt w.placed step;
+    within = λ columns h. within_set columns specs now k d new step.col lt w.placed.one_each (w.within columns h);
     contents = same ∙ w.contents;
     lists =
-        each_set (λ j spec i. IsPlaced (column_of t) j spec i × ListedTo (column_of t) change was k j spec i) (ListedTo (column_of u) change was (k + 1)) specs now k new w.placed.one_each lt
-        (λ j e f below. (w.placed.each j e f below, w.lists j e f below))
+        each_set (λ j spec i. (IsPlaced (column_of t) j spec i × IsFar now k d j i) × ListedTo (column_of t) change was k j spec i) (ListedTo (column_of u) change was (k + 1)) specs now k new w.placed.one_each lt
+        (λ j e f below. ((w.placed.each j e f below, are_far specs now k d lt w.placed.apart j e f below), w.lists j e f below))
         (λ e. ((λ _. listed e ∙ ap (change k (get_or specs k e)) (walk_here k t now d lt w)), (λ above. absurd (omega (arith, above)))))
         (λ j spec i apart p.
-        let keep : KeepsOthers (column_of t) (column_of u) k = subst (KeepsOthers (column_of t) (column_of u)) (w.placed.each k spec d lt).col step.others in
-        let kept = list_kept (column_of t) (column_of u) k j spec i p.0 keep apart in
+        let kept = list_kept (column_of t) (column_of u) (col_of (get_or now k d)) j spec i p.0.0 step.others (p.0.1 apart) in
         ((λ below. kept ∙ p.1.0 (below_next j k below apart)), (λ above. kept ∙ p.1.1 (omega (arith, above)))));
   }
     where
@@ -85,14 +89,14 @@ module _ {R : Type 0} (order : ℕ → R → R → Ordering) (hash_of : ℕ → 
   pub keyed_step : (k : ℕ) (s t : Store R) (is : List AnyIndex) (d new : AnyIndex) → k < length specs → ArePlaced (column_of s) specs is → Steps (column_of s) (column_of t) (get_or is k d) new → contents t ≡ contents s →
       AreKeyed order hash_of t new (list_of (column_of t) new) → EachOf (KeyedTo order hash_of s view k) specs is → EachOf (KeyedTo order hash_of t view (k + 1)) specs (set is k new)
   keyed_step k s t is d new lt placed step same keyed h =
-      each_set (λ j spec i. IsPlaced (column_of s) j spec i × KeyedTo order hash_of s view k j spec i) (KeyedTo order hash_of t view (k + 1)) specs is k new placed.one_each lt
-      (λ j e f below. (placed.each j e f below, h j e f below))
+      each_set (λ j spec i. (IsPlaced (column_of s) j spec i × IsFar is k d j i) × KeyedTo order hash_of s view k j spec i) (KeyedTo order hash_of t view (k + 1)) specs is k new placed.one_each lt
+      (λ j e f below. ((placed.each j e f below, are_far specs is k d lt placed.apart j e f below), h j e f below))
       (λ e. ((λ _. keyed), (λ above. absurd (omega (arith, above)))))
       (λ j spec i apart p.
-      let keep : KeepsOthers (column_of s) (column_of t) k = subst (KeepsOthers (column_of s) (column_of t)) (placed.each k spec d lt).col step.others in
-      let kept = list_kept (column_of s) (column_of t) k j spec i p.0 keep apart in (
-        (λ below. keyed_kept order hash_of s t k j spec i _ _ p.0 keep same apart kept (p.1.0 (below_next j k below apart))),
-        (λ above. keyed_kept order hash_of s t k j spec i _ _ p.0 keep same apart (ap view kept) (p.1.1 (omega (arith, above)))),
+      let c = col_of (get_or is k d) in
+      let kept = list_kept (column_of s) (column_of t) c j spec i p.0.0 step.others (p.0.1 apart) in (
+        (λ below. keyed_kept order hash_of s t c j spec i _ _ p.0.0 step.others same (p.0.1 apart) kept (p.1.0 (below_next j k below apart))),
+        (λ above. keyed_kept order hash_of s t c j spec i _ _ p.0.0 step.others same (p.0.1 apart) (ap view kept) (p.1.1 (omega (arith, above)))),
       ))
 
   pub keyed_end : (s : Store R) (is : List AnyIndex) (k : ℕ) → length specs ≤ k → EachOf (KeyedTo order hash_of s view k) specs is → EachOf (λ _ _ i. AreKeyed order hash_of s i (list_of (column_of s) i)) specs is
@@ -120,6 +124,21 @@ module _ (specs : List Spec) (is : List AnyIndex) (k : ℕ) (new : AnyIndex) (on
   pub same_from_step : (was : List AnyIndex) → EachOf (SameFrom was k) specs is → EachOf (SameFrom was (k + 1)) specs (set is k new)
   same_from_step was h = each_set (SameFrom was k) (SameFrom was (k + 1)) specs is k new one lt h (λ e above. absurd (omega (arith, above))) (λ j spec i apart p above. p (omega (arith, above)))
 
+-- a change of a list goes by the order of its key alone, if it has one
+pub entered_alike : (kind : Kind) (f g : Node → Node → Ordering) (at : Option ℕ) (n : Node) (xs : List Node) → (IsTrue (has_key_kind kind) → f ≡ g) → entered kind f at n xs ≡ entered kind g at n xs
+entered_alike Sequenced f g at n xs same = refl
+entered_alike Random f g at n xs same = refl
+entered_alike Ordered f g at n xs same = ap (λ (h : Node → Node → Ordering). entered Ordered h at n xs) (same refl)
+entered_alike Ranked f g at n xs same = ap (λ (h : Node → Node → Ordering). entered Ranked h at n xs) (same refl)
+entered_alike Hashed f g at n xs same = refl
+
+settled_alike : (kind : Kind) (f g : Node → Node → Ordering) (n : Node) (xs : List Node) → (IsTrue (has_key_kind kind) → f ≡ g) → settled_in kind f n xs ≡ settled_in kind g n xs
+settled_alike Sequenced f g n xs same = refl
+settled_alike Random f g n xs same = refl
+settled_alike Ordered f g n xs same = ap (λ (h : Node → Node → Ordering). settled_in Ordered h n xs) (same refl)
+settled_alike Ranked f g n xs same = ap (λ (h : Node → Node → Ordering). settled_in Ranked h n xs) (same refl)
+settled_alike Hashed f g n xs same = refl
+
 -- the place that was asked for in an index was asked for in this one
 abbrev asked_for : ℕ → ℕ → At
 asked_for index p = Some (index, p)
@@ -140,7 +159,8 @@ module _ {R : Type 0} (order : ℕ → R → R → Ordering) (s : Store R) (spec
   entered_here at k t cs now d new place lt w a listed e =
       let p = w.placed.each k e d lt in
       let r : record_of t ≡ record_of s = records_kept s t w.contents in
-      listed ∙ (λ i. entered (p.kind i) (order_at (r i) (order (p.number i))) (a i) n (list_of (column_of t) (get_or now k d)))
+      listed ∙ entered_alike (kind_of (get_or now k d)) _ (order_at (record_of s) (order k)) place n _ (λ has. λ i. order_at (r i) (order (p.number has i)))
+      ∙ (λ i. entered (p.kind i) (order_at (record_of s) (order k)) (a i) n (list_of (column_of t) (get_or now k d)))
 
   pub settled_here : (k : ℕ) (t : Store R) (cs : ℕ → Column) (now : List AnyIndex) (d new : AnyIndex) → k < length specs → Walks (settled_at order (record_of s) n) s specs is k t now →
       list_of cs new ≡ settled_in (kind_of (get_or now k d)) (order_at (record_of t) (order (index_of (get_or now k d)))) n (list_of (column_of t) (get_or now k d)) →
@@ -148,7 +168,8 @@ module _ {R : Type 0} (order : ℕ → R → R → Ordering) (s : Store R) (spec
   settled_here k t cs now d new lt w listed e =
       let p = w.placed.each k e d lt in
       let r : record_of t ≡ record_of s = records_kept s t w.contents in
-      listed ∙ (λ i. settled_in (p.kind i) (order_at (r i) (order (p.number i))) n (list_of (column_of t) (get_or now k d)))
+      listed ∙ settled_alike (kind_of (get_or now k d)) _ (order_at (record_of s) (order k)) n (list_of (column_of t) (get_or now k d)) (λ has. λ i. order_at (r i) (order (p.number has i)))
+      ∙ (λ i. settled_in (p.kind i) (order_at (record_of s) (order k)) n (list_of (column_of t) (get_or now k d)))
 
 -- what holds before and after each place holds
 either_side : {P : Type 0} (j k : ℕ) → (j < k → P) → (k ≤ j → P) → P

@@ -69,7 +69,10 @@ module _ {R E : Type 0} (s : IndexSet R E) (n : Node) (r : R) where
     few = h.few;
     keys = h.keys;
     nodes = IsStore_same s.store (store.with_record s.store n r) (nodes_with_record s.store n r) (added_with_record s.store n r) h.nodes;
-    columns = omega (arith, h.columns, width_with_record s.store n r);
+    columns = h.columns;
+    most = h.most;
+    within = h.within;
+    wide = omega (arith, h.wide, width_with_record s.store n r);
     placed = subst (λ (cs : ℕ → Column). ArePlaced cs s.specs.items s.indices.items) (sym (columns_written s.store n r)) h.placed;
   }
 
@@ -129,7 +132,7 @@ module _ {R E : Type 0} {has_key : E → ℕ → Bool} (order : E → ℕ → R 
 
     one_key_at : (j : ℕ) (lt : j < length s.specs.items) (i : AnyIndex) → i ≡ get_or s.indices.items j i → IsTrue (has_key_kind (kind_of i)) → HasOneKey (order s.keys (index_of i)) (hash_of s.keys (index_of i)) before keys.row
     one_key_at j lt i e key =
-        subst (λ z. HasOneKey (order s.keys z) (hash_of s.keys z) before keys.row) (sym (number_here s sound j lt i e))
+        subst (λ z. HasOneKey (order s.keys z) (hash_of s.keys z) before keys.row) (sym (number_here s sound j lt i e (subst (λ z. IsTrue (has_key_kind z)) (kind_here s sound j lt i e) key)))
         (one_key j lt (subst (λ z. IsTrue (has_key_kind z)) (kind_here s sound j lt i e) key))
 
     -- and the set is as keyed as it was

@@ -1,5 +1,5 @@
--- The indices of a set, each in the column of its number.
-use Rattle.std.specs.Prelude.{◌≡◌, ℕ, List, length, map, Option}
+-- The indices of a set, each in a column of its own.
+use Rattle.std.specs.Prelude.{◌≡◌, ◌≢◌, ℕ, ◌<◌, List, length, map, slice_index_or, Option, IsTrue}
 use Rattle.std.specs.List.{AllByRecursion}
 use Rattle.std.specs.declared.cmp.Ordering.{Ordering}
 use Rattle.node_store.specs.declared.Node.{Node}
@@ -7,22 +7,31 @@ use Rattle.node_store.specs.Column.{Column}
 use Rattle.node_store.specs.Nodes.{Lacks, Holds}
 use Rattle.node_store.specs.Store.{Store}
 use Rattle.container_model.specs.declared.handle.Spec.{Spec}
+use Rattle.container_model.specs.State.{has_key_kind}
 use Rattle.any_index.specs.declared.index.AnyIndex.{AnyIndex}
 use Rattle.any_index.specs.Spelled.{IsSound, HasRoom, list_of, kind_of, col_of, index_of}
 use Rattle.any_index.specs.Keyed.{IsKeyed, IsKeyedBut, IsKeyedExcept}
 use Rattle.index_set.specs.Each.{EachOf}
 
--- the index is sound and of the kind that it is to be; its column and the number of its key are its own number
+-- the index is sound and of the kind that it is to be; the number of its key, if it has one, is its own number
 pub record IsPlaced (cs : ℕ → Column) (j : ℕ) (spec : Spec) (i : AnyIndex) : Type 0 where
   pub sound : IsSound cs i
   pub kind : kind_of i ≡ spec.kind
-  pub col : col_of i ≡ j
-  pub number : index_of i ≡ j
+  pub number : IsTrue (has_key_kind (kind_of i)) → index_of i ≡ j
 
--- so is each, and there is one for each that is to be
+-- no two indices have one column
+abbrev pub AreApart : List Spec → List AnyIndex → Type 0
+AreApart specs is = (j k : ℕ) (d e : AnyIndex) → j < length specs → k < length specs → j ≢ k → col_of (slice_index_or is j d) ≢ col_of (slice_index_or is k e)
+
+-- each index has one of the first so many columns
+pub record AreWithin (columns : ℕ) (specs : List Spec) (indices : List AnyIndex) : Type 0 where
+  pub each : EachOf (λ _ _ i. col_of i < columns) specs indices
+
+-- each is placed, in a column of its own, and there is one for each that is to be
 pub record ArePlaced (cs : ℕ → Column) (specs : List Spec) (indices : List AnyIndex) : Type 0 where
   pub one_each : length indices ≡ length specs
   pub each : EachOf (IsPlaced cs) specs indices
+  pub apart : AreApart specs indices
 
 -- their lists
 abbrev pub lists_in : (ℕ → Column) → List AnyIndex → List (List Node)

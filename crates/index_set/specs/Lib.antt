@@ -4,3 +4,5 @@ pub mod Lists
 pub mod Set
 pub mod Lends
 pub mod Asked
+pub mod Added
+pub mod Dropped

@@ -49,6 +49,10 @@ module _ {R E : Type 0} where
   abbrev pub kind_at : IndexSet R E → ℕ → Kind
   kind_at s index = option_map_or (λ (spec : Spec). spec.kind) (slice_get s.specs.items index) Sequenced
 
+  -- how many columns of the store its indices may have
+  abbrev pub columns_of : IndexSet R E → ℕ
+  columns_of s = s.columns
+
   -- how the record of a node stands to a search key of one index
   abbrev pub probe_side : {P : Type 0} → (E → ℕ → R → P → Ordering) → IndexSet R E → ℕ → P → Node → Ordering
   probe_side order s index probe = side_of (store.record_of s.store) (λ a. order s.keys index a probe)
@@ -65,7 +69,10 @@ module _ {R E : Type 0} where
     pub keys : KeysMatch (has_key s.keys) s.specs.items
     pub placed : every.ArePlaced (store.column_of s.store) s.specs.items s.indices.items
     pub nodes : IsStore s.store
-    pub columns : length s.specs.items ≤ width_of s.store
+    pub columns : length s.specs.items ≤ s.columns
+    pub most : s.columns ≤ 8
+    pub within : every.AreWithin s.columns s.specs.items s.indices.items
+    pub wide : s.columns ≤ width_of s.store
 
   -- each index has its nodes where their records' keys put them
   abbrev pub IsKeyed : (E → ℕ → R → R → Ordering) → (E → ℕ → R → ℕ) → IndexSet R E → Type 0
@@ -103,3 +110,4 @@ module _ {R E : Type 0} where
   pub record IsOfSame (old new : IndexSet R E) : Type 0 where
     pub keys : new.keys ≡ old.keys
     pub specs : new.specs.items ≡ old.specs.items
+    pub columns : new.columns ≡ old.columns

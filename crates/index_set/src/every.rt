@@ -8,7 +8,7 @@ ghost use Rattle.node_store.specs.ByNode.{column_of, record_of, contents, same_n
 ghost use Rattle.container_model.specs.State.{KeysMatch};
 ghost use Rattle.container_model.specs.Insert.{place_in};
 ghost use Rattle.index_set.specs.Each.{changed_from, list_at};
-ghost use Rattle.index_set.specs.Indices.{ArePlaced, lists_in, HaveRoom, LackIt, HoldIt, AreKeyed, AreKeyedBut};
+ghost use Rattle.index_set.specs.Indices.{ArePlaced, AreWithin, lists_in, HaveRoom, LackIt, HoldIt, AreKeyed, AreKeyedBut};
 ghost use Rattle.index_set.specs.Lists.{entered_at, settled_at};
 
 use any_index::AnyIndex;
@@ -21,12 +21,13 @@ use std::alloc::{AllocError, Global};
 pub(crate) fn empty_indices(alloc: Global, specs: &[Spec]) -> Result<Vec<AnyIndex>, AllocError>
     requires { length specs.now ≤ 8 }
     ensures placed { IfOk result (λ made. (cs : ℕ → Column) → ArePlaced cs specs.now made.items) }
+    ensures within { IfOk result (λ made. AreWithin (length specs.now) specs.now made.items) }
     ensures empty { IfOk result (λ made. (cs : ℕ → Column) →
         lists_in cs made.items ≡ map (λ _. []) specs.now) }
 {
     let mut indices = Vec::with_capacity(alloc, specs.len())?;
     for index in 0..specs.len() {
-        indices.push(AnyIndex::new(alloc, specs[index].kind, index))?;
+        indices.push(AnyIndex::new(alloc, specs[index].kind, index, index))?;
     }
     Ok(indices)
 }
@@ -36,10 +37,11 @@ pub(crate) fn empty_each(alloc: Global, specs: &[Spec], indices: &mut [AnyIndex]
     requires few { length specs.now ≤ 8 }
     requires one_each { length indices.old ≡ length specs.now }
     ensures placed { (cs : ℕ → Column) → ArePlaced cs specs.now indices.new }
+    ensures within { AreWithin (length specs.now) specs.now indices.new }
     ensures empty { (cs : ℕ → Column) → lists_in cs indices.new ≡ map (λ _. []) specs.now }
 {
     for index in 0..specs.len() {
-        indices[index] = AnyIndex::new(alloc, specs[index].kind, index);
+        indices[index] = AnyIndex::new(alloc, specs[index].kind, index, index);
     }
 }
 
@@ -51,6 +53,8 @@ pub(crate) fn reserve_each<R>(
 ) -> Result<(), AllocError>
     requires { ArePlaced (column_of store.old) specs.now indices.old }
     ensures placed { ArePlaced (column_of store.new) specs.now indices.new }
+    ensures within { (columns : ℕ) → AreWithin columns specs.now indices.old →
+        AreWithin columns specs.now indices.new }
     ensures lists { lists_in (column_of store.new) indices.new ≡ lists_in
         (column_of store.old) indices.old }
     ensures room { OnOk result (HaveRoom specs.now indices.new) }
@@ -87,7 +91,7 @@ pub(crate) fn enter_each<R, E: Extract<R>>(
 )
     requires placed { ArePlaced (column_of store.old) specs.now indices.old }
     requires keys { KeysMatch (E.has_key keys.now) specs.now }
-    requires columns { length specs.now ≤ width_of store.old }
+    requires columns { AreWithin (width_of store.old) specs.now indices.old }
     requires node { IsNodeOf store.old n }
     requires new { LackIt (lists_in (column_of store.old) indices.old) n }
     requires room { HaveRoom specs.now indices.old }
@@ -96,6 +100,8 @@ pub(crate) fn enter_each<R, E: Extract<R>>(
     requires keyed { AreKeyed (E.order_of keys.now)
         (E.hash_of keys.now) store.old specs.now indices.old }
     ensures placed { ArePlaced (column_of store.new) specs.now indices.new }
+    ensures within { (columns : ℕ) → AreWithin columns specs.now indices.old →
+        AreWithin columns specs.now indices.new }
     ensures lists { lists_in (column_of store.new) indices.new ≡ changed_from
         (entered_at (E.order_of keys.now) (record_of store.old) at n) 0 specs.now
         (lists_in (column_of store.old) indices.old) }
@@ -118,6 +124,8 @@ pub(crate) fn leave_each<R>(
     requires placed { ArePlaced (column_of store.old) specs.now indices.old }
     requires held { HoldIt (lists_in (column_of store.old) indices.old) n }
     ensures placed { ArePlaced (column_of store.new) specs.now indices.new }
+    ensures within { (columns : ℕ) → AreWithin columns specs.now indices.old →
+        AreWithin columns specs.now indices.new }
     ensures lists { lists_in (column_of store.new) indices.new ≡ map (without (same_node n))
         (lists_in (column_of store.old) indices.old) }
     ensures room { HaveRoom specs.now indices.new }
@@ -145,6 +153,8 @@ pub(crate) fn settle_each<R, E: Extract<R>>(
     requires keyed { AreKeyedBut (E.order_of keys.now)
         (E.hash_of keys.now) store.old specs.now indices.old n }
     ensures placed { ArePlaced (column_of store.new) specs.now indices.new }
+    ensures within { (columns : ℕ) → AreWithin columns specs.now indices.old →
+        AreWithin columns specs.now indices.new }
     ensures lists { lists_in (column_of store.new) indices.new ≡ changed_from
         (settled_at (E.order_of keys.now) (record_of store.old) n) 0 specs.now
         (lists_in (column_of store.old) indices.old) }

@@ -4,11 +4,16 @@
 //! all, and removed. A look-up or a walk goes by the number of an index.
 #![tactic(auto)]
 
+mod add_index;
 mod bans;
+mod build;
 mod clear;
+mod drop_index;
 mod every;
 mod order;
 mod reads;
 mod set;
 
+pub use add_index::NotAdded;
+pub use build::NoIndex;
 pub use set::IndexSet;

@@ -19,23 +19,32 @@ use key_extract::Extract;
 use node_store::{NoRoom, Node, NodeStore};
 use std::alloc::{AllocError, Global};
 
-/// Records under one to eight indices, each of which may have any of its nodes.
+/// Records under one to eight indices, each of which may have any of its nodes. Each goes through a column of the store of
+/// its own, one of the first `columns`.
 #[derive(Drop)]
 pub struct IndexSet<R, E> {
     pub(crate) alloc: Global,
     pub(crate) store: NodeStore<R>,
+    pub(crate) columns: usize,
     pub(crate) keys: E,
     pub(crate) specs: Vec<Spec>,
     pub(crate) indices: Vec<AnyIndex>,
 }
 
 impl<R: Drop, E: Extract<R> + Drop> IndexSet<R, E> {
-    ghost use Rattle.index_set.specs.Set.{store_of, keys_of, specs_of, lists_of, IsSound, IsKeyed};
+    ghost use Rattle.index_set.specs.Set.{store_of, keys_of, specs_of, columns_of, lists_of, IsSound, IsKeyed};
 
-    /// A set without records. Index number j of `specs` is asked for by key number j. O(indices).
-    pub fn new(alloc: Global, specs: Vec<Spec>, keys: E) -> Result<IndexSet<R, E>, AllocError>
+    /// A set without records, in which there is room for `columns` indices. Index number j of `specs` is asked for by key
+    /// number j. O(indices).
+    pub fn new(
+        alloc: Global,
+        specs: Vec<Spec>,
+        keys: E,
+        columns: usize,
+    ) -> Result<IndexSet<R, E>, AllocError>
         requires some { 1 ≤ length specs.items }
-        requires few { length specs.items ≤ 8 }
+        requires few { length specs.items ≤ columns }
+        requires most { columns ≤ 8 }
         requires keys { KeysMatch (E.has_key keys) specs.items }
         ensures sound { IfOk result (λ made. IsSound E.has_key made) }
         ensures keyed { IfOk result (λ made. IsKeyed E.order_of E.hash_of made) }
@@ -44,11 +53,13 @@ impl<R: Drop, E: Extract<R> + Drop> IndexSet<R, E> {
             store_of made ≡ empty_store (width_of (store_of made))) }
         ensures keys { IfOk result (λ made. keys_of made ≡ keys) }
         ensures specs { IfOk result (λ made. specs_of made ≡ specs.items) }
+        ensures columns { IfOk result (λ made. columns_of made ≡ columns) }
     {
         let indices = empty_indices(alloc, &specs)?;
         Ok(IndexSet {
             alloc,
-            store: NodeStore::new(alloc, specs.len()),
+            store: NodeStore::new(alloc, columns),
+            columns,
             keys,
             specs,
             indices,
@@ -103,7 +114,7 @@ impl<R: Drop, E: Extract<R>> IndexSet<R, E> {
 
 impl<R, E: Extract<R>> IndexSet<R, E> {
     ghost use Rattle.index_set.specs.Lends.{lends_record};
-    ghost use Rattle.index_set.specs.Set.{store_of, keys_of, specs_of, contents, record_of, lists_of, list_of, HasRoom, IsSound, IsKeyed, IsKeyedBut, IsKeyedExcept, IsUniqueExcept, HasKeysOf, IsRestored, IsOfSame, with_record};
+    ghost use Rattle.index_set.specs.Set.{store_of, keys_of, specs_of, columns_of, contents, record_of, lists_of, list_of, HasRoom, IsSound, IsKeyed, IsKeyedBut, IsKeyedExcept, IsUniqueExcept, HasKeysOf, IsRestored, IsOfSame, with_record};
 
     /// How many records there are, in indices or not. O(1).
     pub fn len(&self) -> usize
@@ -124,6 +135,13 @@ impl<R, E: Extract<R>> IndexSet<R, E> {
         ensures { result.now ≡ specs_of self.now }
     {
         self.specs.as_slice()
+    }
+
+    /// How many indices there may be. O(1).
+    pub fn columns(&self) -> usize
+        ensures { result ≡ columns_of self.now }
+    {
+        self.columns
     }
 
     /// The keys of the indices. O(1).

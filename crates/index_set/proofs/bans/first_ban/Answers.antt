@@ -28,19 +28,19 @@ same_as-requires-clause-others g c = record {
       (c.requires.keyed.each c.loop-index.index some_spec c.index-indices-index.result c.loop-index-test.true);
   unique =
       subst (λ i. HasOneOfEachKey (g.E.Extract.order_of c.args.keys.now) c.args.store.now i c.args.except) (sym c.index-indices-index.is)
-      (unique_here (g.E.Extract.order_of c.args.keys.now) c.args.store.now c.args.specs.now c.args.indices.now c.args.except c.requires.placed c.requires.unique c.loop-index.index some_spec c.index-indices-index.result c.loop-index-test.true c.if-specs-index.true);
+      (unique_here (g.E.Extract.order_of c.args.keys.now) c.args.store.now c.args.specs.now c.args.indices.now c.args.except c.requires.placed c.requires.unique c.loop-index.index some_spec c.index-indices-index.result c.loop-index-test.true (c.requires.keys.unique c.loop-index.index some_spec c.loop-index-test.true c.if-specs-index.true) c.if-specs-index.true);
 }
 
 pub returns-in-Some : goal.returns-in-Some
 returns-in-Some g c =
-    let answer = same_at (g.E.Extract.order_of c.args.keys.now) (record_of c.args.store.now) (column_of c.args.store.now) c.args.specs.now c.args.indices.now c.args.except c.args.r.now c.requires.placed c.loop-index.index some_spec c.index-indices-index.result c.loop-index-test.true c.index-indices-index.is c.same_as.result c.same_as.ensures in
+    let answer = same_at (g.E.Extract.order_of c.args.keys.now) (record_of c.args.store.now) (column_of c.args.store.now) c.args.specs.now c.args.indices.now c.args.except c.args.r.now c.requires.placed c.loop-index.index some_spec c.index-indices-index.result c.loop-index-test.true (c.requires.keys.unique c.loop-index.index some_spec c.loop-index-test.true c.if-specs-index.true) c.index-indices-index.is c.same_as.result c.same_as.ensures in
     sym (ban_here (g.E.Extract.order_of c.args.keys.now) (record_of c.args.store.now) (column_of c.args.store.now) c.args.specs.now c.args.indices.now c.args.except c.args.r.now c.loop-index.index some_spec c.in-Some.by c.loop-index-test.true c.if-specs-index.true (sym answer ∙ c.in-Some.is))
     ∙ c.loop-index.invariant
 
 pub loop-index-preserved : goal.loop-index-preserved
 loop-index-preserved g c = elim c.if-specs-index.branch [
   | then-specs-index+in_default w ↦
-      let answer = same_at (g.E.Extract.order_of c.args.keys.now) (record_of c.args.store.now) (column_of c.args.store.now) c.args.specs.now c.args.indices.now c.args.except c.args.r.now c.requires.placed c.loop-index.index some_spec w.index-indices-index.result c.loop-index-test.true w.index-indices-index.is w.same_as.result w.same_as.ensures in
+      let answer = same_at (g.E.Extract.order_of c.args.keys.now) (record_of c.args.store.now) (column_of c.args.store.now) c.args.specs.now c.args.indices.now c.args.except c.args.r.now c.requires.placed c.loop-index.index some_spec w.index-indices-index.result c.loop-index-test.true (c.requires.keys.unique c.loop-index.index some_spec c.loop-index-test.true w.if-specs-index.true) w.index-indices-index.is w.same_as.result w.same_as.ensures in
       sym (ban_later (g.E.Extract.order_of c.args.keys.now) (record_of c.args.store.now) (column_of c.args.store.now) c.args.specs.now c.args.indices.now c.args.except c.args.r.now c.loop-index.index some_spec c.loop-index-test.true (sym answer ∙ w.in_default.is))
       ∙ c.loop-index.invariant
   | else-specs-index w ↦

@@ -1,13 +1,14 @@
-use Rattle.std.proofs.Common.{◌∙◌, sym, subst, length, ◌≤◌, ◌<◌, arith, false}
+use Rattle.std.proofs.Common.{◌∙◌, sym, subst, length, ◌≤◌, arith, false}
 use Rattle.std.proofs.lemmas.List.{length-map}
 use Rattle.node_store.specs.Nodes.{Lacks}
 use Rattle.node_store.specs.Store.{width_of}
 use Rattle.node_store.specs.ByNode.{column_of}
-use Rattle.node_store.proofs.ByNode.{IsNodeOf_kept, node_in_column, width_kept}
+use Rattle.node_store.proofs.ByNode.{IsNodeOf_kept, width_kept}
 use Rattle.container_model.specs.declared.handle.Kind.TheVariants.{Sequenced}
 use Rattle.any_index.specs.Spelled.{list_of}
+use Rattle.index_set.specs.Indices.{AreWithin}
 use Rattle.index_set.proofs.Each.{all_listed}
-use Rattle.index_set.proofs.Frame.{key_here, steps_of}
+use Rattle.index_set.proofs.Frame.{node_there, key_here, steps_of}
 use Rattle.index_set.proofs.Walk.{walk_start, walk_here, walk_step, walk_end, keyed_start, keyed_here, keyed_step, keyed_end, room_from_step, asked_here, entered_here}
 use Rattle.index_set.proofs.every.enter_each.Goals as goal
 
@@ -27,10 +28,9 @@ enter-requires-clause-filed g c = record {
 
 pub enter-requires-clause-node : goal.enter-requires-clause-node
 enter-requires-clause-node g c =
-    let placed = c.loop-index.invariant.walk.placed.each c.loop-index.index (record { kind = Sequenced; unique = false }) _ c.loop-index-test.true in
     let kept = width_kept c.args.store.now c.loop-index.store c.loop-index.invariant.walk.contents in
-    let below : c.loop-index.index < width_of c.loop-index.store = omega (arith, c.requires.columns, kept, c.loop-index-test.true) in
-    node_in_column c.loop-index.store _ c.args.n (subst (λ k. k < width_of c.loop-index.store) (sym placed.col) below)
+    let within = subst (λ w. AreWithin w c.args.specs.now c.loop-index.indices) (sym kept) (c.loop-index.invariant.walk.within (width_of c.args.store.now) c.requires.columns) in
+    node_there c.loop-index.store c.args.n c.args.specs.now c.loop-index.indices c.loop-index.index (record { kind = Sequenced; unique = false }) _ c.loop-index-test.true within
     (IsNodeOf_kept c.args.store.now c.loop-index.store c.args.n c.loop-index.invariant.walk.contents c.requires.node)
 
 pub enter-requires-clause-new : goal.enter-requires-clause-new

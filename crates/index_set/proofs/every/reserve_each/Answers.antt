@@ -47,6 +47,11 @@ returns-in_err-reserve_one-clause-placed g c =
     (walk_step _ c.args.store.now c.args.specs.now c.args.indices.now c.loop-index.index c.loop-index.store c.reserve_one.new.store c.loop-index.indices _ c.reserve_one.new.self c.loop-index-test.true c.loop-index.invariant.walk
     (steps_of c.reserve_one.ensures.sound c.reserve_one.ensures.rest.kind c.reserve_one.ensures.rest.col c.reserve_one.ensures.rest.index c.reserve_one.ensures.rest.others) c.reserve_one.ensures.rest.contents (λ e. c.reserve_one.ensures.list)).placed
 
+pub returns-in_err-reserve_one-clause-within : goal.returns-in_err-reserve_one-clause-within
+returns-in_err-reserve_one-clause-within g c =
+    (walk_step _ c.args.store.now c.args.specs.now c.args.indices.now c.loop-index.index c.loop-index.store c.reserve_one.new.store c.loop-index.indices _ c.reserve_one.new.self c.loop-index-test.true c.loop-index.invariant.walk
+    (steps_of c.reserve_one.ensures.sound c.reserve_one.ensures.rest.kind c.reserve_one.ensures.rest.col c.reserve_one.ensures.rest.index c.reserve_one.ensures.rest.others) c.reserve_one.ensures.rest.contents (λ e. c.reserve_one.ensures.list)).within
+
 pub returns-in_err-reserve_one-clause-lists : goal.returns-in_err-reserve_one-clause-lists
 returns-in_err-reserve_one-clause-lists g c =
     same_walk c.args.store.now c.reserve_one.new.store c.args.specs.now c.args.indices.now _ (c.loop-index.index + 1) c.requires.one_each

@@ -12,7 +12,10 @@ returns-clause-sound g c =
       keys = old.keys;
       placed = placed_after c.args.self.now.store c.add.new.self c.args.value c.args.self.now.specs.items c.args.self.now.indices.items old.placed c.add.result c.add.ensures.added c.add.ensures.unchanged;
       nodes = IsStore_after c.args.self.now.store c.add.new.self c.args.value c.add.result c.add.ensures.added c.add.ensures.number c.add.ensures.count c.add.ensures.unchanged old.nodes;
-      columns = omega (arith, old.columns, width_after c.args.self.now.store c.add.new.self c.args.value c.add.result c.add.ensures.added c.add.ensures.unchanged);
+      columns = old.columns;
+      most = old.most;
+      within = old.within;
+      wide = omega (arith, old.wide, width_after c.args.self.now.store c.add.new.self c.args.value c.add.result c.add.ensures.added c.add.ensures.unchanged);
     }
 
 pub returns-clause-lists : goal.returns-clause-lists

@@ -1,5 +1,5 @@
 use Rattle.std.proofs.Common.{arith, rules}
-use Rattle.index_set.proofs.Emptied.{no_nodes, no_length, emptied_placed, emptied_lists, emptied_keyed, emptied_unique}
+use Rattle.index_set.proofs.Emptied.{no_nodes, no_length, emptied_placed, emptied_within, emptied_lists, emptied_keyed, emptied_unique}
 use Rattle.index_set.proofs.set.IndexSet.clear.Goals as goal
 
 pub returns-clause-sound : goal.returns-clause-sound
@@ -9,7 +9,10 @@ returns-clause-sound g c = record {
   keys = c.requires.keys;
   placed = emptied_placed c.remove_all.new.store c.args.self.now.specs.items c.deref.result.now c.deref.ensures.value c.args.self.now.indices.len c.args.self.now.indices.items c.empty_each.new.indices (search rules) c.requires.placed.one_each c.empty_each.ensures.placed c.empty_each.ensures.empty;
   nodes = c.remove_all.ensures.sound;
-  columns = omega (arith, c.requires.columns, c.remove_all.ensures.width);
+  columns = c.requires.columns;
+  most = c.requires.most;
+  within = emptied_within c.remove_all.new.store c.args.self.now.specs.items c.deref.result.now c.deref.ensures.value c.args.self.now.indices.len c.args.self.now.indices.items c.empty_each.new.indices (search rules) c.requires.placed.one_each c.empty_each.ensures.placed c.empty_each.ensures.empty c.args.self.now.columns c.requires.columns c.empty_each.ensures.within;
+  wide = omega (arith, c.requires.wide, c.remove_all.ensures.width);
 }
 
 pub returns-clause-lists : goal.returns-clause-lists

@@ -11,10 +11,10 @@ find_any-requires g c = can_find g.E.Extract c.args.self.now c.requires.sound c.
 
 pub returns-clause-found : goal.returns-clause-found
 returns-clause-found g c =
-    told_here c.args.self.now c.requires.sound c.args.index c.requires.index c.index.result.now c.index.ensures (λ side xs. IfSome c.find_any.result (λ n. Holds xs n × (side n ≡ Equal)))
+    told_here c.args.self.now c.requires.sound c.args.index c.requires.index c.index.result.now c.index.ensures c.requires.kind (λ side xs. IfSome c.find_any.result (λ n. Holds xs n × (side n ≡ Equal)))
     g.E.Extract.probe_order_of c.args.probe.now c.find_any.ensures.found
 
 pub returns-clause-none : goal.returns-clause-none
 returns-clause-none g c =
-    told_here c.args.self.now c.requires.sound c.args.index c.requires.index c.index.result.now c.index.ensures (λ side xs. c.find_any.result ≡ None → find_equal side xs ≡ None)
+    told_here c.args.self.now c.requires.sound c.args.index c.requires.index c.index.result.now c.index.ensures c.requires.kind (λ side xs. c.find_any.result ≡ None → find_equal side xs ≡ None)
     g.E.Extract.probe_order_of c.args.probe.now c.find_any.ensures.none

@@ -3,7 +3,7 @@ use Rattle.list_model.specs.Walk.{relocated}
 use Rattle.node_store.specs.ByNode.{same_node}
 use Rattle.index_set.proofs.Frame.{steps_of}
 use Rattle.index_set.proofs.Reading.{list_here}
-use Rattle.index_set.proofs.Moving.{placed_moved, lists_moved, room_moved, keyed_moved}
+use Rattle.index_set.proofs.Moving.{placed_moved, within_moved, lists_moved, room_moved, keyed_moved}
 use Rattle.index_set.proofs.Stores.{IsStore_kept, columns_kept}
 use Rattle.index_set.proofs.set.IndexSet.move_to.Goals as goal
 
@@ -16,7 +16,10 @@ returns-clause-sound g c =
       keys = old.keys;
       placed = placed_moved c.args.self.now c.requires.at.sound c.args.index c.requires.at.index c.index_mut.result.now c.move_to.new.self c.index_mut.ensures.value c.move_to.new.store (steps_of c.move_to.ensures.sound c.move_to.ensures.rest.kind c.move_to.ensures.rest.col c.move_to.ensures.rest.index c.move_to.ensures.rest.others);
       nodes = IsStore_kept c.args.self.now.store c.move_to.new.store c.move_to.ensures.rest.contents old.nodes;
-      columns = columns_kept c.args.self.now.store c.move_to.new.store c.move_to.ensures.rest.contents old.columns;
+      columns = old.columns;
+      most = old.most;
+      within = within_moved c.args.self.now c.requires.at.sound c.args.index c.requires.at.index c.index_mut.result.now c.move_to.new.self c.index_mut.ensures.value c.move_to.new.store (steps_of c.move_to.ensures.sound c.move_to.ensures.rest.kind c.move_to.ensures.rest.col c.move_to.ensures.rest.index c.move_to.ensures.rest.others);
+      wide = columns_kept c.args.self.now.store c.move_to.new.store c.move_to.ensures.rest.contents old.wide;
     }
 
 pub returns-clause-lists : goal.returns-clause-lists

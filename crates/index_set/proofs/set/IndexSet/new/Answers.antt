@@ -1,7 +1,7 @@
 use Rattle.std.proofs.Common.{ap, sym, ◌∙◌, subst, length, map, [], arith}
 use Rattle.node_store.specs.Store.{IsStore, width_of}
 use Rattle.node_store.specs.ByNode.{column_of}
-use Rattle.index_set.specs.Indices.{ArePlaced}
+use Rattle.index_set.specs.Indices.{ArePlaced, AreWithin}
 use Rattle.index_set.proofs.Coming.{keyed_empty}
 use Rattle.index_set.proofs.Stores.{IsStore_empty}
 use Rattle.index_set.proofs.set.IndexSet.new.Goals as goal
@@ -9,11 +9,18 @@ use Rattle.index_set.proofs.set.IndexSet.new.Goals as goal
 pub returns-clause-sound : goal.returns-clause-sound
 returns-clause-sound g c = record {
   some = c.requires.some;
-  few = c.requires.few;
+  few = omega (arith, c.requires.few, c.requires.most);
   keys = c.requires.keys;
   placed = subst (λ ds. ArePlaced (column_of c.new.result) ds c.in_ok-indices.indices.items) c.deref.ensures.value (c.in_ok-indices.ensures.placed (column_of c.new.result));
   nodes = subst IsStore (sym c.new.ensures.empty) (IsStore_empty (width_of c.new.result));
-  columns = omega (arith, c.new.ensures.enough, c.len.ensures);
+  columns = c.requires.few;
+  most = c.requires.most;
+  within = record {
+    each = λ j d e lt.
+        let below = (subst (λ ds. AreWithin (length ds) ds c.in_ok-indices.indices.items) c.deref.ensures.value c.in_ok-indices.ensures.within).each j d e lt in
+        omega (arith, below, c.requires.few);
+  };
+  wide = c.new.ensures.enough;
 }
 
 pub returns-clause-keyed : goal.returns-clause-keyed

@@ -1,5 +1,5 @@
 use Rattle.index_set.proofs.Frame.{steps_of}
-use Rattle.index_set.proofs.Moving.{placed_moved, lists_moved, room_moved, keyed_moved}
+use Rattle.index_set.proofs.Moving.{placed_moved, within_moved, lists_moved, room_moved, keyed_moved}
 use Rattle.index_set.proofs.Stores.{IsStore_kept, columns_kept}
 use Rattle.index_set.proofs.set.IndexSet.rearrange.Goals as goal
 
@@ -12,7 +12,10 @@ returns-clause-sound g c =
       keys = old.keys;
       placed = placed_moved c.args.self.now c.requires.at.sound c.args.index c.requires.at.index c.index_mut.result.now c.rearrange.new.self c.index_mut.ensures.value c.rearrange.new.store (steps_of c.rearrange.ensures.sound c.rearrange.ensures.rest.kind c.rearrange.ensures.rest.col c.rearrange.ensures.rest.index c.rearrange.ensures.rest.others);
       nodes = IsStore_kept c.args.self.now.store c.rearrange.new.store c.rearrange.ensures.rest.contents old.nodes;
-      columns = columns_kept c.args.self.now.store c.rearrange.new.store c.rearrange.ensures.rest.contents old.columns;
+      columns = old.columns;
+      most = old.most;
+      within = within_moved c.args.self.now c.requires.at.sound c.args.index c.requires.at.index c.index_mut.result.now c.rearrange.new.self c.index_mut.ensures.value c.rearrange.new.store (steps_of c.rearrange.ensures.sound c.rearrange.ensures.rest.kind c.rearrange.ensures.rest.col c.rearrange.ensures.rest.index c.rearrange.ensures.rest.others);
+      wide = columns_kept c.args.self.now.store c.rearrange.new.store c.rearrange.ensures.rest.contents old.wide;
     }
 
 pub returns-clause-lists : goal.returns-clause-lists

@@ -12,7 +12,10 @@ returns-clause-sound g c =
       keys = old.keys;
       placed = placed_removed c.args.self.now.store c.remove.new.self c.args.n c.args.self.now.specs.items c.args.self.now.indices.items c.remove.ensures.removed old.placed c.requires.loose;
       nodes = IsStore_removed c.args.self.now.store c.remove.new.self c.args.n c.remove.ensures.removed c.remove.ensures.count old.nodes;
-      columns = omega (arith, old.columns, c.remove.ensures.removed.width);
+      columns = old.columns;
+      most = old.most;
+      within = old.within;
+      wide = omega (arith, old.wide, c.remove.ensures.removed.width);
     }
 
 pub returns-clause-lists : goal.returns-clause-lists

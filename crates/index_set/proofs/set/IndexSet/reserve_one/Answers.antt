@@ -1,6 +1,6 @@
 use Rattle.std.proofs.Common.{rules, ◌≡◌, ◌∙◌, ap, sym, subst, length}
 use Rattle.node_store.specs.ByNode.{column_of}
-use Rattle.index_set.specs.Indices.{ArePlaced, AreKeyed}
+use Rattle.index_set.specs.Indices.{ArePlaced, AreWithin, AreKeyed}
 use Rattle.index_set.proofs.Refilled.{refilled}
 use Rattle.index_set.proofs.Stores.{IsStore_kept, columns_kept}
 use Rattle.index_set.proofs.set.IndexSet.reserve_one.Goals as goal
@@ -9,6 +9,8 @@ pub returns-clause-sound : goal.returns-clause-sound
 returns-clause-sound g c =
     let old = c.requires in
     let placed = subst (λ ds. ArePlaced (column_of c.reserve_each.new.store) ds c.reserve_each.new.indices) c.deref.ensures.value c.reserve_each.ensures.placed in
+    let was : AreWithin c.args.self.now.columns c.deref.result.now c.deref_mut.result.now = search rules in
+    let within = subst (λ ds. AreWithin c.args.self.now.columns ds c.reserve_each.new.indices) c.deref.ensures.value (c.reserve_each.ensures.within c.args.self.now.columns was) in
     let same : length c.reserve_each.new.indices ≡ length c.args.self.now.indices.items =
     c.reserve_each.ensures.placed.one_each ∙ (ap length c.deref.ensures.value ∙ sym c.requires.placed.one_each) in
     let held : c.args.self.now.indices.len ≡ length c.args.self.now.indices.items = search rules in
@@ -18,7 +20,10 @@ returns-clause-sound g c =
       keys = old.keys;
       placed = subst (λ z. ArePlaced (column_of c.reserve_each.new.store) c.args.self.now.specs.items z) (sym (refilled c.args.self.now.indices.len c.args.self.now.indices.items c.reserve_each.new.indices held same)) placed;
       nodes = IsStore_kept c.args.self.now.store c.reserve_each.new.store c.reserve_each.ensures.contents old.nodes;
-      columns = columns_kept c.args.self.now.store c.reserve_each.new.store c.reserve_each.ensures.contents old.columns;
+      columns = old.columns;
+      most = old.most;
+      within = subst (λ z. AreWithin c.args.self.now.columns c.args.self.now.specs.items z) (sym (refilled c.args.self.now.indices.len c.args.self.now.indices.items c.reserve_each.new.indices held same)) within;
+      wide = columns_kept c.args.self.now.store c.reserve_each.new.store c.reserve_each.ensures.contents old.wide;
     }
 
 pub returns-clause-keyed : goal.returns-clause-keyed

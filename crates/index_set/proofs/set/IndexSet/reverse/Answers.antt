@@ -2,7 +2,7 @@ use Rattle.std.proofs.Common.{◌∙◌, ap}
 use Rattle.std.specs.Prelude.{reverse}
 use Rattle.index_set.proofs.Frame.{steps_of}
 use Rattle.index_set.proofs.Reading.{list_here}
-use Rattle.index_set.proofs.Moving.{placed_moved, lists_moved, room_moved, keyed_moved}
+use Rattle.index_set.proofs.Moving.{placed_moved, within_moved, lists_moved, room_moved, keyed_moved}
 use Rattle.index_set.proofs.Stores.{IsStore_kept, columns_kept}
 use Rattle.index_set.proofs.set.IndexSet.reverse.Goals as goal
 
@@ -15,7 +15,10 @@ returns-clause-sound g c =
       keys = old.keys;
       placed = placed_moved c.args.self.now c.requires.at.sound c.args.index c.requires.at.index c.index_mut.result.now c.reverse.new.self c.index_mut.ensures.value c.reverse.new.store (steps_of c.reverse.ensures.sound c.reverse.ensures.rest.kind c.reverse.ensures.rest.col c.reverse.ensures.rest.index c.reverse.ensures.rest.others);
       nodes = IsStore_kept c.args.self.now.store c.reverse.new.store c.reverse.ensures.rest.contents old.nodes;
-      columns = columns_kept c.args.self.now.store c.reverse.new.store c.reverse.ensures.rest.contents old.columns;
+      columns = old.columns;
+      most = old.most;
+      within = within_moved c.args.self.now c.requires.at.sound c.args.index c.requires.at.index c.index_mut.result.now c.reverse.new.self c.index_mut.ensures.value c.reverse.new.store (steps_of c.reverse.ensures.sound c.reverse.ensures.rest.kind c.reverse.ensures.rest.col c.reverse.ensures.rest.index c.reverse.ensures.rest.others);
+      wide = columns_kept c.args.self.now.store c.reverse.new.store c.reverse.ensures.rest.contents old.wide;
     }
 
 pub returns-clause-lists : goal.returns-clause-lists

@@ -4,7 +4,7 @@ use Rattle.container_model.specs.State.{is_sequence_kind}
 use Rattle.index_set.specs.Set.{kind_at}
 use Rattle.index_set.proofs.Frame.{steps_of}
 use Rattle.index_set.proofs.Reading.{sound_here, kind_here, has_its_key}
-use Rattle.index_set.proofs.Moving.{placed_moved, room_moved, keyed_moved}
+use Rattle.index_set.proofs.Moving.{placed_moved, within_moved, room_moved, keyed_moved}
 use Rattle.index_set.proofs.Stores.{IsStore_kept, columns_kept}
 use Rattle.index_set.proofs.Sinking.{by_key_kind, lists_sunk, list_sunk}
 use Rattle.index_set.proofs.set.IndexSet.sink.Goals as goal
@@ -32,7 +32,10 @@ returns-clause-sound g c =
       keys = old.keys;
       placed = placed_moved c.args.self.now c.requires.at.sound c.args.row c.requires.at.index c.index_mut.result.now c.sink.new.self c.index_mut.ensures.value c.sink.new.store (steps_of c.sink.ensures.sound c.sink.ensures.rest.kind c.sink.ensures.rest.col c.sink.ensures.rest.index c.sink.ensures.rest.others);
       nodes = IsStore_kept c.args.self.now.store c.sink.new.store c.sink.ensures.rest.contents old.nodes;
-      columns = columns_kept c.args.self.now.store c.sink.new.store c.sink.ensures.rest.contents old.columns;
+      columns = old.columns;
+      most = old.most;
+      within = within_moved c.args.self.now c.requires.at.sound c.args.row c.requires.at.index c.index_mut.result.now c.sink.new.self c.index_mut.ensures.value c.sink.new.store (steps_of c.sink.ensures.sound c.sink.ensures.rest.kind c.sink.ensures.rest.col c.sink.ensures.rest.index c.sink.ensures.rest.others);
+      wide = columns_kept c.args.self.now.store c.sink.new.store c.sink.ensures.rest.contents old.wide;
     }
 
 pub returns-clause-room : goal.returns-clause-room

@@ -1,0 +1,120 @@
+-- An index is made beside those of a set, and joins them.
+use Rattle.std.proofs.Common.{◌≡◌, ◌≢◌, ℕ, ◌+◌, ◌<◌, ◌≤◌, ◌==◌, Bool, true, false, List, [], ◌∷◌, ◌++◌, length, get_or, None, Option, refl, sym, ap, ◌∙◌, subst, arith, ⊎_elim}
+use Rattle.std.specs.Prelude.{IsTrue}
+use Rattle.std.specs.List.{list_any}
+use Rattle.std.specs.declared.cmp.Ordering.{Ordering}
+use Rattle.std.proofs.lemmas.Bool.{cases_lt}
+use Rattle.std.proofs.lemmas.Bool.Decides.{nat_tests}
+use Rattle.std.proofs.lemmas.List.{length_push, get_or_append_left, get_or_push}
+use Rattle.std.proofs.lemmas.List.Folds.{list_any_at}
+use Rattle.node_store.specs.declared.Node.{Node}
+use Rattle.node_store.specs.Column.{Column, KeepsOthers}
+use Rattle.node_store.specs.Store.{Store}
+use Rattle.node_store.specs.ByNode.{column_of, contents}
+use Rattle.container_model.specs.declared.handle.Spec.{Spec}
+use Rattle.container_model.specs.State.{KeysMatch, has_key_kind}
+use Rattle.any_index.specs.declared.index.AnyIndex.{AnyIndex}
+use Rattle.any_index.specs.Keyed as any
+use Rattle.any_index.specs.Spelled.{col_of}
+use Rattle.index_set.specs.Indices.{IsPlaced, ArePlaced, AreWithin, lists_in, AreKeyed}
+use Rattle.index_set.specs.Lists.{AreUniqueFrom}
+use Rattle.index_set.proofs.Coming.{lists_kept}
+use Rattle.index_set.proofs.Each.{each_push}
+use Rattle.index_set.proofs.Frame.{placed_kept, list_kept, keyed_kept}
+use Rattle.index_set.proofs.Uniques.{OneOfEach, unique_from}
+
+-- the index that a column is free of has another
+pub unused : (is : List AnyIndex) (column : ℕ) → list_any (λ i. col_of i == column) is ≡ false → (j : ℕ) (d : AnyIndex) → j < length is → col_of (get_or is j d) ≢ column
+unused is column free j d lt e =
+    let hit = list_any_at (λ i. col_of i == column) is j d lt (same (col_of (get_or is j d)) column e) in
+    let bad = sym free ∙ hit in cc
+  where
+    same : (a b : ℕ) → a ≡ b → (a == b) ≡ true
+    same a b e = grind (arith, nat_tests)
+
+-- ---- links were written in a column that none of them has
+
+module _ {R : Type 0} (s t : Store R) (specs : List Spec) (is : List AnyIndex) (column : ℕ) (p : ArePlaced (column_of s) specs is)
+    (apart : (j : ℕ) (d : AnyIndex) → j < length specs → col_of (get_or is j d) ≢ column) (others : KeepsOthers (column_of s) (column_of t) column) where
+  pub placed_beside : ArePlaced (column_of t) specs is
+  placed_beside = record {
+    one_each = p.one_each;
+    each = λ j d e lt. placed_kept (column_of s) (column_of t) column j (get_or specs j d) (get_or is j e) (p.each j d e lt) others (apart j e lt);
+    apart = p.apart;
+  }
+
+  pub lists_beside : lists_in (column_of t) is ≡ lists_in (column_of s) is
+  lists_beside = lists_kept (column_of s) (column_of t) specs is p.one_each (λ j d e lt. list_kept (column_of s) (column_of t) column j (get_or specs j d) (get_or is j e) (p.each j d e lt) others (apart j e lt))
+
+  pub keyed_beside : contents t ≡ contents s → (order : ℕ → R → R → Ordering) (hash_of : ℕ → R → ℕ) → AreKeyed order hash_of s specs is → AreKeyed order hash_of t specs is
+  keyed_beside same order hash_of h = record {
+    each = λ j d e lt.
+        let here = p.each j d e lt in
+        let kept = list_kept (column_of s) (column_of t) column j (get_or specs j d) (get_or is j e) here others (apart j e lt) in
+        keyed_kept order hash_of s t column j (get_or specs j d) (get_or is j e) _ _ here others same (apart j e lt) kept (h.each j d e lt);
+  }
+
+-- ---- one more
+
+-- it has a key where its kind has one
+pub new_key : (has_key : ℕ → Bool) (specs : List Spec) (spec : Spec) (index : ℕ) → index ≡ length specs → KeysMatch has_key (specs ++ spec ∷ []) → has_key index ≡ has_key_kind spec.kind
+new_key has_key specs spec index last m =
+    m.keyed index spec (omega (arith, last, length_push specs spec)) ∙ ap (λ (s : Spec). has_key_kind s.kind) (get_or_push specs spec spec index (sym last))
+
+pub new_unique : (has_key : ℕ → Bool) (specs : List Spec) (spec : Spec) → KeysMatch has_key (specs ++ spec ∷ []) → IsTrue spec.unique → IsTrue (has_key_kind spec.kind)
+new_unique has_key specs spec m one =
+    let is = get_or_push specs spec spec (length specs) refl in
+    subst (λ (s : Spec). IsTrue (has_key_kind s.kind)) is (m.unique (length specs) spec (omega (arith, length_push specs spec)) (subst (λ (s : Spec). IsTrue s.unique) (sym is) one))
+
+module _ (specs : List Spec) (is : List AnyIndex) (spec : Spec) (i : AnyIndex) (one : length is ≡ length specs) where
+  -- the index at a place, which is one of those before, or the last
+  col_before : (j : ℕ) (d : AnyIndex) → j < length specs → col_of (get_or (is ++ i ∷ []) j d) ≡ col_of (get_or is j d)
+  col_before j d lt = ap col_of (get_or_append_left is (i ∷ []) d j (omega (arith, lt, one)))
+
+  col_last : (j : ℕ) (d : AnyIndex) → length specs ≡ j → col_of (get_or (is ++ i ∷ []) j d) ≡ col_of i
+  col_last j d last = ap col_of (get_or_push is i d j (one ∙ last))
+
+  last_of : (j : ℕ) → length specs ≤ j → j < length (specs ++ spec ∷ []) → length specs ≡ j
+  last_of j above within = omega (arith, above, within, length_push specs spec)
+
+  pub placed_next : (cs : ℕ → Column) → ArePlaced cs specs is → IsPlaced cs (length specs) spec i → ((j : ℕ) (d : AnyIndex) → j < length specs → col_of (get_or is j d) ≢ col_of i) → ArePlaced cs (specs ++ spec ∷ []) (is ++ i ∷ [])
+  placed_next cs p here far = record {
+    one_each = length_push is i ∙ (ap (λ n. n + 1) one ∙ sym (length_push specs spec));
+    each = each_push (IsPlaced cs) specs is spec i one here p.each;
+    apart = λ j k d e below within differ. λ same.
+        ⊎_elim
+        (λ before.
+        ⊎_elim
+        (λ too. p.apart j k d e before too differ (sym (col_before j d before) ∙ same ∙ col_before k e too))
+        (λ above. far j d before (sym (col_before j d before) ∙ same ∙ col_last k e (last_of k above within)))
+        (cases_lt k (length specs)))
+        (λ last.
+        ⊎_elim
+        (λ too. far k e too (sym (col_before k e too) ∙ sym same ∙ col_last j d (last_of j last below)))
+        (λ above. differ (sym (last_of j last below) ∙ last_of k above within))
+        (cases_lt k (length specs)))
+        (cases_lt j (length specs));
+  }
+
+  pub within_next : (columns : ℕ) → col_of i < columns → AreWithin columns specs is → AreWithin columns (specs ++ spec ∷ []) (is ++ i ∷ [])
+  within_next columns here h = record { each = each_push (λ _ _ x. col_of x < columns) specs is spec i one here h.each }
+
+  pub keyed_next : {R : Type 0} (order : ℕ → R → R → Ordering) (hash_of : ℕ → R → ℕ) (s : Store R) → any.IsKeyed order hash_of s i → AreKeyed order hash_of s specs is → AreKeyed order hash_of s (specs ++ spec ∷ []) (is ++ i ∷ [])
+  keyed_next order hash_of s here h = record { each = each_push (λ _ _ x. any.IsKeyed order hash_of s x) specs is spec i one here h.each }
+
+-- the lists of those that were unique, and of one more
+module _ {R : Type 0} (order : ℕ → R → R → Ordering) (records : Node → Option R) (specs : List Spec) (lists : List (List Node)) (spec : Spec) (list : List Node) (one : length lists ≡ length specs) where
+  pub unique_next : ((k : ℕ) (d : Spec) → k < length specs → IsTrue (get_or specs k d).unique → OneOfEach order records None k (get_or lists k [])) → (IsTrue spec.unique → OneOfEach order records None (length specs) list) →
+      AreUniqueFrom order records None 0 (specs ++ spec ∷ []) (lists ++ list ∷ [])
+  unique_next old new =
+      unique_from order records None (specs ++ spec ∷ []) (lists ++ list ∷ [])
+      (λ k d lt unique.
+      ⊎_elim
+      (λ before.
+      subst (OneOfEach order records None k) (sym (get_or_append_left lists (list ∷ []) [] k (omega (arith, before, one))))
+      (old k d before (subst (λ (z : Spec). IsTrue z.unique) (get_or_append_left specs (spec ∷ []) d k before) unique)))
+      (λ above.
+      let last : length specs ≡ k = omega (arith, above, lt, length_push specs spec) in
+      subst (OneOfEach order records None k) (sym (get_or_push lists list [] k (one ∙ last)))
+      (subst (λ j. OneOfEach order records None j list) last (new (subst (λ (z : Spec). IsTrue z.unique) (get_or_push specs spec d k last) unique))))
+      (cases_lt k (length specs)))

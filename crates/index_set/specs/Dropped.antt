@@ -1,0 +1,44 @@
+-- What dropping an index of a set asks for, and what becomes of those that stay.
+use Rattle.std.specs.Prelude.{◌≡◌, ℕ, ◌<◌, cond, List, length, remove, slice_index_or}
+use Rattle.std.specs.declared.cmp.Ordering.{Ordering}
+use Rattle.node_store.specs.Store.{Store}
+use Rattle.node_store.specs.ByNode.{column_of}
+use Rattle.container_model.specs.State.{KeysMatch, has_key_kind}
+use Rattle.container_model.specs.Indices.{KeepsRest}
+use Rattle.key_extract.specs.declared.extract.Extract.{Ghosts}
+use Rattle.any_index.specs.declared.index.AnyIndex.{AnyIndex}
+use Rattle.any_index.specs.Keyed.{IsKeyed, IsSameKey}
+use Rattle.any_index.specs.Spelled.{IsSound, HasRoom, list_of, kind_of, col_of, index_of}
+use Rattle.index_set.specs.declared.set.IndexSet.{IndexSet}
+use Rattle.index_set.specs.Asked.{IsFiled}
+use Rattle.index_set.specs.Set.{keys_of, specs_of}
+
+-- an index goes by the keys of this number now, if it has a key, and is else as it was
+pub record IsRenumbered {R : Type 0} (s : Store R) (index : ℕ) (old new : AnyIndex) : Type 0 where
+  pub sound : IsSound (column_of s) new
+  pub list : list_of (column_of s) new ≡ list_of (column_of s) old
+  pub kind : kind_of new ≡ kind_of old
+  pub col : col_of new ≡ col_of old
+  pub number : index_of new ≡ cond (has_key_kind (kind_of old)) index (index_of old)
+  pub room : HasRoom old → HasRoom new
+  pub keyed : (order after : ℕ → R → R → Ordering) (hash_of hash_after : ℕ → R → ℕ) → IsSameKey (kind_of old) (order (index_of old)) (after index) → IsSameKey (kind_of old) (hash_of (index_of old)) (hash_after index) →
+      IsKeyed order hash_of s old → IsKeyed after hash_after s new
+
+module _ {R : Type 0} (s : Store R) where
+  -- the links of each are those of the store
+  abbrev pub AreSound : List AnyIndex → Type 0
+  AreSound is = (j : ℕ) (d : AnyIndex) → j < length is → IsSound (column_of s) (slice_index_or is j d)
+
+  -- each goes by the keys of its own number
+  abbrev pub AreRenumbered : (old new : List AnyIndex) → Type 0
+  AreRenumbered old new = (j : ℕ) (d : AnyIndex) → j < length old → IsRenumbered s j (slice_index_or old j d) (slice_index_or new j d)
+
+module _ {R E P : Type 0} (X : Ghosts E R P) (s : IndexSet R E) (gone : ℕ) (given : E) where
+  -- it is one of several indices, and the keys are those of the others
+  pub record CanDrop : Type 0 where
+    pub filed : IsFiled X s
+    pub index : gone < length (specs_of s)
+    pub several : 1 < length (specs_of s)
+    pub keys : KeysMatch (X.has_key given) (remove (specs_of s) gone)
+    pub orders : KeepsRest (X.order_of (keys_of s)) (X.order_of given) (specs_of s) gone
+    pub hashes : KeepsRest (X.hash_of (keys_of s)) (X.hash_of given) (specs_of s) gone
