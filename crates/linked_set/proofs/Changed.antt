@@ -64,7 +64,7 @@ pub record IsChanged {E R : Type 0} (has_key : E → ℕ → Bool) (order : E �
 
 pub changed_set : {E R : Type 0} {has_key : E → ℕ → Bool} {order : E → ℕ → R → R → Ordering} {hash : E → ℕ → R → ℕ} (old mid : IndexSet (Entry R) (ByRow E)) (slots : List (Option Node)) (n : Node) (e : Entry R) (row : R) →
     IsLinked has_key order hash old slots → HoldIt (lists_of old) n → set.record_of old n ≡ Some e → set.contents mid ≡ set.contents (set.with_record old n (record { handle = e.handle; row = row })) → IsOfSame (set.with_record old n (record { handle = e.handle; row = row })) mid → IsChanged has_key order hash old mid slots n e.handle row
-changed_set old mid slots n e row linked held has after same = record { linked = linked; held = held; is = node_of_all old n linked.sound held; own = handle_of-is (set.record_of old) n e has; after = after; same = record { keys = same.keys; specs = same.specs } }
+changed_set old mid slots n e row linked held has after same = record { linked = linked; held = held; is = node_of_all old n linked.sound held; own = handle_of-is (set.record_of old) n e has; after = after; same = record { keys = same.keys; specs = same.specs; columns = same.columns } }
 
 module _ {E R : Type 0} {has_key : E → ℕ → Bool} {order : E → ℕ → R → R → Ordering} {hash : E → ℕ → R → ℕ} {old mid : IndexSet (Entry R) (ByRow E)} {slots : List (Option Node)} {n : Node} {h : Handle} {row : R} (w : IsChanged has_key order hash old mid slots n h row) where
   abbrev entry : Entry R
@@ -163,7 +163,7 @@ module _ {E R : Type 0} {has_key : E → ℕ → Bool} {order : E → ℕ → R 
         ∙ (λ i. map (λ list. filter (λ g. not (is_handle (own_mid i) g)) list) (handles_same (store_of old) (store_of mid) n h row slots w.linked.sound.nodes w.linked.leads w.linked.apart w.is w.own w.after (lists_of old) i)))
 
     pub seen_taken : (max writes : ℕ) → seen new max (writes + 1) ≡ with_erased (seen old max writes) h
-    seen_taken max writes = seen_only old new (λ g. not (is_handle h g)) max writes (record { keys = kept.keys ∙ w.same.keys; specs = kept.specs ∙ w.same.specs }) entries_taken lists_taken
+    seen_taken max writes = seen_only old new (λ g. not (is_handle h g)) max writes (record { keys = kept.keys ∙ w.same.keys; specs = kept.specs ∙ w.same.specs; columns = kept.columns ∙ w.same.columns }) entries_taken lists_taken
 
     pub IsLinked_taken : IsSound (has_by_row has_key) new → IsKeyed (order_by_row order) (hash_by_row hash) new → IsUniqueExcept (order_by_row order) mid None → IsLinked has_key order hash new (with_item slots h.slot None)
     IsLinked_taken sound_new keyed unique = record {

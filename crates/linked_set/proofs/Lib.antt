@@ -1,7 +1,9 @@
 pub mod Ages
 pub mod Bans
+pub mod ByAge
 pub mod ByHandle
 pub mod Changed
+pub mod Clashes
 pub mod Contents
 pub mod Entered
 pub mod Excepted
@@ -13,9 +15,11 @@ pub mod LeadsTo
 pub mod Left
 pub mod Live
 pub mod Mapped
+pub mod NewList
 pub mod Ranges
 pub mod Reading
 pub mod Rearranged
+pub mod Reindexed
 pub mod Rewritten
 pub mod Seen
 pub mod Settling

@@ -133,7 +133,7 @@ module _ {E R P : Type 0} {has_key : E → ℕ → Bool} {order : E → ℕ → 
             subst (λ ls. HoldIt ls n) (sym lists)
             (all_set (λ xs. Holds xs n) (lists_of now) row (list_of new row) (Holds_moved (list_of now row) (list_of new row) n sunk.members (each_held now was.linked.sound was.held n (still n is) row lt)) (was.held.each n (still n is)));
       };
-      same = record { keys = same.keys ∙ was.same.keys; specs = same.specs ∙ was.same.specs };
+      same = record { keys = same.keys ∙ was.same.keys; specs = same.specs ∙ was.same.specs; columns = same.columns ∙ was.same.columns };
       entries = ap (filter (λ e. keep e.handle)) (entries_kept (store_of now) (store_of new) kept) ∙ was.entries;
       lists =
           ap (map (λ list. filter keep list)) (handles_kept (store_of now) (store_of new) (lists_of new) kept ∙ ap (handles_in (record_of now)) lists)

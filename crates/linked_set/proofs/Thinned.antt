@@ -124,7 +124,7 @@ module _ {E R : Type 0} {has_key : E → ℕ → Bool} {order : E → ℕ → R 
   none_thinned slots linked held = record {
     linked = linked;
     held = held;
-    same = record { keys = refl; specs = refl };
+    same = record { keys = refl; specs = refl; columns = refl };
     entries = refl;
     lists = refl;
     rows = row_of_members (entries_in (contents old)) linked.apart;
@@ -140,7 +140,7 @@ module _ {E R : Type 0} {has_key : E → ℕ → Bool} {order : E → ℕ → R 
   one_thinned now new slots more was h stopped linked held same entries lists added len = record {
     linked = linked;
     held = held;
-    same = record { keys = same.keys ∙ was.same.keys; specs = same.specs ∙ was.same.specs };
+    same = record { keys = same.keys ∙ was.same.keys; specs = same.specs ∙ was.same.specs; columns = same.columns ∙ was.same.columns };
     entries =
         ap (filter (λ e. keep e.handle)) entries
         ∙ (filter_twice (λ (e : Entry R). keep e.handle) (λ e. not (is_handle h e.handle)) (λ e kept. passes keep h stopped e.handle kept) (entries_in (contents now)) ∙ was.entries);

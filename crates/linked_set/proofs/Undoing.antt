@@ -45,7 +45,7 @@ pub undone_set : {E R : Type 0} {has_key : E → ℕ → Bool} {order : E → �
 undone_set old mid slots n e changed undone linked held has same is =
     changed_set old mid slots n e undone.row linked held has
     (ap (λ (s : IndexSet (Entry _) (ByRow _)). set.contents s) (is ∙ undone_is old n changed undone) ∙ ap (λ g. set.contents (set.with_record old n (record { handle = g; row = undone.row }))) same)
-    (record { keys = ap (λ (s : IndexSet (Entry _) (ByRow _)). s.keys) is; specs = ap (λ (s : IndexSet (Entry _) (ByRow _)). s.specs.items) is })
+    (record { keys = ap (λ (s : IndexSet (Entry _) (ByRow _)). s.keys) is; specs = ap (λ (s : IndexSet (Entry _) (ByRow _)). s.specs.items) is; columns = ap (λ (s : IndexSet (Entry _) (ByRow _)). s.columns) is })
 
 module _ {E R : Type 0} {has_key : E → ℕ → Bool} {order : E → ℕ → R → R → Ordering} {hash : E → ℕ → R → ℕ} {old mid : IndexSet (Entry R) (ByRow E)} {slots : List (Option Node)} {n : Node} {h : Handle} {row : R} (w : IsChanged has_key order hash old mid slots n h row) where
   abbrev entry : Entry R
@@ -69,4 +69,4 @@ module _ {E R : Type 0} {has_key : E → ℕ → Bool} {order : E → ℕ → R 
     seen_undone max writes =
         let entries = entries_rewritten (store_of old) (store_of mid) n h row slots w.linked.sound.nodes w.linked.leads w.linked.apart w.is w.own w.after in
         let lists = ap (handles_in (set.record_of mid)) listed ∙ handles_same (store_of old) (store_of mid) n h row slots w.linked.sound.nodes w.linked.leads w.linked.apart w.is w.own w.after (lists_of old) in
-        λ i. record { keys = (w.same.keys i).keys; specs = w.same.specs i; max = max; writes = writes; entries = entries i; lists = lists i }
+        λ i. record { keys = (w.same.keys i).keys; specs = w.same.specs i; most = w.same.columns i; max = max; writes = writes; entries = entries i; lists = lists i }

@@ -5,5 +5,6 @@ pub mod Held
 pub mod LeadsTo
 pub mod Linked
 pub mod Modified
+pub mod Refusal
 pub mod Seen
 pub mod Sorted

@@ -4,7 +4,7 @@ use Rattle.std.specs.declared.cmp.Ordering.{Ordering}
 use Rattle.list_model.specs.Order.{EachPair}
 use Rattle.node_store.specs.declared.Node.{Node}
 use Rattle.index_set.specs.declared.set.IndexSet.{IndexSet}
-use Rattle.index_set.specs.Set.{store_of, keys_of, specs_of, contents, record_of, lists_of, IsSound, IsKeyed, IsUniqueExcept}
+use Rattle.index_set.specs.Set.{store_of, keys_of, specs_of, columns_of, contents, record_of, lists_of, IsSound, IsKeyed, IsUniqueExcept}
 use Rattle.container_model.specs.declared.handle.Entry.{Entry}
 use Rattle.container_model.specs.State.{State}
 use Rattle.linked_set.specs.declared.by_row.ByRow.{ByRow}
@@ -19,6 +19,7 @@ module _ {E R : Type 0} where
       record {
         keys = (keys_of set).keys;
         specs = specs_of set;
+        most = columns_of set;
         max = max;
         writes = writes;
         entries = entries_in (contents set);

@@ -7,6 +7,7 @@
 mod by_row;
 mod erase;
 mod erase_key;
+mod index_changes;
 mod linked;
 mod modify;
 mod modify_or_undo;
@@ -19,6 +20,7 @@ mod walk;
 pub use by_row::ByRow;
 pub use erase::{next_at, take_out};
 pub use erase_key::take_key;
+pub use index_changes::{add_index, check_index, drop_index};
 pub use linked::{first_ban, handle_at, node_at, position_at, put_in};
 pub use modify::{Modified, change};
 pub use modify_or_undo::change_or_undo;

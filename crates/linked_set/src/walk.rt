@@ -1,4 +1,4 @@
-//! The handles of all records, one after the other.
+//! The handles and the nodes of all records, one after the other.
 ghost use Rattle.std.specs.Prelude.{◌≡◌, ◌<◌, IfOk, IsTrue, length, map, not};
 ghost use Rattle.container_model.specs.State.{is_hashed_kind};
 ghost use Rattle.index_set.specs.Set.{contents, record_of, specs_of, list_of, kind_at, IsSound};
@@ -10,6 +10,7 @@ use crate::linked::handle_at;
 use container_model::{Entry, Handle};
 use index_set::IndexSet;
 use key_extract::Extract;
+use node_store::Node;
 use std::alloc::{AllocError, Global};
 
 /// Those of an index that is not hashed, in its order. O(records).
@@ -50,4 +51,22 @@ pub fn by_age<R, E: Extract<R>>(
     }
     handles.reverse();
     Ok(handles)
+}
+
+// The nodes of all records, in the order of their adds. O(records).
+pub(crate) fn nodes_by_age<R, E: Extract<R>>(
+    alloc: Global,
+    set: &IndexSet<Entry<R>, ByRow<E>>,
+) -> Result<Vec<Node>, AllocError>
+    requires { IsSound (has_by_row E.has_key) set.now }
+    ensures { IfOk result (λ nodes. nodes.items ≡ nodes_in (contents set.now)) }
+{
+    let mut nodes = Vec::with_capacity(alloc, set.len())?;
+    let mut next = set.newest();
+    while let Some(node) = next {
+        nodes.push(node)?;
+        next = set.older(node);
+    }
+    nodes.reverse();
+    Ok(nodes)
 }

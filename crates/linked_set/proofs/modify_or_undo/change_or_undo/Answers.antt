@@ -89,7 +89,7 @@ returns-in_default-clause-why g c r max had =
     let node = c.args.node in
     let writes = c.args.writes in
     let is = node_of_all set node c.requires.linked.sound c.requires.held in
-    let w = changed_set set (with_record set node (record { handle = c.get_mut.result.now.handle; row = c.apply.new.row })) c.args.slots.now.items node c.get_mut.result.now c.apply.new.row c.requires.linked c.requires.held c.get_mut.ensures.value refl (record { keys = refl; specs = refl }) in
+    let w = changed_set set (with_record set node (record { handle = c.get_mut.result.now.handle; row = c.apply.new.row })) c.args.slots.now.items node c.get_mut.result.now c.apply.new.row c.requires.linked c.requires.held c.get_mut.ensures.value refl (record { keys = refl; specs = refl; columns = refl }) in
     let row = c.apply.ensures.row ∙ ap (g.T.Edit.applied c.args.edit.now) (same_Some _ _ (sym (ap (option_map (λ (e : Entry _). e.row)) c.get_mut.ensures.value) ∙ had)) in
     sym c.in_default.is
     ∙ (why_changed w c.changed_refusal.result max writes (c.changed_refusal.ensures (record { handle = c.get_mut.result.now.handle; row = c.apply.new.row }) (record_written set.store node (record { handle = c.get_mut.result.now.handle; row = c.apply.new.row }) is))
@@ -165,7 +165,7 @@ returns-clause-why g c r max had =
     let node = c.args.node in
     let writes = c.args.writes in
     let is = node_of_all set node c.requires.linked.sound c.requires.held in
-    let w = changed_set set (with_record set node (record { handle = c.get_mut.result.now.handle; row = c.apply.new.row })) c.args.slots.now.items node c.get_mut.result.now c.apply.new.row c.requires.linked c.requires.held c.get_mut.ensures.value refl (record { keys = refl; specs = refl }) in
+    let w = changed_set set (with_record set node (record { handle = c.get_mut.result.now.handle; row = c.apply.new.row })) c.args.slots.now.items node c.get_mut.result.now c.apply.new.row c.requires.linked c.requires.held c.get_mut.ensures.value refl (record { keys = refl; specs = refl; columns = refl }) in
     let row = c.apply.ensures.row ∙ ap (g.T.Edit.applied c.args.edit.now) (same_Some _ _ (sym (ap (option_map (λ (e : Entry _). e.row)) c.get_mut.ensures.value) ∙ had)) in
     sym c.in-Some.is
     ∙ (why_changed w c.changed_refusal.result max writes (c.changed_refusal.ensures (record { handle = c.get_mut.result.now.handle; row = c.apply.new.row }) (record_written set.store node (record { handle = c.get_mut.result.now.handle; row = c.apply.new.row }) is))

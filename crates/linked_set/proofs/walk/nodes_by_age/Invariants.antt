@@ -1,0 +1,13 @@
+use Rattle.any_index.specs.Side.{AreNodesOf}
+use Rattle.index_set.specs.Set.{store_of}
+use Rattle.linked_set.proofs.Ages.{left, HasPassed}
+use Rattle.linked_set.proofs.walk.nodes_by_age.Given as goal
+
+abbrev pub invariant-loop-next : goal.invariant-loop-next
+invariant-loop-next g l = record {
+  nodes : AreNodesOf (store_of l.set) l.next;
+  passed : HasPassed (λ n. n) (store_of l.set) l.next l.nodes.items;
+}
+
+abbrev pub decreases-loop-next : goal.decreases-loop-next
+decreases-loop-next g l = left l.next
