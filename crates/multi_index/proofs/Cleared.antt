@@ -39,7 +39,7 @@ module _ {E R : Type 0} (old new : IndexSet (Entry R) (ByRow E)) (max writes : �
   pub seen_cleared : seen new max (writes + 1) ≡ cleared (seen old max writes)
   seen_cleared =
       let handles = ap (handles_in (record_of new)) lists ∙ no_handles (record_of new) (specs_of old) in
-      λ i. state_with max (writes + 1) (same.keys i).keys (same.specs i) (no_entries i) (handles i)
+      λ i. state_with (same.columns i) max (writes + 1) (same.keys i).keys (same.specs i) (no_entries i) (handles i)
 
   pub IsContainer_cleared : (has_key : E → ℕ → Bool) (order : E → ℕ → R → R → Ordering) (hash : E → ℕ → R → ℕ) (slots : List (Option Node)) →
       IsSound (has_by_row has_key) new → IsKeyed (order_by_row order) (hash_by_row hash) new → IsUniqueExcept (order_by_row order) new None →

@@ -9,6 +9,7 @@ pub mod Ordered
 pub mod Places
 pub mod Rearranged
 pub mod Refusing
+pub mod Reindexed
 pub mod Replaced
 pub mod Rising
 pub mod Shrunk

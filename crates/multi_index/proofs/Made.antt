@@ -1,5 +1,5 @@
 -- A container without records.
-use Rattle.std.proofs.Common.{◌≡◌, ℕ, ◌<◌, ◌≤◌, ◌^◌, Bool, List, [], ◌∷◌, map, Option, None, refl, sym, ap, ◌∙◌, subst, arith}
+use Rattle.std.proofs.Common.{◌≡◌, ℕ, ◌<◌, ◌≤◌, ◌^◌, Bool, List, [], ◌∷◌, length, map, Option, None, refl, sym, ap, ◌∙◌, subst, arith}
 use Rattle.std.specs.declared.cmp.Ordering.{Ordering}
 use Rattle.list_model.specs.Order.{EachPair}
 use Rattle.node_store.specs.declared.Node.{Node}
@@ -7,12 +7,12 @@ use Rattle.node_store.specs.Store.{Store, empty_store, width_of}
 use Rattle.node_store.specs.ByNode as node
 use Rattle.container_model.specs.declared.handle.Entry.{Entry}
 use Rattle.container_model.specs.declared.handle.Spec.{Spec}
-use Rattle.container_model.specs.State.{IsState, KeysMatch, empty}
+use Rattle.container_model.specs.State.{IsState, KeysMatch, empty_with_most}
 use Rattle.container_model.proofs.Inserted.{IsState-empty}
 use Rattle.index_set.specs.declared.set.IndexSet.{IndexSet}
 use Rattle.index_set.specs.Lists.{AreUniqueFrom}
 use Rattle.index_set.proofs.Keys.{unique_empty}
-use Rattle.index_set.specs.Set.{store_of, keys_of, specs_of, contents, record_of, lists_of, IsSound, IsKeyed}
+use Rattle.index_set.specs.Set.{store_of, keys_of, specs_of, columns_of, contents, record_of, lists_of, IsSound, IsKeyed}
 use Rattle.linked_set.specs.ByRow.{has_by_row, order_by_row, hash_by_row}
 use Rattle.linked_set.specs.declared.by_row.ByRow.{ByRow}
 use Rattle.linked_set.specs.LeadsTo.{LeadsTo}
@@ -27,20 +27,20 @@ pub no_handles : {R : Type 0} (records : Node → Option (Entry R)) (specs : Lis
 no_handles records [] = refl
 no_handles records (spec ∷ specs) = ap (λ ls. [] ∷ ls) (no_handles records specs)
 
-module _ {E R : Type 0} (set : IndexSet (Entry R) (ByRow E)) (keys : E) (specs : List Spec) (max first_write : ℕ)
-    (lists : lists_of set ≡ map (λ _. []) specs) (none : store_of set ≡ empty_store (width_of (store_of set))) (same_keys : (keys_of set).keys ≡ keys) (same_specs : specs_of set ≡ specs) where
+module _ {E R : Type 0} (set : IndexSet (Entry R) (ByRow E)) (most : ℕ) (keys : E) (specs : List Spec) (max first_write : ℕ)
+    (lists : lists_of set ≡ map (λ _. []) specs) (none : store_of set ≡ empty_store (width_of (store_of set))) (same_keys : (keys_of set).keys ≡ keys) (same_specs : specs_of set ≡ specs) (same_most : columns_of set ≡ most) where
   no_entries : entries_in (contents set) ≡ []
   no_entries = ap (λ (s : Store (Entry R)). entries_in (node.contents s)) none ∙ entries-empty (width_of (store_of set))
 
-  pub seen_made : seen set max first_write ≡ empty keys specs max first_write
+  pub seen_made : seen set max first_write ≡ empty_with_most most keys specs max first_write
   seen_made =
       let handles = ap (handles_in (record_of set)) lists ∙ no_handles (record_of set) specs in
-      λ i. state_with max first_write (same_keys i) (same_specs i) (no_entries i) (handles i)
+      λ i. state_with (same_most i) max first_write (same_keys i) (same_specs i) (no_entries i) (handles i)
 
   pub IsContainer_made : (has_key : E → ℕ → Bool) (order : E → ℕ → R → R → Ordering) (hash : E → ℕ → R → ℕ) →
       IsSound (has_by_row has_key) set → IsKeyed (order_by_row order) (hash_by_row hash) set →
-      KeysMatch (has_key keys) specs → max < 2 ^ 32 → first_write < 2 ^ 64 → IsContainer has_key order hash set [] max first_write
-  IsContainer_made has_key order hash sound keyed match narrow numbered = record {
+      KeysMatch (has_key keys) specs → length specs ≤ most → max < 2 ^ 32 → first_write < 2 ^ 64 → IsContainer has_key order hash set [] max first_write
+  IsContainer_made has_key order hash sound keyed match few narrow numbered = record {
     linked = record {
       sound = sound;
       keyed = keyed;
@@ -49,7 +49,7 @@ module _ {E R : Type 0} (set : IndexSet (Entry R) (ByRow E)) (keys : E) (specs :
       apart = subst (EachPair _) (sym no_entries) tt;
       leads = subst (λ (s : Store (Entry R)). LeadsTo s []) (sym none) (leads-empty R (width_of (store_of set)));
     };
-    state = subst (IsState has_key order) (sym seen_made) (IsState-empty has_key order keys specs max first_write match);
+    state = subst (IsState has_key order) (sym seen_made) (IsState-empty has_key order most keys specs max first_write match few);
     narrow = narrow;
     numbered = numbered;
     added = subst (λ (s : Store (Entry R)). s.added ≤ first_write) (sym none) (omega arith);

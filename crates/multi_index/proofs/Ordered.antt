@@ -94,7 +94,7 @@ module _ {E R : Type 0} (old new : IndexSet (Entry R) (ByRow E)) (index max writ
 
   -- the container is the one with the handles of those nodes as the list of the index
   pub seen_listed : seen new max (writes + 1) ≡ with_list (seen old max writes) index list
-  seen_listed = (λ i. state_with max (writes + 1) (same.keys i).keys (same.specs i) (entries_kept (store_of old) (store_of new) kept i) (handles_listed i))
+  seen_listed = (λ i. state_with (same.columns i) max (writes + 1) (same.keys i).keys (same.specs i) (entries_kept (store_of old) (store_of new) kept i) (handles_listed i))
 
   -- and stays one
   pub IsContainer_listed : (has_key : E → ℕ → Bool) (order : E → ℕ → R → R → Ordering) (hash : E → ℕ → R → ℕ) (slots : _) → IsContainer has_key order hash old slots max writes →

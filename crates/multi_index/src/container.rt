@@ -1,7 +1,7 @@
 //! The container.
 ghost use Rattle.std.specs.Prelude.{◌≡◌, ◌↔◌, ◌<◌, ◌≤◌, ◌^◌, ◌-◌, ◌==◌, IsTrue, false, length, [], None, unwrap_or, Some, IfOk, IfErr, IfSome, OnOk, OnErr};
 ghost use Rattle.list_model.specs.Place.{find_equal};
-ghost use Rattle.container_model.specs.State.{IsState, KeysMatch, empty, list_at, row_of, has_key_kind, is_hashed_kind, is_sorted_kind};
+ghost use Rattle.container_model.specs.State.{IsState, KeysMatch, empty, empty_with_most, list_at, row_of, has_key_kind, is_hashed_kind, is_sorted_kind};
 ghost use Rattle.container_model.specs.Find.{counted, found, kind_at};
 ghost use Rattle.container_model.specs.Insert.{insert_at_refusal, insert_refusal, new_handle, with_inserted};
 ghost use Rattle.index_set.specs.Set.{keys_of, specs_of, list_of, kind_at as set_kind_at, probe_side, IsSound, IsKeyed, IsUniqueExcept};
@@ -53,8 +53,28 @@ impl<R: Drop, E: Extract<R> + Drop> MultiIndex<R, E> {
         requires keys { KeysMatch (E.has_key keys) specs.items }
         ensures { IfOk result (λ made. made ≡ empty keys specs.items max first_write) }
     {
+        MultiIndex::with_most(alloc, specs, keys, 8, max, first_write)
+    }
+
+    /// As `new`, for at most `most` indices at a time. A record takes 64 bytes for each index that there may be, in blocks
+    /// of room for 1, 2, 4 or 8. O(indices).
+    pub fn with_most(
+        alloc: Global,
+        specs: Vec<Spec>,
+        keys: E,
+        most: usize,
+        max: u32,
+        first_write: u64,
+    ) -> Result<Self, AllocError>
+        requires some { 1 ≤ length specs.items }
+        requires few { length specs.items ≤ most }
+        requires most { most ≤ 8 }
+        requires keys { KeysMatch (E.has_key keys) specs.items }
+        ensures { IfOk result (λ made. made ≡ empty_with_most most keys specs.items max
+            first_write) }
+    {
         Ok(MultiIndex {
-            set: IndexSet::new(alloc, specs, ByRow { keys })?,
+            set: IndexSet::new(alloc, specs, ByRow { keys }, most)?,
             slots: SlotTable::new(alloc),
             alloc,
             max,
@@ -82,6 +102,13 @@ impl<R: Drop, E: Extract<R> + Drop> MultiIndex<R, E> {
         ensures kept { IsState E.has_key E.order_of self.now }
     {
         self.writes
+    }
+
+    /// The keys that it goes by. O(1).
+    pub fn keys(&self) -> &E
+        ensures { result.now ≡ self.now.keys }
+    {
+        &self.set.keys().keys
     }
 
     /// Puts a record in: after its equals in the indices that are in order, and last in the others. A refused one is handed

@@ -1,9 +1,11 @@
 //! A container of records under several indices.
 #![tactic(auto)]
 
+mod add_index;
 mod bounds;
 mod clear;
 mod container;
+mod drop_index;
 mod erase;
 mod erase_key;
 mod modify;

@@ -1,0 +1,75 @@
+//! One index more.
+ghost use Rattle.std.specs.Prelude.{◌≡◌, ◌<◌, ◌⊎◌, ◌++◌, ◌∷◌, [], IsTrue, None, Some, IfErr, OnErr, OnOk, length};
+ghost use Rattle.container_model.specs.State.{KeysMatch};
+ghost use Rattle.container_model.specs.Change.{spent};
+ghost use Rattle.container_model.specs.Indices.{KeepsEach, add_index_refusal, with_index};
+ghost use Rattle.multi_index.specs.Rearranged.{is_after_memory};
+
+use crate::container::MultiIndex;
+use container_model::{Refused, Spec, Why};
+use key_extract::Extract;
+use linked_set::{ByRow, add_index, check_index};
+
+impl<R: Drop, E: Extract<R> + Drop> MultiIndex<R, E> {
+    /// Adds an index, the last, which has all records: in a sequence or a hashed index by rising stamp, and in one in order
+    /// so where keys are equal. From now on the container goes by the given keys, which are its own at each index that is
+    /// there. Refused are, in this order: `Definition`, where there are as many indices as there may be; `Clash`, where the
+    /// index is unique and two records have one key: `second`, the oldest that has the key of an older one, and `first`,
+    /// the oldest that has its key; `Spent`. The keys are then handed back, and the container is unchanged. It copies no
+    /// record. It takes memory for a node for each record, and what the index itself takes, and may be refused it before
+    /// `Clash` or `Spent` is seen. O(n log n), and expected O(n) in a hashed index or a sequence.
+    pub fn add_index(&mut self, spec: Spec, keys: E) -> Result<(), Refused<E>>
+        requires keys { KeysMatch (E.has_key keys) (self.old.specs ++ spec ∷ []) }
+        requires orders { KeepsEach (E.order_of self.old.keys) (E.order_of keys) self.old.specs }
+        requires hashes { KeepsEach (E.hash_of self.old.keys) (E.hash_of keys) self.old.specs }
+        ensures allowed { OnOk result (add_index_refusal E.order_of self.old spec keys ≡ None) }
+        ensures ok { OnOk result (self.new ≡ with_index E.order_of self.old spec keys) }
+        ensures why { IfErr result
+            (λ refused. (Some refused.why ≡ add_index_refusal E.order_of self.old spec keys) ⊎
+            ((refused.why ≡ Why.Memory) ×
+            IsTrue (is_after_memory (add_index_refusal E.order_of self.old spec keys)))) }
+        ensures handed_back { IfErr result (λ refused. refused.row ≡ Some keys) }
+        ensures unchanged { OnErr result (self.new ≡ self.old) }
+    {
+        if self.set.specs().len() == self.set.columns() {
+            return Err(Refused {
+                why: Why::Definition,
+                row: Some(keys),
+            });
+        }
+        if self.writes == u64::MAX {
+            return Err(self.spent_index(spec, keys));
+        }
+        match add_index(self.alloc, &mut self.set, &self.slots, spec, keys) {
+            Ok(()) => {
+                self.writes += 1;
+                Ok(())
+            }
+            Err(refused) => Err(refused),
+        }
+    }
+
+    // Why an index may not be added where the last write has the greatest number: a clash comes first.
+    fn spent_index(&mut self, spec: Spec, keys: E) -> Refused<E>
+        requires room { length self.old.specs < self.old.most }
+        requires spent { spent self.old ≡ Some Why.Spent }
+        requires keys { KeysMatch (E.has_key keys) (self.old.specs ++ spec ∷ []) }
+        requires orders { KeepsEach (E.order_of self.old.keys) (E.order_of keys) self.old.specs }
+        requires hashes { KeepsEach (E.hash_of self.old.keys) (E.hash_of keys) self.old.specs }
+        ensures why { (Some result.why ≡ add_index_refusal E.order_of self.old spec keys) ⊎
+            ((result.why ≡ Why.Memory) ×
+            IsTrue (is_after_memory (add_index_refusal E.order_of self.old spec keys))) }
+        ensures handed_back { result.row ≡ Some keys }
+        ensures unchanged { self.new ≡ self.old }
+    {
+        let keys = ByRow { keys };
+        let why = match check_index(self.alloc, &mut self.set, &self.slots, spec, &keys) {
+            Ok(()) => Why::Spent,
+            Err(why) => why,
+        };
+        Refused {
+            why,
+            row: Some(keys.keys),
+        }
+    }
+}
