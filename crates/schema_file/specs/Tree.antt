@@ -3,11 +3,11 @@ use Rattle.std.specs.Prelude.{ℕ, ℤ, pos, List, [], ◌∷◌, map, Bool, tru
 use Rattle.std.specs.List.{list_any}
 use Rattle.toml.specs.Data.{Data, Items, no_items, item, Members, no_members, member, get_member, as_str, as_integer, as_bool, as_array, as_table}
 use Rattle.container_model.specs.declared.handle.Kind.{Kind}
-use Rattle.container_model.specs.declared.handle.Kind.TheVariants as kinds
 use Rattle.table_schema.specs.declared.column.Column.{Column}
 use Rattle.table_schema.specs.declared.column.CellKind.{CellKind}
 use Rattle.table_schema.specs.declared.column.CellKind.TheVariants as cells
 use Rattle.table_schema.specs.Draft.{◌>>=◌, all_of, IndexDraft, TableDraft}
+use Rattle.table_schema.specs.KindText.{kind_of}
 
 -- the items of an array as a list
 abbrev pub list_of : Items → List Data
@@ -48,16 +48,6 @@ cell_of text =
     else (if bytes_eq text (codes "bool") then Some cells.Bool
     else None))
 
--- the kind of index that a text names
-abbrev pub kind_of : List ℕ → Option Kind
-kind_of text =
-    if bytes_eq text (codes "sequenced") then Some kinds.Sequenced
-    else (if bytes_eq text (codes "random") then Some kinds.Random
-    else (if bytes_eq text (codes "ordered") then Some kinds.Ordered
-    else (if bytes_eq text (codes "ranked") then Some kinds.Ranked
-    else (if bytes_eq text (codes "hashed") then Some kinds.Hashed
-    else None))))
-
 -- a column: its name, the type of its cells, and whether they may be null
 unfoldable pub column_of : Data → Option Column
 column_of d = do
@@ -75,12 +65,16 @@ max_of ms = optional (pos 4294967295) as_integer (get_member (codes "max") ms)
 abbrev pub key_of : Members → Option (Option (List (List ℕ)))
 key_of ms = optional None (λ d. option_map Some (each_of as_str d)) (get_member (codes "key") ms)
 
+-- the kind of an index
+abbrev pub kind_at : Members → Option Kind
+kind_at ms = option_and_then kind_of (text_at (codes "kind") ms)
+
 -- an index: its name and kind, and what may be missing
 unfoldable pub index_of : Data → Option IndexDraft
 index_of d = do
   ms ← table_with (codes "name" ∷ codes "kind" ∷ codes "unique" ∷ codes "key" ∷ []) d
   name ← text_at (codes "name") ms
-  kind ← option_and_then kind_of (text_at (codes "kind") ms)
+  kind ← kind_at ms
   unique ← truth_at (codes "unique") ms
   key ← key_of ms
   Some (record { name = name; kind = kind; unique = unique; key = key })

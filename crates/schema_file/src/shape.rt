@@ -3,10 +3,10 @@ ghost use Rattle.std.specs.Prelude.{◌≡◌, IfOk, [], ◌∷◌, map, codes, 
 ghost use Rattle.std.specs.List.{list_any};
 ghost use Rattle.toml.specs.Data.{Data, get_member, as_str, as_integer, as_bool};
 ghost use Rattle.toml.specs.View.{view, table_view};
-ghost use Rattle.schema_file.specs.Tree.{has_only, table_with, each_of, text_at, cell_of, kind_of, column_of, max_of, truth_at, key_of, index_of, table_of, drafts_of};
+ghost use Rattle.schema_file.specs.Tree.{has_only, table_with, each_of, text_at, cell_of, kind_at, column_of, max_of, truth_at, key_of, index_of, table_of, drafts_of};
 
 use std::alloc::{AllocError, Global};
-use table_schema::{CellKind, Column, DraftIndex, DraftTable, Kind, Text};
+use table_schema::{CellKind, Column, DraftIndex, DraftTable, Kind, Text, kind_of};
 use toml::{Table, Value};
 
 // The tables of a document; none where it has another shape.
@@ -130,7 +130,7 @@ impl Item for DraftIndex {
         let Some(name) = text_at(members, "name") else {
             return Ok(None);
         };
-        let Some(kind) = text_at(members, "kind").and_then(kind_of) else {
+        let Some(kind) = kind_at(members) else {
             return Ok(None);
         };
         let Some(unique) = truth_at(members, "unique") else {
@@ -202,21 +202,12 @@ fn cell_of(text: &str) -> Option<CellKind>
     }
 }
 
-fn kind_of(text: &str) -> Option<Kind>
-    ensures { result ≡ kind_of text.now }
+fn kind_at(members: &Table) -> Option<Kind>
+    ensures { result ≡ kind_at (table_view members.now) }
 {
-    if text == "sequenced" {
-        Some(Kind::Sequenced)
-    } else if text == "random" {
-        Some(Kind::Random)
-    } else if text == "ordered" {
-        Some(Kind::Ordered)
-    } else if text == "ranked" {
-        Some(Kind::Ranked)
-    } else if text == "hashed" {
-        Some(Kind::Hashed)
-    } else {
-        None
+    match text_at(members, "kind") {
+        Some(text) => kind_of(text),
+        None => None,
     }
 }
 

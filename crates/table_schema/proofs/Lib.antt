@@ -3,3 +3,5 @@ pub mod Keys
 pub mod Placed
 pub mod Readings
 pub mod Validity
+pub mod Defined
+pub mod KindTexts

@@ -2,6 +2,8 @@ pub mod Shape
 pub mod Valid
 pub mod Builtin
 pub mod Draft
+pub mod KindText
 pub mod Tests
 pub mod Resolved
 pub mod Meaning
+pub mod Defined

@@ -2,8 +2,10 @@
 #![tactic(auto)]
 
 mod column;
+mod define;
 mod draft;
 mod fault;
+mod kind;
 mod limits;
 mod names;
 mod preset;
@@ -14,9 +16,11 @@ mod verdict;
 
 pub use column::{CellKind, Column, IndexSpec};
 pub use container_model::Kind;
+pub use define::{DefineFault, define_index};
 pub use draft::{DraftIndex, DraftTable};
 pub use fault::SchemaFault;
 pub use key_extract::{KeySpec, Part, Text};
+pub use kind::{kind_of, kind_text};
 pub use preset::builtin;
 pub use resolve::key_of_texts;
 pub use schema::Schema;

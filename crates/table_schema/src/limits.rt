@@ -10,7 +10,7 @@ const MOST_TABLES: usize = 16;
 
 const MOST_COLUMNS: usize = 16;
 
-const MOST_INDICES: usize = 8;
+pub(crate) const MOST_INDICES: usize = 8;
 
 pub(crate) const MOST_PARTS: usize = 4;
 

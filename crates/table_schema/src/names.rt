@@ -2,9 +2,10 @@
 ghost use Rattle.std.specs.Prelude.{◌≡◌, ℕ, List, map, bytes_eq};
 ghost use Rattle.std.specs.List.{list_all, list_any};
 ghost use Rattle.table_schema.specs.Tests.{has_good_names, have_good_names};
+ghost use Rattle.table_schema.specs.Defined.{is_new_name};
 ghost use Rattle.table_schema.specs.Valid.{is_name_byte, is_name, are_names, are_distinct};
 
-use crate::column::Column;
+use crate::column::{Column, IndexSpec};
 use crate::draft::{DraftIndex, DraftTable};
 use crate::limits::is_within;
 
@@ -27,6 +28,14 @@ impl Named for Column {
 }
 
 impl Named for DraftIndex {
+    ghost name_of = { λ index. index.name };
+
+    fn name(&self) -> &str {
+        self.name.as_str()
+    }
+}
+
+impl Named for IndexSpec {
     ghost name_of = { λ index. index.name };
 
     fn name(&self) -> &str {
@@ -92,6 +101,13 @@ fn has_name<T: Named>(name: &str, items: &[T]) -> bool
     ensures { result ≡ list_any (bytes_eq name.now) (map T.name_of items.now) }
 {
     items.iter().any(|item| name == item.name())
+}
+
+// Whether a name is one that none of the indices has.
+pub(crate) fn is_new_name(name: &str, indices: &[IndexSpec]) -> bool
+    ensures { result ≡ is_new_name indices.now name.now }
+{
+    is_name(name) && !has_name(name, indices)
 }
 
 fn is_name(name: &str) -> bool

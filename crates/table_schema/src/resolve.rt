@@ -1,5 +1,5 @@
 //! Finds the columns that the keys of a schema file name.
-ghost use Rattle.std.specs.Prelude.{◌≡◌, ◌≤◌, ◌<◌, ◌==◌, nat_lt, not, true, IfOk, IsTrue, length, map, option_map, position, bytes_eq, unsigned_abs};
+ghost use Rattle.std.specs.Prelude.{◌≡◌, ℕ, List, ◌≤◌, ◌<◌, ◌==◌, nat_lt, not, true, IfOk, IsTrue, length, map, option_map, position, bytes_eq, unsigned_abs};
 ghost use Rattle.std.specs.List.{list_all, list_any};
 ghost use Rattle.std.specs.Option.{option_map_or};
 ghost use Rattle.table_schema.specs.Draft.{all_of};
@@ -164,12 +164,19 @@ fn place_of(columns: &[Column], name: &[u8]) -> Option<usize>
 fn has_good_key(columns: usize, index: &IndexSpec) -> bool
     ensures { result ≡ has_good_key columns index.now }
 {
-    match index.kind {
-        Kind::Ordered | Kind::Ranked | Kind::Hashed => match &index.key {
-            Some(key) => is_key(columns, index.kind, key.parts()),
+    is_good_key(columns, index.kind, index.unique, &index.key)
+}
+
+// Whether an index of the kind, unique or not, may have the key.
+pub(crate) fn is_good_key(columns: usize, kind: Kind, unique: bool, key: &Option<KeySpec>) -> bool
+    ensures { (name : List ℕ) → result ≡ has_good_key columns (record { name = name; kind = kind; unique = unique; key = key.now }) }
+{
+    match kind {
+        Kind::Ordered | Kind::Ranked | Kind::Hashed => match key {
+            Some(key) => is_key(columns, kind, key.parts()),
             None => false,
         },
-        Kind::Sequenced | Kind::Random => index.key.is_none() && !index.unique,
+        Kind::Sequenced | Kind::Random => key.is_none() && !unique,
     }
 }
 

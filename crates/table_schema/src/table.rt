@@ -1,5 +1,6 @@
 //! One table of a schema.
-ghost use Rattle.std.specs.Prelude.{◌≡◌, IfOk};
+ghost use Rattle.std.specs.Prelude.{◌≡◌, ◌<◌, IfOk, length};
+ghost use Rattle.table_schema.specs.Defined.{IsNewIndex, with_index, without_index};
 ghost use Rattle.table_schema.specs.Valid.{IsValidTable};
 
 use crate::column::{Column, IndexSpec};
@@ -99,6 +100,25 @@ impl TableSpec {
         ensures valid { IsValidTable self.now }
     {
         self.tables
+    }
+
+    /// The table with one index more, the last, newly allocated. O(columns + indices).
+    pub fn with_index(&self, index: IndexSpec) -> Result<TableSpec, AllocError>
+        requires { IsNewIndex self.now.columns self.now.indices index }
+        ensures { IfOk result (λ table. table ≡ with_index self.now index) }
+    {
+        let mut table = self.copy()?;
+        table.indices.push(index)?;
+        Ok(table)
+    }
+
+    /// Drops one of several indices; those after it move up by one. It takes no memory. O(indices).
+    pub fn drop_index(&mut self, place: usize)
+        requires place { place < length self.old.indices }
+        requires several { 1 < length self.old.indices }
+        ensures { self.new ≡ without_index self.old place }
+    {
+        self.indices.remove(place);
     }
 
     /// An equal table, newly allocated. O(columns + indices).
