@@ -19,6 +19,8 @@ table_in (commands.Move table index handle place) = table
 table_in (commands.Rearrange table index handles) = table
 table_in (commands.Reverse table index) = table
 table_in (commands.Sort table index by) = table
+table_in (commands.AddIndex table index kind unique key) = table
+table_in (commands.DropIndex table index) = table
 table_in (commands.Get table handle) = table
 table_in (commands.Size table) = table
 table_in (commands.Find table index key) = table
@@ -65,6 +67,12 @@ is_sequence_change (commands.Rearrange table index handles) = true
 is_sequence_change (commands.Reverse table index) = true
 is_sequence_change (commands.Sort table index by) = true
 is_sequence_change other = false
+
+-- an index more, or one less
+abbrev pub is_index_change : Command → Bool
+is_index_change (commands.AddIndex table index kind unique key) = true
+is_index_change (commands.DropIndex table index) = true
+is_index_change other = false
 
 -- a read, or a change, of the records of a key
 abbrev pub is_keyed : Command → Bool

@@ -3,7 +3,7 @@
 ghost use Rattle.std.specs.Prelude.{◌≡◌};
 ghost use Rattle.table_cmd.specs.Command.{added_in, set_in, table_in};
 
-use container_model::Handle;
+use container_model::{Handle, Kind};
 use key_extract::{Cell, Text};
 use std::marker::Model;
 
@@ -286,6 +286,20 @@ pub enum Command {
         index: Text,
         by: Names,
     },
+    /// A new index of this name, the last of the table's; where it is unique, no two records may have one key there. Its key,
+    /// if it has one, is of these columns, descending where a name has a `-`.
+    AddIndex {
+        table: Text,
+        index: Text,
+        kind: Kind,
+        unique: bool,
+        key: Option<Names>,
+    },
+    /// The index goes, and its name is free.
+    DropIndex {
+        table: Text,
+        index: Text,
+    },
     /// The record of a handle.
     Get {
         table: Text,
@@ -398,6 +412,8 @@ impl Command {
             | Command::Rearrange { table, .. }
             | Command::Reverse { table, .. }
             | Command::Sort { table, .. }
+            | Command::AddIndex { table, .. }
+            | Command::DropIndex { table, .. }
             | Command::Get { table, .. }
             | Command::Size { table }
             | Command::Find { table, .. }

@@ -1,7 +1,7 @@
 //! Copies of commands and of their parts.
 
 ghost use Rattle.std.specs.Prelude.{◌≡◌, IfOk, true};
-ghost use Rattle.table_cmd.specs.Command.{is_keyed, is_row_change, is_sequence_change, is_unkeyed_read};
+ghost use Rattle.table_cmd.specs.Command.{is_index_change, is_keyed, is_row_change, is_sequence_change, is_unkeyed_read};
 
 use crate::command::{
     Changes, Command, Field, Fields, HandleText, Handles, Key, KeyBound, Names, Position, Value,
@@ -146,6 +146,16 @@ fn copy_name(name: &Option<Text>) -> Result<Option<Text>, AllocError>
     })
 }
 
+// Equal names of columns, if there are some.
+fn copy_columns(names: &Option<Names>) -> Result<Option<Names>, AllocError>
+    ensures { IfOk result (λ copy. copy ≡ names.now) }
+{
+    Ok(match names {
+        Some(names) => Some(names.copy()?),
+        None => None,
+    })
+}
+
 // Equal names of a table and of an index.
 fn copy_names(table: &Text, index: &Text) -> Result<(Text, Text), AllocError>
     ensures { IfOk result (λ copies. (copies.0 ≡ table.now) × (copies.1 ≡ index.now)) }
@@ -177,6 +187,7 @@ impl Command {
             | Command::Rearrange { .. }
             | Command::Reverse { .. }
             | Command::Sort { .. } => self.copy_sequence_change(),
+            Command::AddIndex { .. } | Command::DropIndex { .. } => self.copy_index_change(),
             Command::EraseKey { .. }
             | Command::Find { .. }
             | Command::Count { .. }
@@ -303,6 +314,36 @@ impl Command {
                     index,
                     by: by.copy()?,
                 }
+            }
+            _ => unreachable!(),
+        })
+    }
+
+    // The same of a change of the table's indices.
+    fn copy_index_change(&self) -> Result<Command, AllocError>
+        requires { is_index_change self.now ≡ true }
+        ensures { IfOk result (λ copy. copy ≡ self.now) }
+    {
+        Ok(match self {
+            Command::AddIndex {
+                table,
+                index,
+                kind,
+                unique,
+                key,
+            } => {
+                let (table, index) = copy_names(table, index)?;
+                Command::AddIndex {
+                    table,
+                    index,
+                    kind: *kind,
+                    unique: *unique,
+                    key: copy_columns(key)?,
+                }
+            }
+            Command::DropIndex { table, index } => {
+                let (table, index) = copy_names(table, index)?;
+                Command::DropIndex { table, index }
             }
             _ => unreachable!(),
         })

@@ -1,11 +1,12 @@
 //! Whether commands and their parts are the same.
 
 ghost use Rattle.std.specs.Prelude.{◌≡◌, ◌↔◌, IsTrue, true};
-ghost use Rattle.table_cmd.specs.Command.{is_keyed, is_row_change, is_sequence_change, is_unkeyed_read};
+ghost use Rattle.table_cmd.specs.Command.{is_index_change, is_keyed, is_row_change, is_sequence_change, is_unkeyed_read};
 
 use crate::command::{
     Changes, Command, Field, Fields, HandleText, Handles, Key, KeyBound, Names, Position, Value,
 };
+use container_model::Kind;
 use key_extract::{Cell, Text};
 
 fn is_same_cell(a: &Cell, b: &Cell) -> bool
@@ -162,6 +163,22 @@ fn is_same_name(a: &Option<Text>, b: &Option<Text>) -> bool
     }
 }
 
+fn are_same_columns(a: &Option<Names>, b: &Option<Names>) -> bool
+    ensures { IsTrue result ↔ (a.now ≡ b.now) }
+{
+    match (a, b) {
+        (Some(a), Some(b)) => are_same_names(a.as_slice(), b.as_slice()),
+        (None, None) => true,
+        _ => false,
+    }
+}
+
+fn is_same_kind(a: Kind, b: Kind) -> bool
+    ensures { IsTrue result ↔ (a ≡ b) }
+{
+    a == b
+}
+
 fn is_same_place(a: Option<HandleText>, b: Option<HandleText>) -> bool
     ensures { IsTrue result ↔ (a ≡ b) }
 {
@@ -215,6 +232,9 @@ impl Command {
             | Command::Rearrange { .. }
             | Command::Reverse { .. }
             | Command::Sort { .. } => self.is_same_sequence_change(other),
+            Command::AddIndex { .. } | Command::DropIndex { .. } => {
+                self.is_same_index_change(other)
+            }
             Command::EraseKey { .. }
             | Command::Find { .. }
             | Command::Count { .. }
@@ -364,6 +384,39 @@ impl Command {
                     by: names,
                 } => is_same_index(table, index, t, i)
                     && are_same_names(by.as_slice(), names.as_slice()),
+                _ => false,
+            },
+            _ => unreachable!(),
+        }
+    }
+
+    // The same of a change of the table's indices.
+    fn is_same_index_change(&self, other: &Command) -> bool
+        requires { is_index_change self.now ≡ true }
+        ensures { IsTrue result ↔ (self.now ≡ other.now) }
+    {
+        match self {
+            Command::AddIndex {
+                table,
+                index,
+                kind,
+                unique,
+                key,
+            } => match other {
+                Command::AddIndex {
+                    table: t,
+                    index: i,
+                    kind: k,
+                    unique: u,
+                    key: names,
+                } => is_same_index(table, index, t, i)
+                    && is_same_kind(*kind, *k)
+                    && unique == u
+                    && are_same_columns(key, names),
+                _ => false,
+            },
+            Command::DropIndex { table, index } => match other {
+                Command::DropIndex { table: t, index: i } => is_same_index(table, index, t, i),
                 _ => false,
             },
             _ => unreachable!(),

@@ -4,10 +4,10 @@ use Rattle.std.specs.Option.{IfSome}
 use Rattle.std.proofs.lemmas.Fmt.{length-decimal-le}
 use Rattle.container_model.specs.declared.handle.Handle.{Handle}
 use Rattle.table_reply.specs.declared.fault.Fault.{Fault}
-use Rattle.table_reply.specs.declared.fault.Fault.TheVariants.{Line, Json, Command, Table, Index, Kind, Row, Key, Handle as StaleHandle, Place, Order, Overflow, Full, Spent, Memory}
+use Rattle.table_reply.specs.declared.fault.Fault.TheVariants.{Line, Json, Command, Table, Index, Kind, Row, Key, Definition, Handle as StaleHandle, Place, Order, Overflow, Full, Spent, Memory}
 use Rattle.table_reply.specs.Buffer.{joined}
 use Rattle.table_reply.specs.Spelling.{HandleFits, spelling}
-use Rattle.table_reply.specs.Answer.{handle_text, handle_or_null, blocked_text, answer_text, done, found, counted, after, banned, erased, fault}
+use Rattle.table_reply.specs.Answer.{handle_text, handle_or_null, blocked_text, answer_text, done, found, counted, after, banned, erased, clash, fault}
 
 pub fault_is_short : (f : Fault) → length (answer_text (fault f)) ≤ 256
 fault_is_short Line = omega arith
@@ -18,6 +18,7 @@ fault_is_short Index = omega arith
 fault_is_short Kind = omega arith
 fault_is_short Row = omega arith
 fault_is_short Key = omega arith
+fault_is_short Definition = omega arith
 fault_is_short StaleHandle = omega arith
 fault_is_short Place = omega arith
 fault_is_short Order = omega arith
@@ -101,3 +102,14 @@ banned_is_short at index by = blocked_is_short (codes "banned") at index by (ome
 
 pub erased_is_short : (at : ℕ) (index : List ℕ) (by : Handle) → at < 2 ^ 64 → length index ≤ 32 → HandleFits by → length (answer_text (erased at index by)) ≤ 256
 erased_is_short at index by = blocked_is_short (codes "erased") at index by (omega arith)
+
+pub clash_is_short : (at : ℕ) (index : List ℕ) (first second : Handle) → at < 2 ^ 64 → length index ≤ 32 → HandleFits first → HandleFits second → length (answer_text (clash at index first second)) ≤ 256
+clash_is_short at index first second fits name_fits first_fits second_fits =
+    let last = codes "}\n" ∷ [] in
+    let younger = codes ",\"h2\":" ∷ handle_text second ∷ last in
+    let handles = codes "\",\"err\":\"clash\",\"h\":" ∷ handle_text first ∷ younger in
+    let name = codes ",\"by\":\"" ∷ index ∷ handles in
+    let a = number_is_short at fits in
+    let b = handle_is_short first first_fits in
+    let c = handle_is_short second second_fits in
+    omega (arith, length-joined (decimal at) name, length-joined index handles, length-joined (handle_text first) younger, length-joined (handle_text second) last)

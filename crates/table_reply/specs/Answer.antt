@@ -26,7 +26,8 @@ pub record Listed : Type 0 where
   pub row : List Named
 
 -- what an answer line says: that a write is done, a record or nothing, a number, the record after one that went or the
--- end, a record with its row, a ban, an erasure by a changed key, records with their rows, a fault
+-- end, a record with its row, a ban, an erasure by a changed key, two records of one key at a new index, records with their
+-- rows, a fault
 pub data Answer : Type 0 where
   done : ℕ → Answer
   found : ℕ → Option Handle → Answer
@@ -35,6 +36,7 @@ pub data Answer : Type 0 where
   shown : ℕ → Listed → Answer
   banned : ℕ → List ℕ → Handle → Answer
   erased : ℕ → List ℕ → Handle → Answer
+  clash : ℕ → List ℕ → Handle → Handle → Answer
   listed : ℕ → List Listed → Answer
   fault : Fault → Answer
 
@@ -55,6 +57,7 @@ answer (replies.Next at next) = after at next
 answer (replies.Shown at headings r) = shown at (listed_of headings.now r)
 answer (replies.Banned at index by) = banned at index.now by
 answer (replies.Erased at index by) = erased at index.now by
+answer (replies.Clash at index first second) = clash at index.now first second
 answer (replies.Listed at headings records) = listed at (map (listed_of headings.now) records.now)
 answer (replies.Fault f) = fault f
 
@@ -68,6 +71,7 @@ fault_name faults.Index = codes "index"
 fault_name faults.Kind = codes "kind"
 fault_name faults.Row = codes "row"
 fault_name faults.Key = codes "key"
+fault_name faults.Definition = codes "definition"
 fault_name faults.Handle = codes "handle"
 fault_name faults.Place = codes "place"
 fault_name faults.Order = codes "order"
@@ -136,5 +140,7 @@ answer_text (after at next) = joined (codes "{\"at\":" ∷ decimal at ∷ codes 
 answer_text (shown at l) = joined (codes "{\"at\":" ∷ decimal at ∷ codes ",\"h\":" ∷ handle_text l.handle ∷ codes ",\"ok\":true,\"r\":" ∷ compact_text (row_data l.row) ∷ codes "}\n" ∷ [])
 answer_text (banned at index by) = blocked_text (codes "banned") at index by
 answer_text (erased at index by) = blocked_text (codes "erased") at index by
+answer_text (clash at index first second) =
+    joined (codes "{\"at\":" ∷ decimal at ∷ codes ",\"by\":\"" ∷ index ∷ codes "\",\"err\":\"clash\",\"h\":" ∷ handle_text first ∷ codes ",\"h2\":" ∷ handle_text second ∷ codes "}\n" ∷ [])
 answer_text (listed at ls) = joined (codes "{\"at\":" ∷ decimal at ∷ codes ",\"ok\":true,\"rs\":[" ∷ listed_texts false ls ∷ codes "}\n" ∷ [])
 answer_text (fault f) = joined (codes "{\"err\":\"" ∷ fault_name f ∷ codes "\"}\n" ∷ [])

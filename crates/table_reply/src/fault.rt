@@ -3,7 +3,8 @@
 ghost use Rattle.std.specs.Prelude.{◌≡◌};
 ghost use Rattle.table_reply.specs.Answer.{fault_name};
 
-/// Why a line is answered by nothing but a name. A banned insertion has an answer of its own, `Reply::Banned`.
+/// Why a line is answered by nothing but a name. A banned insertion and a clash of two records under a new index have answers
+/// of their own, `Reply::Banned` and `Reply::Clash`.
 #[derive(Clone, Copy, Debug, PartialEq, Eq)]
 pub enum Fault {
     /// The line is too long.
@@ -22,6 +23,8 @@ pub enum Fault {
     Row,
     /// A key does not fit the index.
     Key,
+    /// The table may have no such index, or not lose its only one.
+    Definition,
     /// A text is no handle, or the handle is stale.
     Handle,
     /// A place is past the end.
@@ -52,6 +55,7 @@ impl Fault {
             Fault::Kind => "kind",
             Fault::Row => "row",
             Fault::Key => "key",
+            Fault::Definition => "definition",
             Fault::Handle => "handle",
             Fault::Place => "place",
             Fault::Order => "order",

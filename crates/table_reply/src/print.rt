@@ -5,7 +5,7 @@ ghost use Rattle.std.specs.Option.{option_copied};
 ghost use Rattle.json.specs.Print.{quoted};
 ghost use Rattle.serde_json.specs.Written.{compact_text, comma_if};
 ghost use Rattle.table_reply.specs.Buffer.{Adds, AddsWhole};
-ghost use Rattle.table_reply.specs.Answer.{done, found, counted, after, shown, banned, erased, blocked_text, fault, listed, shown_front, answer_text, handle_text, handle_or_null, data_of, row_data, named, listed_of, listed_text, listed_texts, listed_front, record_front};
+ghost use Rattle.table_reply.specs.Answer.{done, found, counted, after, shown, banned, erased, blocked_text, clash, fault, listed, shown_front, answer_text, handle_text, handle_or_null, data_of, row_data, named, listed_of, listed_text, listed_texts, listed_front, record_front};
 
 use crate::fault::Fault;
 use crate::handle::{SPELLING_LEN, spelling};
@@ -123,6 +123,30 @@ pub(crate) fn push_erased(out: &mut Out, at: u64, index: &str, by: Handle) -> Re
     ensures { AddsWhole result out.old out.new (answer_text (erased at index.now by)) }
 {
     push_blocked(out, "erased", at, index, by)
+}
+
+pub(crate) fn push_clash(
+    out: &mut Out,
+    at: u64,
+    index: &str,
+    first: Handle,
+    second: Handle,
+) -> Result<(), OutOfRoom>
+    ensures { AddsWhole result out.old out.new (answer_text (clash at index.now first second)) }
+{
+    let first = handle_text(first);
+    let second = handle_text(second);
+    out.try_push_all(&[
+        "{\"at\":",
+        Buffer::new().format(at),
+        ",\"by\":\"",
+        index,
+        "\",\"err\":\"clash\",\"h\":",
+        first.as_str(),
+        ",\"h2\":",
+        second.as_str(),
+        "}\n",
+    ])
 }
 
 pub(crate) fn push_fault(out: &mut Out, why: Fault) -> Result<(), OutOfRoom>

@@ -6,8 +6,8 @@ ghost use Rattle.table_reply.specs.Answer.{answer, answer_text};
 use crate::fault::Fault;
 use crate::out::{Out, OutOfRoom};
 use crate::print::{
-    push_after, push_banned, push_counted, push_done, push_erased, push_fault, push_found,
-    push_listed, push_shown,
+    push_after, push_banned, push_clash, push_counted, push_done, push_erased, push_fault,
+    push_found, push_listed, push_shown,
 };
 use container_model::Handle;
 use key_extract::{Row, Text};
@@ -71,6 +71,14 @@ pub enum Reply<'a> {
         index: &'a str,
         by: Handle,
     },
+    /// Two records would have one key at a new unique index: the first of them, and the younger one. The index's name is
+    /// printed as it stands: it must need no escape.
+    Clash {
+        at: u64,
+        index: &'a str,
+        first: Handle,
+        second: Handle,
+    },
     /// Records, whose rows show the cells of the headings in their order.
     Listed {
         at: u64,
@@ -109,6 +117,12 @@ fn push_reply(reply: &Reply, out: &mut Out) -> Result<(), OutOfRoom>
         } => push_shown(out, at, headings, &record),
         Reply::Banned { at, index, by } => push_banned(out, at, index, by),
         Reply::Erased { at, index, by } => push_erased(out, at, index, by),
+        Reply::Clash {
+            at,
+            index,
+            first,
+            second,
+        } => push_clash(out, at, index, first, second),
         Reply::Listed {
             at,
             headings,
