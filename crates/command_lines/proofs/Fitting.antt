@@ -23,16 +23,16 @@ use Rattle.command_lines.specs.declared.op.Op.TheVariants as ops
 use Rattle.command_lines.specs.declared.op.TableOp.{TableOp}
 use Rattle.command_lines.specs.declared.op.TableOp.TheVariants.{Clear, Size}
 use Rattle.command_lines.specs.declared.op.IndexOp.{IndexOp}
-use Rattle.command_lines.specs.declared.op.IndexOp.TheVariants.{Reverse, List as Listing}
+use Rattle.command_lines.specs.declared.op.IndexOp.TheVariants.{Reverse, DropIndex, List as Listing}
 use Rattle.command_lines.specs.declared.op.KeyOp.{KeyOp}
 use Rattle.command_lines.specs.declared.op.KeyOp.TheVariants.{EraseKey, Find, Count, Lower, Upper, FindRank, LowerRank, UpperRank}
 use Rattle.command_lines.specs.declared.op.PositionOp.{PositionOp}
 use Rattle.command_lines.specs.declared.op.PositionOp.TheVariants.{Rank, Next, Prev}
-use Rattle.command_lines.specs.Fits.{ValueFits, FieldFits, FieldsFit, HandleTextFits, EndFits, PositionFits, IndexFits, ChangesFit, KeyFits, BoundFits, CommandFits}
+use Rattle.command_lines.specs.Fits.{ValueFits, FieldFits, FieldsFit, HandleTextFits, EndFits, PositionFits, IndexFits, NamesFit, ChangesFit, KeyFits, BoundFits, CommandFits}
 use Rattle.command_lines.specs.Op.{op_of, keys_of}
 use Rattle.command_lines.specs.Spelling.{numbers_in, handle_said}
-use Rattle.command_lines.specs.Parts.{Gives, int_or_other, value_of, values_of, fields_of, has_only, text_at, as_count, count_at, as_key, as_fields, key_at, row_at, handle_at, handle_or_end, end_at, each_read, as_handle, handles_at, names_at, text_if_given, position_at, changes_at, rollback_at, bound_at, or_fault}
-use Rattle.command_lines.specs.Meaning.{insert_of, replace_of, modify_of, modify_key_of, erase_of, move_of, rearrange_of, sort_of, get_of, nth_of, place_of, range_of, on_table, table_command, on_index, index_command, on_key, key_command, on_position, position_command, shaped, command_for, command_of}
+use Rattle.command_lines.specs.Parts.{Gives, int_or_other, value_of, values_of, fields_of, has_only, text_at, as_count, count_at, as_key, as_fields, key_at, row_at, handle_at, handle_or_end, end_at, each_read, as_handle, handles_at, names_at, as_names, names_if_given, kind_at, text_if_given, position_at, changes_at, truth_at, bound_at, or_fault}
+use Rattle.command_lines.specs.Meaning.{insert_of, replace_of, modify_of, modify_key_of, erase_of, move_of, rearrange_of, sort_of, add_index_of, get_of, nth_of, place_of, range_of, on_table, table_command, on_index, index_command, on_key, key_command, on_position, position_command, shaped, command_for, command_of}
 use Rattle.command_lines.proofs.Found.{then_some, map_some, any_some}
 use Rattle.command_lines.proofs.Order.{AreAbove, IntegerFits, IsOrdered, ItemsAreOrdered, MembersAreOrdered}
 use Rattle.command_lines.proofs.ValueTexts.{HasTexts, ItemsHaveTexts, MembersHaveTexts}
@@ -177,8 +177,15 @@ items_part k d h = then_some IsGood ItemsAreGood as_array (get k d) (get_good k 
 handles_part : (d : Data) → IsGood d → IfSome (handles_at d) (AllByRecursion HandleTextFits)
 handles_part d h = then_some ItemsAreGood (AllByRecursion HandleTextFits) (each_read as_handle) (option_and_then as_array (get (codes "hs") d)) (items_part (codes "hs") d h) (each_fits as_handle HandleTextFits handle_fits)
 
+names_fit : (d : Data) → IsGood d → IfSome (as_names d) (AllByRecursion IsUtf8)
+names_fit d h = then_some ItemsAreGood (AllByRecursion IsUtf8) (each_read as_str) (as_array d) (array_good d h) (each_fits as_str IsUtf8 str_fits)
+
 names_part : (d : Data) → IsGood d → IfSome (names_at d) (AllByRecursion IsUtf8)
-names_part d h = then_some ItemsAreGood (AllByRecursion IsUtf8) (each_read as_str) (option_and_then as_array (get (codes "by") d)) (items_part (codes "by") d h) (each_fits as_str IsUtf8 str_fits)
+names_part d h = then_some IsGood (AllByRecursion IsUtf8) as_names (get (codes "by") d) (get_good (codes "by") d h) names_fit
+
+columns_part : (o : Option Data) → IfSome o IsGood → IfSome (names_if_given o) NamesFit
+columns_part None h = tt
+columns_part (Some d) h = map_some (AllByRecursion IsUtf8) NamesFit (λ names. Some names) (as_names d) (names_fit d h) (λ names u. u)
 
 index_part : (o : Option Data) → IfSome o IsGood → IfSome (text_if_given o) IndexFits
 index_part None h = tt
@@ -264,15 +271,15 @@ replace_fits d h =
 modify_fits : (d : Data) → IsGood d → IfSome (modify_of d) CommandFits
 unfolding modify_of
 modify_fits d h =
-    with_four IsUtf8 HandleTextFits ChangesFit (λ _. ⊤) commands.Modify (table_at d) (handle_at d) (changes_at (get (codes "set") d) (get (codes "add") d)) (rollback_at d)
-    (table_part d h) (handle_part d h) (changes_part (get (codes "set") d) (get (codes "add") d) (get_good (codes "set") d h) (get_good (codes "add") d h)) (any_some (rollback_at d))
+    with_four IsUtf8 HandleTextFits ChangesFit (λ _. ⊤) commands.Modify (table_at d) (handle_at d) (changes_at (get (codes "set") d) (get (codes "add") d)) (truth_at (codes "rollback") d)
+    (table_part d h) (handle_part d h) (changes_part (get (codes "set") d) (get (codes "add") d) (get_good (codes "set") d h) (get_good (codes "add") d h)) (any_some (truth_at (codes "rollback") d))
     (λ table t handle n changes c rollback _. (t, n, c))
 
 modify_key_fits : (d : Data) → IsGood d → IfSome (modify_key_of d) CommandFits
 unfolding modify_key_of
 modify_key_fits d h =
-    with_five IsUtf8 IsUtf8 HandleTextFits KeyFits (λ _. ⊤) commands.ModifyKey (table_at d) (index_at d) (handle_at d) (key_at d) (rollback_at d)
-    (table_part d h) (name_part d h) (handle_part d h) (key_part d h) (any_some (rollback_at d)) (λ table t index i handle n key k rollback _. (t, i, n, k))
+    with_five IsUtf8 IsUtf8 HandleTextFits KeyFits (λ _. ⊤) commands.ModifyKey (table_at d) (index_at d) (handle_at d) (key_at d) (truth_at (codes "rollback") d)
+    (table_part d h) (name_part d h) (handle_part d h) (key_part d h) (any_some (truth_at (codes "rollback") d)) (λ table t index i handle n key k rollback _. (t, i, n, k))
 
 erase_fits : (d : Data) → IsGood d → IfSome (erase_of d) CommandFits
 unfolding erase_of
@@ -296,6 +303,13 @@ sort_fits : (d : Data) → IsGood d → IfSome (sort_of d) CommandFits
 unfolding sort_of
 sort_fits d h =
     with_three IsUtf8 IsUtf8 (AllByRecursion IsUtf8) commands.Sort (table_at d) (index_at d) (names_at d) (table_part d h) (name_part d h) (names_part d h) (λ table t index i by n. (t, i, n))
+
+add_index_fits : (d : Data) → IsGood d → IfSome (add_index_of d) CommandFits
+unfolding add_index_of
+add_index_fits d h =
+    with_five IsUtf8 IsUtf8 (λ _. ⊤) (λ _. ⊤) NamesFit commands.AddIndex (table_at d) (index_at d) (kind_at d) (truth_at (codes "unique") d) (names_if_given (get (codes "key") d))
+    (table_part d h) (name_part d h) (any_some (kind_at d)) (any_some (truth_at (codes "unique") d)) (columns_part (get (codes "key") d) (get_good (codes "key") d h))
+    (λ table t index i kind _ unique _ key n. (t, i, n))
 
 get_fits : (d : Data) → IsGood d → IfSome (get_of d) CommandFits
 unfolding get_of
@@ -331,6 +345,7 @@ table_fits op d h = with_one IsUtf8 (on_table op) (table_at d) (table_part d h) 
 on_index_fits : (op : IndexOp) (table : List ℕ) → IsUtf8 table → (index : List ℕ) → IsUtf8 index → CommandFits (on_index op table index)
 unfolding on_index
 on_index_fits Reverse table t index i = (t, i)
+on_index_fits DropIndex table t index i = (t, i)
 on_index_fits Listing table t index i = (t, i)
 
 index_fits : (op : IndexOp) (d : Data) → IsGood d → IfSome (index_command op d) CommandFits
@@ -371,6 +386,7 @@ shaped_fits ops.Erase d h = erase_fits d h
 shaped_fits ops.Move d h = move_fits d h
 shaped_fits ops.Rearrange d h = rearrange_fits d h
 shaped_fits ops.Sort d h = sort_fits d h
+shaped_fits ops.AddIndex d h = add_index_fits d h
 shaped_fits ops.Get d h = get_fits d h
 shaped_fits ops.Nth d h = nth_fits d h
 shaped_fits ops.Place d h = place_fits d h

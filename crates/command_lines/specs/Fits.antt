@@ -58,6 +58,10 @@ abbrev pub IndexFits : Option (List ℕ) → Type 0
 IndexFits None = ⊤
 IndexFits (Some index) = IsUtf8 index
 
+abbrev pub NamesFit : Option (List (List ℕ)) → Type 0
+NamesFit None = ⊤
+NamesFit (Some names) = AllByRecursion IsUtf8 names
+
 abbrev pub ChangesFit : Changes → Type 0
 ChangesFit (Set set) = FieldsFit set
 ChangesFit (Add add) = FieldsFit add
@@ -83,6 +87,8 @@ CommandFits (commands.Move table index handle place) = IsUtf8 table × IsUtf8 in
 CommandFits (commands.Rearrange table index handles) = IsUtf8 table × IsUtf8 index × AllByRecursion HandleTextFits handles
 CommandFits (commands.Reverse table index) = IsUtf8 table × IsUtf8 index
 CommandFits (commands.Sort table index by) = IsUtf8 table × IsUtf8 index × AllByRecursion IsUtf8 by
+CommandFits (commands.AddIndex table index kind unique key) = IsUtf8 table × IsUtf8 index × NamesFit key
+CommandFits (commands.DropIndex table index) = IsUtf8 table × IsUtf8 index
 CommandFits (commands.Get table handle) = IsUtf8 table × HandleTextFits handle
 CommandFits (commands.Size table) = IsUtf8 table
 CommandFits (commands.Find table index key) = IsUtf8 table × IsUtf8 index × KeyFits key

@@ -12,7 +12,7 @@ use Rattle.command_lines.specs.declared.op.Op.TheVariants as ops
 use Rattle.command_lines.specs.declared.op.TableOp.{TableOp}
 use Rattle.command_lines.specs.declared.op.TableOp.TheVariants.{Clear, Size}
 use Rattle.command_lines.specs.declared.op.IndexOp.{IndexOp}
-use Rattle.command_lines.specs.declared.op.IndexOp.TheVariants.{Reverse, List as Listing}
+use Rattle.command_lines.specs.declared.op.IndexOp.TheVariants.{Reverse, DropIndex, List as Listing}
 use Rattle.command_lines.specs.declared.op.KeyOp.{KeyOp}
 use Rattle.command_lines.specs.declared.op.KeyOp.TheVariants.{EraseKey, Find, Count, Lower, Upper, FindRank, LowerRank, UpperRank}
 use Rattle.command_lines.specs.declared.op.PositionOp.{PositionOp}
@@ -21,7 +21,7 @@ use Rattle.table_cmd.specs.declared.command.HandleText.{HandleText}
 use Rattle.command_lines.specs.declared.fault.CommandFault.{CommandFault}
 use Rattle.command_lines.specs.declared.fault.CommandFault.TheVariants as faults
 use Rattle.command_lines.specs.Op.{op_of, keys_of}
-use Rattle.command_lines.specs.Parts.{◌>>=◌, has_only, text_at, key_at, row_at, handle_at, end_at, count_at, handles_at, names_at, text_if_given, position_at, changes_at, rollback_at, bound_at, or_fault}
+use Rattle.command_lines.specs.Parts.{◌>>=◌, has_only, text_at, key_at, row_at, handle_at, end_at, count_at, handles_at, names_at, names_if_given, kind_at, text_if_given, position_at, changes_at, truth_at, bound_at, or_fault}
 
 -- an insertion: a table and a row, and perhaps where it goes at an index
 unfoldable pub insert_of : Data → Option Command
@@ -45,7 +45,7 @@ modify_of d = do
   table ← text_at (codes "t") d
   handle ← handle_at d
   changes ← changes_at (get (codes "set") d) (get (codes "add") d)
-  rollback ← rollback_at d
+  rollback ← truth_at (codes "rollback") d
   Some (commands.Modify table handle changes rollback)
 
 -- a modification of a key: a table, an index, a handle and a key, and perhaps whether it is undone at a ban
@@ -55,7 +55,7 @@ modify_key_of d = do
   index ← text_at (codes "i") d
   handle ← handle_at d
   key ← key_at d
-  rollback ← rollback_at d
+  rollback ← truth_at (codes "rollback") d
   Some (commands.ModifyKey table index handle key rollback)
 
 -- an erasure: a table and a handle, and perhaps an index
@@ -90,6 +90,16 @@ sort_of d = do
   index ← text_at (codes "i") d
   by ← names_at d
   Some (commands.Sort table index by)
+
+-- a new index: a table, the index, its kind, perhaps whether it is unique, and perhaps the names of its key's columns
+unfoldable pub add_index_of : Data → Option Command
+add_index_of d = do
+  table ← text_at (codes "t") d
+  index ← text_at (codes "i") d
+  kind ← kind_at d
+  unique ← truth_at (codes "unique") d
+  key ← names_if_given (get (codes "key") d)
+  Some (commands.AddIndex table index kind unique key)
 
 -- a look-up by handle: a table and a handle
 unfoldable pub get_of : Data → Option Command
@@ -136,6 +146,7 @@ table_command op d = do
 -- a command on an index as a whole
 unfoldable pub on_index : IndexOp → List ℕ → List ℕ → Command
 on_index Reverse table index = commands.Reverse table index
+on_index DropIndex table index = commands.DropIndex table index
 on_index Listing table index = commands.List table index
 
 unfoldable pub index_command : IndexOp → Data → Option Command
@@ -185,6 +196,7 @@ shaped ops.Erase d = erase_of d
 shaped ops.Move d = move_of d
 shaped ops.Rearrange d = rearrange_of d
 shaped ops.Sort d = sort_of d
+shaped ops.AddIndex d = add_index_of d
 shaped ops.Get d = get_of d
 shaped ops.Nth d = nth_of d
 shaped ops.Place d = place_of d

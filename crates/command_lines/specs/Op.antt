@@ -3,7 +3,7 @@ use Rattle.std.specs.Prelude.{ℕ, List, [], ◌∷◌, if◌then◌else◌, Opt
 use Rattle.command_lines.specs.declared.op.Op.{Op}
 use Rattle.command_lines.specs.declared.op.Op.TheVariants as ops
 use Rattle.command_lines.specs.declared.op.TableOp.TheVariants.{Clear, Size}
-use Rattle.command_lines.specs.declared.op.IndexOp.TheVariants.{Reverse, List as Listing}
+use Rattle.command_lines.specs.declared.op.IndexOp.TheVariants.{Reverse, DropIndex, List as Listing}
 use Rattle.command_lines.specs.declared.op.KeyOp.TheVariants.{EraseKey, Find, Count, Lower, Upper, FindRank, LowerRank, UpperRank}
 use Rattle.command_lines.specs.declared.op.PositionOp.TheVariants.{Rank, Next, Prev}
 
@@ -37,6 +37,8 @@ op_names =
     ∷ (codes "next", ops.OnPosition Next)
     ∷ (codes "prev", ops.OnPosition Prev)
     ∷ (codes "list", ops.OnIndex Listing)
+    ∷ (codes "add_index", ops.AddIndex)
+    ∷ (codes "drop_index", ops.OnIndex DropIndex)
     ∷ []
 
 -- what stands under a name in a list
@@ -58,6 +60,7 @@ keys_of ops.Erase = codes "op" ∷ codes "t" ∷ codes "h" ∷ codes "i" ∷ []
 keys_of ops.Move = codes "op" ∷ codes "t" ∷ codes "i" ∷ codes "h" ∷ codes "p" ∷ []
 keys_of ops.Rearrange = codes "op" ∷ codes "t" ∷ codes "i" ∷ codes "hs" ∷ []
 keys_of ops.Sort = codes "op" ∷ codes "t" ∷ codes "i" ∷ codes "by" ∷ []
+keys_of ops.AddIndex = codes "op" ∷ codes "t" ∷ codes "i" ∷ codes "kind" ∷ codes "unique" ∷ codes "key" ∷ []
 keys_of ops.Get = codes "op" ∷ codes "t" ∷ codes "h" ∷ []
 keys_of ops.Nth = codes "op" ∷ codes "t" ∷ codes "i" ∷ codes "n" ∷ []
 keys_of ops.Place = codes "op" ∷ codes "t" ∷ codes "i" ∷ codes "h" ∷ []

@@ -4,6 +4,8 @@ use Rattle.std.specs.List.{list_any}
 use Rattle.serde_json.specs.Data.{Data, null, boolean, number, string, array, object, Items, no_items, item as element, Members, no_members, member}
 use Rattle.serde_json.specs.Find.{get, as_bool, as_str, as_number, as_array, as_object, as_i64, as_u64}
 use Rattle.key_extract.specs.declared.cell.Cell.TheVariants as cells
+use Rattle.container_model.specs.declared.handle.Kind.{Kind}
+use Rattle.table_schema.specs.KindText.{kind_of}
 use Rattle.table_cmd.specs.declared.command.Value.{Value}
 use Rattle.table_cmd.specs.declared.command.Value.TheVariants.{Cell, Other}
 use Rattle.table_cmd.specs.declared.command.Field.{Field}
@@ -112,9 +114,22 @@ as_handle d = option_map handle_said (as_str d)
 abbrev pub handles_at : Data → Option (List HandleText)
 handles_at d = option_and_then (each_read as_handle) (option_and_then as_array (get (codes "hs") d))
 
--- the names to sort by: an array of texts
+-- names: an array of texts
+abbrev pub as_names : Data → Option (List (List ℕ))
+as_names d = option_and_then (each_read as_str) (as_array d)
+
+-- the names to sort by
 abbrev pub names_at : Data → Option (List (List ℕ))
-names_at d = option_and_then (each_read as_str) (option_and_then as_array (get (codes "by") d))
+names_at d = option_and_then as_names (get (codes "by") d)
+
+-- names that may be left out
+abbrev pub names_if_given : Option Data → Option (Option (List (List ℕ)))
+names_if_given None = Some None
+names_if_given (Some d) = option_map (λ names. Some names) (as_names d)
+
+-- the kind of an index: one of five texts
+abbrev pub kind_at : Data → Option Kind
+kind_at d = option_and_then kind_of (text_at (codes "kind") d)
 
 -- a text that may be left out
 abbrev pub text_if_given : Option Data → Option (Option (List ℕ))
@@ -146,9 +161,9 @@ abbrev pub truth_if_given : Option Data → Option Bool
 truth_if_given None = Some false
 truth_if_given (Some d) = as_bool d
 
--- whether a ban undoes the changes
-abbrev pub rollback_at : Data → Option Bool
-rollback_at d = truth_if_given (get (codes "rollback") d)
+-- the truth value under a name
+abbrev pub truth_at : List ℕ → Data → Option Bool
+truth_at k d = truth_if_given (get k d)
 
 -- a bound with its key or one without, of which one at most is there
 abbrev pub bound_at : Option Data → Option Data → Option KeyBound

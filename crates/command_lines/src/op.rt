@@ -14,6 +14,7 @@ pub(crate) enum Op {
     Move,
     Rearrange,
     Sort,
+    AddIndex,
     Get,
     Nth,
     Place,
@@ -35,6 +36,7 @@ pub(crate) enum TableOp {
 #[derive(Clone, Copy)]
 pub(crate) enum IndexOp {
     Reverse,
+    DropIndex,
     List,
 }
 
@@ -105,6 +107,8 @@ impl Op {
             ("next", Op::OnPosition(PositionOp::Next)),
             ("prev", Op::OnPosition(PositionOp::Prev)),
             ("list", Op::OnIndex(IndexOp::List)),
+            ("add_index", Op::AddIndex),
+            ("drop_index", Op::OnIndex(IndexOp::DropIndex)),
         ]
     }
 
@@ -121,6 +125,7 @@ impl Op {
             Op::Move => &["op", "t", "i", "h", "p"],
             Op::Rearrange => &["op", "t", "i", "hs"],
             Op::Sort => &["op", "t", "i", "by"],
+            Op::AddIndex => &["op", "t", "i", "kind", "unique", "key"],
             Op::Get => &["op", "t", "h"],
             Op::Nth => &["op", "t", "i", "n"],
             Op::Place => &["op", "t", "i", "h"],

@@ -3,7 +3,7 @@
 ghost use Rattle.std.specs.Prelude.{◌≡◌, IfOk, Some, option_map, codes};
 ghost use Rattle.serde_json.specs.Find.{get, as_str};
 ghost use Rattle.serde_json.specs.View.{view, items_view, members_view};
-ghost use Rattle.command_lines.specs.Parts.{Gives, value_of, values_of, fields_of, text_at, as_key, as_fields, key_at, row_at, handle_at, end_at, count_at, each_read, as_handle, handles_at, names_at, text_if_given, position_at, changes_at, rollback_at, bound_at, or_fault};
+ghost use Rattle.command_lines.specs.Parts.{Gives, value_of, values_of, fields_of, text_at, as_key, as_fields, key_at, row_at, handle_at, end_at, count_at, each_read, as_handle, handles_at, names_at, as_names, names_if_given, kind_at, text_if_given, position_at, changes_at, truth_at, bound_at, or_fault};
 
 use crate::fault::CommandFault;
 use crate::handle::handle_said;
@@ -11,8 +11,9 @@ use key_extract::{Cell, Text};
 use serde_json::{Map, Value as Json};
 use std::alloc::{AllocError, Global};
 use table_cmd::{
-    Changes, Field, Fields, HandleText, Handles, Key, KeyBound, Names, Position, Value,
+    Changes, Field, Fields, HandleText, Handles, Key, KeyBound, Kind, Names, Position, Value,
 };
+use table_schema::kind_of;
 
 fn value_of(alloc: Global, json: &Json) -> Result<Value, AllocError>
     ensures { IfOk result (λ value. value ≡ value_of (view json.now)) }
@@ -162,11 +163,43 @@ fn names_said(alloc: Global, values: &Vec<Json>) -> Result<Names, CommandFault>
     Ok(Names::new(names))
 }
 
+fn names_from(alloc: Global, names: &Json) -> Result<Names, CommandFault>
+    ensures { Gives result (or_fault (as_names (view names.now))) }
+{
+    match names.as_array() {
+        Some(values) => names_said(alloc, values),
+        None => Err(CommandFault::Command),
+    }
+}
+
 pub(crate) fn names_of(alloc: Global, value: &Json) -> Result<Names, CommandFault>
     ensures { Gives result (or_fault (names_at (view value.now))) }
 {
-    match value.get("by").and_then(Json::as_array) {
-        Some(values) => names_said(alloc, values),
+    match value.get("by") {
+        Some(names) => names_from(alloc, names),
+        None => Err(CommandFault::Command),
+    }
+}
+
+// The names of a key's columns, which the object may leave out.
+pub(crate) fn columns_if_given(alloc: Global, value: &Json) -> Result<Option<Names>, CommandFault>
+    ensures { Gives result (or_fault (names_if_given (get (codes "key") (view value.now)))) }
+{
+    match value.get("key") {
+        Some(names) => Ok(Some(names_from(alloc, names)?)),
+        None => Ok(None),
+    }
+}
+
+// The kind of a new index.
+pub(crate) fn kind_at(value: &Json) -> Result<Kind, CommandFault>
+    ensures { Gives result (or_fault (kind_at (view value.now))) }
+{
+    let Some(text) = text_at(value, "kind") else {
+        return Err(CommandFault::Command);
+    };
+    match kind_of(text) {
+        Some(kind) => Ok(kind),
         None => Err(CommandFault::Command),
     }
 }
@@ -232,13 +265,13 @@ pub(crate) fn changes_of(alloc: Global, value: &Json) -> Result<Changes, Command
     }
 }
 
-// Whether a ban undoes the changes, which the object may leave out: then it does not.
-pub(crate) fn rollback_of(value: &Json) -> Result<bool, CommandFault>
-    ensures { Gives result (or_fault (rollback_at (view value.now))) }
+// The truth value under a name, which the object may leave out: then it is false.
+pub(crate) fn truth_of(value: &Json, name: &str) -> Result<bool, CommandFault>
+    ensures { Gives result (or_fault (truth_at name.now (view value.now))) }
 {
-    match value.get("rollback") {
+    match value.get(name) {
         None => Ok(false),
-        Some(Json::Bool(rollback)) => Ok(*rollback),
+        Some(Json::Bool(truth)) => Ok(*truth),
         Some(_) => Err(CommandFault::Command),
     }
 }

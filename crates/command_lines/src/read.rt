@@ -5,13 +5,13 @@ ghost use Rattle.std.specs.List.{list_any};
 ghost use Rattle.serde_json.specs.View.{view, members_view};
 ghost use Rattle.command_lines.specs.Fits.{CommandFits};
 ghost use Rattle.command_lines.specs.Parts.{Gives, has_only, or_fault};
-ghost use Rattle.command_lines.specs.Meaning.{insert_of, replace_of, modify_of, modify_key_of, erase_of, move_of, rearrange_of, sort_of, get_of, nth_of, place_of, range_of, on_table, table_command, on_index, index_command, on_key, key_command, on_position, position_command, shaped, command_of, meaning};
+ghost use Rattle.command_lines.specs.Meaning.{insert_of, replace_of, modify_of, modify_key_of, erase_of, move_of, rearrange_of, sort_of, add_index_of, get_of, nth_of, place_of, range_of, on_table, table_command, on_index, index_command, on_key, key_command, on_position, position_command, shaped, command_of, meaning};
 
 use crate::fault::CommandFault;
 use crate::op::{IndexOp, KeyOp, Op, PositionOp, TableOp};
 use crate::parts::{
-    bound_of, changes_of, count_of, end_of, handle_of, handles_of, index_if_given, key_of,
-    names_of, position_of, rollback_of, row_of, text_at, text_of,
+    bound_of, changes_of, columns_if_given, count_of, end_of, handle_of, handles_of,
+    index_if_given, key_of, kind_at, names_of, position_of, row_of, text_at, text_of, truth_of,
 };
 use key_extract::Text;
 use serde_json::{Map, Value as Json};
@@ -82,7 +82,7 @@ fn modify_of(alloc: Global, value: &Json) -> Result<Command, CommandFault>
     let table = text_of(alloc, value, "t")?;
     let handle = handle_of(value)?;
     let changes = changes_of(alloc, value)?;
-    let rollback = rollback_of(value)?;
+    let rollback = truth_of(value, "rollback")?;
     Ok(Command::Modify {
         table,
         handle,
@@ -99,7 +99,7 @@ fn modify_key_of(alloc: Global, value: &Json) -> Result<Command, CommandFault>
     let index = text_of(alloc, value, "i")?;
     let handle = handle_of(value)?;
     let key = key_of(alloc, value)?;
-    let rollback = rollback_of(value)?;
+    let rollback = truth_of(value, "rollback")?;
     Ok(Command::ModifyKey {
         table,
         index,
@@ -161,6 +161,24 @@ fn sort_of(alloc: Global, value: &Json) -> Result<Command, CommandFault>
     let index = text_of(alloc, value, "i")?;
     let by = names_of(alloc, value)?;
     Ok(Command::Sort { table, index, by })
+}
+
+#[tactic(auto, unfolding(crate::specs::Meaning::add_index_of))]
+fn add_index_of(alloc: Global, value: &Json) -> Result<Command, CommandFault>
+    ensures { Gives result (or_fault (add_index_of (view value.now))) }
+{
+    let table = text_of(alloc, value, "t")?;
+    let index = text_of(alloc, value, "i")?;
+    let kind = kind_at(value)?;
+    let unique = truth_of(value, "unique")?;
+    let key = columns_if_given(alloc, value)?;
+    Ok(Command::AddIndex {
+        table,
+        index,
+        kind,
+        unique,
+        key,
+    })
 }
 
 #[tactic(auto, unfolding(crate::specs::Meaning::get_of))]
@@ -240,6 +258,7 @@ fn on_index(op: IndexOp, table: Text, index: Text) -> Command
 {
     match op {
         IndexOp::Reverse => Command::Reverse { table, index },
+        IndexOp::DropIndex => Command::DropIndex { table, index },
         IndexOp::List => Command::List { table, index },
     }
 }
@@ -325,6 +344,7 @@ fn shaped(alloc: Global, op: Op, value: &Json) -> Result<Command, CommandFault>
         Op::Move => move_of(alloc, value),
         Op::Rearrange => rearrange_of(alloc, value),
         Op::Sort => sort_of(alloc, value),
+        Op::AddIndex => add_index_of(alloc, value),
         Op::Get => get_of(alloc, value),
         Op::Nth => nth_of(alloc, value),
         Op::Place => place_of(alloc, value),

@@ -4,6 +4,8 @@ use Rattle.std.specs.List.{AllByRecursion}
 use Rattle.serde_json.specs.Data.{string}
 use Rattle.serde_json.specs.Find.{as_str}
 use Rattle.key_extract.specs.declared.cell.Cell.TheVariants as cells
+use Rattle.container_model.specs.declared.handle.Kind.{Kind}
+use Rattle.table_schema.proofs.KindTexts.{kind_of-kind_text}
 use Rattle.table_cmd.specs.declared.command.Value.{Value}
 use Rattle.table_cmd.specs.declared.command.Value.TheVariants as values
 use Rattle.table_cmd.specs.declared.command.Field.{Field}
@@ -20,7 +22,7 @@ use Rattle.command_lines.specs.Fits.{IntFits, ValueFits, FieldFits, HandleTextFi
 use Rattle.command_lines.specs.Op.{op_of}
 use Rattle.command_lines.specs.Spelling.{handle_said}
 use Rattle.command_lines.specs.Parts.{int_or_other, value_of, values_of, fields_of, handle_or_end, each_read, as_handle}
-use Rattle.command_lines.specs.Meaning.{insert_of, replace_of, modify_of, modify_key_of, erase_of, move_of, rearrange_of, sort_of, get_of, nth_of, place_of, range_of, on_table, table_command, on_index, index_command, on_key, key_command, on_position, position_command, command_for, command_of}
+use Rattle.command_lines.specs.Meaning.{insert_of, replace_of, modify_of, modify_key_of, erase_of, move_of, rearrange_of, sort_of, add_index_of, get_of, nth_of, place_of, range_of, on_table, table_command, on_index, index_command, on_key, key_command, on_position, position_command, command_for, command_of}
 use Rattle.command_lines.proofs.Spelling.{spelling_parts, handle_said-spelling, handle_said-bad}
 use Rattle.command_text.specs.Text.{items_of, value_data, field_members, handle_data, end_data, command_data}
 
@@ -114,6 +116,17 @@ sort_back : (t i : List ℕ) (by : List (List ℕ)) → command_of (command_data
 unfolding command_of command_for op_of sort_of
 sort_back t i by = ap (option_and_then (λ ns. Some (commands.Sort t i ns))) (names_back by)
 
+add_index_back : (t i : List ℕ) (k : Kind) (b : Bool) (ns : Option (List (List ℕ))) → command_of (command_data (commands.AddIndex t i k b ns)) ≡ Some (commands.AddIndex t i k b ns)
+unfolding command_of command_for op_of add_index_of
+add_index_back t i k true None = ap (option_and_then (λ x. Some (commands.AddIndex t i x true None))) (kind_of-kind_text k)
+add_index_back t i k false None = ap (option_and_then (λ x. Some (commands.AddIndex t i x false None))) (kind_of-kind_text k)
+add_index_back t i k true (Some ns) =
+    ap (option_and_then (λ x. option_and_then (λ ms. Some (commands.AddIndex t i x true ms)) (option_map (λ ms. Some ms) (each_read as_str (items_of (map (λ n. string n) ns)))))) (kind_of-kind_text k)
+    ∙ ap (λ o. option_and_then (λ ms. Some (commands.AddIndex t i k true ms)) (option_map (λ ms. Some ms) o)) (names_back ns)
+add_index_back t i k false (Some ns) =
+    ap (option_and_then (λ x. option_and_then (λ ms. Some (commands.AddIndex t i x false ms)) (option_map (λ ms. Some ms) (each_read as_str (items_of (map (λ n. string n) ns)))))) (kind_of-kind_text k)
+    ∙ ap (λ o. option_and_then (λ ms. Some (commands.AddIndex t i k false ms)) (option_map (λ ms. Some ms) o)) (names_back ns)
+
 get_back : (t : List ℕ) (h : HandleText) → HandleTextFits h → command_of (command_data (commands.Get t h)) ≡ Some (commands.Get t h)
 unfolding command_of command_for op_of get_of
 get_back t h fits = ap (option_and_then (λ k. Some (commands.Get t k))) (handle_back h fits)
@@ -149,6 +162,10 @@ size_back t = refl
 reverse_back : (t i : List ℕ) → command_of (command_data (commands.Reverse t i)) ≡ Some (commands.Reverse t i)
 unfolding command_of command_for op_of index_command on_index
 reverse_back t i = refl
+
+drop_index_back : (t i : List ℕ) → command_of (command_data (commands.DropIndex t i)) ≡ Some (commands.DropIndex t i)
+unfolding command_of command_for op_of index_command on_index
+drop_index_back t i = refl
 
 list_back : (t i : List ℕ) → command_of (command_data (commands.List t i)) ≡ Some (commands.List t i)
 unfolding command_of command_for op_of index_command on_index
@@ -211,6 +228,8 @@ command_back (commands.Move t i k p) h = move_back t i k p h.2
 command_back (commands.Rearrange t i ks) h = rearrange_back t i ks h.2
 command_back (commands.Reverse t i) h = reverse_back t i
 command_back (commands.Sort t i by) h = sort_back t i by
+command_back (commands.AddIndex t i k b ns) h = add_index_back t i k b ns
+command_back (commands.DropIndex t i) h = drop_index_back t i
 command_back (commands.Get t k) h = get_back t k h.1
 command_back (commands.Size t) h = size_back t
 command_back (commands.Find t i key) h = find_back t i key h.2

@@ -4,3 +4,4 @@ pub mod Sound
 pub mod Back
 pub mod OneLine
 pub mod Law
+mod Rows

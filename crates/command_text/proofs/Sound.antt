@@ -7,9 +7,12 @@ use Rattle.std.specs.List.Sorted.{IsStrictlySortedBy}
 use Rattle.std.specs.Prelude.{⊤}
 use Rattle.std.proofs.lemmas.Str.{IsUtf8-append, IsUtf8-nil}
 use Rattle.container_model.specs.declared.handle.Handle.{Handle}
+use Rattle.container_model.specs.declared.handle.Kind.{Kind}
+use Rattle.container_model.specs.declared.handle.Kind.TheVariants as kinds
 use Rattle.json.proofs.Printed.Utf8.{are_ascii, IsUtf8-are_ascii}
 use Rattle.serde_json.specs.Data.{Data, string, array, Members, depth, items_depth, members_depth}
 use Rattle.key_extract.specs.declared.cell.Cell.TheVariants as cells
+use Rattle.table_schema.specs.KindText.{kind_text}
 use Rattle.table_reply.specs.Spelling.{HandleFits, spelling}
 use Rattle.table_cmd.specs.declared.command.Value.{Value}
 use Rattle.table_cmd.specs.declared.command.Value.TheVariants as values
@@ -24,7 +27,7 @@ use Rattle.table_cmd.specs.declared.command.Command.TheVariants as commands
 use Rattle.table_cmd.specs.Command.{table_in}
 use Rattle.command_lines.specs.Fits.{IntFits, ValueFits, FieldFits, FieldsFit, HandleTextFits, EndFits, KeyFits, BoundFits, CommandFits}
 use Rattle.command_lines.proofs.Order.{AreAbove}
-use Rattle.command_text.specs.Text.{items_of, value_data, key_data, field_members, fields_data, handle_data, end_data, count_data, included, excluded, and_member, members_of, add_of, by_of, low_included_of, low_excluded_of, handle_of, handles_of, index_of, key_of, high_included_of, high_excluded_of, nth_of, op_name, place_of, row_of, rollback_of, set_of, parts, command_data}
+use Rattle.command_text.specs.Text.{items_of, value_data, key_data, field_members, fields_data, handle_data, names_data, end_data, count_data, included, excluded, and_member, members_of, add_of, by_of, low_included_of, low_excluded_of, handle_of, handles_of, index_of, key_of, columns_of, new_kind_of, high_included_of, high_excluded_of, nth_of, op_name, place_of, row_of, rollback_of, unique_of, set_of, parts, command_data}
 use Rattle.command_text.proofs.Compact.{decimal_utf8, IsSound, ItemsAreSound, MembersAreSound}
 
 -- a value that can be read back, and how deep it nests
@@ -116,8 +119,11 @@ set_sound (commands.Modify table handle (Add add) rollback) h = tt
 set_sound (commands.Modify table handle (Both set add) rollback) h = fields_sound set h.2.0
 set_sound other h = tt
 
+names_sound : (ns : List (List ℕ)) → AllByRecursion IsUtf8 ns → PartIsSound (Some (names_data ns))
+names_sound ns h = array_sound (λ n. string n) IsUtf8 (λ n u. (u, omega arith)) ns h
+
 by_sound : (c : Command) → CommandFits c → PartIsSound (by_of c)
-by_sound (commands.Sort table index by) h = array_sound (λ n. string n) IsUtf8 (λ n u. (u, omega arith)) by h.2
+by_sound (commands.Sort table index by) h = names_sound by h.2
 by_sound other h = tt
 
 included_sound : (b : KeyBound) → BoundFits b → PartIsSound (included b)
@@ -174,6 +180,8 @@ i_sound (commands.Move table index handle place) h = text_sound index h.1
 i_sound (commands.Rearrange table index handles) h = text_sound index h.1
 i_sound (commands.Reverse table index) h = text_sound index h.1
 i_sound (commands.Sort table index by) h = text_sound index h.1
+i_sound (commands.AddIndex table index kind unique key) h = text_sound index h.1
+i_sound (commands.DropIndex table index) h = text_sound index h.1
 i_sound (commands.Find table index key) h = text_sound index h.1
 i_sound (commands.Count table index key) h = text_sound index h.1
 i_sound (commands.Lower table index key) h = text_sound index h.1
@@ -202,6 +210,22 @@ k_sound (commands.LowerRank table index key) h = key_sound key h.2
 k_sound (commands.UpperRank table index key) h = key_sound key h.2
 k_sound other h = tt
 
+columns_sound : (c : Command) → CommandFits c → PartIsSound (columns_of c)
+columns_sound (commands.AddIndex table index kind unique None) h = tt
+columns_sound (commands.AddIndex table index kind unique (Some names)) h = names_sound names h.2
+columns_sound other h = tt
+
+kind_utf8 : (k : Kind) → IsUtf8 (kind_text k)
+kind_utf8 kinds.Sequenced = IsUtf8-are_ascii (codes "sequenced") refl
+kind_utf8 kinds.Random = IsUtf8-are_ascii (codes "random") refl
+kind_utf8 kinds.Ordered = IsUtf8-are_ascii (codes "ordered") refl
+kind_utf8 kinds.Ranked = IsUtf8-are_ascii (codes "ranked") refl
+kind_utf8 kinds.Hashed = IsUtf8-are_ascii (codes "hashed") refl
+
+kind_sound : (c : Command) → PartIsSound (new_kind_of c)
+kind_sound (commands.AddIndex table index kind unique key) = text_sound (kind_text kind) (kind_utf8 kind)
+kind_sound other = tt
+
 n_sound : (c : Command) → CommandFits c → PartIsSound (nth_of c)
 n_sound (commands.Nth table index place) h = count_part place h.2
 n_sound other h = tt
@@ -224,6 +248,11 @@ rollback_sound (commands.ModifyKey table index handle key true) = (tt, omega ari
 rollback_sound (commands.ModifyKey table index handle key false) = tt
 rollback_sound other = tt
 
+unique_sound : (c : Command) → PartIsSound (unique_of c)
+unique_sound (commands.AddIndex table index kind true key) = (tt, omega arith)
+unique_sound (commands.AddIndex table index kind false key) = tt
+unique_sound other = tt
+
 op_utf8 : (c : Command) → IsUtf8 (op_name c)
 op_utf8 (commands.Insert table row position) = IsUtf8-are_ascii (codes "insert") refl
 op_utf8 (commands.Replace table handle row) = IsUtf8-are_ascii (codes "replace") refl
@@ -236,6 +265,8 @@ op_utf8 (commands.Move table index handle place) = IsUtf8-are_ascii (codes "move
 op_utf8 (commands.Rearrange table index handles) = IsUtf8-are_ascii (codes "rearrange") refl
 op_utf8 (commands.Reverse table index) = IsUtf8-are_ascii (codes "reverse") refl
 op_utf8 (commands.Sort table index by) = IsUtf8-are_ascii (codes "sort") refl
+op_utf8 (commands.AddIndex table index kind unique key) = IsUtf8-are_ascii (codes "add_index") refl
+op_utf8 (commands.DropIndex table index) = IsUtf8-are_ascii (codes "drop_index") refl
 op_utf8 (commands.Get table handle) = IsUtf8-are_ascii (codes "get") refl
 op_utf8 (commands.Size table) = IsUtf8-are_ascii (codes "size") refl
 op_utf8 (commands.Find table index key) = IsUtf8-are_ascii (codes "find") refl
@@ -268,6 +299,8 @@ table_utf8 (commands.Move table index handle place) h = h.0
 table_utf8 (commands.Rearrange table index handles) h = h.0
 table_utf8 (commands.Reverse table index) h = h.0
 table_utf8 (commands.Sort table index by) h = h.0
+table_utf8 (commands.AddIndex table index kind unique key) h = h.0
+table_utf8 (commands.DropIndex table index) h = h.0
 table_utf8 (commands.Get table handle) h = h.0
 table_utf8 (commands.Size table) h = h
 table_utf8 (commands.Find table index key) h = h.0
@@ -333,5 +366,5 @@ parts_sound (p ∷ ps) e h =
 pub command_sound : (c : Command) → CommandFits c → IsSound (command_data c) × (depth (command_data c) ≤ 3)
 command_sound c h =
     let s = parts_sound (parts c) refl
-    (add_sound c h, (by_sound c h, (ge_sound c h, (gt_sound c h, (h_sound c h, (hs_sound c h, (i_sound c h, (k_sound c h, (le_sound c h, (lt_sound c h, (n_sound c h, (op_sound c, (p_sound c h, (r_sound c h, (rollback_sound c, (set_sound c h, (text_sound (table_in c) (table_utf8 c h), tt))))))))))))))))) in
+    (add_sound c h, (by_sound c h, (ge_sound c h, (gt_sound c h, (h_sound c h, (hs_sound c h, (i_sound c h, (k_sound c h, (columns_sound c h, (kind_sound c, (le_sound c h, (lt_sound c h, (n_sound c h, (op_sound c, (p_sound c h, (r_sound c h, (rollback_sound c, (set_sound c h, (text_sound (table_in c) (table_utf8 c h), (unique_sound c, tt)))))))))))))))))))) in
     (s.0, omega (arith, s.1))

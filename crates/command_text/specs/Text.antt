@@ -3,6 +3,7 @@ use Rattle.std.specs.Prelude.{ℕ, List, [], ◌∷◌, Bool, true, false, Optio
 use Rattle.serde_json.specs.Data.{Data, null, boolean, number, string, array, object, unsigned, Items, no_items, item, Members, no_members, member}
 use Rattle.serde_json.specs.Written.{compact_text}
 use Rattle.table_reply.specs.Answer.{data_of}
+use Rattle.table_schema.specs.KindText.{kind_text}
 use Rattle.table_reply.specs.Spelling.{spelling}
 use Rattle.table_cmd.specs.declared.command.Value.{Value}
 use Rattle.table_cmd.specs.declared.command.Value.TheVariants.{Cell, Other}
@@ -131,6 +132,8 @@ index_of (commands.Move table index handle place) = Some (string index)
 index_of (commands.Rearrange table index handles) = Some (string index)
 index_of (commands.Reverse table index) = Some (string index)
 index_of (commands.Sort table index by) = Some (string index)
+index_of (commands.AddIndex table index kind unique key) = Some (string index)
+index_of (commands.DropIndex table index) = Some (string index)
 index_of (commands.Find table index key) = Some (string index)
 index_of (commands.Count table index key) = Some (string index)
 index_of (commands.Lower table index key) = Some (string index)
@@ -160,6 +163,16 @@ key_of (commands.LowerRank table index key) = Some (key_data key)
 key_of (commands.UpperRank table index key) = Some (key_data key)
 key_of other = None
 
+-- the names of the columns of a new index's key
+abbrev pub columns_of : Command → Option Data
+columns_of (commands.AddIndex table index kind unique key) = option_map names_data key
+columns_of other = None
+
+-- the kind of a new index
+abbrev pub new_kind_of : Command → Option Data
+new_kind_of (commands.AddIndex table index kind unique key) = Some (string (kind_text kind))
+new_kind_of other = None
+
 -- the high bound
 abbrev pub high_included_of : Command → Option Data
 high_included_of (commands.Range table index low high) = included high
@@ -187,6 +200,8 @@ op_name (commands.Move table index handle place) = codes "move"
 op_name (commands.Rearrange table index handles) = codes "rearrange"
 op_name (commands.Reverse table index) = codes "reverse"
 op_name (commands.Sort table index by) = codes "sort"
+op_name (commands.AddIndex table index kind unique key) = codes "add_index"
+op_name (commands.DropIndex table index) = codes "drop_index"
 op_name (commands.Get table handle) = codes "get"
 op_name (commands.Size table) = codes "size"
 op_name (commands.Find table index key) = codes "find"
@@ -216,15 +231,21 @@ row_of (commands.Insert table row position) = Some (fields_data row)
 row_of (commands.Replace table handle row) = Some (fields_data row)
 row_of other = None
 
--- true where a ban undoes the changes; nothing where it does not
+-- true; nothing where it is false
 abbrev pub if_true : Bool → Option Data
 if_true true = Some (boolean true)
 if_true false = None
 
+-- whether a ban undoes the changes
 abbrev pub rollback_of : Command → Option Data
 rollback_of (commands.Modify table handle changes rollback) = if_true rollback
 rollback_of (commands.ModifyKey table index handle key rollback) = if_true rollback
 rollback_of other = None
+
+-- whether a new index is unique
+abbrev pub unique_of : Command → Option Data
+unique_of (commands.AddIndex table index kind unique key) = if_true unique
+unique_of other = None
 
 -- what is set
 abbrev pub changed : Changes → Option Data
@@ -259,6 +280,8 @@ parts c =
     ∷ (codes "hs", handles_of c)
     ∷ (codes "i", index_of c)
     ∷ (codes "k", key_of c)
+    ∷ (codes "key", columns_of c)
+    ∷ (codes "kind", new_kind_of c)
     ∷ (codes "le", high_included_of c)
     ∷ (codes "lt", high_excluded_of c)
     ∷ (codes "n", nth_of c)
@@ -268,6 +291,7 @@ parts c =
     ∷ (codes "rollback", rollback_of c)
     ∷ (codes "set", set_of c)
     ∷ (codes "t", Some (string (table_in c)))
+    ∷ (codes "unique", unique_of c)
     ∷ []
 
 -- a command as a JSON value

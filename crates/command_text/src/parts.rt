@@ -1,11 +1,12 @@
 //! What a command has under each key of its text, if it has it.
 
 ghost use Rattle.std.specs.Prelude.{◌≡◌, option_map};
-ghost use Rattle.command_text.specs.Text.{add_of, added, by_of, excluded, low_included_of, low_excluded_of, handle_of, handles_of, index_of, if_true, included, key_of, high_included_of, high_excluded_of, nth_of, op_name, place_of, row_of, rollback_of, changed, set_of, end_data};
+ghost use Rattle.command_text.specs.Text.{add_of, added, by_of, excluded, low_included_of, low_excluded_of, handle_of, handles_of, index_of, if_true, included, key_of, columns_of, new_kind_of, high_included_of, high_excluded_of, nth_of, op_name, place_of, row_of, rollback_of, unique_of, changed, set_of, end_data};
 ghost use Rattle.command_text.specs.Part.{part_data};
 
 use crate::part::Part;
 use table_cmd::{Changes, Command, HandleText, KeyBound};
+use table_schema::kind_text;
 
 pub(crate) fn add_of(command: &Command) -> Option<Part<'_>>
     ensures { option_map part_data result ≡ add_of command.now }
@@ -124,6 +125,8 @@ pub(crate) fn index_of(command: &Command) -> Option<Part<'_>>
         | Command::Rearrange { index, .. }
         | Command::Reverse { index, .. }
         | Command::Sort { index, .. }
+        | Command::AddIndex { index, .. }
+        | Command::DropIndex { index, .. }
         | Command::Find { index, .. }
         | Command::Count { index, .. }
         | Command::Lower { index, .. }
@@ -155,6 +158,27 @@ pub(crate) fn key_of(command: &Command) -> Option<Part<'_>>
         | Command::FindRank { key, .. }
         | Command::LowerRank { key, .. }
         | Command::UpperRank { key, .. } => Some(Part::Key(key.as_slice())),
+        _ => None,
+    }
+}
+
+pub(crate) fn columns_of(command: &Command) -> Option<Part<'_>>
+    ensures { option_map part_data result ≡ columns_of command.now }
+{
+    match command {
+        Command::AddIndex {
+            key: Some(names),
+            ..
+        } => Some(Part::Names(names.as_slice())),
+        _ => None,
+    }
+}
+
+pub(crate) fn new_kind_of(command: &Command) -> Option<Part<'_>>
+    ensures { option_map part_data result ≡ new_kind_of command.now }
+{
+    match command {
+        Command::AddIndex { kind, .. } => Some(Part::Text(kind_text(*kind))),
         _ => None,
     }
 }
@@ -201,6 +225,8 @@ pub(crate) fn op_name(command: &Command) -> &'static str
         Command::Rearrange { .. } => "rearrange",
         Command::Reverse { .. } => "reverse",
         Command::Sort { .. } => "sort",
+        Command::AddIndex { .. } => "add_index",
+        Command::DropIndex { .. } => "drop_index",
         Command::Get { .. } => "get",
         Command::Size { .. } => "size",
         Command::Find { .. } => "find",
@@ -251,6 +277,15 @@ pub(crate) fn rollback_of(command: &Command) -> Option<Part<'_>>
         Command::Modify { rollback, .. } | Command::ModifyKey { rollback, .. } => {
             if_true(*rollback)
         }
+        _ => None,
+    }
+}
+
+pub(crate) fn unique_of(command: &Command) -> Option<Part<'_>>
+    ensures { option_map part_data result ≡ unique_of command.now }
+{
+    match command {
+        Command::AddIndex { unique, .. } => if_true(*unique),
         _ => None,
     }
 }

@@ -6,8 +6,9 @@ ghost use Rattle.command_text.specs.Text.{command_text};
 use crate::object::push_object;
 use crate::part::Part;
 use crate::parts::{
-    add_of, by_of, handle_of, handles_of, high_excluded_of, high_included_of, index_of, key_of,
-    low_excluded_of, low_included_of, nth_of, op_name, place_of, rollback_of, row_of, set_of,
+    add_of, by_of, columns_of, handle_of, handles_of, high_excluded_of, high_included_of, index_of,
+    key_of, low_excluded_of, low_included_of, new_kind_of, nth_of, op_name, place_of, rollback_of,
+    row_of, set_of, unique_of,
 };
 use table_cmd::Command;
 use table_reply::{Out, OutOfRoom};
@@ -40,6 +41,8 @@ fn push_command(command: &Command, out: &mut Out) -> Result<(), OutOfRoom>
             ("hs", handles_of(command)),
             ("i", index_of(command)),
             ("k", key_of(command)),
+            ("key", columns_of(command)),
+            ("kind", new_kind_of(command)),
             ("le", high_included_of(command)),
             ("lt", high_excluded_of(command)),
             ("n", nth_of(command)),
@@ -49,6 +52,7 @@ fn push_command(command: &Command, out: &mut Out) -> Result<(), OutOfRoom>
             ("rollback", rollback_of(command)),
             ("set", set_of(command)),
             ("t", Some(Part::Text(command.table()))),
+            ("unique", unique_of(command)),
         ],
     )
 }
