@@ -24,7 +24,7 @@ use Rattle.shared_tables.specs.Journal.{EntryData, LegalAfter, is_write, line_of
 use Rattle.shared_tables.specs.Journals.{AreJournals, IsLegalCell, cells_of}
 use Rattle.shared_tables.specs.Text.{entries_in, entry_line, journal_text, journals_text}
 use Rattle.shared_tables.proofs.Entries.{replay_from-push}
-use Rattle.shared_tables.proofs.Shapes.{keeps_shape, names_table}
+use Rattle.shared_tables.proofs.Shapes.{keeps_name, names_table}
 
 -- ---- one table among others
 
@@ -91,9 +91,9 @@ follows shape past [] h = tt
 follows shape past (e ∷ es) h =
     (h.0.write, h.0.answer, subst (λ t. Follows t es) (replay_from-push (new_table shape) past e) (follows shape (past ++ e ∷ []) es h.1))
 
-keeps_replay : (t : TableState) (es : List EntryData) → (replay_from t es).shape ≡ t.shape
+keeps_replay : (t : TableState) (es : List EntryData) → (replay_from t es).shape.name ≡ t.shape.name
 keeps_replay t [] = refl
-keeps_replay t (e ∷ es) = keeps_replay (step_of t e.command).table es ∙ keeps_shape t e.command
+keeps_replay t (e ∷ es) = keeps_replay (step_of t e.command).table es ∙ keeps_name t e.command
 
 -- the entries' answers, and then those to the lines after them
 abbrev Goes : List ℕ → List EntryData → List (List ℕ) → List TableState → List TableState → Type 0
@@ -123,7 +123,7 @@ entries_again done later t (e ∷ es) rest text new readable others follow h =
     let g = subst (λ ls. AnswersLines (done ++ t ∷ later) ls text new) (lines_after e es rest readable.0) h in
     elim (line_again done later t e g.1 g.0 readable.0 others follow.0 follow.1 g.4) [
       | inl told ↦
-          let apart = subst (λ (s : TableShape). Others done s.name) (sym (keeps_shape t e.command)) others in
+          let apart = subst (Others done) (sym (keeps_name t e.command)) others in
           goes_on text g.1 g.2 e es (lines_of rest) (done ++ replay_from after es ∷ later) new g.3 told.0
           (entries_again done later after es rest g.2 new readable.1 apart follow.2 (subst (λ ts. AnswersLines ts lines g.2 new) told.1 g.5))
       | inr memory ↦ inl ([], e ∷ es, g.2, refl, g.3 ∙ ap (λ t. t ++ g.2) memory)
@@ -188,9 +188,9 @@ tables_again done (shape ∷ schema) workers (j ∷ js) text new apart distinct 
     elim (entries_again done (map new_table schema) (new_table shape) j (journals_text js) text new parts.0 (apart_first shape schema done apart) (follows shape [] j legal.0) h) [
       | inl stops ↦ inl (stops_within text j (entries_in js) stops)
       | inr r ↦
-          let same : left.shape ≡ shape = keeps_replay (new_table shape) j in
+          let same : left.shape.name ≡ shape.name = keeps_replay (new_table shape) j in
           let unlike = named_apart shape.name schema (not-true _ names.0) in
-          let unlike' = subst (λ (s : TableShape). AllByRecursion (λ o. bytes_eq s.name o.name ≡ false) schema) (sym same) unlike in
+          let unlike' = subst (λ (name : List ℕ). AllByRecursion (λ o. bytes_eq name o.name ≡ false) schema) (sym same) unlike in
           let lines = subst (λ ts. AnswersLines ts (lines_of (journals_text js)) r.0 new) (sym (append_assoc done (left ∷ []) (map new_table schema))) r.2 in
           ends_after text r.0 j (entries_in js) _ (done ++ left ∷ replays schema js) new r.1 (append_assoc done (left ∷ []) (replays schema js))
           (tables_again (done ++ left ∷ []) schema workers js r.0 new (apart_more shape schema done left apart unlike') names.1 (omega arith) legal.1 parts.1 lines)

@@ -99,19 +99,19 @@ module _ (t : TableState) where
 
 -- ---- a step
 
-abbrev KeepsShape : TableState → Step → Type 0
-KeepsShape t step = step.table.shape ≡ t.shape
+abbrev KeepsName : TableState → Step → Type 0
+KeepsName t step = step.table.shape.name ≡ t.shape.name
 
-either_keeps : (t : TableState) (b : Bool) (x y : Step) → KeepsShape t x → KeepsShape t y → KeepsShape t (if b then x else y)
+either_keeps : (t : TableState) (b : Bool) (x y : Step) → KeepsName t x → KeepsName t y → KeepsName t (if b then x else y)
 either_keeps t true x y h k = h
 either_keeps t false x y h k = k
 
--- each command leaves a table of the same declaration
-pub keeps_shape : (t : TableState) (command : Command) → KeepsShape t (step_of t command)
+-- each command leaves a table of the same name
+pub keeps_name : (t : TableState) (command : Command) → KeepsName t (step_of t command)
 unfolding step_of
-keeps_shape t command =
+keeps_name t command =
     either_keeps t (bytes_eq (table_in command) t.shape.name) (step_at t command) (refused t faults.Table)
-    (either_keeps t (is_change command) _ _ (change_keeps t command).shape (ap (λ (u : TableState). u.shape) (read_same t command).same)) refl
+    (either_keeps t (is_change command) _ _ (change_keeps t command).declared.name (ap (λ (u : TableState). u.shape.name) (read_same t command).same)) refl
 
 named_by : (t : TableState) (b : Bool) (x : Step) → is_write (if b then x else refused t faults.Table).outcome ≡ true → b ≡ true
 named_by t true x e = refl

@@ -1,8 +1,9 @@
--- A change that is no write leaves the table, and each change its shape.
-use Rattle.std.proofs.Common.{◌≡◌, ℕ, Bool, true, false, cond, Option, Some, None, Result, Ok, Err, List, refl, sym, ap, ◌∙◌}
+-- A change that is no write leaves the table, and each change leaves it under its name and columns.
+use Rattle.std.proofs.Common.{◌≡◌, ℕ, Bool, true, false, cond, Option, Some, None, Result, Ok, Err, List, refl, sym, subst, ◌∙◌}
 use Rattle.container_model.specs.declared.handle.Handle.{Handle}
 use Rattle.container_model.specs.declared.refusal.Why.{Why}
 use Rattle.container_model.specs.Change.{erase_key_refusal, erase_refusal, modify_refusal, replace_refusal, spent}
+use Rattle.container_model.specs.Indices.{drop_index_refusal}
 use Rattle.container_model.specs.Insert.{At}
 use Rattle.container_model.specs.Sequence.{rearrange_refusal, relocate_refusal, sequence_refusal}
 use Rattle.container_model.specs.State.{State, row_of}
@@ -16,37 +17,50 @@ use Rattle.table_cmd.specs.declared.command.Position.{Position}
 use Rattle.table_cmd.specs.declared.command.Value.{Value}
 use Rattle.table_changes.specs.Change.{change_step}
 use Rattle.table_changes.specs.Changes.{clear_step, erase_probe, erase_record, erase_step, erase_text, replace_row, replace_step, insert_fields, insert_row, insert_step}
+use Rattle.table_changes.specs.Indices.{add_defined, add_draft, drop_at, drop_index_step}
 use Rattle.table_changes.specs.Modify.{at_row, change_row, edit_record, modify_key_step, modify_row, modify_step, put_key}
 use Rattle.table_changes.specs.Moves.{move_record, move_step, parts_named, rearrange_in, rearrange_step, reverse_in, reverse_step, sort_in, sort_step}
 use Rattle.table_records.specs.Changes.{refusal_at}
+use Rattle.table_records.specs.Reindexed.{add_refusal, with_table_index, without_table_index}
 use Rattle.table_reply.specs.Answer.{Answer}
 use Rattle.table_reply.specs.declared.fault.Fault.{Fault}
 use Rattle.table_reply.specs.declared.fault.Fault.TheVariants as faults
+use Rattle.table_schema.specs.declared.column.IndexSpec.{IndexSpec}
+use Rattle.table_schema.specs.Defined.{defined, with_index}
+use Rattle.table_schema.specs.Draft.{IndexDraft}
+use Rattle.table_schema.specs.Shape.{TableShape}
 use Rattle.table_terms.specs.declared.kinds.Kinds.{Kinds}
 use Rattle.table_terms.specs.declared.kinds.Kinds.TheVariants as kinds
 use Rattle.table_terms.specs.declared.outcome.Outcome.{Outcome}
 use Rattle.table_terms.specs.declared.outcome.Outcome.TheVariants as outcomes
 use Rattle.table_terms.specs.Edits.{edited_row, is_edit, keyed_row}
-use Rattle.table_terms.specs.Step.{Step, Steps, Took, changed, refused, then_step}
-use Rattle.table_terms.specs.Table.{TableState, Cells, Keys, keys_of, row_order}
+use Rattle.table_terms.specs.Step.{Step, Steps, Took, changed, refused, reindexed, then_step}
+use Rattle.table_terms.specs.Table.{TableState, Cells, IsOfSameTable, Keys, keys_of, row_order}
 use Rattle.table_terms.specs.Words.{at_key, handle_for, key_for, or_fault, place_for, record_for, spelled, whole_key_for}
 
--- the table is the same unless it was written to, and of the same shape
+-- the table is the same unless it was written to, and then its indices alone may be declared anew
 pub record KeepsUnlessWritten (t : TableState) (step : Step) : Type 0 where
   pub table : (step.outcome ≡ outcomes.Write → ⊥) → step.table ≡ t
-  pub shape : step.table.shape ≡ t.shape
+  pub declared : IsOfSameTable step.table.shape t.shape
+
+same_declaration : (shape : TableShape) → IsOfSameTable shape shape
+same_declaration shape = record { name = refl; max = refl; columns = refl; place = refl; tables = refl }
 
 module _ (t : TableState) where
   refused_keeps : (why : _) → KeepsUnlessWritten t (refused t why)
-  refused_keeps why = record { table = λ _. refl; shape = refl }
+  refused_keeps why = record { table = λ _. refl; declared = same_declaration t.shape }
 
   after_keeps : {X : Type 0} (r : Result X Fault) (step : X → Step) → ((x : X) → KeepsUnlessWritten t (step x)) → KeepsUnlessWritten t (then_step t r step)
   after_keeps (Ok x) step k = k x
   after_keeps (Err why) step k = refused_keeps why
 
   changed_keeps : (refusal : Option Why) (answer : Answer) (records : State Keys Cells) → KeepsUnlessWritten t (changed t refusal answer records)
-  changed_keeps None answer records = record { table = λ n. absurd (n refl); shape = refl }
-  changed_keeps (Some why) answer records = record { table = λ _. refl; shape = refl }
+  changed_keeps None answer records = record { table = λ n. absurd (n refl); declared = same_declaration t.shape }
+  changed_keeps (Some why) answer records = record { table = λ _. refl; declared = same_declaration t.shape }
+
+  reindexed_keeps : (names : TableShape) (refusal : Option Why) (answer : Answer) (new : TableState) → IsOfSameTable new.shape t.shape → KeepsUnlessWritten t (reindexed t names refusal answer new)
+  reindexed_keeps names None answer new same = record { table = λ n. absurd (n refl); declared = same }
+  reindexed_keeps names (Some why) answer new same = record { table = λ _. refl; declared = same_declaration t.shape }
 
   key_keeps : (taken : Kinds) (name : List ℕ) (values : List Value) (step : ℕ → Cells → Step) → ((place : ℕ) (probe : Cells) → KeepsUnlessWritten t (step place probe)) → KeepsUnlessWritten t (at_key t taken name values step)
   key_keeps taken name values step k = after_keeps (key_for t.shape taken name values) _ (λ key. k key.0 key.1)
@@ -136,6 +150,22 @@ module _ (t : TableState) where
   unfolding reverse_in
   reverse_keeps name = after_keeps (place_for kinds.Sequence t.shape.indices name) _ (λ index. changed_keeps (sequence_refusal t.records index) _ _)
 
+  add_keeps : (index : IndexSpec) → KeepsUnlessWritten t (add_defined t index)
+  unfolding add_defined
+  add_keeps index =
+      reindexed_keeps (with_index t.shape index) (add_refusal t index) _ (with_table_index t index) (record { name = refl; max = refl; columns = refl; place = refl; tables = refl })
+
+  draft_keeps : (draft : IndexDraft) → KeepsUnlessWritten t (add_draft t draft)
+  draft_keeps draft = after_keeps (or_fault faults.Definition (defined t.shape.columns t.shape.indices draft)) _ add_keeps
+
+  drop_at_keeps : (place : ℕ) → KeepsUnlessWritten t (drop_at t place)
+  unfolding drop_at
+  drop_at_keeps place =
+      reindexed_keeps t.shape (drop_index_refusal t.records) _ (without_table_index t place) (record { name = refl; max = refl; columns = refl; place = refl; tables = refl })
+
+  drop_keeps : (name : List ℕ) → KeepsUnlessWritten t (drop_index_step t name)
+  drop_keeps name = after_keeps (place_for kinds.All t.shape.indices name) _ drop_at_keeps
+
   pub change_keeps : (command : Command) → KeepsUnlessWritten t (change_step t command)
   change_keeps (commands.Insert table row position) = insert_keeps row position
   change_keeps (commands.Replace table handle row) = replace_keeps handle row
@@ -148,6 +178,8 @@ module _ (t : TableState) where
   change_keeps (commands.Rearrange table index handles) = rearrange_keeps index handles
   change_keeps (commands.Sort table index by) = sort_keeps index by
   change_keeps (commands.Reverse table index) = reverse_keeps index
+  change_keeps (commands.AddIndex table index kind unique key) = draft_keeps (record { name = index; kind = kind; unique = unique; key = key })
+  change_keeps (commands.DropIndex table index) = drop_keeps index
   change_keeps read = refused_keeps faults.Command
 
 -- and so is the table that was left
@@ -161,8 +193,8 @@ module _ (before after : List ℕ) (t new : TableState) (step : Step) (keeps : K
   steps_unwritten outcomes.Refusal steps unwritten = not_written outcomes.Refusal unwritten steps
   steps_unwritten outcomes.Memory steps unwritten = steps.1
 
-  pub steps_shape : (outcome : Outcome) → Steps outcome before after t new step → new.shape ≡ t.shape
-  steps_shape outcomes.Write steps = ap (λ s. s.shape) steps.table ∙ keeps.shape
-  steps_shape outcomes.Read steps = ap (λ s. s.shape) steps.table ∙ keeps.shape
-  steps_shape outcomes.Refusal steps = ap (λ s. s.shape) steps.table ∙ keeps.shape
-  steps_shape outcomes.Memory steps = ap (λ s. s.shape) steps.1
+  pub steps_declared : (outcome : Outcome) → Steps outcome before after t new step → IsOfSameTable new.shape t.shape
+  steps_declared outcomes.Write steps = subst (λ s. IsOfSameTable s.shape t.shape) (sym steps.table) keeps.declared
+  steps_declared outcomes.Read steps = subst (λ s. IsOfSameTable s.shape t.shape) (sym steps.table) keeps.declared
+  steps_declared outcomes.Refusal steps = subst (λ s. IsOfSameTable s.shape t.shape) (sym steps.table) keeps.declared
+  steps_declared outcomes.Memory steps = subst (λ s. IsOfSameTable s.shape t.shape) (sym steps.1) (same_declaration t.shape)

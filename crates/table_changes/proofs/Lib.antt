@@ -1,2 +1,3 @@
+mod Rows
 pub mod Kept
 pub mod Refused

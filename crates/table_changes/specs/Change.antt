@@ -4,6 +4,7 @@ use Rattle.table_cmd.specs.Command.{added_in, set_in}
 use Rattle.table_cmd.specs.declared.command.Command.{Command}
 use Rattle.table_cmd.specs.declared.command.Command.TheVariants as commands
 use Rattle.table_changes.specs.Changes.{clear_step, erase_key_step, erase_step, insert_step, replace_step}
+use Rattle.table_changes.specs.Indices.{add_index_step, drop_index_step}
 use Rattle.table_changes.specs.Modify.{modify_key_step, modify_step}
 use Rattle.table_changes.specs.Moves.{move_step, rearrange_step, reverse_step, sort_step}
 use Rattle.table_reply.specs.declared.fault.Fault.TheVariants as faults
@@ -23,6 +24,8 @@ is_change (commands.Move table index handle place) = true
 is_change (commands.Rearrange table index handles) = true
 is_change (commands.Sort table index by) = true
 is_change (commands.Reverse table index) = true
+is_change (commands.AddIndex table index kind unique key) = true
+is_change (commands.DropIndex table index) = true
 is_change read = false
 
 -- a change of the table that it names; a read is none
@@ -38,4 +41,6 @@ change_step t (commands.Move table index handle place) = move_step t index handl
 change_step t (commands.Rearrange table index handles) = rearrange_step t index handles
 change_step t (commands.Sort table index by) = sort_step t index by
 change_step t (commands.Reverse table index) = reverse_step t index
+change_step t (commands.AddIndex table index kind unique key) = add_index_step t index kind unique key
+change_step t (commands.DropIndex table index) = drop_index_step t index
 change_step t read = refused t faults.Command

@@ -1,4 +1,5 @@
 pub mod Changes
 pub mod Moves
 pub mod Modify
+pub mod Indices
 pub mod Change

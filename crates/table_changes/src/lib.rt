@@ -2,6 +2,7 @@
 #![tactic(auto)]
 
 mod erase;
+mod indices;
 mod insert;
 mod modify;
 mod moves;

@@ -6,6 +6,7 @@ ghost use Rattle.table_reply.specs.Buffer.{Keeps};
 ghost use Rattle.table_terms.specs.Step.{IsShort, Steps};
 
 use crate::erase::{clear, erase, erase_key};
+use crate::indices::{add_index, drop_index};
 use crate::insert::insert;
 use crate::modify::{modify, modify_key};
 use crate::moves::{move_before, rearrange, reverse, sort};
@@ -33,6 +34,8 @@ pub fn is_change(command: &Command) -> bool
             | Command::Rearrange { .. }
             | Command::Sort { .. }
             | Command::Reverse { .. }
+            | Command::AddIndex { .. }
+            | Command::DropIndex { .. }
     )
 }
 
@@ -78,6 +81,14 @@ pub fn change(alloc: Global, records: &mut Records, command: &Command, out: &mut
         Command::Rearrange { index, handles, .. } => rearrange(alloc, records, index, handles, out),
         Command::Sort { index, by, .. } => sort(records, index, by, out),
         Command::Reverse { index, .. } => reverse(records, index, out),
+        Command::AddIndex {
+            index,
+            kind,
+            unique,
+            key,
+            ..
+        } => add_index(records, index, *kind, *unique, key, out),
+        Command::DropIndex { index, .. } => drop_index(records, index, out),
         _ => refuse(Fault::Command, out),
     }
 }

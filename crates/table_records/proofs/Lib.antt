@@ -1,2 +1,3 @@
 pub mod Declared
+pub mod Reindexed
 pub mod Sorting

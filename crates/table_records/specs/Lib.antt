@@ -1,3 +1,4 @@
 pub mod Headings
 pub mod Fits
 pub mod Changes
+pub mod Reindexed

@@ -6,7 +6,9 @@ mod indices;
 mod order;
 mod records;
 mod refusal;
+mod reindex;
 mod writes;
 
 pub use records::Records;
 pub use refusal::tell_refusal;
+pub use reindex::NotAdded;

@@ -7,7 +7,7 @@ use Rattle.table_reads.specs.Read.{read_step}
 use Rattle.table_reply.specs.declared.fault.Fault.TheVariants as faults
 use Rattle.table_terms.specs.Step.{refused}
 pub use Rattle.table_terms.specs.Step.{IsShort, Step, Steps, Took, memory_line}
-pub use Rattle.table_terms.specs.Table.{TableState, new_table}
+pub use Rattle.table_terms.specs.Table.{IsOfSameTable, TableState, new_table}
 
 -- a command on the table that it names
 abbrev pub step_at : TableState → Command → Step

@@ -3,7 +3,7 @@
 ghost use Rattle.std.specs.Prelude.{◌≡◌, ◌≤◌, IfOk, false};
 ghost use Rattle.table_changes.specs.Change.{is_change};
 ghost use Rattle.table_reply.specs.Buffer.{Keeps};
-ghost use Rattle.table_step.specs.Step.{IsShort, Steps, new_table, step_of};
+ghost use Rattle.table_step.specs.Step.{IsOfSameTable, IsShort, Steps, new_table, step_of};
 
 use std::alloc::{AllocError, Global};
 use std::marker::Model;
@@ -48,7 +48,7 @@ impl Table {
 
     /// Carries a command out and appends the line of its answer, or that of a refusal. A refused command changes
     /// nothing. Where memory is refused nothing is changed and the memory line is appended; an accepted write is
-    /// always answered. `out` keeps its memory.
+    /// always answered. `out` keeps its memory. The table keeps its name and its columns; its indices may be declared anew.
     ///
     /// An insertion and a replacement read their row in O(columns · fields), a record is shown in O(columns) and a listing
     /// in O(records · columns), besides what the container's own call costs.
@@ -59,7 +59,7 @@ impl Table {
             (step_of self.old command.now) }
         ensures short { IsShort result out.old.bytes out.new.bytes }
         ensures kept { Keeps out.old out.new }
-        ensures shape { self.new.shape ≡ self.old.shape }
+        ensures declared { IsOfSameTable self.new.shape self.old.shape }
         ensures unchanged { (result ≡ Outcome.Write → ⊥) → self.new ≡ self.old }
     {
         if command.table() != self.records.spec().name() {

@@ -1,13 +1,14 @@
 -- Steps from what was told.
-use Rattle.std.proofs.Common.{◌≡◌, ℕ, ◌++◌, inl, inr, List, Option, Some, None, sym, subst, refl, ◌∙◌}
+use Rattle.std.proofs.Common.{◌≡◌, ◌⊎◌, ℕ, ◌++◌, inl, inr, List, Option, Some, None, sym, subst, refl, ◌∙◌}
 use Rattle.std.specs.Prelude.{unwrap_or}
 use Rattle.container_model.specs.declared.refusal.Why.{Why}
 use Rattle.container_model.specs.declared.refusal.Why.TheVariants as whys
 use Rattle.container_model.specs.State.{State}
 use Rattle.table_reply.specs.Answer.{Answer}
+use Rattle.table_schema.specs.Shape.{TableShape}
 use Rattle.table_terms.specs.declared.outcome.Outcome.{Outcome}
 use Rattle.table_terms.specs.declared.outcome.Outcome.TheVariants as outcomes
-use Rattle.table_terms.specs.Step.{Answers, Step, Steps, changed, memory_line, refusal_answer, refused_by, told}
+use Rattle.table_terms.specs.Step.{Answers, Step, Steps, changed, memory_line, refusal_answer, refused_by, reindexed, told}
 use Rattle.table_terms.specs.Table.{Cells, Keys, TableState}
 
 module _ (outcome : Outcome) (before after : List ℕ) (t : TableState) where
@@ -33,3 +34,12 @@ module _ (outcome : Outcome) (before after : List ℕ) (t : TableState) where
   pub steps_kept : (refusal : Option Why) (answer : Answer) (records : State Keys Cells) (why : Why) → why ≡ unwrap_or refusal whys.Memory → Answers outcome before after outcomes.Refusal (refusal_answer t why) → (why ≡ whys.Memory → outcome ≡ outcomes.Memory) → Steps outcome before after t t (changed t refusal answer records)
   steps_kept None answer records why e answers memory = out_of_memory (changed t None answer records) (refusal_answer t why) (memory e) answers
   steps_kept (Some w) answer records why e answers memory = subst (λ x. Steps outcome before after t t (refused_by t x)) e (refused_by_container why answers)
+
+  -- a change of the indices that the container refused for this reason, or for want of memory
+  pub steps_not_reindexed : (names : TableShape) (refusal : Option Why) (answer : Answer) (new : TableState) (why : Why) → (Some why ≡ refusal) ⊎ (why ≡ whys.Memory) → Answers outcome before after outcomes.Refusal (refusal_answer (record t { shape = names }) why) → (why ≡ whys.Memory → outcome ≡ outcomes.Memory) →
+      Steps outcome before after t t (reindexed t names refusal answer new)
+  steps_not_reindexed names refusal answer new why (inl is) (inl told_it) memory =
+      subst (λ r. Steps outcome before after t t (reindexed t names r answer new)) is
+      (subst (λ o. Steps o before after t t (reindexed t names (Some why) answer new)) (sym told_it.0) (record { kind = refl; line = told_it.1; table = refl }))
+  steps_not_reindexed names refusal answer new why (inl is) (inr no_memory) memory = steps_memory (reindexed t names refusal answer new) no_memory.0 no_memory.1
+  steps_not_reindexed names refusal answer new why (inr is) answers memory = out_of_memory (reindexed t names refusal answer new) _ (memory is) answers

@@ -5,10 +5,11 @@ use Rattle.container_model.specs.declared.refusal.Why.TheVariants as whys
 use Rattle.container_model.specs.State.{State}
 use Rattle.table_reply.specs.declared.fault.Fault.{Fault}
 use Rattle.table_reply.specs.declared.fault.Fault.TheVariants as faults
-use Rattle.table_reply.specs.Answer.{Answer, answer_text, banned, fault}
+use Rattle.table_reply.specs.Answer.{Answer, answer_text, banned, clash, fault}
 use Rattle.table_terms.specs.declared.outcome.Outcome.{Outcome}
 use Rattle.table_terms.specs.declared.outcome.Outcome.TheVariants as outcomes
-use Rattle.table_terms.specs.Table.{Cells, Keys, TableState, index_name}
+use Rattle.table_schema.specs.Shape.{TableShape}
+use Rattle.table_terms.specs.Table.{Cells, Keys, TableState, index_name, last_index_name}
 
 -- what a command does to a table: the answer, and the table after it
 pub record Step : Type 0 where
@@ -27,13 +28,15 @@ abbrev pub then_step : {A : Type 0} → TableState → Result A Fault → (A →
 then_step t (Ok x) step = step x
 then_step t (Err why) step = refused t why
 
--- what the container's refusal is answered by
+-- what the container's refusal is answered by; a clash is at the last index, which is the new one
 abbrev pub refusal_answer : TableState → Why → Answer
 refusal_answer t whys.Kind = fault faults.Kind
+refusal_answer t whys.Definition = fault faults.Definition
 refusal_answer t whys.Stale = fault faults.Handle
 refusal_answer t whys.Place = fault faults.Place
 refusal_answer t whys.Order = fault faults.Order
 refusal_answer t (whys.Banned index by) = banned t.records.writes (index_name t index) by
+refusal_answer t (whys.Clash first second) = clash t.records.writes (last_index_name t) first second
 refusal_answer t whys.Full = fault faults.Full
 refusal_answer t whys.Spent = fault faults.Spent
 refusal_answer t whys.Memory = fault faults.Memory
@@ -46,6 +49,12 @@ refused_by t why = record { outcome = outcomes.Refusal; answer = refusal_answer 
 abbrev pub changed : TableState → Option Why → Answer → State Keys Cells → Step
 changed t None answer records = record { outcome = outcomes.Write; answer = answer; table = record t { records = records } }
 changed t (Some why) answer records = refused_by t why
+
+-- a change of the indices with its answer and the table that it leaves, where the container does not refuse it; a refusal is
+-- told in the names of a declaration
+abbrev pub reindexed : TableState → TableShape → Option Why → Answer → TableState → Step
+reindexed t names None answer new = record { outcome = outcomes.Write; answer = answer; table = new }
+reindexed t names (Some why) answer new = record { outcome = outcomes.Refusal; answer = refusal_answer (record t { shape = names }) why; table = t }
 
 -- the answer where memory is refused
 abbrev pub memory_line : List ℕ

@@ -1,5 +1,5 @@
 -- A table: what it is declared as, and what it holds.
-use Rattle.std.specs.Prelude.{◌≡◌, ℕ, List, [], map, Option, slice_get}
+use Rattle.std.specs.Prelude.{◌≡◌, ℕ, ◌-◌, List, [], length, map, Option, slice_get}
 use Rattle.std.specs.Option.{option_map_or}
 use Rattle.std.specs.declared.cmp.Ordering.{Ordering}
 use Rattle.container_model.specs.declared.handle.Spec.{Spec}
@@ -38,6 +38,14 @@ spec_of i = record { kind = i.kind; unique = i.unique }
 abbrev pub specs_of : TableShape → List Spec
 specs_of shape = map spec_of shape.indices
 
+-- two declarations of one table: their indices alone may differ
+pub record IsOfSameTable (a b : TableShape) : Type 0 where
+  pub name : a.name ≡ b.name
+  pub max : a.max ≡ b.max
+  pub columns : a.columns ≡ b.columns
+  pub place : a.place ≡ b.place
+  pub tables : a.tables ≡ b.tables
+
 -- the keys and kinds of a container's indices are the declared ones
 pub record HasIndices (shape : TableShape) (records : State Keys Cells) : Type 0 where
   pub keys : records.keys ≡ keys_of shape
@@ -50,3 +58,7 @@ new_table shape = record { shape = shape; records = empty (keys_of shape) (specs
 -- the name of the index at a place
 abbrev pub index_name : TableState → ℕ → List ℕ
 index_name t index = option_map_or (λ i. i.name) (slice_get t.shape.indices index) []
+
+-- the name of the last one
+abbrev pub last_index_name : TableState → List ℕ
+last_index_name t = index_name t (length t.shape.indices - 1)

@@ -1,6 +1,6 @@
 //! The index that a command names.
 
-ghost use Rattle.std.specs.Prelude.{◌≡◌, ◌<◌, [], IfOk, IfSome, length, slice_get};
+ghost use Rattle.std.specs.Prelude.{◌≡◌, ◌<◌, ◌-◌, [], IfOk, IfSome, length, slice_get};
 ghost use Rattle.std.specs.Option.{option_map_or};
 ghost use Rattle.table_schema.specs.Valid.{IsValidTable};
 ghost use Rattle.table_terms.specs.Words.{index_at, place_for};
@@ -45,4 +45,14 @@ pub(crate) fn index_name(spec: &TableSpec, index: usize) -> &str
     } else {
         ""
     }
+}
+
+/// The name of the last index.
+#[tactic(auto, using(table_schema::proofs::Facts::within_low))]
+pub(crate) fn last_index_name(spec: &TableSpec) -> &str
+    ensures name { result.now ≡ option_map_or (λ i. i.name)
+        (slice_get spec.now.indices (length spec.now.indices - 1)) [] }
+    ensures valid { IsValidTable spec.now }
+{
+    index_name(spec, spec.indices().len() - 1)
 }

@@ -7,7 +7,7 @@ ghost use Rattle.table_reply.specs.Buffer.{Keeps};
 ghost use Rattle.table_terms.specs.Step.{Answers, IsShort, refusal_answer};
 ghost use Rattle.table_terms.specs.Table.{TableState, index_name};
 
-use crate::indices::index_name;
+use crate::indices::{index_name, last_index_name};
 use crate::outcome::Outcome;
 use crate::tell::{refuse, refuse_memory, tell_short};
 use container_model::{Handle, Why};
@@ -15,7 +15,7 @@ use table_reply::{Fault, Out, READY_ROOM, Reply};
 use table_schema::TableSpec;
 
 /// Appends the line that tells why the container of a table of this declaration refused a call, where its write number is
-/// `at`. Takes no memory. O(1).
+/// `at`. A clash is told at the last index, the new one. Takes no memory. O(1).
 pub fn tell_why(spec: &TableSpec, at: u64, why: Why, out: &mut Out) -> Outcome
     requires { READY_ROOM ≤ out.old.room }
     ensures line { (t : TableState) → t.shape ≡ spec.now → t.records.writes ≡ at → Answers result out.old.bytes out.new.bytes Outcome.Refusal (refusal_answer t why) }
@@ -33,7 +33,18 @@ pub fn tell_why(spec: &TableSpec, at: u64, why: Why, out: &mut Out) -> Outcome
             tell_short(&banned, out);
             Outcome::Refusal
         }
+        Why::Clash { first, second } => {
+            let clash = Reply::Clash {
+                at,
+                index: last_index_name(spec),
+                first,
+                second,
+            };
+            tell_short(&clash, out);
+            Outcome::Refusal
+        }
         Why::Kind => refuse(Fault::Kind, out),
+        Why::Definition => refuse(Fault::Definition, out),
         Why::Stale => refuse(Fault::Handle, out),
         Why::Place => refuse(Fault::Place, out),
         Why::Order => refuse(Fault::Order, out),

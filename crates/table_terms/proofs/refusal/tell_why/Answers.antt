@@ -1,5 +1,5 @@
-use Rattle.std.proofs.Common.{◌≤◌, length, sym, subst, inl, arith, rules}
-use Rattle.table_reply.proofs.Short.{banned_is_short}
+use Rattle.std.proofs.Common.{◌≤◌, ◌-◌, length, sym, subst, inl, arith, rules}
+use Rattle.table_reply.proofs.Short.{banned_is_short, clash_is_short}
 use Rattle.table_terms.proofs.Declared.{index_name_is_short}
 use Rattle.table_terms.proofs.refusal.tell_why.Goals as goal
 
@@ -7,6 +7,12 @@ pub tell_short-requires-clause-short : goal.tell_short-requires-clause-short
 tell_short-requires-clause-short c =
     banned_is_short c.args.at c.index_name.result.now c.in-Banned.by (omega arith)
     (subst (λ n. length n ≤ 32) (sym c.index_name.ensures.name) (index_name_is_short c.args.spec.now c.index_name.ensures.valid c.in-Banned.index)) (search rules)
+
+pub tell_short-requires-in-Clash-clause-short : goal.tell_short-requires-in-Clash-clause-short
+tell_short-requires-in-Clash-clause-short c =
+    let shape = c.args.spec.now in
+    clash_is_short c.args.at c.last_index_name.result.now c.in-Clash.first c.in-Clash.second (omega arith)
+    (subst (λ n. length n ≤ 32) (sym c.last_index_name.ensures.name) (index_name_is_short shape c.last_index_name.ensures.valid (length shape.indices - 1))) (search rules) (search rules)
 
 pub returns-in-Kind-clause-line : goal.returns-in-Kind-clause-line
 returns-in-Kind-clause-line c = λ t shape writes. rw c.in-Kind.is (inl (c.refuse.ensures.outcome, c.refuse.ensures.line))
@@ -25,3 +31,6 @@ returns-in-Full-clause-line c = λ t shape writes. rw c.in-Full.is (inl (c.refus
 
 pub returns-in-Spent-clause-line : goal.returns-in-Spent-clause-line
 returns-in-Spent-clause-line c = λ t shape writes. rw c.in-Spent.is (inl (c.refuse-in-Spent.ensures.outcome, c.refuse-in-Spent.ensures.line))
+
+pub returns-in-Definition-clause-line : goal.returns-in-Definition-clause-line
+returns-in-Definition-clause-line c = λ t shape writes. rw c.in-Definition.is (inl (c.refuse-in-Definition.ensures.outcome, c.refuse-in-Definition.ensures.line))

@@ -1,13 +1,15 @@
-use Rattle.std.proofs.Common.{ap, ◌∙◌}
+use Rattle.std.proofs.Common.{subst, ◌∙◌}
 use Rattle.table_changes.specs.Change.{change_step}
-use Rattle.table_changes.proofs.Kept.{change_keeps, steps_shape, steps_unwritten}
+use Rattle.table_changes.proofs.Kept.{change_keeps, steps_declared, steps_unwritten}
+use Rattle.table_terms.specs.Table.{IsOfSameTable}
 use Rattle.table_step.proofs.table.Table.step.Goals as goal
 
-pub returns-then-is_change-clause-shape : goal.returns-then-is_change-clause-shape
-returns-then-is_change-clause-shape c =
+pub returns-then-is_change-clause-declared : goal.returns-then-is_change-clause-declared
+returns-then-is_change-clause-declared c =
     let t = c.self.inside.records in
     let step = change_step t c.args.command.now in
-    steps_shape c.args.out.now.bytes c.change.new.out.bytes t c.change.new.records step (change_keeps t c.args.command.now) c.change.result c.change.ensures.answer ∙ ap (λ s. s.shape) c.self.view_is
+    subst (λ s. IsOfSameTable c.change.new.records.shape s.shape) c.self.view_is
+    (steps_declared c.args.out.now.bytes c.change.new.out.bytes t c.change.new.records step (change_keeps t c.args.command.now) c.change.result c.change.ensures.answer)
 
 pub returns-then-is_change-clause-unchanged : goal.returns-then-is_change-clause-unchanged
 returns-then-is_change-clause-unchanged c = λ unwritten.
