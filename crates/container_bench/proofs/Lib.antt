@@ -5,3 +5,4 @@ pub mod Rewritten
 pub mod Trees
 pub mod KeyedBuckets
 mod InColumns
+pub mod Keeps

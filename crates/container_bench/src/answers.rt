@@ -53,7 +53,7 @@ fn insert_both(book: &mut Book, kept: &mut ByHand, count: u64) -> Answers {
 
 /// Prints the sums of what both answer at so many records.
 pub(crate) fn print_answers<R: Runtime>(rt: &R, alloc: Global, count: u64) -> io::Result<()> {
-    match Book::new(alloc, 0, 7, u32::MAX)? {
+    match Book::new(alloc, 0, 7)? {
         Some(mut book) => print_both(rt, &mut book, &mut ByHand::new(alloc, 7), count),
         None => Ok(()),
     }

@@ -12,7 +12,8 @@ use std::alloc::{AllocError, Global};
 use std::marker::Model;
 
 /// Seven indices, each with whether it is unique and what it compares. The fourth alone, and the third to the fifth, are
-/// the smaller containers. Behind them stand two that are a container of their own.
+/// the smaller containers. Behind them stand two that are a container of their own. The first seven are also added, one by one, to a
+/// container of the first.
 pub(crate) const INDICES: [(Kind, bool, Key); 9] = [
     (Kind::Sequenced, false, Key::Nothing),
     (Kind::Random, false, Key::Nothing),
@@ -28,7 +29,8 @@ pub(crate) const INDICES: [(Kind, bool, Key); 9] = [
 /// Records under some indices. `insert` and `find` answer the number of the write that put the record in, or 0.
 #[derive(Drop)]
 pub(crate) struct Book {
-    indices: usize,
+    specs: Vec<Spec>,
+    keys: Keys,
     records: MultiIndex<Record, Keys>,
 }
 
@@ -42,7 +44,7 @@ impl Model for Book {
 
     ghost view = { λ b. b.records };
 
-    ghost invariant = { λ b. b.indices ≡ length b.records.specs };
+    ghost invariant = { λ b. (b.records.keys ≡ b.keys) × (b.records.specs ≡ b.specs.items) × (length b.keys ≡ length b.specs.items) };
 }
 
 // Whether an index has a key where it is of a kind that compares records, and else has none and is not unique.
@@ -69,12 +71,21 @@ fn keys_match(keys: &Keys, specs: &[Spec]) -> bool
 }
 
 impl Book {
-    /// A book of at most `max` records, if the indices are those of a container.
+    /// A book under so many of the indices, from one on, if they are those of a container. It can have no other.
     pub(crate) fn new(
         alloc: Global,
         first: usize,
         count: usize,
-        max: u32,
+    ) -> Result<Option<Book>, AllocError> {
+        Book::with_most(alloc, first, count, count)
+    }
+
+    /// As `new`, of at most `most` indices at a time.
+    pub(crate) fn with_most(
+        alloc: Global,
+        first: usize,
+        count: usize,
+        most: usize,
     ) -> Result<Option<Book>, AllocError> {
         let mut specs = Vec::new(alloc);
         let mut columns = Vec::new(alloc);
@@ -82,13 +93,64 @@ impl Book {
             specs.push(Spec { kind, unique })?;
             columns.push(key)?;
         }
+        let handed = columns.to_vec(alloc)?;
         let keys = Keys::new(columns);
-        let indices = specs.len();
-        if indices < 1 || indices > 8 || !keys_match(&keys, &specs) {
+        let few = specs.len() <= most && most <= 8 && handed.len() == specs.len();
+        if specs.is_empty() || !few || !keys_match(&keys, &specs) {
             return Ok(None);
         }
-        let records = MultiIndex::new(alloc, specs, keys, max, 0)?;
-        Ok(Some(Book { indices, records }))
+        let own = specs.to_vec(alloc)?;
+        let records = MultiIndex::with_most(alloc, own, Keys::new(handed), most, u32::MAX, 0)?;
+        Ok(Some(Book {
+            specs,
+            keys,
+            records,
+        }))
+    }
+
+    /// Adds one of the indices, the last. Answers how many there are then, or 0 where it is refused.
+    pub(crate) fn add_index(&mut self, at: usize) -> u64 {
+        match INDICES.get(at).copied() {
+            Some((kind, unique, key)) => self.add(Spec { kind, unique }, key).unwrap_or(0),
+            None => 0,
+        }
+    }
+
+    fn add(&mut self, spec: Spec, key: Key) -> Result<u64, AllocError> {
+        let mut specs = self.specs.to_vec(*self.specs.allocator())?;
+        specs.push(spec)?;
+        let keys = self.keys.with(key)?;
+        let handed = self.keys.with(key)?;
+        if !keys_match(&keys, &specs) || self.records.add_index(spec, handed).is_err() {
+            return Ok(0);
+        }
+        self.keys = keys;
+        self.specs = specs;
+        Ok(self.specs.len() as u64)
+    }
+
+    /// Drops an index. Answers how many there are then, or 0 where it is refused.
+    pub(crate) fn drop_index(&mut self, index: usize) -> u64 {
+        if index < self.specs.len() {
+            self.take_out(index).unwrap_or(0)
+        } else {
+            0
+        }
+    }
+
+    fn take_out(&mut self, index: usize) -> Result<u64, AllocError>
+        requires { index < length self.old.specs }
+    {
+        let mut specs = self.specs.to_vec(*self.specs.allocator())?;
+        specs.remove(index);
+        let keys = self.keys.without(index)?;
+        let handed = self.keys.without(index)?;
+        if !keys_match(&keys, &specs) || self.records.drop_index(index, handed).is_err() {
+            return Ok(0);
+        }
+        self.keys = keys;
+        self.specs = specs;
+        Ok(self.specs.len() as u64)
     }
 
     pub(crate) fn insert(&mut self, record: Record) -> u64 {
@@ -99,7 +161,7 @@ impl Book {
     }
 
     pub(crate) fn find(&self, index: usize, probe: (u64, u64)) -> u64 {
-        if index >= self.indices {
+        if index >= self.specs.len() {
             return 0;
         }
         match self.records.find(index, &probe) {
@@ -110,7 +172,7 @@ impl Book {
 
     /// Takes out all records that have the key at an index, and answers how many they were.
     pub(crate) fn erase_key(&mut self, index: usize, probe: (u64, u64)) -> u64 {
-        if index >= self.indices {
+        if index >= self.specs.len() {
             return 0;
         }
         self.records.erase_key(index, &probe).unwrap_or(0)
@@ -118,7 +180,7 @@ impl Book {
 
     /// The number of records in the list of an index.
     pub(crate) fn list(&self, index: usize) -> u64 {
-        if index >= self.indices {
+        if index >= self.specs.len() {
             return 0;
         }
         match self.records.view(index) {

@@ -15,6 +15,8 @@ pub(crate) enum Call {
     Find(usize, Key),
     List(usize),
     EraseKey(usize, (u64, u64)),
+    AddIndex(usize),
+    DropIndex(usize),
 }
 
 /// Which of the indices a container has, and what is timed of it.
@@ -130,7 +132,7 @@ fn run<R: Runtime>(
     script: Script,
     count: u64,
 ) -> io::Result<()> {
-    match Book::new(alloc, script.first, script.indices, u32::MAX)? {
+    match Book::new(alloc, script.first, script.indices)? {
         Some(mut book) => time_calls(rt, report, &mut book, script.calls, count),
         None => Ok(()),
     }
@@ -145,6 +147,8 @@ impl Measured for Book {
             Call::Find(index, key) => find_each(self, index, key, to),
             Call::List(index) => self.list(index),
             Call::EraseKey(index, probe) => self.erase_key(index, probe),
+            Call::AddIndex(at) => self.add_index(at),
+            Call::DropIndex(index) => self.drop_index(index),
         }
     }
 }

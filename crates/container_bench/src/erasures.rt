@@ -30,7 +30,7 @@ pub(crate) fn times<R: Runtime>(
     report: &mut Report,
     count: u64,
 ) -> io::Result<()> {
-    match Book::new(alloc, FIRST, 2, u32::MAX)? {
+    match Book::new(alloc, FIRST, 2)? {
         Some(mut book) => {
             fill(&mut book, count);
             time_calls(rt, report, &mut book, &CALLS, count)

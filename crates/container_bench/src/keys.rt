@@ -1,9 +1,10 @@
 //! The keys of records.
-ghost use Rattle.std.specs.Prelude.{◌≡◌};
+ghost use Rattle.std.specs.Prelude.{◌≡◌, ◌<◌, ◌++◌, ◌∷◌, [], IfOk, length, remove};
 ghost use Rattle.container_bench.specs.Keys.{has_key, is_key, key_at, numbers, pair_cmp};
 
 use crate::record::Record;
 use key_extract::Extract;
+use std::alloc::AllocError;
 use std::cmp::Ordering;
 use std::marker::Model;
 
@@ -68,6 +69,25 @@ impl Keys {
         ensures { result ≡ keys.items }
     {
         Keys { keys }
+    }
+
+    /// These keys and that of one index more, the last.
+    pub(crate) fn with(&self, key: Key) -> Result<Keys, AllocError>
+        ensures { IfOk result (λ made. made ≡ self.now ++ key ∷ []) }
+    {
+        let mut keys = self.keys.to_vec(*self.keys.allocator())?;
+        keys.push(key)?;
+        Ok(Keys { keys })
+    }
+
+    /// These keys but that of an index.
+    pub(crate) fn without(&self, index: usize) -> Result<Keys, AllocError>
+        requires { index < length self.now }
+        ensures { IfOk result (λ made. made ≡ remove self.now index) }
+    {
+        let mut keys = self.keys.to_vec(*self.keys.allocator())?;
+        keys.remove(index);
+        Ok(Keys { keys })
     }
 
     fn at(&self, index: usize) -> Key

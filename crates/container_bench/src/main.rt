@@ -1,8 +1,9 @@
 //! Prints what the container and std's collections kept by hand answer to some finds, which is the same, the sizes of nodes
-//! and links, and sums of what the calls of the indices answer. With the words `times`, `times sequences`, `times keys` or
-//! `times growth` it prints the nanoseconds that each call takes in their place: of the container and of the collections,
-//! with the bytes of a record; of the store, a sequence and a row; of the indices that have keys, beside std's maps; of
-//! the calls that must not take longer with every record that is there.
+//! and links, and sums of what the calls of the indices answer. With the words `times`, `times sequences`, `times keys`,
+//! `times growth` or `times indices` it prints the nanoseconds that each call takes in their place: of the container and of the
+//! collections, with the bytes of a record; of the store, a sequence and a row; of the indices that have keys, beside std's
+//! maps; of the calls that must not take longer with every record that is there; of the calls that add and drop an index,
+//! beside insertions, with the bytes of a record by how many indices there may be.
 //!
 //! A line has the call, the size, the least time of several rounds, and its growth since the size before. Where a line
 //! names several calls, the time is that of all; lines for the first ones alone stand beside it.
@@ -15,6 +16,7 @@ mod by_hand_times;
 mod container_times;
 mod erasures;
 mod growth;
+mod indexing;
 mod keyed;
 mod keys;
 mod measured;
@@ -41,6 +43,7 @@ enum Part {
     Sequences,
     Keys,
     Growth,
+    Indices,
 }
 
 impl Part {
@@ -50,6 +53,7 @@ impl Part {
             Some("sequences") => Part::Sequences,
             Some("keys") => Part::Keys,
             Some("growth") => Part::Growth,
+            Some("indices") => Part::Indices,
             _ => Part::Container,
         }
     }
@@ -57,7 +61,7 @@ impl Part {
     // The sizes at which it is.
     fn sizes(self) -> &'static [(u64, u64)] {
         match self {
-            Part::Container | Part::Keys => &UP_TO_A_MILLION,
+            Part::Container | Part::Keys | Part::Indices => &UP_TO_A_MILLION,
             Part::Sequences => &UP_TO_100_000,
             Part::Growth => &GROWING,
         }
@@ -80,6 +84,7 @@ fn times<R: Runtime>(
         Part::Sequences => sequences::times(rt, alloc, report, count),
         Part::Keys => keyed::times(rt, alloc, report, count),
         Part::Growth => growth::times(rt, alloc, report, count),
+        Part::Indices => indexing::times(rt, alloc, report, count),
     }
 }
 
@@ -103,6 +108,7 @@ fn print_bytes<R: Runtime>(rt: &R, alloc: Global, part: Part) -> io::Result<()> 
     match part {
         Part::Container => memory::record_bytes(rt, alloc, 100_000),
         Part::Sequences => sequences::record_bytes(rt, alloc, 100_000),
+        Part::Indices => memory::bytes_by_most(rt, alloc, 100_000),
         Part::Keys | Part::Growth => Ok(()),
     }
 }
@@ -139,7 +145,8 @@ fn print_answers<R: Runtime>(rt: &R, alloc: Global) -> io::Result<()> {
     sequences::print_sizes(rt)?;
     print_sum(rt, alloc, Part::Sequences, "records")?;
     print_sum(rt, alloc, Part::Keys, "words")?;
-    print_sum(rt, alloc, Part::Growth, "that grow")
+    print_sum(rt, alloc, Part::Growth, "that grow")?;
+    print_sum(rt, alloc, Part::Indices, "that are indexed anew")
 }
 
 fn main(rt: HostRuntime) -> io::Result<()> {

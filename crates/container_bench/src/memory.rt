@@ -40,7 +40,7 @@ pub(crate) fn print<R: Runtime>(
 /// only where nothing was freed before.
 pub(crate) fn record_bytes<R: Runtime>(rt: &R, alloc: Global, count: u64) -> io::Result<()> {
     let before = resident(rt)?;
-    match Book::new(alloc, 0, 7, u32::MAX)? {
+    match Book::new(alloc, 0, 7)? {
         Some(mut book) => print_both(rt, alloc, before, &mut book, count),
         None => Ok(()),
     }
@@ -63,4 +63,58 @@ fn print_both<R: Runtime>(
 fn print_by_hand<R: Runtime>(rt: &R, before: u64, kept: &mut ByHand, count: u64) -> io::Result<()> {
     by_hand_times::insert_each(kept, count);
     print(rt, "by hand, 7 indices", before, count)
+}
+
+// The first of so many indices, and the names of the lines of a container that can have these alone, and eight.
+const NUMBERS: [(usize, usize, &str, &str); 4] = [
+    (3, 1, "container, 1 index", "container, 1 index of up to 8"),
+    (
+        3,
+        2,
+        "container, 2 indices",
+        "container, 2 indices of up to 8",
+    ),
+    (
+        2,
+        4,
+        "container, 4 indices",
+        "container, 4 indices of up to 8",
+    ),
+    (
+        0,
+        7,
+        "container, 7 indices",
+        "container, 7 indices of up to 8",
+    ),
+];
+
+/// Prints the bytes that a record takes under one to seven indices, in a container that can have these alone, and in one that can have eight. It is
+/// right only where nothing was freed before.
+pub(crate) fn bytes_by_most<R: Runtime>(rt: &R, alloc: Global, count: u64) -> io::Result<()> {
+    let mut books = Vec::new(alloc);
+    for (first, indices, alone, with_eight) in NUMBERS {
+        let least = Book::new(alloc, first, indices)?;
+        print_book(rt, alone, least, &mut books, count)?;
+        let eight = Book::with_most(alloc, first, indices, 8)?;
+        print_book(rt, with_eight, eight, &mut books, count)?;
+    }
+    Ok(())
+}
+
+// Fills a book, prints its bytes, and keeps it.
+fn print_book<R: Runtime>(
+    rt: &R,
+    name: &'static str,
+    book: Option<Book>,
+    books: &mut Vec<Book>,
+    count: u64,
+) -> io::Result<()> {
+    let Some(mut book) = book else {
+        return Ok(());
+    };
+    let before = resident(rt)?;
+    container_times::insert_each(&mut book, count);
+    print(rt, name, before, count)?;
+    books.push(book)?;
+    Ok(())
 }

@@ -1,6 +1,8 @@
 //! Drawn numbers, rows, searches and handles.
 
-use container_model::Handle;
+use crate::indices::Index;
+use arrayvec::ArrayVec;
+use container_model::{Handle, Kind, Spec};
 use key_extract::{Cell, KeySpec, Part, Probe, Row, Text};
 use rand_core::utils::NextWord;
 use rand_pcg::Pcg32;
@@ -101,6 +103,46 @@ impl Draw {
         Ok(Probe::new(self.cells(parts, count)?))
     }
 
+    /// An index, with a key of one to three parts where its kind has one.
+    pub(crate) fn index(&mut self) -> Index {
+        match self.below(8) {
+            0 => without_key(Kind::Sequenced),
+            1 => without_key(Kind::Random),
+            2..=3 => self.with_key(Kind::Ordered),
+            4..=5 => self.with_key(Kind::Ranked),
+            _ => self.with_key(Kind::Hashed),
+        }
+    }
+
+    fn with_key(&mut self, kind: Kind) -> Index {
+        let key = self.key();
+        let unique = self.once_in(2);
+        Index {
+            spec: Spec { kind, unique },
+            key: Some(key),
+        }
+    }
+
+    fn key(&mut self) -> KeySpec {
+        let mut parts = ArrayVec::new();
+        parts.push(self.part());
+        let more = self.below(3);
+        if more > 0 {
+            parts.push(self.part());
+        }
+        if more > 1 {
+            parts.push(self.part());
+        }
+        KeySpec::new(parts)
+    }
+
+    fn part(&mut self) -> Part {
+        Part {
+            column: self.below(3) as usize,
+            falling: self.once_in(3),
+        }
+    }
+
     /// A handle of one of so many records, or of none.
     pub(crate) fn handle(&mut self, handles: &[Handle]) -> Handle {
         let count = u32::try_from(handles.len()).unwrap_or(0);
@@ -115,6 +157,16 @@ impl Draw {
             _ => {}
         }
         handle
+    }
+}
+
+fn without_key(kind: Kind) -> Index {
+    Index {
+        spec: Spec {
+            kind,
+            unique: false,
+        },
+        key: None,
     }
 }
 

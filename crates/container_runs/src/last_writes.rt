@@ -1,11 +1,18 @@
 //! The last writes that there are numbers for.
 
 use crate::indices::Indices;
+use crate::limits::Limits;
 use crate::pair::{Pair, Write};
 use crate::tally::{Count, Tally};
 use container_model::Handle;
 use key_extract::{Cell, Row};
 use std::alloc::{AllocError, Global};
+
+const LIMITS: Limits = Limits {
+    most: 1,
+    max: 10,
+    first_write: u64::MAX - 2,
+};
 
 // The rows, each of one number, of the writes.
 const NUMBERS: [i64; 5] = [1, 2, 1, 3, 3];
@@ -40,7 +47,7 @@ fn write_all(alloc: Global, pair: &mut Pair, tally: &mut Tally) -> Result<(), Al
 pub(crate) fn run_last_writes(alloc: Global, tally: &mut Tally) -> Result<(), AllocError> {
     tally.count(Count::Scripts);
     let indices = Indices::read(alloc, "ordered!0")?;
-    match Pair::new(alloc, &indices, 10, u64::MAX - 2)? {
+    match Pair::new(alloc, &indices, LIMITS)? {
         Some(mut pair) => write_all(alloc, &mut pair, tally),
         None => {
             tally.count(Count::Differences);

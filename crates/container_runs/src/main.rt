@@ -1,24 +1,31 @@
 //! Runs drawn scripts on the container and on its first version over plain lists by turns, and compares each answer,
-//! and after each write each view.
+//! and after each write each view. An index that is added is compared with that of a container that was made with it.
 //!
 //! A line has the indices of a group, as `indices` reads them, how many scripts and calls it had, the refusals by
 //! their names, and the differences. With a difference the status is 1.
+//!
+//! With the words `add INDEX` it adds an index to many records, once more where memory is refused, and prints one line; with
+//! `fill INDEX` it ends before that, and prints none. With `spent` behind them no number is left for the write.
 #![tactic(auto)]
 
 mod draw;
+mod index_tally;
 mod indices;
 mod last_writes;
+mod limits;
 mod pair;
 mod plain;
+mod refused;
 mod script;
 mod tally;
 
 use draw::Draw;
 use indices::Indices;
 use last_writes::run_last_writes;
+use refused::{Numbers, Run, run_refused};
 use script::run_script;
-use std::io;
 use std::process::ExitCode;
+use std::{env, io};
 use tally::Tally;
 
 const SCRIPTS: u64 = 300;
@@ -57,6 +64,15 @@ fn run_last(rt: &HostRuntime, total: &mut Tally) -> io::Result<()> {
     tally.print(rt, "last writes")
 }
 
+// The status of a run.
+fn status(tally: &Tally) -> ExitCode {
+    if tally.is_clean() {
+        ExitCode::SUCCESS
+    } else {
+        ExitCode::FAILURE
+    }
+}
+
 fn run(rt: &HostRuntime) -> io::Result<ExitCode> {
     let mut total = Tally::new();
     for (number, text) in GROUPS.iter().enumerate() {
@@ -66,13 +82,39 @@ fn run(rt: &HostRuntime) -> io::Result<ExitCode> {
     }
     run_last(rt, &mut total)?;
     total.print(rt, "total")?;
-    Ok(if total.is_clean() {
-        ExitCode::SUCCESS
+    total.print_indices(rt)?;
+    Ok(status(&total))
+}
+
+// What the first word asks for.
+fn run_of(word: &str) -> Run {
+    if word == "fill" { Run::Fill } else { Run::Add }
+}
+
+// Adds an index to many records.
+fn run_words(rt: &HostRuntime, words: &[String]) -> io::Result<ExitCode> {
+    let [word, index, behind @ ..] = words else {
+        return Ok(ExitCode::FAILURE);
+    };
+    let run = run_of(word.as_str());
+    let numbers = if behind.is_empty() {
+        Numbers::Left
     } else {
-        ExitCode::FAILURE
-    })
+        Numbers::Spent
+    };
+    let mut tally = Tally::new();
+    run_refused(rt.alloc(), run, index.as_str(), numbers, &mut tally)?;
+    if run == Run::Add {
+        tally.print(rt, index.as_str())?;
+    }
+    Ok(ExitCode::SUCCESS)
 }
 
 fn main(rt: HostRuntime) -> io::Result<ExitCode> {
-    run(&rt)
+    let words: Vec<String> = env::args(&rt)?.skip(1).collect(rt.alloc())?;
+    if words.is_empty() {
+        run(&rt)
+    } else {
+        run_words(&rt, &words)
+    }
 }

@@ -1,34 +1,38 @@
 //! The container and its first version, side by side.
 ghost use Rattle.std.specs.Prelude.{◌≡◌, ◌<◌, ◌≤◌, IfOk, IsTrue, is_some, length};
-ghost use Rattle.container_model.specs.State.{KeysMatch, empty, has_key_kind, is_hashed_kind};
+ghost use Rattle.container_model.specs.State.{KeysMatch, empty_with_most, has_key_kind, is_hashed_kind, is_ranked_kind, is_sorted_kind};
 ghost use Rattle.container_model.specs.Find.{kind_at};
 ghost use Rattle.key_extract.specs.Keys.{key_at, parts_at, probe_fits, probe_is_whole};
 
 mod answers;
 mod changes;
+mod indexing;
+mod look_ups;
 mod reads;
 mod swap;
 
 use crate::indices::Indices;
+use crate::limits::Limits;
 use crate::plain::PlainIndex;
 pub(crate) use changes::Write;
 use container_model::{Handle, Kind, Spec};
-use key_extract::{Extract, Probe, Row, RowKeys};
+use key_extract::{Extract, KeySpec, Probe, Row, RowKeys};
 use multi_index::MultiIndex;
 use std::alloc::{AllocError, Global};
 use std::marker::Model;
 
-/// Two containers that were given the same calls.
+/// Two containers that were given the same calls. It is said whether they were ever cleared.
 #[derive(Drop)]
 pub(crate) struct Pair {
     keys: RowKeys,
-    specs: Vec<Spec>,
+    indices: Indices,
     container: MultiIndex<Row, RowKeys>,
     plain: PlainIndex,
+    was_cleared: bool,
 }
 
 impl Model for Pair {
-    ghost use Rattle.std.specs.Prelude.{◌≡◌, List, Option};
+    ghost use Rattle.std.specs.Prelude.{◌≡◌, List, Option, length};
     ghost use Rattle.container_model.specs.State.{State};
     ghost use Rattle.key_extract.specs.declared.key.Part.{Part as KeyPart};
     ghost use Rattle.key_extract.specs.declared.cell.Cell.{Cell as CellValue};
@@ -37,7 +41,7 @@ impl Model for Pair {
 
     ghost view = { λ p. p.container };
 
-    ghost invariant = { λ p. (p.container.keys ≡ p.keys) × (p.container.specs ≡ p.specs.items) };
+    ghost invariant = { λ p. (p.container.keys ≡ p.keys) × (p.container.specs ≡ p.indices.specs.items) × (length p.keys ≡ length p.indices.specs.items) × (length p.indices.keys.items ≡ length p.indices.specs.items) };
 }
 
 // Whether an index has a key where it is of a kind that compares records, and else has none and is not unique.
@@ -67,19 +71,45 @@ fn keys_match(keys: &RowKeys, specs: &[Spec]) -> bool
 fn new_container(
     alloc: Global,
     indices: &Indices,
-    max: u32,
-    first_write: u64,
+    limits: Limits,
 ) -> Result<MultiIndex<Row, RowKeys>, AllocError>
     requires some { 1 ≤ length indices.now.specs.items }
-    requires few { length indices.now.specs.items ≤ 8 }
+    requires few { length indices.now.specs.items ≤ limits.most }
+    requires most { limits.most ≤ 8 }
     requires keys { KeysMatch (λ i. is_some (key_at indices.now.keys.items i))
         indices.now.specs.items }
-    ensures { IfOk result (λ made. made ≡ empty indices.now.keys.items indices.now.specs.items max
-        first_write) }
+    ensures { IfOk result (λ made. made ≡ empty_with_most limits.most indices.now.keys.items
+        indices.now.specs.items limits.max limits.first_write) }
 {
     let specs = indices.specs.to_vec(alloc)?;
     let keys = RowKeys::new(alloc, &indices.keys)?;
-    MultiIndex::new(alloc, specs, keys, max, first_write)
+    let Limits {
+        most,
+        max,
+        first_write,
+    } = limits;
+    if most == 8 {
+        return MultiIndex::new(alloc, specs, keys, max, first_write);
+    }
+    MultiIndex::with_most(alloc, specs, keys, most, max, first_write)
+}
+
+// Whether the index of a kind can be searched by the probe; one that has no key refuses each.
+fn may_search(kind: Kind, keys: &RowKeys, index: usize, probe: &Probe) -> bool
+    ensures fits { IsTrue result → IsTrue (has_key_kind kind) →
+        IsTrue (probe_fits (parts_at keys.now index) probe.now) }
+    ensures sorted { IsTrue result → IsTrue (is_sorted_kind kind) →
+        IsTrue (probe_fits (parts_at keys.now index) probe.now) }
+    ensures ranked { IsTrue result → IsTrue (is_ranked_kind kind) →
+        IsTrue (probe_fits (parts_at keys.now index) probe.now) }
+    ensures whole { IsTrue result → IsTrue (is_hashed_kind kind) →
+        IsTrue (probe_is_whole (parts_at keys.now index) probe.now) }
+{
+    match kind {
+        Kind::Sequenced | Kind::Random => true,
+        Kind::Ordered | Kind::Ranked => { keys.has(index) && keys.fits(index, probe) }
+        Kind::Hashed => { keys.has(index) && keys.fits(index, probe) && keys.whole(index, probe) }
+    }
 }
 
 impl Pair {
@@ -87,19 +117,22 @@ impl Pair {
     pub(crate) fn new(
         alloc: Global,
         indices: &Indices,
-        max: u32,
-        first_write: u64,
+        limits: Limits,
     ) -> Result<Option<Pair>, AllocError> {
         let keys = RowKeys::new(alloc, &indices.keys)?;
-        let count = indices.specs.len();
-        if count < 1 || count > 8 || !keys_match(&keys, &indices.specs) {
+        let count = indices.len();
+        if count < 1 || count > limits.most || limits.most > 8 || indices.keys.len() != count {
+            return Ok(None);
+        }
+        if !keys_match(&keys, &indices.specs) {
             return Ok(None);
         }
         Ok(Some(Pair {
             keys,
-            specs: indices.specs.to_vec(alloc)?,
-            plain: PlainIndex::new(alloc, indices, max, first_write)?,
-            container: new_container(alloc, indices, max, first_write)?,
+            indices: indices.copy()?,
+            plain: PlainIndex::new(alloc, indices, limits)?,
+            container: new_container(alloc, indices, limits)?,
+            was_cleared: false,
         }))
     }
 
@@ -107,7 +140,16 @@ impl Pair {
     pub(crate) fn indices(&self) -> usize
         ensures { result ≡ length self.now.specs }
     {
-        self.specs.len()
+        self.indices.len()
+    }
+
+    fn alloc(&self) -> Global {
+        *self.indices.specs.allocator()
+    }
+
+    /// The key of an index, if it has one.
+    pub(crate) fn key(&self, index: usize) -> Option<&KeySpec> {
+        self.indices.keys.get(index)?.as_ref()
     }
 
     pub(crate) fn len(&self) -> u64 {
@@ -121,7 +163,7 @@ impl Pair {
 
     // Whether all views are equal.
     fn same_views(&self) -> bool {
-        for index in 0..self.specs.len() {
+        for index in 0..self.indices() {
             match self.container.view(index) {
                 Ok(view) => if view.as_slice() != self.plain.view(index) {
                     return false;
@@ -143,20 +185,14 @@ impl Pair {
         ensures in_range { IsTrue result → index < length self.now.specs }
         ensures fits { IsTrue result → IsTrue (has_key_kind (kind_at self.now index)) →
             IsTrue (probe_fits (parts_at self.now.keys index) probe.now) }
+        ensures sorted { IsTrue result → IsTrue (is_sorted_kind (kind_at self.now index)) →
+            IsTrue (probe_fits (parts_at self.now.keys index) probe.now) }
+        ensures ranked { IsTrue result → IsTrue (is_ranked_kind (kind_at self.now index)) →
+            IsTrue (probe_fits (parts_at self.now.keys index) probe.now) }
         ensures whole { IsTrue result → IsTrue (is_hashed_kind (kind_at self.now index)) →
             IsTrue (probe_is_whole (parts_at self.now.keys index) probe.now) }
     {
-        if index >= self.specs.len() {
-            return false;
-        }
-        match self.specs[index].kind {
-            Kind::Sequenced | Kind::Random => true,
-            Kind::Ordered | Kind::Ranked => { self.keys.has(index) && self.keys.fits(index, probe) }
-            Kind::Hashed => {
-                self.keys.has(index)
-                    && self.keys.fits(index, probe)
-                    && self.keys.whole(index, probe)
-            }
-        }
+        index < self.indices()
+            && may_search(self.indices.specs[index].kind, &self.keys, index, probe)
     }
 }

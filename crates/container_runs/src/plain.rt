@@ -2,6 +2,7 @@
 //! every record, and asks at run time for what the container's contracts promise.
 
 mod changes;
+mod indexing;
 mod lists;
 mod places;
 mod records;
@@ -9,6 +10,7 @@ mod refusals;
 mod scan;
 
 use crate::indices::Indices;
+use crate::limits::Limits;
 use container_model::{Handle, Kind, Spec, Why};
 use key_extract::{Probe, Row, RowKeys};
 use lists::Lists;
@@ -20,6 +22,7 @@ use std::alloc::{AllocError, Global};
 pub(crate) struct PlainIndex {
     keys: RowKeys,
     specs: Vec<Spec>,
+    most: usize,
     max: u32,
     writes: u64,
     records: Records,
@@ -30,14 +33,14 @@ impl PlainIndex {
     pub(crate) fn new(
         alloc: Global,
         indices: &Indices,
-        max: u32,
-        first_write: u64,
+        limits: Limits,
     ) -> Result<PlainIndex, AllocError> {
         Ok(PlainIndex {
             keys: RowKeys::new(alloc, &indices.keys)?,
             specs: indices.specs.to_vec(alloc)?,
-            max,
-            writes: first_write,
+            most: limits.most,
+            max: limits.max,
+            writes: limits.first_write,
             records: Records::new(alloc),
             lists: Lists::new(alloc, indices.specs.len())?,
         })
@@ -53,6 +56,11 @@ impl PlainIndex {
 
     pub(crate) fn writes(&self) -> u64 {
         self.writes
+    }
+
+    /// How many indices it may have.
+    pub(crate) fn most(&self) -> usize {
+        self.most
     }
 
     pub(crate) fn view(&self, index: usize) -> &[Handle] {

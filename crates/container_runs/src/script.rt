@@ -3,10 +3,22 @@ ghost use Rattle.std.specs.Prelude.{◌<◌, length};
 
 use crate::draw::Draw;
 use crate::indices::Indices;
+use crate::limits::Limits;
 use crate::pair::{Pair, Write};
 use crate::tally::{Count, Tally};
 use key_extract::Probe;
 use std::alloc::{AllocError, Global};
+
+// How many indices the containers may have, half the time eight.
+fn drawn_most(draw: &mut Draw, indices: &Indices) -> usize {
+    let count = indices.len();
+    let more = 8u32.saturating_sub(u32::try_from(count).unwrap_or(8));
+    if draw.once_in(2) {
+        8
+    } else {
+        count.saturating_add(draw.below(more.saturating_add(1)) as usize)
+    }
+}
 
 // How many records the containers may have, most often more than a script puts in.
 fn drawn_max(draw: &mut Draw) -> u32 {
@@ -39,10 +51,13 @@ pub(crate) fn run_script(
     tally: &mut Tally,
 ) -> Result<(), AllocError> {
     tally.count(Count::Scripts);
-    let max = drawn_max(draw);
-    let first_write = drawn_first_write(draw);
-    match Pair::new(alloc, indices, max, first_write)? {
-        Some(mut pair) => run_calls(indices, draw, &mut pair, tally),
+    let limits = Limits {
+        most: drawn_most(draw, indices),
+        max: drawn_max(draw),
+        first_write: drawn_first_write(draw),
+    };
+    match Pair::new(alloc, indices, limits)? {
+        Some(mut pair) => run_calls(alloc, draw, &mut pair, tally),
         None => {
             tally.count(Count::Differences);
             Ok(())
@@ -51,17 +66,17 @@ pub(crate) fn run_script(
 }
 
 fn run_calls(
-    indices: &Indices,
+    alloc: Global,
     draw: &mut Draw,
     pair: &mut Pair,
     tally: &mut Tally,
 ) -> Result<(), AllocError> {
     draw.choose_range();
-    let count = u32::try_from(pair.indices()).unwrap_or(0);
     for _ in 0..drawn_calls(draw) {
+        let count = u32::try_from(pair.indices()).unwrap_or(0);
         let index = draw.below(count) as usize;
         if index < pair.indices() {
-            call(indices, draw, index, pair, tally)?;
+            call(alloc, draw, index, pair, tally)?;
         }
     }
     Ok(())
@@ -69,7 +84,7 @@ fn run_calls(
 
 // Draws a call and makes it on both containers.
 fn call(
-    indices: &Indices,
+    alloc: Global,
     draw: &mut Draw,
     index: usize,
     pair: &mut Pair,
@@ -77,7 +92,7 @@ fn call(
 ) -> Result<(), AllocError>
     requires { index < length pair.old.specs }
 {
-    let number = draw.below(18);
+    let number = draw.below(20);
     match number {
         0..=11 => {
             let write = drawn_write(draw, number, index, pair);
@@ -89,15 +104,32 @@ fn call(
             Ok(())
         }
         13..=16 => {
-            let probe = drawn_probe(draw, indices, index)?;
+            let probe = draw.probe(pair.key(index))?;
             search(draw, index, &probe, pair, tally);
             Ok(())
         }
-        _ => {
+        17 => {
             read(draw, pair, tally);
             Ok(())
         }
+        18 => add_index(alloc, draw, pair, tally),
+        _ => pair.drop_index(index, tally),
     }
+}
+
+// Draws an index that is added, and some keys that are looked for in it.
+fn add_index(
+    alloc: Global,
+    draw: &mut Draw,
+    pair: &mut Pair,
+    tally: &mut Tally,
+) -> Result<(), AllocError> {
+    let index = draw.index();
+    let mut probes = Vec::new(alloc);
+    for _ in 0..4 {
+        probes.push(draw.probe(index.key.as_ref())?)?;
+    }
+    pair.add_index(&index, &probes, tally)
 }
 
 // Draws what is done with a row.
@@ -138,14 +170,6 @@ fn read(draw: &mut Draw, pair: &Pair, tally: &mut Tally) {
         pair.get(draw.handle(pair.handles()), tally);
     } else {
         pair.sizes(tally);
-    }
-}
-
-// A search by the key of an index.
-fn drawn_probe(draw: &mut Draw, indices: &Indices, index: usize) -> Result<Probe, AllocError> {
-    match indices.keys.get(index) {
-        Some(Some(key)) => draw.probe(Some(key)),
-        _ => draw.probe(None),
     }
 }
 

@@ -1,5 +1,6 @@
 //! Counts of calls, refusals and differences.
 
+use crate::index_tally::{Event, IndexTally};
 use container_model::Why;
 use std::io;
 
@@ -10,11 +11,15 @@ pub(crate) enum Count {
     Calls,
     Inserted,
     Changed,
+    Added,
+    Dropped,
     Found,
     Kind,
+    Definition,
     Stale,
     Place,
     Banned,
+    Clash,
     Full,
     Spent,
     Others,
@@ -22,16 +27,20 @@ pub(crate) enum Count {
 }
 
 // What a line has behind each count.
-const WORDS: [&str; 13] = [
+const WORDS: [&str; 17] = [
     "scripts,",
     "calls:",
     "inserted,",
     "changed,",
+    "indices added,",
+    "dropped,",
     "found; refused:",
     "kind,",
+    "definition,",
     "stale,",
     "place,",
     "banned,",
+    "clash,",
     "full,",
     "spent,",
     "others;",
@@ -41,15 +50,18 @@ const WORDS: [&str; 13] = [
 /// What the calls of some scripts answered.
 #[derive(Clone, Copy)]
 pub(crate) struct Tally {
-    counts: [u64; 13],
+    counts: [u64; 17],
+    indices: IndexTally,
 }
 
 fn refused(why: Why) -> Count {
     match why {
         Why::Kind => Count::Kind,
+        Why::Definition => Count::Definition,
         Why::Stale => Count::Stale,
         Why::Place => Count::Place,
         Why::Banned { .. } => Count::Banned,
+        Why::Clash { .. } => Count::Clash,
         Why::Full => Count::Full,
         Why::Spent => Count::Spent,
         Why::Order | Why::Memory => Count::Others,
@@ -58,7 +70,10 @@ fn refused(why: Why) -> Count {
 
 impl Tally {
     pub(crate) fn new() -> Tally {
-        Tally { counts: [0; 13] }
+        Tally {
+            counts: [0; 17],
+            indices: IndexTally::new(),
+        }
     }
 
     /// Counts one more.
@@ -75,6 +90,18 @@ impl Tally {
         }
     }
 
+    /// Counts what became of an index.
+    pub(crate) fn index(&mut self, event: Event) {
+        self.indices.count(event);
+    }
+
+    /// Counts it, where it did.
+    pub(crate) fn index_if(&mut self, was: bool, event: Event) {
+        if was {
+            self.index(event);
+        }
+    }
+
     /// Counts a call: what refused it, and whether the two containers answered the same.
     pub(crate) fn call(&mut self, why: Option<Why>, same: bool) {
         self.count(Count::Calls);
@@ -85,9 +112,10 @@ impl Tally {
     }
 
     pub(crate) fn add(&mut self, more: &Tally) {
-        for at in 0..13 {
+        for at in 0..17 {
             self.counts[at] = self.counts[at].wrapping_add(more.counts[at]);
         }
+        self.indices.add(&more.indices);
     }
 
     fn has_none(&self, count: Count) -> bool {
@@ -100,9 +128,13 @@ impl Tally {
 
     pub(crate) fn print(&self, rt: &HostRuntime, group: &str) -> io::Result<()> {
         print!(rt; "{group}:")?;
-        for at in 0..13 {
+        for at in 0..17 {
             print!(rt; " {} {}", self.counts[at], WORDS[at])?;
         }
         println!(rt; "")
+    }
+
+    pub(crate) fn print_indices(&self, rt: &HostRuntime) -> io::Result<()> {
+        self.indices.print(rt)
     }
 }

@@ -1,13 +1,15 @@
 //! A book of orders.
-ghost use Rattle.std.specs.Prelude.{◌≡◌, None, Some, Ok, IfErr, IfOk, IfSome, OnErr, OnOk, unwrap_or};
+ghost use Rattle.std.specs.Prelude.{◌≡◌, ◌⊎◌, true, false, [], None, Some, Ok, IfErr, IfOk, IfSome, IsTrue, OnErr, OnOk, unwrap_or};
 ghost use Rattle.list_model.specs.Place.{Inclusive};
-ghost use Rattle.container_model.specs.State.{empty, list_at, row_of};
+ghost use Rattle.container_model.specs.State.{empty_with_most, list_at, row_of};
 ghost use Rattle.container_model.specs.Find.{counted, found, found_range, probe_side};
 ghost use Rattle.container_model.specs.Insert.{ban, insert_refusal, new_handle, with_inserted};
 ghost use Rattle.container_model.specs.Change.{erase_key_refusal, erase_refusal, erased_count, modify_refusal, replace_refusal, with_erased, with_key_erased, with_modified, with_replaced};
+ghost use Rattle.container_model.specs.Indices.{add_index_refusal, with_index};
 ghost use Rattle.container_model.specs.Undone.{modify_or_undo_refusal};
 ghost use Rattle.linked_set.specs.Modified.{told};
-ghost use Rattle.embedded.specs.Fields.{by_field, to_field, indices};
+ghost use Rattle.multi_index.specs.Rearranged.{is_after_memory};
+ghost use Rattle.embedded.specs.Fields.{by_field, to_field, by_owner, indices, has_owners, drop_owners_refusal, without_owners};
 
 use crate::order::{Fields, Order};
 use crate::renumber::Renumber;
@@ -17,10 +19,12 @@ use std::alloc::{AllocError, Global};
 use std::marker::Model;
 use std::ops::Bound;
 
-/// Orders, each under its number, its price and its owner.
+/// Orders, each under its number, its price and its owner. While the book is listed by owner, they stand in one index more, and it
+/// is known whether that is unique.
 #[derive(Drop)]
 pub struct Book {
     orders: MultiIndex<Order, Fields>,
+    owners: Option<bool>,
 }
 
 impl Model for Book {
@@ -34,7 +38,7 @@ impl Model for Book {
 
     ghost view = { λ b. b.orders };
 
-    ghost invariant = { λ b. b.orders.specs ≡ indices };
+    ghost invariant = { λ b. (b.orders.specs ≡ indices b.owners) × (b.orders.most ≡ 4) };
 }
 
 const SPECS: [Spec; 3] = [
@@ -55,10 +59,13 @@ const SPECS: [Spec; 3] = [
 impl Book {
     /// A book without orders, for at most `max`. O(1).
     pub fn new(alloc: Global, max: u32) -> Result<Book, AllocError>
-        ensures { IfOk result (λ book. book ≡ empty (record {}) indices max 0) }
+        ensures { IfOk result (λ book. book ≡ empty_with_most 4 (record {}) (indices None) max 0) }
     {
-        let orders = MultiIndex::new(alloc, SPECS.to_vec(alloc)?, Fields, max, 0)?;
-        Ok(Book { orders })
+        let orders = MultiIndex::with_most(alloc, SPECS.to_vec(alloc)?, Fields, 4, max, 0)?;
+        Ok(Book {
+            orders,
+            owners: None,
+        })
     }
 
     /// Puts an order in, unless one has its number or the book is full; a refused one is handed back, and nothing is
@@ -170,6 +177,61 @@ impl Book {
         ensures memory_only { IfErr result (λ why. why ≡ Why.Memory) }
     {
         self.orders.view(1)
+    }
+
+    /// Lists the orders by owner from now on, and those of one owner as they came. Nothing is changed where they are listed so
+    /// already, or where `unique` is asked for and an owner has two orders, the first two of which are told. O(n log n).
+    pub fn list_owners(&mut self, unique: bool) -> Result<(), Why>
+        ensures allowed { OnOk result (add_index_refusal by_field self.old (by_owner unique) self.old.keys ≡ None) }
+        ensures listed { OnOk result (self.new ≡ with_index by_field self.old (by_owner unique) self.old.keys) }
+        ensures why { IfErr result (λ why. (Some why ≡ add_index_refusal by_field self.old (by_owner unique) self.old.keys) ⊎ ((why ≡ Why.Memory) × IsTrue (is_after_memory (add_index_refusal by_field self.old (by_owner unique) self.old.keys)))) }
+        ensures unchanged { OnErr result (self.new ≡ self.old) }
+    {
+        if self.owners.is_some() {
+            return Err(Why::Definition);
+        }
+        let spec = Spec {
+            kind: Kind::Ordered,
+            unique,
+        };
+        match self.orders.add_index(spec, Fields) {
+            Ok(()) => {
+                self.owners = Some(unique);
+                Ok(())
+            }
+            Err(refused) => Err(refused.why),
+        }
+    }
+
+    /// Lists them so no more. O(1).
+    pub fn drop_owners(&mut self) -> Result<(), Why>
+        ensures allowed { OnOk result (drop_owners_refusal self.old ≡ None) }
+        ensures dropped { OnOk result (self.new ≡ without_owners self.old) }
+        ensures why { IfErr result (λ why. Some why ≡ drop_owners_refusal self.old) }
+        ensures unchanged { OnErr result (self.new ≡ self.old) }
+    {
+        if self.owners.is_none() {
+            return Ok(());
+        }
+        match self.orders.drop_index(3, Fields) {
+            Ok(()) => {
+                self.owners = None;
+                Ok(())
+            }
+            Err(refused) => Err(refused.why),
+        }
+    }
+
+    /// The orders by owner, where they are listed so, and else none. O(n).
+    pub fn by_owner(&self, alloc: Global) -> Result<Vec<Handle>, Why>
+        ensures listed { IfOk result (λ handles. has_owners self.now ≡ true → handles.items ≡ list_at self.now.lists 3) }
+        ensures none { IfOk result (λ handles. has_owners self.now ≡ false → handles.items ≡ []) }
+        ensures memory_only { IfErr result (λ why. why ≡ Why.Memory) }
+    {
+        match self.owners {
+            Some(_) => self.orders.view(3),
+            None => Ok(Vec::new(alloc)),
+        }
     }
 
     /// The orders that bid from `low` to `high`, both included, by price. O(log n + those orders).

@@ -68,6 +68,14 @@ fn place_all<R: Runtime>(rt: &R, book: &mut Book) -> io::Result<()> {
     println!(rt; "owner 71 has {} orders", book.count_of(71))
 }
 
+// Lists the orders by owner, if each owner may have one alone, and if he may have more; and then no more.
+fn list_owners<R: Runtime>(rt: &R, alloc: Global, book: &mut Book) -> io::Result<()> {
+    println!(rt; "one order an owner: {:?}", book.list_owners(true))?;
+    println!(rt; "by owner: {:?}", book.list_owners(false))?;
+    print::orders(rt, book, book.by_owner(alloc))?;
+    println!(rt; "no more: {:?}", book.drop_owners())
+}
+
 fn change_first<R: Runtime>(rt: &R, book: &mut Book) -> io::Result<()> {
     if let Some(first) = book.first_at(250) {
         amend_and_cancel(rt, book, first)?;
@@ -91,6 +99,7 @@ fn cancel_all<R: Runtime>(rt: &R, book: &mut Book) -> io::Result<()> {
 
 fn run<R: Runtime>(rt: &R, alloc: Global, book: &mut Book) -> io::Result<()> {
     place_all(rt, book)?;
+    list_owners(rt, alloc, book)?;
     change_first(rt, book)?;
     renumber_between(rt, alloc, book)?;
     cancel_all(rt, book)

@@ -16,7 +16,7 @@ pub struct Order {
     pub owner: u64,
 }
 
-/// The keys of orders: at index 0 the number, at 1 the price, at 2 the owner.
+/// The keys of orders: at index 0 the number, at 1 the price, at each later one the owner.
 #[derive(Clone, Copy)]
 pub struct Fields;
 

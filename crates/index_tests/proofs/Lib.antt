@@ -2,3 +2,4 @@ pub mod Ordered
 pub mod Added
 pub mod Framing
 pub mod Walks
+pub mod ByTens

@@ -77,7 +77,7 @@ fn finds<E: Extract<Row>>(alloc: Global, kind: Kind, keys: &E, sought: &E::Probe
     requires whole { IsTrue (E.is_whole keys.now 0 sought.now) }
 {
     let mut store = NodeStore::new(alloc, 1);
-    let mut index = AnyIndex::new(alloc, kind, 0);
+    let mut index = AnyIndex::new(alloc, kind, 0, 0);
     fill(alloc, &mut store, &mut index, keys, 12)?;
     let count = index.count(&store, keys, sought);
     let first = index.find(&store, keys, sought)?;

@@ -1,14 +1,16 @@
-//! Prints whether each case holds of the store, of each kind of index over it, of a set of indices, and of several indices
-//! over one store, each in a column of its own.
+//! Prints whether each case holds of a set to which indices come, of the store, of each kind of index over it, of a set of
+//! indices, and of several indices over one store, each in a column of its own.
 #![tactic(auto)]
 
 mod buckets;
 mod columns;
+mod coming;
 mod counted;
 mod every;
 mod index;
 mod keys;
 mod kinds;
+mod live;
 mod numbers;
 mod put;
 mod ranks;
@@ -18,6 +20,7 @@ mod sequence;
 mod set;
 mod slots;
 mod store;
+mod tens;
 mod tree;
 
 use std::alloc::Global;
@@ -107,6 +110,20 @@ fn of_kinds(alloc: Global) -> [(&'static str, Option<bool>); 11] {
     ]
 }
 
+// The cases of indices that come to records, and go.
+fn of_comings(alloc: Global) -> [(&'static str, Option<bool>); 2] {
+    [
+        (
+            "an index of each kind comes to records and stays",
+            coming::each_comes_and_stays(alloc),
+        ),
+        (
+            "two records of one key keep a unique index out",
+            coming::each_clashes(alloc),
+        ),
+    ]
+}
+
 // The cases of several indices.
 fn of_several(alloc: Global) -> [(&'static str, Option<bool>); 4] {
     [
@@ -131,6 +148,9 @@ fn of_several(alloc: Global) -> [(&'static str, Option<bool>); 4] {
 
 fn main(rt: HostRuntime) -> io::Result<()> {
     let alloc = rt.alloc();
+    for (case, holds) in of_comings(alloc) {
+        tell(&rt, case, holds)?;
+    }
     for (case, holds) in of_stores(&rt, alloc) {
         tell(&rt, case, holds)?;
     }

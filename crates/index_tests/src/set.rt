@@ -1,5 +1,6 @@
 //! A record comes into a set of two kinds of index, is found in each, changes and goes.
-ghost use Rattle.std.specs.Prelude.{◌≡◌, ◌∷◌, ◌<◌, ℕ, [], true, false, length, IfOk, IfSome, IsTrue, None, Some};
+ghost use Rattle.std.specs.Prelude.{◌≡◌, ◌≢◌, ◌+◌, ◌∷◌, ◌<◌, ◌≤◌, ℕ, [], true, false, length, IfOk, IfSome, OnSome, IsTrue, None, Some};
+ghost use Rattle.node_store.specs.declared.Node.{Node};
 ghost use Rattle.std.specs.declared.cmp.Ordering.TheVariants.{Equal};
 ghost use Rattle.node_store.specs.Store.{IsNodeOf};
 ghost use Rattle.container_model.specs.declared.handle.Kind.TheVariants.{Ordered, Hashed};
@@ -85,15 +86,20 @@ impl Extract<u64> for OneKey {
 }
 
 // Puts a record into each index, unless a unique one has its key.
-fn insert<R: Drop, E: Extract<R>>(set: &mut IndexSet<R, E>, value: R) -> Option<Node>
+pub(crate) fn insert<R: Drop, E: Extract<R>>(set: &mut IndexSet<R, E>, value: R) -> Option<Node>
     requires sound { IsSound E.has_key set.old }
     requires keyed { IsKeyed E.order_of E.hash_of set.old }
     requires unique { IsUniqueExcept E.order_of set.old None }
     requires count { (store_of set.old).added < 1000 }
     ensures sound { IsSound E.has_key set.new }
     ensures keyed { IsKeyed E.order_of E.hash_of set.new }
+    ensures unique { OnSome result (IsUniqueExcept E.order_of set.new None) }
     ensures same { IsOfSame set.old set.new }
+    ensures count { (store_of set.new).added ≤ (store_of set.old).added + 1 }
     ensures node { IfSome result (λ n. IsNodeOf (store_of set.new) n) }
+    ensures others { OnSome result ((m : Node) → IsNodeOf (store_of set.old) m →
+        IsNodeOf (store_of set.new) m) }
+    ensures apart { IfSome result (λ n. (m : Node) → IsNodeOf (store_of set.old) m → m ≢ n) }
 {
     let Ok(()) = set.reserve_one() else {
         return None;
@@ -148,7 +154,7 @@ pub(crate) fn script(alloc: Global) -> Option<bool> {
     let Ok(specs) = two_indices(alloc) else {
         return None;
     };
-    let Ok(made) = IndexSet::new(alloc, specs, OneKey) else {
+    let Ok(made) = IndexSet::new(alloc, specs, OneKey, 2) else {
         return None;
     };
     let mut set = made;

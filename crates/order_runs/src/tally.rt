@@ -81,7 +81,9 @@ fn refused(why: Why) -> Count {
         Why::Place => Count::Place,
         Why::Order => Count::Order,
         Why::Spent => Count::Spent,
-        Why::Banned { .. } | Why::Full | Why::Memory => Count::Differences,
+        Why::Definition | Why::Banned { .. } | Why::Clash { .. } | Why::Full | Why::Memory => {
+            Count::Differences
+        }
     }
 }
 

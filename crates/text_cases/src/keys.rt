@@ -2,7 +2,9 @@
 //!
 //! - `cells V ..`: how each of these cells compares to each, and the length of each text.
 //! - `key C ..`: begins with no rows, and with a key of these columns, of which those below `-` fall. Which of three
-//!   indices have a key, of which the second has this one.
+//!   indices have a key, of which the second has this one, and the third is not there.
+//! - `with C ..`: one index more, the last, with a key of these columns, or with none. Which indices have a key.
+//! - `without I`: one less, not that of the rows' key. Which indices have a key.
 //! - `row V ..`: how this row stands to each row so far, and with which of them it shares its hash.
 //! - `probe V ..`: whether the key can be searched so, how each row stands to the search, and which rows have its hash.
 //!
@@ -34,6 +36,11 @@ fn told(alloc: Global, keyed: &mut Option<Keyed>, line: &str) -> Result<String, 
     };
     match word {
         "key" => keyed.tell_indices(alloc),
+        "with" => keyed.tell_with(alloc, key_of(rest)),
+        "without" => match rest.parse::<usize>() {
+            Ok(index) => keyed.tell_without(alloc, index),
+            Err(_) => Ok(String::new(alloc)),
+        },
         "row" => keyed.tell_row(alloc, Row::new(cells_of(alloc, rest)?)),
         "probe" => keyed.tell_probe(alloc, &Probe::new(cells_of(alloc, rest)?)),
         _ => Ok(String::new(alloc)),

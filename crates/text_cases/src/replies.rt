@@ -15,7 +15,7 @@ const LAST: Handle = Handle {
 };
 
 // Replies of each form without rows; one has the longest name that an index may have.
-const REPLIES: [Reply<'static>; 12] = [
+const REPLIES: [Reply<'static>; 14] = [
     Reply::Found {
         at: 1,
         handle: Some(FIRST),
@@ -54,9 +54,21 @@ const REPLIES: [Reply<'static>; 12] = [
         index: "a_name_of_32_letters_or_digits_0",
         by: LAST,
     },
+    Reply::Clash {
+        at: 3,
+        index: "k",
+        first: FIRST,
+        second: Handle { slot: 2, stamp: 3 },
+    },
+    Reply::Clash {
+        at: u64::MAX,
+        index: "a_name_of_32_letters_or_digits_0",
+        first: LAST,
+        second: FIRST,
+    },
 ];
 
-const FAULTS: [Fault; 15] = [
+const FAULTS: [Fault; 16] = [
     Fault::Line,
     Fault::Json,
     Fault::Command,
@@ -65,6 +77,7 @@ const FAULTS: [Fault; 15] = [
     Fault::Kind,
     Fault::Row,
     Fault::Key,
+    Fault::Definition,
     Fault::Handle,
     Fault::Place,
     Fault::Order,

@@ -38,7 +38,7 @@ impl Pair {
     }
 
     // Counts a change, and compares all views.
-    fn compare(&self, count: Count, why: Option<Why>, same: bool, tally: &mut Tally) {
+    pub(super) fn compare(&self, count: Count, why: Option<Why>, same: bool, tally: &mut Tally) {
         tally.count_if(why.is_none(), count);
         tally.call(why, same && self.same_views() && self.same_sizes());
     }
@@ -49,13 +49,13 @@ impl Pair {
         self.compare(Count::Inserted, wanted.err(), answer == Some(wanted), tally);
     }
 
-    fn insert_in_container(
+    pub(super) fn insert_in_container(
         &mut self,
         at: Option<(usize, u64)>,
         row: Row,
     ) -> Result<Handle, Refused<Row>> {
         match at {
-            Some((index, place)) if index < self.specs.len() => {
+            Some((index, place)) if index < self.indices() => {
                 self.container.insert_at(index, place, row)
             }
             _ => self.container.insert(row),
@@ -117,6 +117,7 @@ impl Pair {
     pub(crate) fn clear(&mut self, tally: &mut Tally) {
         let answer = without_row(&self.container.clear());
         let wanted = self.plain.clear();
+        self.was_cleared = self.was_cleared || wanted.is_ok();
         self.compare(Count::Changed, wanted.err(), answer == Some(wanted), tally);
     }
 }

@@ -79,7 +79,7 @@ impl PlainIndex {
         Ok(ban)
     }
 
-    fn count_write(&mut self) -> Result<(), Why> {
+    pub(super) fn count_write(&mut self) -> Result<(), Why> {
         match self.writes.checked_add(1) {
             Some(next) => {
                 self.writes = next;

@@ -60,6 +60,18 @@ impl Lists {
         }
     }
 
+    /// Puts a list without handles behind the others.
+    pub(super) fn add(&mut self, alloc: Global) -> Option<()> {
+        self.lists.push(Vec::new(alloc)).ok()
+    }
+
+    /// Takes a list out.
+    pub(super) fn take(&mut self, index: usize) {
+        if index < self.lists.len() {
+            self.lists.remove(index);
+        }
+    }
+
     pub(super) fn clear(&mut self) {
         for list in &mut self.lists {
             list.clear();

@@ -43,7 +43,7 @@ impl PlainIndex {
     }
 
     // Where a new record goes in an index's list.
-    fn entry_place(&self, index: usize, at: Option<(usize, u64)>, row: &Row) -> usize {
+    pub(super) fn entry_place(&self, index: usize, at: Option<(usize, u64)>, row: &Row) -> usize {
         if self.is_in_order(index) {
             return self.upper_place(index, row);
         }

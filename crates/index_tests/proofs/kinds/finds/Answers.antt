@@ -1,4 +1,4 @@
-use Rattle.std.proofs.Common.{◌≡◌, ℕ, Bool, ap, sym, ◌∙◌}
+use Rattle.std.proofs.Common.{◌≡◌, ℕ, Bool, cond, ap, sym, ◌∙◌}
 use Rattle.std.specs.Prelude.{IsTrue}
 use Rattle.container_model.specs.declared.handle.Kind.{Kind}
 use Rattle.container_model.specs.State.{has_key_kind}
@@ -22,7 +22,7 @@ module _ (i : AnyIndex) (kind : Kind) (first : index_of i ≡ 0) (same : kind_of
 
 pub count-count-requires : goal.count-count-requires
 count-count-requires g c =
-    let first = c.fill.ensures.index ∙ c.new-index.ensures.index in
+    let first = c.fill.ensures.index ∙ c.new-index.ensures.index ∙ ap (λ b. cond b 0 0) c.requires.kind in
     let same = c.fill.ensures.kind ∙ c.new-index.ensures.kind in
     let fits = g.met.E.Extract.whole_fits c.args.keys.now 0 c.args.sought.now c.requires.key c.requires.whole in
     record {
@@ -34,7 +34,7 @@ count-count-requires g c =
 
 pub find-requires : goal.find-requires
 find-requires g c =
-    let first = c.fill.ensures.index ∙ c.new-index.ensures.index in
+    let first = c.fill.ensures.index ∙ c.new-index.ensures.index ∙ ap (λ b. cond b 0 0) c.requires.kind in
     let same = c.fill.ensures.kind ∙ c.new-index.ensures.kind in
     let fits = g.met.E.Extract.whole_fits c.args.keys.now 0 c.args.sought.now c.requires.key c.requires.whole in
     record {
@@ -54,7 +54,7 @@ pub find-requires-2 : goal.find-requires-2
 find-requires-2 g c =
     let order = g.E.Extract.order_of c.args.keys.now in
     let hash = g.E.Extract.hash_of c.args.keys.now in
-    let first = c.leave.ensures.rest.index ∙ c.fill.ensures.index ∙ c.new-index.ensures.index in
+    let first = c.leave.ensures.rest.index ∙ c.fill.ensures.index ∙ c.new-index.ensures.index ∙ ap (λ b. cond b 0 0) c.requires.kind in
     let same = c.leave.ensures.rest.kind ∙ c.fill.ensures.kind ∙ c.new-index.ensures.kind in
     let fits = g.met.E.Extract.whole_fits c.args.keys.now 0 c.args.sought.now c.requires.key c.requires.whole in
     record {

@@ -1,6 +1,6 @@
 use Rattle.std.proofs.Common.{ap, sym, subst, ◌∙◌}
 use Rattle.index_set.specs.declared.set.IndexSet.{IndexSet}
-use Rattle.index_set.specs.Set.{IsSound, store_of, keys_of, specs_of, record_of}
+use Rattle.index_set.specs.Set.{IsSound, store_of, keys_of, specs_of, columns_of, record_of}
 use Rattle.index_set.proofs.Written.{sound_written, node_written, record_written, restored}
 use Rattle.index_tests.proofs.set.rewrite.Goals as goal
 
@@ -24,6 +24,7 @@ pub returns-clause-same : goal.returns-clause-same
 returns-clause-same g c = record {
   keys = ap (λ (s : IndexSet g.row.R.Denot g.row.E.Denot). keys_of s) c.put_back.ensures.unchanged;
   specs = ap (λ (s : IndexSet g.row.R.Denot g.row.E.Denot). specs_of s) c.put_back.ensures.unchanged;
+  columns = ap (λ (s : IndexSet g.row.R.Denot g.row.E.Denot). columns_of s) c.put_back.ensures.unchanged;
 }
 
 pub returns-clause-written : goal.returns-clause-written
