@@ -2,10 +2,33 @@
 import json
 import random
 
-from plain_machine import BOUNDS, ENDED, MORE_KEYS, OPS, Column, Machine
+from plain_machine import BOUNDS, ENDED, KEYED, KINDS, MAX_INDICES, MORE_KEYS, OPS, SORTED, WRITES, Column, Machine
 
 # How often each op is drawn; the others once.
-WEIGHTS = {"insert": 12, "replace": 6, "modify": 6, "modify_key": 3, "range": 3, "erase": 3, "move": 3, "list": 2, "clear": 0.05, "erase_key": 0.5}
+WEIGHTS = {"add_index": 2, "drop_index": 2, "insert": 12, "replace": 6, "modify": 6, "modify_key": 3, "range": 3, "erase": 3, "move": 3, "list": 2, "clear": 0.05, "erase_key": 0.5}
+
+BAD_NAMES = ["", "a b", "k" * 33, "\u00e9"]
+
+# What an index may not be, and what no line may say of one, by the columns of its table.
+BAD_PARTS = [
+    lambda columns: {"kind": "ordered", "key": []},
+    lambda columns: {"kind": "ranked", "key": [columns[0], "zz"]},
+    lambda columns: {"kind": "ordered", "key": [columns[0], "-" + columns[0]]},
+    lambda columns: {"kind": "hashed", "key": ["-" + columns[0]]},
+    lambda columns: {"kind": "ranked", "key": (columns * 5)[:5]},
+    lambda columns: {"kind": "random", "key": columns[:1]},
+    lambda columns: {"kind": "sequenced", "unique": True},
+    lambda columns: {"kind": "tree"},
+    lambda columns: {"key": columns[0]},
+    lambda columns: {"unique": 1},
+    lambda columns: {"k": []},
+]
+
+
+def names_for(table):
+    """The names of a table's indices, in capitals too, and some more: few, so that they come again."""
+    names = [it.name for it in table.indices]
+    return [*names, *(it.upper() for it in names), "k1", "k_2", "k" * 32]
 
 
 class Drawer:
@@ -15,6 +38,9 @@ class Drawer:
         self.draw = random.Random(seed)
         self.machine = Machine(schema)
         self.tables = tables
+        self.later = []
+        self.names = {name: names_for(table) for name, table in self.machine.tables.items()}
+        self.grows = dict.fromkeys(self.machine.tables, True)
 
     def one_in(self, times):
         return self.draw.randrange(times) == 0
@@ -47,13 +73,13 @@ class Drawer:
         return [it for it in drawn if it not in ("gt", "lt") or {"gt": "ge", "lt": "le"}[it] not in drawn or self.one_in(20)]
 
     def handle(self, table):
-        if self.one_in(12) or not table.lists[0]:
+        if self.one_in(12) or not table.records:
             return f"{self.draw.randrange(9)}:{self.draw.randrange(table.writes + 2)}"
-        record = self.draw.choice(table.lists[0])
+        record = self.draw.choice(table.records)
         return f"{record.slot}:{record.stamp}"
 
     def order(self, table):
-        handles = [f"{it.slot}:{it.stamp}" for it in table.lists[0]]
+        handles = [f"{it.slot}:{it.stamp}" for it in table.records]
         self.draw.shuffle(handles)
         if self.one_in(4):
             handles = handles[1:] + [self.handle(table)]
@@ -68,11 +94,61 @@ class Drawer:
         return self.draw.choice(fitting if fitting and not self.one_in(15) else table.indices)
 
     def line(self):
+        """A line that was put by for later, or a new one."""
+        if self.later:
+            return self.later.pop(0)
         table = self.machine.tables[self.draw.choice(self.tables)]
         op = self.draw.choices(list(OPS), [WEIGHTS.get(it, 1) for it in OPS])[0]
+        if op not in ("add_index", "drop_index"):
+            return self.line_of(table, op)
+        line = self.added(table) if self.is_added(table) else self.dropped(table)
+        if self.one_in(15):
+            self.later.append(line)
+            return self.line_of(table, "clear")
+        return line
+
+    # Indices that come and go: a table gets them up to the most and loses them down to one, by turns.
+
+    def is_added(self, table):
+        """Whether an index is to be added next, and not dropped."""
+        grows = self.grows[table.name]
+        if len(table.indices) == (MAX_INDICES if grows else 1):
+            turns = self.one_in(2)
+        else:
+            turns = self.one_in(40 if grows else 12)
+        self.grows[table.name] = grows != turns
+        return self.grows[table.name] != self.one_in(6)
+
+    def added(self, table):
+        """A line that adds an index: mostly one that may be there, under a name that is free."""
+        taken = [it.name for it in table.indices]
+        free = [it for it in self.names[table.name] if it not in taken]
+        name = self.draw.choice(free if free and not self.one_in(15) else taken + BAD_NAMES)
+        kind = self.draw.choice(KINDS)
+        said = {"i": name, "kind": kind}
+        if kind in KEYED:
+            columns = self.draw.sample(list(table.columns), self.draw.randint(1, min(3, len(table.columns))))
+            said["key"] = [("-" if kind in SORTED and self.one_in(3) else "") + it for it in columns]
+        if self.one_in(2):
+            said["unique"] = kind in KEYED and not self.one_in(6)
+        if self.one_in(12):
+            said |= self.draw.choice(BAD_PARTS)(list(table.columns))
+        return self.spelled(table, "add_index", said)
+
+    def dropped(self, table):
+        name = "zz" if self.one_in(20) else self.draw.choice(table.indices).name
+        return self.spelled(table, "drop_index", {"i": name})
+
+    def looks(self, table, index, count):
+        """Lines that read through an index: its list, and so many others."""
+        fitting = [op for op, (needed, _, kinds) in OPS.items() if "i" in needed.split() and op not in WRITES and index.kind in kinds]
+        return [self.line_of(table, it, index) for it in ["list", *self.draw.choices(fitting, k=count)]]
+
+    def line_of(self, table, op, index=None):
+        """A line of an op on a table, through an index where it has one: through this, where one is given."""
         needed, joined, kinds = OPS[op]
-        index = self.index(table, kinds or ())
-        end = len(table.lists[0])
+        index = index or self.index(table, kinds or ())
+        end = len(table.records)
         values = {
             "i": lambda: index.name,
             "r": lambda: self.row(table),
@@ -88,4 +164,8 @@ class Drawer:
             "n": lambda: self.draw.randint(0, end + 1),
         }
         keys = needed.split() + (joined.split() if self.one_in(2) else []) + self.more_keys(op)
-        return json.dumps({"op": op, "t": table.name} | {it: values[it]() for it in keys}).encode()
+        return self.spelled(table, op, {it: values[it]() for it in keys})
+
+    @staticmethod
+    def spelled(table, op, said):
+        return json.dumps({"op": op, "t": table.name} | said).encode()

@@ -6,9 +6,7 @@ import sys
 import tempfile
 
 from built_program import built_program
-from plain_machine import Machine
-
-WRITES = {"insert", "replace", "modify", "modify_key", "erase", "erase_key", "clear", "move", "rearrange", "reverse", "sort"}
+from plain_machine import WRITES, Machine
 
 PEOPLE = """
 [[table]]
@@ -102,9 +100,12 @@ def run_again(schema, text, lines, program=None):
 def self_test():
     """Fails where a planted wrong history is judged right."""
     line = lambda text: text.encode()
+    addition, view = line('{"op":"add_index","t":"w","i":"s","kind":"sequenced"}'), line('{"op":"list","t":"w","i":"s"}')
     insert, size = line('{"op":"insert","t":"w","r":{"k":"a","b":true}}'), line('{"op":"size","t":"w"}')
     right = [[tell(insert, b'{"at":1,"h":"0:1","ok":true}'), tell(size, b'{"at":1,"n":1,"ok":true}')], [tell(size, b'{"at":0,"n":0,"ok":true}')]]
+    added = [tell(addition, b'{"at":1,"ok":true}')]
     replay(Machine(SCHEMA), "w", right)
+    replay(Machine(SCHEMA), "w", [added, [tell(view, b'{"err":"index"}'), tell(view, b'{"at":1,"ok":true,"rs":[]}')]])
     wrong = {
         "a read of the session's own past": [[right[0][0], right[1][0]], []],
         "another handle": [[tell(insert, b'{"at":1,"h":"0:2","ok":true}')], []],
@@ -112,6 +113,8 @@ def self_test():
         "a number that stands twice": [[right[0][0]], [right[0][0]]],
         "a read of what nobody wrote": [[right[0][0]], [tell(size, b'{"at":1,"n":2,"ok":true}')]],
         "a refusal that nothing explains": [[tell(insert, b'{"err":"full"}')], []],
+        "an index before it is added": [added, [tell(view, b'{"at":0,"ok":true,"rs":[]}')]],
+        "an index that is gone before it is dropped": [added, [tell(view, b'{"at":1,"ok":true,"rs":[]}'), tell(view, b'{"err":"index"}')]],
     }
     for name, told in wrong.items():
         try:

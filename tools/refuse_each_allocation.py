@@ -2,7 +2,9 @@
 
 python3 refuse_each_allocation.py PROGRAM REFUSING_MALLOC STORED_INPUT STORED_OUTPUT ROOM
 
-The stored run and some more lines go to the built-in table, and all other ops to a table with eight indices.
+The stored run and some more lines go to the built-in table, the other ops to a table with eight indices, and lines that add and drop indices to one
+with two: indices of every kind, unique and not, with and without records, up to eight and down to one, and such as clash. Each of these lines stands
+twice, and where one allocation is refused at most one line has the memory line: so the same line is seen to succeed.
 A run of lines ends in one of two ways: status 1 with the text `memory` and no answer, or status 0 with one answer to each
 line: the memory line, and then the line changed nothing, or what the plain machine answers. A run with wrong words or
 files ends with its own status and text, or with status 1 and `memory`.
@@ -113,6 +115,56 @@ CHANGE_EIGHT = INTO_EIGHT + READS + CHANGES + READS + b"".join(
 {"op":"list","t":"p","i":"x"}
 """
 
+TWO = """
+[[table]]
+name = "p"
+column = [{name = "id", cell = "int"}, {name = "g", cell = "text"}, {name = "n", cell = "int"}]
+index = [{name = "q", kind = "sequenced"}, {name = "u", kind = "ordered", unique = true, key = ["id"]}]
+"""
+
+
+def inserted(id, g, n):
+    return b'{"op":"insert","t":"p","r":{"id":%d,"g":"%s","n":%d}}\n' % (id, g, n) * 2
+
+
+def added(name, definition):
+    return b'{"op":"add_index","t":"p","i":"%s",%s}\n' % (name, definition) * 2
+
+
+def dropped(name):
+    return b'{"op":"drop_index","t":"p","i":"%s"}\n' % name * 2
+
+
+def listed(names):
+    return b"".join(b'{"op":"list","t":"p","i":"%s"}\n' % it for it in names)
+
+
+# What an index is that is added: of each kind that has no key, and of each that has one, unique and not.
+DEFINITIONS = [b'"kind":"sequenced"', b'"kind":"random"'] + [
+    b'"kind":"%s","key":["g","n"]%s' % (kind, unique) for kind in (b"ordered", b"ranked", b"hashed") for unique in (b"", b',"unique":true')
+]
+CLASHING = [b'"kind":"%s","key":["g"],"unique":true' % it for it in (b"ordered", b"ranked", b"hashed")]
+NAMES = [b"k%d" % it for it in range(6)]
+THREE = inserted(1, b"a", 5) + inserted(2, b"b", 3) + inserted(3, b"b", 9)
+COME_AND_GO = b"".join(added(b"k", it) + listed([b"k"]) + dropped(b"k") for it in DEFINITIONS)
+UP_TO_EIGHT = b"".join(map(added, NAMES, DEFINITIONS[2:])) + added(b"more", DEFINITIONS[0])
+
+CHANGE_INDICES = (
+    b"".join(added(b"k", it) + dropped(b"k") for it in DEFINITIONS[-2:])
+    + THREE
+    + COME_AND_GO
+    + b"".join(added(b"k", it) for it in CLASHING)
+    + UP_TO_EIGHT
+    + inserted(4, b"c", 1)
+    + listed([b"q", b"u", *NAMES])
+    + b"".join(map(dropped, [b"q", *NAMES, b"u"]))
+    + inserted(5, b"c", 2)
+    + b'{"op":"clear","t":"p"}\n' * 2
+    + b"".join(map(added, NAMES, DEFINITIONS))
+    + inserted(6, b"c", 3)
+    + listed([b"u", *NAMES])
+)
+
 Outcome = collections.namedtuple("Outcome", "status said complained")
 
 
@@ -159,6 +211,14 @@ def judge_lines(text, outcome, was_refused, schema=BUILT_IN):
     return judge(text, outcome.said, schema)
 
 
+def judge_indices(outcome, was_refused, on):
+    """The same of the lines that add and drop indices, of which one allocation refuses at most one."""
+    lines = outcome.said.split(b"\n")
+    if was_refused and not on and lines.count(MEMORY) > 1:
+        return f"line {len(lines) - 1 - lines[::-1].index(MEMORY)} is refused memory once more"
+    return judge_lines(CHANGE_INDICES, outcome, was_refused, TWO)
+
+
 def planted(text, outcome):
     """Wrong outcomes, each made from a right one in which a line was refused."""
     lines = outcome.said.split(b"\n")[:-1]
@@ -179,9 +239,23 @@ def planted(text, outcome):
     yield "a signal", Outcome(-11, b"", b"")
 
 
-def unrefused(text):
+def planted_indices():
+    """Outcomes of the lines that add and drop indices, with answers put in: the first right, the others wrong."""
+    lines, right = CHANGE_INDICES.split(b"\n"), unrefused(CHANGE_INDICES, TWO)
+    first = lambda op: next(at for at, it in enumerate(lines) if op in it)
+    refused = lambda *places: Outcome(0, b"".join((MEMORY if at in places else it) + b"\n" for at, it in enumerate(right)), b"")
+    at = first(b'"list"')
+    yield "a list is refused", refused(at)
+    yield "a refused index is there", refused(first(b'"add_index"'))
+    yield "a refused index is gone", refused(first(b'"drop_index"'))
+    yield "two lines are refused", refused(at, at + 5)
+    yield "another pair clashes", refused(at)._replace(said=refused(at).said.replace(b'"h2":"2:', b'"h2":"0:', 1))
+    yield "the clash raises the write number", refused(at)._replace(said=refused(at).said.replace(b',"by":"k","err":"clash"', b'9,"by":"k","err":"clash"', 1))
+
+
+def unrefused(text, schema=BUILT_IN):
     """The plain machine's answers, none refused."""
-    machine, answers = Machine(), []
+    machine, answers = Machine(schema), []
     for line in text.split(b"\n")[:-1]:
         answer, record = machine.answer(line)
         machine.keep(record)
@@ -200,12 +274,17 @@ def self_test(text, program):
         if wrong == refused or judge_lines(text, wrong, True) is None:
             sys.exit(f"self-test: {name}: this planted outcome is judged right")
         found += 1
+    (_, right), *wrongs = planted_indices()
+    for name, wrong in wrongs:
+        if wrong == right or judge_indices(right, True, False) or judge_indices(wrong, True, False) is None:
+            sys.exit(f"self-test: {name}: this planted outcome is judged right")
+        found += 1
     print(f"self-test: {found} planted outcomes, each judged wrong")
 
 
-def cases_of(path, library, room, text):
+def cases_of(path, library, room, text, on):
     """Yields the words and input of each sweep, with what judges an outcome."""
-    files = {"lines": CHANGE_EIGHT, "schema": EIGHT.encode(), "broken": b"a = "}
+    files = {"lines": CHANGE_EIGHT, "schema": EIGHT.encode(), "indices": CHANGE_INDICES, "two": TWO.encode(), "broken": b"a = "}
     for name, content in files.items():
         with open(f"{room}/{name}", "wb") as file:
             file.write(content)
@@ -213,6 +292,7 @@ def cases_of(path, library, room, text):
     yield program([], text), lambda outcome, was_refused: judge_lines(text, outcome, was_refused)
     change_eight = lambda outcome, was_refused: judge_lines(CHANGE_EIGHT, outcome, was_refused, EIGHT)
     yield program(["run", "--schema", "schema", "--commands", "lines"]), change_eight
+    yield program(["run", "--schema", "two", "--commands", "indices"]), lambda outcome, was_refused: judge_indices(outcome, was_refused, on)
     for words in (["run", "--schema", "broken"], ["run", "--commands", "absent"], ["fly"], ["run", "--help"]):
         refuser = program(words)
         yield refuser, judge_fault(refuser.run(0)[0])
@@ -245,7 +325,7 @@ def main():
     if Program(path, library, room, given=stored).run(0)[0] != Outcome(0, wanted, b""):
         sys.exit("the stored run gives another output")
     self_test(text, Program(path, library, room, given=text))
-    swept = [sweep(*case, on) for case in cases_of(path, library, room, text) for on in (False, True)]
+    swept = [sweep(*case, on) for on in (False, True) for case in cases_of(path, library, room, text, on)]
     refused, wrong = (sum(it) for it in zip(*swept))
     print(f"{refused} allocations refused: {refused + len(swept)} runs, {wrong} wrong")
     sys.exit(1 if wrong else 0)

@@ -1,6 +1,6 @@
 /* Refuses one allocation of a program: preloaded, with REFUSE_AT the number of the refused call, counted from 1,
    and REFUSED_FILE a file that is made when it is refused. REFUSE_ON=1 refuses every later call too. With ARMED_FILE, a file of one byte,
-   calls count only while that byte is not 0. With COUNTED_FILE it writes the number of the calls to that file when the program ends by _exit. */
+   calls count only while that byte is not 0. With COUNTED_FILE it writes the number of the calls to that file when the program ends. */
 #define _GNU_SOURCE
 #include <dlfcn.h>
 #include <errno.h>
@@ -76,11 +76,16 @@ void *aligned_alloc(size_t align, size_t size)
     return refused() ? NULL : real(align, size);
 }
 
-void _exit(int status)
+__attribute__((destructor)) static void tell(void)
 {
     char *name = getenv("COUNTED_FILE");
     if (name)
         dprintf(open(name, O_CREAT | O_WRONLY | O_TRUNC, 0600), "%ld\n", count);
+}
+
+void _exit(int status)
+{
+    tell();
     for (;;)
         syscall(SYS_exit_group, status);
 }
