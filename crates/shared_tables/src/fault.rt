@@ -55,12 +55,14 @@ impl From<CallFault> for ServeFault {
 }
 
 /// Why no journals were gathered.
-#[derive(Clone, Copy, Debug, PartialEq, Eq)]
+#[derive(Clone, Copy, Debug, PartialEq, Eq, Error)]
 pub enum GatherWhy {
     /// Memory was refused.
+    #[error("no memory")]
     Memory,
     /// The session's entries in this table are not its pass's writes, or the pass's last look does not fit. It is the
     /// first such table, and the first such session there. A session with two passes and a pass of other tables or of no
     /// session here fit no table.
+    #[error("a pass and the journal of a table do not agree")]
     Mismatch { table: usize, session: u32 },
 }

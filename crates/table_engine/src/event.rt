@@ -1,5 +1,7 @@
 //! What happens on the sessions' streams, and where it stops.
 
+use thiserror::Error;
+
 /// What happens on a session's stream.
 #[derive(Clone, Copy, Debug)]
 pub enum Event<'a> {
@@ -11,7 +13,8 @@ pub enum Event<'a> {
 
 /// Where a run stopped, since memory for an answer was refused before its line was carried out.
 /// All before it stands.
-#[derive(Clone, Copy, Debug, PartialEq, Eq)]
+#[derive(Clone, Copy, Debug, PartialEq, Eq, Error)]
+#[error("no memory for an answer")]
 pub struct Stop {
     /// The event that was not carried out whole.
     pub event: usize,

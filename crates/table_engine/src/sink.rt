@@ -9,6 +9,7 @@ use crate::again;
 use crate::count::raise;
 use std::io;
 use std::io::{ErrorKind, Write};
+use thiserror::Error;
 
 /// A writer, and how often it failed: how many of its writes failed, or had a byte to take and took none. The count stays
 /// at `u64::MAX` once it is there.
@@ -19,7 +20,8 @@ pub struct Sink<W> {
 }
 
 /// A write failed, or took no byte, before all bytes were written.
-#[derive(Clone, Copy, Debug, PartialEq, Eq)]
+#[derive(Clone, Copy, Debug, PartialEq, Eq, Error)]
+#[error("a write failed")]
 pub struct Unwritten;
 
 impl<W> Sink<W> {

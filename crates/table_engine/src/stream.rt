@@ -15,18 +15,22 @@ use crate::waiting::new_out;
 use std::alloc::Global;
 use std::io::{Read, Write};
 use table_reply::{Out, READY_ROOM};
+use thiserror::Error;
 
 /// The most bytes that are read at a time.
 pub const PIECE: usize = 4096;
 
 /// Why a stream was not served to its end.
-#[derive(Clone, Copy, Debug, PartialEq, Eq)]
+#[derive(Clone, Copy, Debug, PartialEq, Eq, Error)]
 pub enum StreamFault {
     /// A read failed, or 4,294,967,295 reads were made.
+    #[error("a read failed")]
     Read,
     /// A write failed, or took no byte.
+    #[error("a write failed")]
     Write,
     /// Memory was refused before anything was read.
+    #[error("no memory")]
     Memory,
 }
 
