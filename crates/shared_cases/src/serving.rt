@@ -32,7 +32,7 @@ pub fn serve_kept(
     let mut answers = Vec::new(alloc);
     let mut source = Source::new(stream.as_slice());
     let mut sink = Sink::new(&mut answers);
-    let served = shared.serve(alloc, rt, &mut holder.pass, &mut source, &mut sink);
+    let served = shared.serve(rt, &mut holder.pass, &mut source, &mut sink);
     holder.kept.clear();
     report.push(&answers)?;
     match served {

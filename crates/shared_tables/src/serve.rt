@@ -14,7 +14,6 @@ use crate::pass::Pass;
 use crate::shared::{Gate, Shared};
 use command_lines::{CommandFault, read_command};
 use memchr::memchr;
-use std::alloc::Global;
 use std::io::{Read, Write};
 use std::sync::Wait;
 use table_engine::{
@@ -37,7 +36,6 @@ impl<G: Gate> Shared<G> {
     /// It waits for its reader and its writer, and as `call` does.
     pub fn serve<R: Read, W: Write>(
         &self,
-        alloc: Global,
         rt: &impl Wait,
         pass: &mut Pass,
         source: &mut Source<R>,
@@ -62,17 +60,16 @@ impl<G: Gate> Shared<G> {
         ensures write_cause { sink.new.failures ≡ failures_after_serve result sink.old.failures }
         ensures memory { result ≡ Err ServeFault.Memory → (pass.new ≡ pass.old) × (source.new ≡ source.old) × (sink.new ≡ sink.old) }
     {
-        let Ok(mut out) = new_out(alloc) else {
+        let Ok(mut out) = new_out(self.alloc) else {
             return Err(ServeFault::Memory);
         };
         let mut cutter = LineCutter::new();
-        self.serve_lines(alloc, rt, pass, &mut cutter, source, sink, &mut out)
+        self.serve_lines(rt, pass, &mut cutter, source, sink, &mut out)
     }
 
     // Serves a stream from its first byte on to its end, or to a fault.
     fn serve_lines<R: Read, W: Write>(
         &self,
-        alloc: Global,
         rt: &impl Wait,
         pass: &mut Pass,
         cutter: &mut LineCutter,
@@ -108,9 +105,9 @@ impl<G: Gate> Shared<G> {
                 return Err(ServeFault::Read);
             };
             if n == 0 {
-                return self.serve_end(alloc, rt, pass, cutter, sink, out);
+                return self.serve_end(rt, pass, cutter, sink, out);
             }
-            match self.serve_piece(alloc, rt, pass, cutter, &piece[..n], sink, out) {
+            match self.serve_piece(rt, pass, cutter, &piece[..n], sink, out) {
                 Ok(()) => {}
                 Err(fault) => return Err(fault),
             }
@@ -121,7 +118,6 @@ impl<G: Gate> Shared<G> {
     // Answers the last line of a stream, which no newline ends, and writes the answer out.
     fn serve_end<W: Write>(
         &self,
-        alloc: Global,
         rt: &impl Wait,
         pass: &mut Pass,
         cutter: &mut LineCutter,
@@ -137,7 +133,7 @@ impl<G: Gate> Shared<G> {
             (λ why. (pass.new ≡ pass.old) × RefusesWhole self.now pass.old cutter.old.unfinished why × (sink.new ≡ sink.old)) }
         ensures failures { sink.new.failures ≡ failures_after_serve result sink.old.failures }
     {
-        self.end_line(alloc, rt, pass, cutter, out)?;
+        self.end_line(rt, pass, cutter, out)?;
         sink.write_all(out.bytes())?;
         Ok(())
     }
@@ -145,7 +141,6 @@ impl<G: Gate> Shared<G> {
     // Takes the bytes of a piece, line by line, and writes out the answers to the lines that they end.
     fn serve_piece<W: Write>(
         &self,
-        alloc: Global,
         rt: &impl Wait,
         pass: &mut Pass,
         cutter: &mut LineCutter,
@@ -167,7 +162,7 @@ impl<G: Gate> Shared<G> {
         let mut rest = piece;
         while let Some(length) = memchr(b'\n', rest) {
             let (line, after) = rest.split_at(length);
-            match self.serve_line(alloc, rt, pass, cutter, line, sink, out) {
+            match self.serve_line(rt, pass, cutter, line, sink, out) {
                 Ok(()) => {}
                 Err(fault) => return Err(fault),
             }
@@ -175,7 +170,7 @@ impl<G: Gate> Shared<G> {
             rest = behind;
         }
         cutter.extend(rest);
-        write_out(alloc, sink, out)?;
+        write_out(self.alloc, sink, out)?;
         Ok(())
     }
 
@@ -183,7 +178,6 @@ impl<G: Gate> Shared<G> {
     // where they are many or leave no room for a further one.
     fn serve_line<W: Write>(
         &self,
-        alloc: Global,
         rt: &impl Wait,
         pass: &mut Pass,
         cutter: &mut LineCutter,
@@ -201,8 +195,8 @@ impl<G: Gate> Shared<G> {
         ensures stopped { Stops result ⊤ (λ why. RefusesWhole self.now pass.old (added line.now cutter.old.unfinished) why) }
         ensures failures { sink.new.failures ≡ failures_after_serve result sink.old.failures }
     {
-        make_room(alloc, sink, out)?;
-        self.take_line(alloc, rt, pass, cutter, line, out)?;
+        make_room(self.alloc, sink, out)?;
+        self.take_line(rt, pass, cutter, line, out)?;
         Ok(())
     }
 
@@ -210,7 +204,6 @@ impl<G: Gate> Shared<G> {
     // answered where it stands.
     fn take_line(
         &self,
-        alloc: Global,
         rt: &impl Wait,
         pass: &mut Pass,
         cutter: &mut LineCutter,
@@ -226,18 +219,17 @@ impl<G: Gate> Shared<G> {
     {
         if !cutter.is_empty() || line.len() > MAX_LINE {
             cutter.extend(line);
-            return self.end_line(alloc, rt, pass, cutter, out);
+            return self.end_line(rt, pass, cutter, out);
         }
         if is_blank(line) {
             return Ok(());
         }
-        self.answer_line(alloc, rt, pass, line, out)
+        self.answer_line(rt, pass, line, out)
     }
 
     // Takes a newline, and answers the line that it ends.
     fn end_line(
         &self,
-        alloc: Global,
         rt: &impl Wait,
         pass: &mut Pass,
         cutter: &mut LineCutter,
@@ -256,14 +248,13 @@ impl<G: Gate> Shared<G> {
                 refuse(Fault::Line, out);
                 Ok(())
             }
-            Cut::Line => self.answer_line(alloc, rt, pass, cutter.line(), out),
+            Cut::Line => self.answer_line(rt, pass, cutter.line(), out),
         }
     }
 
     // Answers a line that is neither blank nor too long.
     fn answer_line(
         &self,
-        alloc: Global,
         rt: &impl Wait,
         pass: &mut Pass,
         line: &[u8],
@@ -275,7 +266,7 @@ impl<G: Gate> Shared<G> {
         ensures unchanged { OnErr result ((pass.new ≡ pass.old) × (out.new ≡ out.old)) }
         ensures kept { Keeps out.old out.new }
     {
-        match read_command(alloc, line) {
+        match read_command(self.alloc, line) {
             Ok(command) => return self.call(rt, pass, command, out),
             Err(CommandFault::Json) => refuse(Fault::Json, out),
             Err(CommandFault::Command) => refuse(Fault::Command, out),

@@ -35,6 +35,7 @@ impl Gate for OpenGate {
 /// The tables of a schema, each behind a lock of its own, which several sessions call.
 #[derive(Drop)]
 pub struct Shared<G: Gate> {
+    pub(crate) alloc: Global,
     pub(crate) schema: Schema,
     pub(crate) workers: u32,
     pub(crate) tables: Locked<TableCell>,
@@ -72,6 +73,7 @@ impl<G: Gate + Drop> Shared<G> {
         let mut answer = Out::new(alloc);
         answer.ready().map_err(|_| AllocError)?;
         let shared = Shared {
+            alloc,
             journals: Vec::with_capacity(alloc, cells.len())?,
             tables: Locked::new(alloc, cells)?,
             schema,

@@ -17,6 +17,7 @@ use table_schema::{Schema, TableSpec};
 /// What sessions shared, with the tables out of their locks.
 #[derive(Drop)]
 pub(crate) struct Unlocked<G: Gate> {
+    alloc: Global,
     schema: Schema,
     workers: u32,
     cells: Opened<TableCell>,
@@ -102,6 +103,7 @@ impl<G: Gate> Shared<G> {
         ensures workers { result.workers ≡ self.workers }
     {
         let Shared {
+            alloc,
             schema,
             workers,
             tables,
@@ -110,6 +112,7 @@ impl<G: Gate> Shared<G> {
             answer,
         } = self;
         Unlocked {
+            alloc,
             schema,
             workers,
             cells: tables.open(),
@@ -126,6 +129,7 @@ impl<G: Gate + Drop> Unlocked<G> {
         ensures { result ≡ record { schema = self.schema; workers = self.workers } }
     {
         let Unlocked {
+            alloc,
             schema,
             workers,
             cells,
@@ -134,6 +138,7 @@ impl<G: Gate + Drop> Unlocked<G> {
             answer,
         } = self;
         Shared {
+            alloc,
             schema,
             workers,
             tables: cells.lock(),

@@ -42,7 +42,7 @@ fn end_without_waiting<
     let listener = TcpListener::bind(rt, (Ipv4Addr::LOCALHOST, 0))?;
     listener.set_nonblocking(true)?;
     let (shared, passes) = tables(rt.alloc(), input, 2)?;
-    let done = serve_on(rt.alloc(), rt, Listening::Tcp(listener), shared, passes, 1);
+    let done = serve_on(rt, Listening::Tcp(listener), shared, passes, 1);
     Ok(done.end)
 }
 
@@ -57,7 +57,7 @@ fn end_of_no_session<R: AllocGlobal + Files + Net + Threads + Wait + Sync>(
     let _ = fs::remove_file(rt, PATH);
     let listening = Listening::Unix(UnixListener::bind(rt, PATH)?);
     let (mut first, mut second) = (sent_row(rt)?, sent_row(rt)?);
-    let done = serve_on(rt.alloc(), rt, listening, shared, passes, 1);
+    let done = serve_on(rt, listening, shared, passes, 1);
     fs::remove_file(rt, PATH)?;
     let mut told = String::new(rt.alloc());
     first.read_to_string(&mut told)?;

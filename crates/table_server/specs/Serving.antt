@@ -1,5 +1,5 @@
 -- What the program has done where it has served connections.
-use Rattle.std.specs.Prelude.{ℕ, List, Option, None, Some, codes, ⊤}
+use Rattle.std.specs.Prelude.{◌≡◌, ℕ, List, Option, None, Some, codes, length, ⊤}
 use Rattle.std.specs.Io.KnownBytes.{Appends}
 use Rattle.table_schema.specs.Shape.{TableShape}
 use Rattle.shared_tables.specs.Journal.{EntryData}
@@ -18,16 +18,17 @@ IsWritten is_made is_put contents None text = ⊤
 IsWritten {M} is_made is_put contents (Some path) text =
     (made : M) × (whole : M) × is_made path made × Appends (contents made) (contents whole) text × is_put path whole
 
--- The journals of a schema's tables are what the sessions' passes know of them, and are written to the file of a path, if there is one.
-pub record IsKept {M : Type 0} (is_made is_put : List ℕ → M → Type 0) (contents : M → Option (List ℕ)) (path : Option (List ℕ)) (schema : List TableShape) (workers : ℕ) : Type 0 where
-  pub passes : List PassData
+-- The journals of a schema's tables are what these passes know of them, and are written to the file of a path, if there is one.
+pub record IsKept {M : Type 0} (is_made is_put : List ℕ → M → Type 0) (contents : M → Option (List ℕ)) (path : Option (List ℕ)) (schema : List TableShape) (workers : ℕ) (passes : List PassData) : Type 0 where
   pub tables : List (List EntryData)
   pub gathered : Gathered schema workers tables passes
   pub written : IsWritten is_made is_put contents path (journals_text tables)
 
--- Connections were served on the tables of a schema file, which the output was told, and what came of them is kept.
+-- Connections were served on the tables of a schema file, which the output was told, and what came of them is kept, with a pass of each worker.
 pub record Served {F M : Type 0} (is_at : List ℕ → F → Type 0) (remaining : F → Option (List ℕ)) (is_made is_put : List ℕ → M → Type 0) (contents : M → Option (List ℕ)) (file : List ℕ) (workers : ℕ) (journal output_before output_after : Option (List ℕ)) : Type 0 where
   pub schema : List TableShape
   pub is_schema : IsSchema is_at remaining (Some file) schema
   pub announced : Appends output_before output_after announcement
-  pub kept : IsKept is_made is_put contents journal schema workers
+  pub passes : List PassData
+  pub each : length passes ≡ workers
+  pub kept : IsKept is_made is_put contents journal schema workers passes

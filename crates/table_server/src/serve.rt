@@ -30,6 +30,7 @@ pub struct Serving<'a> {
 /// Serves connections until all threads have served theirs, and keeps the journals. Schema, address, the journal's path and
 /// output come in this order, and the first fault among them ends it. Of the faults that come later the one of the greatest
 /// status is answered.
+#[tactic(auto, using(crate::proofs::Passes::fresh_count))]
 pub fn serve_connections<
     R: AllocGlobal + Opens + Makes + Listens + Threads + Wait + Sync,
     O: Write,
@@ -51,7 +52,7 @@ pub fn serve_connections<
     if output.write_all(b"listening\n").is_err() {
         return Err(Fault::Write);
     }
-    let done = serve_on(rt.alloc(), rt, listening, shared, passes, serving.each);
+    let done = serve_on(rt, listening, shared, passes, serving.each);
     keep_done(rt, done, &mut journal)
 }
 
@@ -63,7 +64,7 @@ fn keep_done<R: AllocGlobal + Makes, G: Gate + Drop>(
 ) -> Result<(), Fault>
     requires { ForSome journal.old (λ j. R.is_begun rt.now j.path.now j.begun) }
     ensures kept { OnOk result (IsKept (R.is_made rt.now) (R.is_put rt.now) R.Made.contents
-        (option_map (λ j. j.path.now) journal.old) done.shared.schema done.shared.workers) }
+        (option_map (λ j. j.path.now) journal.old) done.shared.schema done.shared.workers done.passes.items) }
     ensures fine { OnOk result (done.end ≡ End.Fine) }
     ensures memory { done.end ≡ End.Memory → IfErr result (λ fault. status_of fault ≤ 1 → fault ≡ Fault.Memory) }
     ensures listen { done.end ≡ End.Listen → IfErr result (λ fault. status_of fault ≤ 1 → fault ≡ Fault.Listen) }
@@ -106,7 +107,7 @@ fn keep<R: AllocGlobal + Makes, G: Gate + Drop>(
 ) -> Result<(), Fault>
     requires { ForSome journal.old (λ j. R.is_begun rt.now j.path.now j.begun) }
     ensures kept { OnOk result (IsKept (R.is_made rt.now) (R.is_put rt.now) R.Made.contents
-        (option_map (λ j. j.path.now) journal.old) shared.schema shared.workers) }
+        (option_map (λ j. j.path.now) journal.old) shared.schema shared.workers passes.items) }
     ensures unwritten { result ≡ Err Fault.Mismatch → journal.new ≡ journal.old }
     ensures fault { IfErr result (λ fault. (status_of fault ≡ 1) ⊎ (status_of fault ≡ 4)) }
 {

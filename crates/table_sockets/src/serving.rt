@@ -4,7 +4,6 @@ ghost use Rattle.std.specs.Prelude.{◌≡◌, length, vec_len};
 use crate::end::{Done, End};
 use crate::listening::{Connection, Listening};
 use shared_tables::{Gate, Pass, ServeFault, Shared};
-use std::alloc::Global;
 use std::io::{Read, Write};
 use std::sync::{Mutex, Wait};
 use std::thread;
@@ -18,7 +17,6 @@ const STACK: usize = 2 << 20;
 /// end. A fault of a connection's reads or writes ends that connection alone. A thread ends where no connection can be
 /// accepted, memory is refused or a call is; the others go on. Returns when all threads have ended.
 pub fn serve_on<G: Gate + Drop + Sync, R: Threads + Wait + Sync>(
-    alloc: Global,
     rt: &R,
     listening: Listening,
     shared: Shared<G>,
@@ -28,7 +26,7 @@ pub fn serve_on<G: Gate + Drop + Sync, R: Threads + Wait + Sync>(
     ensures shared { result.shared ≡ shared }
     ensures passes { vec_len result.passes ≡ vec_len passes }
 {
-    let end = serve_all(alloc, rt, &listening, &shared, &mut passes, each);
+    let end = serve_all(rt, &listening, &shared, &mut passes, each);
     Done {
         shared,
         passes,
@@ -38,7 +36,6 @@ pub fn serve_on<G: Gate + Drop + Sync, R: Threads + Wait + Sync>(
 
 // Lets each pass serve its connections in a thread of its own.
 fn serve_all<G: Gate + Sync, R: Threads + Wait + Sync>(
-    alloc: Global,
     rt: &R,
     listening: &Listening,
     shared: &Shared<G>,
@@ -54,11 +51,7 @@ fn serve_all<G: Gate + Sync, R: Threads + Wait + Sync>(
             let started = Builder::new()
                 .stack_size(STACK)
                 .spawn_scoped(scope, move || {
-                    keep(
-                        rt,
-                        kept,
-                        serve_each(alloc, rt, listening, shared, pass, each),
-                    )
+                    keep(rt, kept, serve_each(rt, listening, shared, pass, each))
                 });
             if started.is_err() {
                 keep(rt, kept, End::Memory);
@@ -76,7 +69,6 @@ fn keep(rt: &impl Wait, last: &Mutex<End>, end: End) {
 
 // Accepts so many connections and serves them.
 fn serve_each<G: Gate>(
-    alloc: Global,
     rt: &impl Wait,
     listening: &Listening,
     shared: &Shared<G>,
@@ -84,7 +76,7 @@ fn serve_each<G: Gate>(
     each: u32,
 ) -> End {
     for _ in 0..each {
-        if let Some(end) = serve_next(alloc, rt, listening, shared, pass) {
+        if let Some(end) = serve_next(rt, listening, shared, pass) {
             return end;
         }
     }
@@ -93,7 +85,6 @@ fn serve_each<G: Gate>(
 
 // Accepts a connection, serves it, and says how that ends the thread, if it does.
 fn serve_next<G: Gate>(
-    alloc: Global,
     rt: &impl Wait,
     listening: &Listening,
     shared: &Shared<G>,
@@ -103,11 +94,11 @@ fn serve_next<G: Gate>(
         return Some(End::Listen);
     };
     let served = match &connection {
-        Connection::Unix(stream) => serve(alloc, rt, shared, pass, stream, stream),
+        Connection::Unix(stream) => serve(rt, shared, pass, stream, stream),
         Connection::Tcp(stream) => {
             // Answers are written in whole pieces, so there is nothing to wait for.
             let _ = stream.set_nodelay(true);
-            serve(alloc, rt, shared, pass, stream, stream)
+            serve(rt, shared, pass, stream, stream)
         }
     };
     match served {
@@ -118,18 +109,11 @@ fn serve_next<G: Gate>(
 
 // Serves a connection to its end.
 fn serve<G: Gate, I: Read + Drop, O: Write + Drop>(
-    alloc: Global,
     rt: &impl Wait,
     shared: &Shared<G>,
     pass: &mut Pass,
     reader: I,
     writer: O,
 ) -> Result<(), ServeFault> {
-    shared.serve(
-        alloc,
-        rt,
-        pass,
-        &mut Source::new(reader),
-        &mut Sink::new(writer),
-    )
+    shared.serve(rt, pass, &mut Source::new(reader), &mut Sink::new(writer))
 }
