@@ -208,6 +208,9 @@ class Hall:
         tables.is_handed_out = True
         return [*(f"  entries: {len(it)}" for it in tables.journals), *self.text(tables)]
 
+    def on_write(self, words, *_):
+        return self.text(self.sets[words[0]]) if self.is_told(words[0]) else ["  no journals"]
+
     def is_told(self, name):
         return name in self.sets and self.sets[name].is_gathered
 

@@ -1,10 +1,12 @@
 /* Refuses one allocation of a program: preloaded, with REFUSE_AT the number of the refused call, counted from 1,
    and REFUSED_FILE a file that is made when it is refused. REFUSE_ON=1 refuses every later call too. With ARMED_FILE, a file of one byte,
-   calls count only while that byte is not 0. With COUNTED_FILE it writes the number of the calls to that file when the program ends. */
+   calls count only while that byte is not 0. With COUNTED_FILE it writes the number of the calls to that file when the program ends. With
+   STEPS_FILE it adds a line to that file at each open, read, socket and write: which it is, of what, and the number of the calls so far. */
 #define _GNU_SOURCE
 #include <dlfcn.h>
 #include <errno.h>
 #include <fcntl.h>
+#include <stdarg.h>
 #include <stdio.h>
 #include <stdlib.h>
 #include <sys/mman.h>
@@ -74,6 +76,61 @@ void *aligned_alloc(size_t align, size_t size)
     if (!real)
         real = dlsym(RTLD_NEXT, "aligned_alloc");
     return refused() ? NULL : real(align, size);
+}
+
+/* The program has one thread up to the steps that are looked for. (What prints into a file would allocate.) */
+static void step(const char *what, const char *of)
+{
+    static int file = -1;
+    char *name = getenv("STEPS_FILE"), line[200];
+    if (!name)
+        return;
+    if (file < 0)
+        file = (int)syscall(SYS_open, name, O_CREAT | O_WRONLY | O_APPEND, 0600);
+    syscall(SYS_write, file, line, snprintf(line, sizeof line, "%s %.99s %ld\n", what, of, count));
+}
+
+int open(const char *path, int flags, ...)
+{
+    static int (*real)(const char *, int, ...);
+    va_list more;
+    int mode = 0;
+    if (!real)
+        real = dlsym(RTLD_NEXT, "open");
+    if (flags & O_CREAT) {
+        va_start(more, flags);
+        mode = va_arg(more, int);
+        va_end(more);
+    }
+    step("open", path);
+    return real(path, flags, mode);
+}
+
+ssize_t read(int file, void *to, size_t size)
+{
+    static ssize_t (*real)(int, void *, size_t);
+    if (!real)
+        real = dlsym(RTLD_NEXT, "read");
+    step("read", file ? "file" : "input");
+    return real(file, to, size);
+}
+
+int socket(int domain, int type, int protocol)
+{
+    static int (*real)(int, int, int);
+    if (!real)
+        real = dlsym(RTLD_NEXT, "socket");
+    step("socket", "listener");
+    return real(domain, type, protocol);
+}
+
+ssize_t write(int file, const void *from, size_t size)
+{
+    static ssize_t (*real)(int, const void *, size_t);
+    if (!real)
+        real = dlsym(RTLD_NEXT, "write");
+    step("write", file == 1 ? "output" : "file");
+    return real(file, from, size);
 }
 
 __attribute__((destructor)) static void tell(void)

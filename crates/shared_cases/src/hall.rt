@@ -6,7 +6,7 @@ use crate::report::Report;
 use crate::sending::{Holder, call_line, in_four, step_lines};
 use crate::serving::serve_kept;
 use crate::threads::tell_threads;
-use crate::told::{tell_journals, tell_uncompared, tell_whether, tell_why};
+use crate::told::{tell_journals, tell_uncompared, tell_whether, tell_why, tell_written};
 use crate::words::first_word;
 use schema_file::read_schema;
 use shared_tables::{GatherFault, GatherWhy, Journals, OpenGate, Pass, Shared, gather};
@@ -110,10 +110,18 @@ impl Hall {
     ) -> Result<(), AllocError> {
         let (set, rest) = first_word(rest);
         if verb == b"open".as_slice() {
-            let schema = self.schema().map_err(|_| AllocError)?;
-            self.open(schema, set, sessions_of(rest))
+            match self.schema() {
+                Ok(schema) => self.open(schema, set, sessions_of(rest), report),
+                Err(SchemaFault::Memory) => report.text("  memory\n"),
+                Err(_) => Err(AllocError),
+            }
         } else if verb == b"builtin".as_slice() {
-            self.open(builtin(self.alloc)?, set, sessions_of(rest))
+            match builtin(self.alloc) {
+                Ok(schema) => self.open(schema, set, sessions_of(rest), report),
+                Err(_) => report.text("  memory\n"),
+            }
+        } else if verb == b"write".as_slice() {
+            self.write(set, report)
         } else if verb == b"gather".as_slice() {
             self.gather(set, rest, report)
         } else if verb == b"uncompared".as_slice() {
@@ -136,9 +144,17 @@ impl Hall {
         }
     }
 
-    fn open(&mut self, schema: Schema, name: &[u8], sessions: u32) -> Result<(), AllocError> {
+    fn open(
+        &mut self,
+        schema: Schema,
+        name: &[u8],
+        sessions: u32,
+        report: &mut Report,
+    ) -> Result<(), AllocError> {
         let alloc = self.alloc;
-        let (shared, passes) = Shared::new(alloc, schema, sessions, OpenGate)?;
+        let Ok((shared, passes)) = Shared::new(alloc, schema, sessions, OpenGate) else {
+            return report.text("  memory\n");
+        };
         self.sets.push(Set {
             name: name.to_vec(alloc)?,
             shared: Some(shared),
@@ -329,6 +345,14 @@ impl Hall {
             self.holders.push(Holder::new(self.alloc, name, pass))?;
         }
         tell_why(why, report)
+    }
+
+    fn write(&self, set: &[u8], report: &mut Report) -> Result<(), AllocError> {
+        let set = self.sets.get(self.set_of(set));
+        let Some(journals) = set.and_then(|set| set.journals.as_ref()) else {
+            return report.text("  no journals\n");
+        };
+        tell_written(self.alloc, journals, report)
     }
 
     fn narrow(&self, set: &[u8], report: &mut Report) -> Result<(), AllocError> {

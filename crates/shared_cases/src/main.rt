@@ -3,7 +3,8 @@
 //!
 //! - `open SET SESSIONS`: empty tables of the schema under this name, for so many sessions, and a pass for each: the passes of
 //!   `a` are called `a0`, `a1` and so on;
-//! - `builtin SET SESSIONS`: the same of the built-in schema;
+//! - `builtin SET SESSIONS`: the same of the built-in schema. Where memory is refused for the schema or its tables, nothing is opened, and
+//!   that is told;
 //! - `PASS SET COMMAND`: the pass calls the command on these tables;
 //! - `later PASS COMMAND`: the command is kept for the pass, and the line is not printed;
 //! - `join SET PASS ..`: four threads share the passes, and call what was kept for them on these tables;
@@ -13,6 +14,7 @@
 //!   empty tables; otherwise all are put back;
 //! - `uncompared SET`: the journals as they stand, as where memory was refused, with the number of each one's entries; they are
 //!   not handed out where a mismatch was found;
+//! - `write SET`: the text of these journals, or a front of it and why no more was written;
 //! - `narrow SET`: whether writers that are too narrow for the text of these journals take fronts of it;
 //! - `again SET COMMAND`: what these tables answer once the journals were run on them;
 //! - `threads`: two threads insert a hundred records each in a table `p`, which are gathered and run again.

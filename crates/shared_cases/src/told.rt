@@ -5,7 +5,7 @@ use crate::report::Report;
 use command_lines::CommandFault;
 use shared_tables::{CallFault, Entry, GatherWhy, Journals, UncomparedJournals};
 use std::alloc::{AllocError, Global};
-use table_engine::Sink;
+use table_engine::{Sink, StreamFault};
 use table_reply::Out;
 use table_schema::TableSpec;
 
@@ -85,6 +85,23 @@ pub fn tell_uncompared(
     match journals.write_through(&mut line, &mut Sink::new(&mut text)) {
         Ok(()) => report.push(&text),
         Err(_) => Err(AllocError),
+    }
+}
+
+/// Adds the text of the journals, or the front of it that was written, and why no more was.
+pub fn tell_written(
+    alloc: Global,
+    journals: &Journals,
+    report: &mut Report,
+) -> Result<(), AllocError> {
+    let mut text = Vec::new(alloc);
+    let written = journals.write(&mut Sink::new(&mut text));
+    report.push(&text)?;
+    match written {
+        Ok(()) => Ok(()),
+        Err(StreamFault::Read) => report.text("  read\n"),
+        Err(StreamFault::Write) => report.text("  write\n"),
+        Err(StreamFault::Memory) => report.text("  memory\n"),
     }
 }
 
