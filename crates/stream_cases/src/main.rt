@@ -3,13 +3,20 @@
 //! stands for so many bytes of that number.
 //!
 //! For each stream it prints what one session is answered that sends the lines one after the other, and then whether the
-//! answers are the same in other ways. At last it prints how services on the tables end, and what words ask for one.
+//! answers are the same in other ways, also where each read in turn fails, and the writer after each number of bytes. Behind
+//! locks the journals then tell of what was carried out; they are printed too. At last it prints how services on the tables
+//! end, and what words ask for one.
 #![tactic(auto)]
 
+mod broken;
 mod device;
+mod fault;
 mod faulty;
 mod input;
 mod interrupted;
+mod journal;
+mod locks;
+mod marks;
 mod repeats;
 mod sent;
 mod served;
@@ -31,7 +38,7 @@ fn main(rt: HostRuntime) -> io::Result<()> {
     let mut report = Vec::new(alloc);
     if let Ok(schema) = input.schema(alloc) {
         for stream in &input.streams {
-            tell_ways(alloc, &schema, stream, &mut report)?;
+            tell_ways(&rt, alloc, (&input, &schema), stream, &mut report)?;
         }
         tell_early(alloc, &schema, &mut report)?;
         tell_ends(&rt, &input, &mut report)?;
