@@ -69,7 +69,7 @@ class Drawer:
 
     def more_keys(self, op):
         """Those that the op may have: mostly such as fit together."""
-        drawn = sorted(it for it in MORE_KEYS.get(op, ()) if self.one_in(2))
+        drawn = [it for it in sorted(MORE_KEYS.get(op, ())) if self.one_in(2)]
         return [it for it in drawn if it not in ("gt", "lt") or {"gt": "ge", "lt": "le"}[it] not in drawn or self.one_in(20)]
 
     def handle(self, table):

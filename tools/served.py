@@ -16,7 +16,7 @@ SECONDS = 60
 class Served:
     """The running server: `serve` with a schema, a number of threads, so many connections for each, and a journal."""
 
-    def __init__(self, room, schema, workers=1, each=1, address=None, journal=True):
+    def __init__(self, room, schema, workers=1, each=1, address=None, journal=True, program=None):
         self.address = address or f"unix:{room}/socket"
         self.journal = f"{room}/journal" if journal else None
         with open(f"{room}/schema", "w", encoding="utf-8") as file:
@@ -25,7 +25,7 @@ class Served:
             os.remove(f"{room}/socket")
         words = ["serve", "--schema", f"{room}/schema", "--listen", self.address, "--workers", str(workers), "--each", str(each)]
         words += ["--journal", self.journal] if journal else []
-        self.process = subprocess.Popen([built_program(), *words], stdin=subprocess.DEVNULL, stdout=subprocess.PIPE, stderr=subprocess.PIPE)
+        self.process = subprocess.Popen([program or built_program(), *words], stdin=subprocess.DEVNULL, stdout=subprocess.PIPE, stderr=subprocess.PIPE)
         atexit.register(self.process.kill)
         if self.process.stdout.readline() != b"listening\n":
             raise Wrong(f"the server does not listen: {self.process.stderr.read()!r}")
