@@ -12,7 +12,7 @@ use Rattle.clap.specs.declared.error.kind.ErrorKind.TheVariants.{OutOfMemory}
 use Rattle.clap.specs.declared.parser.matches.ArgMatches.{ArgMatches}
 use Rattle.clap.specs.declared.parser.matches.ArgMatches.TheViews.{out-ArgMatches, out-SubCommand}
 use Rattle.clap.proofs.OnLiterals.{clap_on_literals}
-use Rattle.program_words.specs.Program.{program}
+use Rattle.program_words.specs.Program.{ShowsTexts, program}
 use Rattle.program_words.specs.Asked.{AnswersFor, Asking, SaysWords, asking_by, asking_of, is_free, matched, run, serve, serving_in, texts}
 use Rattle.program_words.specs.declared.asked.WordsFault.{WordsFault}
 use Rattle.program_words.specs.declared.asked.WordsFault.TheVariants.{Words, Listen, Memory}
@@ -24,6 +24,10 @@ is_simple-program = refl
 pub is_free-program : is_simple_and_free program ≡ true
 unfolding program clap_on_literals
 is_free-program = refl
+
+pub shows_texts-program : ShowsTexts program
+unfolding program clap_on_literals
+shows_texts-program = (refl, refl, refl, refl)
 
 -- no words ask for a run with neither file
 pub asking_of-none : {A : Type 0} (words : List (String A)) → length words ≡ 0 → asking_of (texts words) ≡ Some (run (record { schema = None; commands = None }))

@@ -4,9 +4,10 @@ ghost use Rattle.clap.specs.Words.{app_of, kind_of, rule_of};
 ghost use Rattle.clap.specs.declared.builder.command.Command.TheViews.{out-Command};
 ghost use Rattle.clap.specs.declared.error.kind.ErrorKind.TheVariants.{OutOfMemory};
 ghost use Rattle.program_words.specs.Asked.{SaysWords};
-ghost use Rattle.program_words.specs.Program.{number_named, option_named, program, run_words, serve_words};
+ghost use Rattle.program_words.specs.Program.{ShowsTexts, number_named, option_named, program, run_words, serve_words};
 
 use crate::WordsFault;
+use crate::help::{EXAMPLES, RUN_EXAMPLES, SERVE_EXAMPLES, USAGE, VERSION};
 use clap::builder::ValueParser;
 use clap::error::ErrorKind;
 use clap::{Arg, Command, Error, value_parser};
@@ -14,13 +15,17 @@ use std::alloc::{AllocError, Global};
 
 /// The program's words, which begin behind its name.
 pub(crate) fn command<'a>(alloc: Global) -> Result<Command<'a>, AllocError>
-    ensures { IfOk result (λ c. app_of c ≡ program) }
+    ensures words { IfOk result (λ c. app_of c ≡ program) }
+    ensures texts { IfOk result (λ c. ShowsTexts (app_of c)) }
 {
     let run = run_command(alloc)?;
     let serve = serve_command(alloc)?;
     Command::new(alloc, "table_server")
         .bin_name("table_server")?
-        .about("serves tables of records")
+        .about("Keep tables in memory, and answer commands on them as lines of JSON")
+        .version(VERSION)
+        .override_usage(USAGE)
+        .after_help(EXAMPLES)
         .no_binary_name(true)
         .disable_help_subcommand(true)
         .subcommand_required(true)
@@ -34,9 +39,20 @@ fn run_command<'a>(alloc: Global) -> Result<Command<'a>, AllocError>
     ensures local { IfOk result (λ c. (out-Command c).has_globals ≡ false) }
 {
     Command::new(alloc, "run")
-        .about("answers lines until they end")
-        .arg(option(alloc, "schema", "FILE", "the file of the schema"))?
-        .arg(option(alloc, "commands", "FILE", "the file of the lines"))
+        .about("Answer the lines of a file or of standard input")
+        .after_help(RUN_EXAMPLES)
+        .arg(option(
+            alloc,
+            "schema",
+            "FILE",
+            "Schema file of the tables; without it, one table f of columns id and g",
+        ))?
+        .arg(option(
+            alloc,
+            "commands",
+            "FILE",
+            "File of the lines; without it, standard input",
+        ))
 }
 
 /// The word `serve` with its options.
@@ -45,12 +61,24 @@ fn serve_command<'a>(alloc: Global) -> Result<Command<'a>, AllocError>
     ensures local { IfOk result (λ c. (out-Command c).has_globals ≡ false) }
 {
     Command::new(alloc, "serve")
-        .about("answers the lines of connections")
-        .arg(option(alloc, "schema", "FILE", "the file of the schema").required(true))?
-        .arg(option(alloc, "listen", "ADDRESS", "unix:PATH or tcp:IP:PORT").required(true))?
+        .about("Answer the lines of connections over a Unix or TCP socket")
+        .after_help(SERVE_EXAMPLES)
+        .arg(option(alloc, "schema", "FILE", "Schema file of the tables").required(true))?
+        .arg(option(
+            alloc,
+            "listen",
+            "ADDRESS",
+            "Where to listen: unix:PATH or tcp:IP:PORT",
+        )
+        .required(true))?
         .arg(workers(alloc))?
         .arg(each(alloc))?
-        .arg(option(alloc, "journal", "FILE", "the file for the accepted writes"))
+        .arg(option(
+            alloc,
+            "journal",
+            "FILE",
+            "File that gets the accepted writes when all threads have ended",
+        ))
 }
 
 /// The option of the number of threads.
@@ -59,7 +87,7 @@ fn workers<'a>(alloc: Global) -> Arg<'a>
     ensures local { result.global ≡ false }
 {
     let parser = value_parser!(u32).range(1..=16);
-    number(alloc, "workers", "how many threads serve", parser)
+    number(alloc, "workers", "Threads that serve, from 1 to 16", parser)
 }
 
 /// The option of the number of connections.
@@ -71,7 +99,7 @@ fn each<'a>(alloc: Global) -> Arg<'a>
     number(
         alloc,
         "each",
-        "how many connections each thread serves",
+        "Connections that each thread serves, from 1 to 1000000",
         parser,
     )
 }

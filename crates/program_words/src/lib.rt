@@ -4,6 +4,7 @@
 mod address;
 mod asked;
 mod command;
+mod help;
 mod read;
 
 pub use address::Address;
