@@ -1,0 +1,334 @@
+// The calls of `container_bench times` on a container of Boost.MultiIndex, with lines of the same form; tools/bench_peer builds it.
+//
+// boost_peer answers [KEY ..]    sums of what insert and find answer at 100 records
+// boost_peer times [KEY ..]      the bytes of a record, and the nanoseconds of processor time that each call takes
+//
+// With five KEYs (price id owner id owner-price) each index has an extractor that reads at run time which key it takes, as the keys of
+// container_bench do. Without them the indices have members of the record as keys, fixed at compile time, as Boost.MultiIndex is mostly used.
+#include <algorithm>
+#include <boost/multi_index/composite_key.hpp>
+#include <boost/multi_index/hashed_index.hpp>
+#include <boost/multi_index/member.hpp>
+#include <boost/multi_index/ordered_index.hpp>
+#include <boost/multi_index/random_access_index.hpp>
+#include <boost/multi_index/ranked_index.hpp>
+#include <boost/multi_index/sequenced_index.hpp>
+#include <boost/multi_index_container.hpp>
+#include <cstdint>
+#include <cstdio>
+#include <cstdlib>
+#include <ctime>
+#include <map>
+#include <string>
+#include <unistd.h>
+#include <utility>
+#include <vector>
+
+namespace mi = boost::multi_index;
+using Pair = std::pair<uint64_t, uint64_t>;
+
+// The number is that of the write, which finds answer.
+struct Record {
+    uint64_t id, price, owner, number;
+};
+
+static uint64_t scattered(uint64_t number)
+{
+    uint64_t odd = number * 0x9e3779b97f4a7c15;
+    uint64_t once = (odd ^ (odd >> 30)) * 0xbf58476d1ce4e5b9;
+    uint64_t twice = (once ^ (once >> 27)) * 0x94d049bb133111eb;
+    return twice ^ (twice >> 31);
+}
+
+static Record nth_record(uint64_t number, uint64_t count)
+{
+    uint64_t owners = std::max<uint64_t>(count / 4, 1);
+    return {scattered(number), scattered(number ^ (uint64_t(1) << 40)) >> 40, scattered(number % owners), number + 1};
+}
+
+static Record looked_for(uint64_t step, uint64_t count)
+{
+    return nth_record(step * 7919 % std::max<uint64_t>(count, 1), count);
+}
+
+// Keys that are read at run time.
+
+enum class Key { Id, Price, Owner, OwnerAndPrice };
+
+static std::vector<Key> keys_read;
+
+static Pair numbers(Key key, const Record& record)
+{
+    switch (key) {
+    case Key::Id:
+        return {record.id, 0};
+    case Key::Price:
+        return {record.price, 0};
+    case Key::Owner:
+        return {record.owner, 0};
+    default:
+        return {record.owner, UINT64_MAX - record.price};
+    }
+}
+
+// The key of one index, as the command line says it.
+template <int at>
+struct ReadKey {
+    using result_type = Pair;
+    Key key = keys_read.at(at);
+    Pair operator()(const Record& record) const { return numbers(key, record); }
+};
+
+struct FirstNumber {
+    size_t operator()(const Pair& pair) const { return pair.first; }
+};
+
+struct AtRunTime {
+    using Price = ReadKey<0>;
+    using Id = ReadKey<1>;
+    using Owner = ReadKey<2>;
+    using HashedId = ReadKey<3>;
+    using OwnerAndPrice = ReadKey<4>;
+    using Order = std::less<Pair>;
+    using Hash = FirstNumber;
+    template <int at>
+    static Pair probe(const Record& record) { return numbers(keys_read[at], record); }
+};
+
+// Keys that are members of the record.
+
+struct Number {
+    size_t operator()(uint64_t number) const { return number; }
+};
+
+struct AtCompileTime {
+    using Price = mi::member<Record, uint64_t, &Record::price>;
+    using Id = mi::member<Record, uint64_t, &Record::id>;
+    using Owner = mi::member<Record, uint64_t, &Record::owner>;
+    using HashedId = Id;
+    using OwnerAndPrice = mi::composite_key<Record, Owner, Price>;
+    using Order = mi::composite_key_compare<std::less<uint64_t>, std::greater<uint64_t>>;
+    using Hash = Number;
+    template <int at>
+    static auto probe(const Record& record)
+    {
+        if constexpr (at == 0)
+            return record.price;
+        else if constexpr (at == 2)
+            return record.owner;
+        else if constexpr (at == 4)
+            return boost::make_tuple(record.owner, record.price);
+        else
+            return record.id;
+    }
+};
+
+// Containers of one, three and seven indices.
+
+template <class Keys>
+using One = mi::multi_index_container<Record, mi::indexed_by<mi::ordered_unique<typename Keys::Id>>>;
+
+template <class Keys>
+using Three = mi::multi_index_container<
+    Record, mi::indexed_by<mi::ranked_non_unique<typename Keys::Price>, mi::ordered_unique<typename Keys::Id>,
+                           mi::hashed_non_unique<typename Keys::Owner, typename Keys::Hash>>>;
+
+template <class Keys>
+using Seven = mi::multi_index_container<
+    Record, mi::indexed_by<mi::sequenced<>, mi::random_access<>, mi::ranked_non_unique<typename Keys::Price>,
+                           mi::ordered_unique<typename Keys::Id>, mi::hashed_non_unique<typename Keys::Owner, typename Keys::Hash>,
+                           mi::hashed_unique<typename Keys::HashedId, typename Keys::Hash>,
+                           mi::ordered_non_unique<typename Keys::OwnerAndPrice, typename Keys::Order>>>;
+
+// Calls. Each answers the sum of its answers, so that none is left out.
+
+static bool put(One<AtRunTime>& kept, const Record& record) { return kept.insert(record).second; }
+static bool put(One<AtCompileTime>& kept, const Record& record) { return kept.insert(record).second; }
+template <class Kept>
+static bool put(Kept& kept, const Record& record) { return kept.template get<1>().insert(record).second; }
+static bool put(Seven<AtRunTime>& kept, const Record& record) { return kept.push_back(record).second; }
+static bool put(Seven<AtCompileTime>& kept, const Record& record) { return kept.push_back(record).second; }
+
+template <class Kept>
+static uint64_t insert_each(Kept& kept, uint64_t count)
+{
+    uint64_t met = 0;
+    for (uint64_t number = 0; number < count; number++) {
+        Record record = nth_record(number, count);
+        met += put(kept, record) ? record.number : 0;
+    }
+    return met;
+}
+
+template <class Keys, int index, int key>
+static uint64_t find_each(const Seven<Keys>& kept, uint64_t count)
+{
+    const auto& its = kept.template get<index>();
+    uint64_t met = 0;
+    for (uint64_t step = 0; step < count; step++) {
+        auto found = its.find(Keys::template probe<key>(looked_for(step, count)));
+        met += found == its.end() ? 0 : found->number;
+    }
+    return met;
+}
+
+// What a list has of each record: where it lies, and its number.
+struct Handle {
+    const Record* record;
+    uint64_t number;
+};
+
+template <class Index>
+static uint64_t list(const Index& index)
+{
+    std::vector<Handle> handles;
+    for (const Record& record : index)
+        handles.push_back({&record, record.number});
+    // A use of what was copied that the compiler cannot leave out.
+    __asm__ volatile("" : : "r"(handles.data()) : "memory");
+    return handles.size();
+}
+
+// Times.
+
+static uint64_t nanoseconds()
+{
+    timespec now;
+    clock_gettime(CLOCK_PROCESS_CPUTIME_ID, &now);
+    return uint64_t(now.tv_sec) * 1000000000 + now.tv_nsec;
+}
+
+// The least time of each call at one size, in the order of the first calls.
+class Report {
+public:
+    template <class Call>
+    void time(const char* name, uint64_t calls, Call call)
+    {
+        uint64_t begun = nanoseconds();
+        met += call();
+        uint64_t each = (nanoseconds() - begun) / calls;
+        auto [place, is_new] = least.try_emplace(name, each);
+        place->second = std::min(place->second, each);
+        if (is_new)
+            names.push_back(name);
+    }
+
+    void print(uint64_t count)
+    {
+        for (const std::string& name : names)
+            std::printf("%-44s%9lu%12lu ns\n", name.c_str(), (unsigned long)count, (unsigned long)least[name]);
+        names.clear();
+        least.clear();
+    }
+
+    uint64_t met = 0;
+
+private:
+    std::vector<std::string> names;
+    std::map<std::string, uint64_t> least;
+};
+
+template <class Keys>
+static void time_seven(Report& report, uint64_t count)
+{
+    Seven<Keys> kept;
+    report.time("container, 7 indices: insert", count, [&] { return insert_each(kept, count); });
+    report.time("find: ordered, unique", count, [&] { return find_each<Keys, 3, 1>(kept, count); });
+    report.time("find: ordered, two parts", count, [&] { return find_each<Keys, 6, 4>(kept, count); });
+    report.time("find: ranked", count, [&] { return find_each<Keys, 2, 0>(kept, count); });
+    report.time("find: hashed, unique", count, [&] { return find_each<Keys, 5, 3>(kept, count); });
+    report.time("find: hashed, four records a key", count, [&] { return find_each<Keys, 4, 2>(kept, count); });
+    report.time("list, a record: sequenced", count, [&] { return list(kept.template get<0>()); });
+    report.time("list, a record: random access", count, [&] { return list(kept.template get<1>()); });
+    report.time("list, a record: ordered, unique", count, [&] { return list(kept.template get<3>()); });
+    report.time("list, a record: ordered, two parts", count, [&] { return list(kept.template get<6>()); });
+    report.time("list, a record: ranked", count, [&] { return list(kept.template get<2>()); });
+    report.time("list, a record: hashed, unique", count, [&] { return list(kept.template get<5>()); });
+    report.time("list, a record: hashed", count, [&] { return list(kept.template get<4>()); });
+}
+
+template <class Keys>
+static void time_all(Report& report, uint64_t count)
+{
+    {
+        One<Keys> kept;
+        report.time("container, 1 index: insert", count, [&] { return insert_each(kept, count); });
+    }
+    {
+        Three<Keys> kept;
+        report.time("container, 3 indices: insert", count, [&] { return insert_each(kept, count); });
+    }
+    time_seven<Keys>(report, count);
+}
+
+static uint64_t resident()
+{
+    unsigned long all = 0, pages = 0;
+    FILE* file = std::fopen("/proc/self/statm", "r");
+    if (!file || std::fscanf(file, "%lu %lu", &all, &pages) != 2)
+        std::exit(1);
+    std::fclose(file);
+    return uint64_t(pages) * sysconf(_SC_PAGESIZE);
+}
+
+// It is right only where nothing was freed before.
+template <class Keys>
+static void print_bytes(uint64_t count)
+{
+    uint64_t before = resident();
+    Seven<Keys> kept;
+    insert_each(kept, count);
+    std::printf("container, 7 indices: %lu bytes a record, of %lu\n", (unsigned long)((resident() - before) / count), (unsigned long)count);
+}
+
+template <class Keys>
+static void print_times()
+{
+    print_bytes<Keys>(100000);
+    Report report;
+    const Pair sizes[] = {{1000, 9}, {100000, 3}, {1000000, 1}};
+    for (auto [count, rounds] : sizes) {
+        for (uint64_t round = 0; round < rounds; round++)
+            time_all<Keys>(report, count);
+        report.print(count);
+    }
+    std::printf("sum of the answers: %lu\n", (unsigned long)report.met);
+}
+
+template <class Keys>
+static void print_answers(uint64_t count)
+{
+    Seven<Keys> kept;
+    std::printf("insert: %lu\n", (unsigned long)insert_each(kept, count));
+    std::printf("ranked, by price: %lu\n", (unsigned long)find_each<Keys, 2, 0>(kept, count));
+    std::printf("ordered and unique, by id: %lu\n", (unsigned long)find_each<Keys, 3, 1>(kept, count));
+    std::printf("hashed, by owner: %lu\n", (unsigned long)find_each<Keys, 4, 2>(kept, count));
+    std::printf("hashed and unique, by id: %lu\n", (unsigned long)find_each<Keys, 5, 3>(kept, count));
+    std::printf("ordered, by owner and price: %lu\n", (unsigned long)find_each<Keys, 6, 4>(kept, count));
+}
+
+template <class Keys>
+static int run(const std::string& word)
+{
+    if (word == "times")
+        print_times<Keys>();
+    else if (word == "answers")
+        print_answers<Keys>(100);
+    else
+        return 2;
+    return 0;
+}
+
+int main(int count, char** words)
+{
+    const std::map<std::string, Key> names = {{"id", Key::Id}, {"price", Key::Price}, {"owner", Key::Owner}, {"owner-price", Key::OwnerAndPrice}};
+    if (count != 2 && count != 7)
+        return 2;
+    for (int at = 2; at < count; at++) {
+        auto named = names.find(words[at]);
+        if (named == names.end())
+            return 2;
+        keys_read.push_back(named->second);
+    }
+    return keys_read.empty() ? run<AtCompileTime>(words[1]) : run<AtRunTime>(words[1]);
+}
