@@ -104,6 +104,10 @@ def lines_above(crates):
     return found
 
 
+def counted(number, thing):
+    return f"{number} {thing}{'' if number == 1 else 's'}"
+
+
 def minutes(seconds):
     return f"{int(seconds) // 60}:{int(seconds) % 60:02}"
 
@@ -158,7 +162,8 @@ class Builds:
         """Builds all that can be built. Returns whether that is everything."""
         self.done = {it for it in self.crates if is_built(it)}
         self.left = [it for it in self.left if it not in self.done]
-        self.say(f"{len(self.left)} crates to prove on {self.lanes} cores" if self.left else "all are proved and built")
+        crates, cores = counted(len(self.left), "crate"), counted(self.lanes, "core")
+        self.say(f"{crates} to prove on {cores}" if self.left else "all are proved and built")
         with ThreadPoolExecutor(self.lanes) as pool:
             self.start_what_is_ready(pool)
             while self.running:
