@@ -1,0 +1,90 @@
+"""Bodies that no clause refuses, each a change of a few lines, with the program whose stored output shows it.
+
+A plant is a program and its changes: a file, a text that stands there once, and what comes in its place.
+"""
+
+GATES, SENT, SHARED, TEXTS, RUNS, INDICES = "gate_cases", "stream_cases", "shared_cases", "text_cases", "container_runs", "index_tests"
+
+CALLS, ON = "crates/shared_tables/src/shared.rt", "crates/table_sockets/src/serving.rt"
+GATHER = "crates/shared_tables/src/gathering.rt"
+
+LOCK = "        let mut cell = self.tables.at(place).lock(rt);\n"
+ENTER = "        self.gate.enter(place, pass.session);\n"
+STEP = "        cell.call(pass, command, out)\n"
+GATHERED = "        None => Ok(opened.into_journals()),\n"
+EACH = "    for _ in 0..each {\n"
+START = "        for pass in passes.iter_mut() {\n"
+KEPT = "    *kept = kept.later(end);\n"
+LAST = "    last.into_inner()\n"
+SPAWN = """            let started = Builder::new()
+                .stack_size(STACK)
+                .spawn_scoped(scope, move || {
+                    keep(rt, kept, serve_each(rt, listening, shared, pass, each))
+                });
+            if started.is_err() {
+                keep(rt, kept, End::Memory);
+            }
+"""
+INLINE = "            keep(rt, kept, serve_each(rt, listening, shared, pass, each));\n"
+
+
+def around(place):
+    """A lock of one table round the calls of all others."""
+    return f"        let beside = {place};\n        let _round = if place == beside {{ None }} else {{ Some(self.tables.at(beside).lock(rt)) }};\n"
+
+
+def not_gathered(why):
+    """A `gather` that always answers so."""
+    return f"        None => Err(GatherFault {{\n            shared: opened.lock(),\n            passes,\n            why: GatherWhy::{why},\n        }}),\n"
+
+
+def gives_up(file, first, answer):
+    """A body that always answers so: `first` is how it begins."""
+    return [(file, first, f"        if true {{\n            return {answer};\n        }}\n{first}")]
+
+
+# Which table is locked, and when a call enters its gate.
+OF_GATES = {
+    "first_table_locks_all": [(CALLS, LOCK, around("0") + LOCK)],
+    "last_table_locks_all": [(CALLS, LOCK, around("tables.len() - 1") + LOCK)],
+    "enters_no_gate": [(CALLS, ENTER, "")],
+    "enters_twice": [(CALLS, ENTER, ENTER + ENTER)],
+    "enters_after_the_step": [(CALLS, ENTER + STEP, "        let called = cell.call(pass, command, out);\n" + ENTER + "        called\n")],
+    "enters_before_the_lock": [(CALLS, ENTER, ""), (CALLS, LOCK, ENTER + LOCK)],
+    "enters_for_another_session": [(CALLS, ENTER, "        self.gate.enter(place, 0);\n")],
+    "enters_another_table": [(CALLS, ENTER, "        self.gate.enter(0, pass.session);\n")],
+    "enters_for_writes_alone": [(CALLS, ENTER, "        if let Command::Insert { .. } = &command {\n    " + ENTER + "        }\n")],
+}
+
+# How many threads serve, how many connections, and how that ends.
+OF_SERVICES = {
+    "one_thread_for_all": [(ON, SPAWN, INLINE)],
+    "starts_no_thread": [(ON, SPAWN, "            let _ = pass;\n            keep(rt, kept, End::Memory);\n")],
+    "starts_one_thread_fewer": [(ON, START, "        for pass in passes.iter_mut().skip(1) {\n")],
+    "takes_one_connection_fewer": [(ON, EACH, "    for _ in 1..each {\n")],
+    "takes_one_connection_more": [(ON, EACH, "    for _ in 0..=each {\n")],
+    "always_ends_fine": [(ON, LAST, "    let _ = last.into_inner();\n    End::Fine\n")],
+    "last_end_counts": [(ON, KEPT, "    *kept = end;\n")],
+    "first_end_counts": [(ON, KEPT, "    if *kept == End::Fine {\n        *kept = end;\n    }\n")],
+    "no_connection_is_fine": [(ON, "        return Some(End::Listen);\n", "        return Some(End::Fine);\n")],
+}
+
+# Bodies that always give up, or refuse without cause.
+OF_REFUSALS = {
+    "calls_find_no_memory": (GATES, [(CALLS, ENTER + STEP, ENTER + "        let _ = pass;\n        refuse_memory(out);\n        drop(command);\n        Ok(())\n")]),
+    "gathers_a_mismatch": (GATES, [(GATHER, GATHERED, not_gathered("Mismatch { table: 0, session: 0 }"))]),
+    "gathers_no_memory": (SHARED, [(GATHER, GATHERED, not_gathered("Memory"))]),
+    "tables_behind_locks_find_no_memory": (SHARED, gives_up(CALLS, "        let cells = fresh_cells(alloc, &schema, workers)?;\n", "Err(AllocError)")),
+    "services_find_no_memory": (SENT, gives_up("crates/shared_tables/src/serve.rt", "        let Ok(mut out) = new_out(self.alloc) else {\n", "Err(ServeFault::Memory)")),
+    "journals_find_no_memory": (SHARED, gives_up("crates/shared_tables/src/journals.rt", "        let mut line = Out::new(*self.tables.allocator());\n", "Err(StreamFault::Memory)")),
+    "engines_find_no_memory": (SENT, gives_up("crates/table_engine/src/engine.rt", "        let tables = new_tables(alloc, schema)?;\n", "Err(AllocError)")),
+    "streams_find_no_memory": (SENT, gives_up("crates/table_engine/src/stream.rt", "    let Ok(mut out) = new_out(alloc) else {\n        return Err(StreamFault::Memory);\n    };\n    let served", "Err(StreamFault::Memory)")),
+    "words_find_no_memory": (SENT, gives_up("crates/program_words/src/read.rt", "    if words.is_empty() {\n", "Err(WordsFault::Memory)")),
+    "steps_find_no_memory": (TEXTS, gives_up("crates/table_step/src/table.rt", "        if command.table() != self.records.spec().name() {\n", "table_terms::refuse_memory(out)")),
+    "schemas_find_no_memory": (TEXTS, gives_up("crates/schema_file/src/read.rt", "    let Some(document) = read_document(alloc, bytes)? else {\n", "Err(SchemaFault::Memory)")),
+    "commands_find_no_memory": (TEXTS, gives_up("crates/command_lines/src/read.rt", "    match Json::from_slice(alloc, line) {\n", "Err(CommandFault::Memory)")),
+    "insertions_find_no_memory": (RUNS, gives_up("crates/multi_index/src/container.rt", "        let entry = self.entry(row);\n        if let Some(why) = self.insert_refusal(&entry) {\n", "Err(Refused {\n                why: Why::Memory,\n                row: Some(row),\n            })")),
+    "nodes_find_no_memory": (INDICES, gives_up("crates/node_store/src/lib.rt", "        on_shelf!(&mut self.shelves, shelf => shelf.add(value))\n", "Err(NoRoom { value })")),
+}
+
+PLANTS = {**{name: (GATES, changes) for name, changes in {**OF_GATES, **OF_SERVICES}.items()}, **OF_REFUSALS}
