@@ -98,6 +98,14 @@ was_read outcomes.Write told_before told old new step h m w = absurd (w refl)
 was_read outcomes.Read told_before told old new step h m w = (ap is_write h.kind, h.line)
 was_read outcomes.Refusal told_before told old new step h m w = (ap is_write h.kind, h.line)
 
+-- what is no refused growth was told
+pub was_told : (o : Outcome) (told_before told : List ℕ) (old new : TableState) (step : Step) → Steps o told_before told old new step
+    → (o ≡ outcomes.Memory → ⊥) → told ≡ told_before ++ line_of step
+was_told outcomes.Memory told_before told old new step h m = absurd (m refl)
+was_told outcomes.Write told_before told old new step h m = h.line
+was_told outcomes.Read told_before told old new step h m = h.line
+was_told outcomes.Refusal told_before told old new step h m = h.line
+
 -- what was told of a read, or of a refusal
 pub told_read : (shape : TableShape) (workers : ℕ) (t : TableState) (journal before : List EntryData) (tallies : List Tally) (session : ℕ) (command : Command)
     (writes kept_writes : List AnsweredData) (seen : ℕ) (look : Option AnsweredData) (number : ℕ) (told_before told answer : List ℕ)

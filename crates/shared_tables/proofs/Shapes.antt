@@ -29,32 +29,33 @@ use Rattle.table_terms.specs.Words.{handle_for, key_for, or_fault, place_for, po
 use Rattle.table_terms.specs.declared.kinds.Kinds.TheVariants as kinds
 use Rattle.shared_tables.specs.Journal.{is_write}
 
--- ---- a read leaves the table
+-- ---- a read leaves the table, and is no write
 
 record Leaves (t : TableState) (step : Step) : Type 0 where
   same : step.table ≡ t
+  reads : is_write step.outcome ≡ false
 
 module _ (t : TableState) where
   after_same : {X : Type 0} (r : Result X Fault) (step : X → Step) → ((x : X) → Leaves t (step x)) → Leaves t (then_step t r step)
   after_same (Ok x) step h = h x
-  after_same (Err why) step h = record { same = refl }
+  after_same (Err why) step h = record { same = refl; reads = refl }
 
   found_same : (r : Result (Option Handle) Why) → Leaves t (found_by t r)
-  found_same (Ok h) = record { same = refl }
-  found_same (Err why) = record { same = refl }
+  found_same (Ok h) = record { same = refl; reads = refl }
+  found_same (Err why) = record { same = refl; reads = refl }
 
   counted_same : (r : Result ℕ Why) → Leaves t (counted_by t r)
-  counted_same (Ok n) = record { same = refl }
-  counted_same (Err why) = record { same = refl }
+  counted_same (Ok n) = record { same = refl; reads = refl }
+  counted_same (Err why) = record { same = refl; reads = refl }
 
   shown_same : (r : Result (List Handle) Why) → Leaves t (shown_by t r)
   unfolding show_handles
-  shown_same (Ok handles) = record { same = refl }
-  shown_same (Err why) = record { same = refl }
+  shown_same (Ok handles) = record { same = refl; reads = refl }
+  shown_same (Err why) = record { same = refl; reads = refl }
 
   row_same : (o : Option Cells) (answer : Cells → Answer) → Leaves t (option_map_or (λ row. told t (answer row)) o (refused t faults.Handle))
-  row_same None answer = record { same = refl }
-  row_same (Some row) answer = record { same = refl }
+  row_same None answer = record { same = refl; reads = refl }
+  row_same (Some row) answer = record { same = refl; reads = refl }
 
   get_same : (text : HandleText) → Leaves t (get_step t text)
   unfolding get_record
@@ -62,7 +63,7 @@ module _ (t : TableState) where
 
   list_same : (name : List ℕ) → Leaves t (list_step t name)
   unfolding show_handles
-  list_same name = after_same (place_for kinds.All t.shape.indices name) _ (λ at. record { same = refl })
+  list_same name = after_same (place_for kinds.All t.shape.indices name) _ (λ at. record { same = refl; reads = refl })
 
   range_same : (name : List ℕ) (low high : KeyBound) → Leaves t (range_step t name low high)
   unfolding range_in
@@ -80,12 +81,12 @@ module _ (t : TableState) where
       after_same (position_for kinds.Walked t.shape.indices index position) _ (λ at. found_same (project_next t.records at.0 at.1))
   position_same (commands.Prev table index position) =
       after_same (position_for kinds.Walked t.shape.indices index position) _ (λ at. found_same (project_prev t.records at.0 at.1))
-  position_same other = record { same = refl }
+  position_same other = record { same = refl; reads = refl }
 
   read_same : (command : Command) → Leaves t (read_step t command)
   unfolding search_probe
   read_same (commands.Get table handle) = get_same handle
-  read_same (commands.Size table) = record { same = refl }
+  read_same (commands.Size table) = record { same = refl; reads = refl }
   read_same (commands.Find table index key) = after_same (key_for t.shape kinds.Keyed index key) _ (λ at. found_same (found probe_order t.records at.0 at.1))
   read_same (commands.Count table index key) = after_same (key_for t.shape kinds.Keyed index key) _ (λ at. counted_same (counted probe_order t.records at.0 at.1))
   read_same (commands.Lower table index key) = after_same (key_for t.shape kinds.Sorted index key) _ (λ at. found_same (found_lower probe_order t.records at.0 at.1))
@@ -121,3 +122,16 @@ named_by t false x e = cc
 pub names_table : (t : TableState) (command : Command) → is_write (step_of t command).outcome ≡ true → bytes_eq (table_in command) t.shape.name ≡ true
 unfolding step_of
 names_table t command e = named_by t (bytes_eq (table_in command) t.shape.name) (step_at t command) e
+
+no_write : (t : TableState) (b : Bool) (x : Step) → is_write x.outcome ≡ false → is_write (if b then x else refused t faults.Table).outcome ≡ false
+no_write t true x h = h
+no_write t false x h = refl
+
+not_changed : (b : Bool) (x y : Step) → b ≡ false → is_write y.outcome ≡ false → is_write (if b then x else y).outcome ≡ false
+not_changed true x y e h = cc
+not_changed false x y e h = h
+
+-- a command that is no change is no write
+pub only_reads : (t : TableState) (command : Command) → is_change command ≡ false → is_write (step_of t command).outcome ≡ false
+unfolding step_of
+only_reads t command e = no_write t (bytes_eq (table_in command) t.shape.name) (step_at t command) (not_changed (is_change command) _ _ e (read_same t command).reads)

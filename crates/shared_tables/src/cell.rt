@@ -1,6 +1,7 @@
 //! A table with the journal of its writes.
 
-ghost use Rattle.std.specs.Prelude.{◌≡◌, ◌+◌, ◌<◌, ◌≤◌, ◌↔◌, ◌∷◌, ◌++◌, [], length, vec_len, vec_capacity, OnErr, OnOk, IfOk, IfSome, IsTrue};
+ghost use Rattle.std.specs.Prelude.{◌≡◌, ◌+◌, ◌<◌, ◌≤◌, ◌↔◌, ◌∷◌, ◌++◌, [], ℕ, false, length, vec_len, vec_capacity, OnErr, OnOk, IfOk, IfSome, IsTrue};
+ghost use Rattle.table_changes.specs.Change.{is_change};
 ghost use Rattle.table_reply.specs.Buffer.{Keeps};
 ghost use Rattle.shared_tables.specs.Journal.{IsLegal, own};
 ghost use Rattle.shared_tables.specs.Call.{Told, TrackTold, fault_of, fault_in};
@@ -17,7 +18,7 @@ use std::marker::Model;
 use table_cmd::Command;
 use table_reply::{Out, READY_ROOM};
 use table_schema::TableSpec;
-use table_step::{Outcome, Table, refuse_memory};
+use table_step::{Outcome, Table, is_change, refuse_memory};
 
 /// A table, its declaration, the number of sessions, and the journal of the accepted writes. The table is what the
 /// journal's commands make of an empty one, and each of them was accepted with the answer that the journal has.
@@ -167,6 +168,39 @@ impl TableCell {
 
     // The same for a session of this table, at what it knows of the table.
     fn answer(&mut self, session: u32, track: &mut Track, command: Command, out: &mut Out)
+        requires ready { READY_ROOM ≤ out.old.room }
+        requires session { session < self.old.workers }
+        ensures answered { TrackTold self.old session track.old command out.old.bytes out.new.bytes self.new track.new }
+        ensures kept { Keeps out.old out.new }
+    {
+        if is_change(&command) {
+            self.change(session, track, command, out);
+        } else {
+            self.read(track, command, out);
+        }
+    }
+
+    // The same of a command that changes no table, of any session. It is not copied, and room is made for no entry.
+    fn read(&self, track: &mut Track, command: Command, out: &mut Out)
+        requires ready { READY_ROOM ≤ out.old.room }
+        requires reads { is_change command ≡ false }
+        ensures answered { (session : ℕ) → TrackTold self.now session track.old command out.old.bytes out.new.bytes self.now track.new }
+        ensures kept { Keeps out.old out.new }
+    {
+        let start = out.bytes().len();
+        if let Outcome::Memory = self.table.read(&command, out) {
+            drop(command);
+            return;
+        }
+        track.set_look(Answered {
+            number: self.journal.len() as u64,
+            command,
+            answer: first_bytes(out, start),
+        });
+    }
+
+    // The same of a command that may change a table.
+    fn change(&mut self, session: u32, track: &mut Track, command: Command, out: &mut Out)
         requires ready { READY_ROOM ≤ out.old.room }
         requires session { session < self.old.workers }
         ensures answered { TrackTold self.old session track.old command out.old.bytes out.new.bytes self.new track.new }

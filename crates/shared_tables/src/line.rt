@@ -12,10 +12,7 @@ pub(crate) fn first_bytes(out: &Out, start: usize) -> ArrayVec<u8, 256>
 {
     let (_, line) = out.bytes().split_at(start);
     let mut kept = ArrayVec::new();
-    for byte in line {
-        if kept.try_push(*byte).is_err() {
-            break;
-        }
-    }
+    let (first, _) = line.split_at(kept.capacity().min(line.len()));
+    kept.try_extend_from_slice(first).unwrap();
     kept
 }

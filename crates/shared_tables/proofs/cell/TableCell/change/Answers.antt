@@ -8,7 +8,7 @@ use Rattle.shared_tables.specs.Kept.{idle}
 use Rattle.shared_tables.specs.Call.{CellData}
 use Rattle.shared_tables.proofs.Kept.{count_fits}
 use Rattle.shared_tables.proofs.Calls.{default_any, kept_after, kept_same, line_kept, told_read, told_write, was_read}
-use Rattle.shared_tables.proofs.cell.TableCell.answer.Goals as goal
+use Rattle.shared_tables.proofs.cell.TableCell.change.Goals as goal
 
 abbrev answered : ℕ → Command → List ℕ → AnsweredData
 answered number command answer = record { number = number; command = command; answer = answer }
