@@ -1,10 +1,9 @@
 -- A journal that is one entry longer.
-use Rattle.std.proofs.Common.{◌≡◌, ℕ, ◌+◌, ◌==◌, Bool, true, false, List, [], ◌∷◌, ◌++◌, length, refl, sym, ap, ◌∙◌, subst, arith, append_assoc, suc, append-nil, ◌-◌}
-use Rattle.std.proofs.lemmas.Option.{same_Some}
-use Rattle.std.specs.Prelude.{if◌then◌else◌, Some, slice_get}
+use Rattle.std.proofs.Common.{◌≡◌, ℕ, ◌+◌, ◌==◌, Bool, true, false, List, [], ◌∷◌, ◌++◌, length, refl, sym, ap, ◌∙◌, subst, arith, append_assoc, append-nil}
+use Rattle.std.specs.Prelude.{if◌then◌else◌}
 use Rattle.table_schema.specs.Shape.{TableShape}
 use Rattle.table_step.specs.Step.{TableState, step_of}
-use Rattle.shared_tables.specs.Journal.{EntryData, AnsweredData, replay_from, own_from, own, last_from, last_number, Fits, LegalAfter}
+use Rattle.shared_tables.specs.Journal.{EntryData, AnsweredData, replay_from, own_from, own, last_from, Fits, LegalAfter}
 
 pub replay_from-push : (t : TableState) (es : List EntryData) (e : EntryData) → replay_from t (es ++ e ∷ []) ≡ (step_of (replay_from t es) e.command).table
 replay_from-push t [] e = refl
@@ -37,15 +36,3 @@ pub LegalAfter-push : (shape : TableShape) (past es : List EntryData) (e : Entry
 LegalAfter-push shape past [] e h f = (subst (λ p. Fits shape p e) (append-nil past) f, tt)
 LegalAfter-push shape past (x ∷ es) e h f =
     (h.0, LegalAfter-push shape (past ++ x ∷ []) es e h.1 (subst (λ p. Fits shape p e) (sym (append_assoc past (x ∷ []) es)) f))
-
-last_from_get : (n : ℕ) (given : List AnsweredData) (a : AnsweredData) → slice_get given (length given - 1) ≡ Some a → last_from n given ≡ a.number
-last_from_get n [] a e = cc
-last_from_get n (x ∷ []) a e = ap (λ (v : AnsweredData). v.number) (same_Some x a e)
-last_from_get n (x ∷ y ∷ given) a e =
-    let two : length (x ∷ y ∷ given) - 1 ≡ suc (length given) = omega arith in
-    let one : length (y ∷ given) - 1 ≡ length given = omega arith in
-    let here : slice_get (x ∷ y ∷ given) (suc (length given)) ≡ Some a = subst (λ (k : ℕ). slice_get (x ∷ y ∷ given) k ≡ Some a) two e in
-    last_from_get x.number (y ∷ given) a (subst (λ (k : ℕ). slice_get (y ∷ given) k ≡ Some a) (sym one) here)
-
-pub last_number_get : (given : List AnsweredData) (a : AnsweredData) → slice_get given (length given - 1) ≡ Some a → last_number given ≡ a.number
-last_number_get = last_from_get 0

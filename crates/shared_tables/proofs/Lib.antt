@@ -1,4 +1,5 @@
 pub mod Entries
+pub mod Pushed
 pub mod Kept
 pub mod Calls
 pub mod Hears

@@ -1,4 +1,5 @@
 pub mod Journal
+pub mod Writes
 pub mod Pass
 pub mod Kept
 pub mod Call

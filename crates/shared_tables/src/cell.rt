@@ -8,11 +8,11 @@ ghost use Rattle.shared_tables.specs.Call.{Told, TrackTold, fault_of, fault_in};
 
 use crate::entry::Entry;
 use crate::fault::CallFault;
-use crate::line::first_bytes;
-use crate::pass::{Answered, Pass, Track};
+use crate::line::{first_bytes, kept};
+use crate::pass::{Pass, Track};
 use crate::same::is_same_table;
 use crate::tally::Tally;
-use arrayvec::ArrayVec;
+use crate::writes::Writes;
 use std::alloc::{AllocError, Global};
 use std::marker::Model;
 use table_cmd::Command;
@@ -43,18 +43,15 @@ impl Model for TableCell {
 }
 
 // Makes room for one more write in a journal and in what a session knows of it, and copies the command.
-fn prepare(
-    journal: &mut Vec<Entry>,
-    writes: &mut Vec<Answered>,
-    command: &Command,
-) -> Option<Command>
+fn prepare(journal: &mut Vec<Entry>, writes: &mut Writes, command: &Command) -> Option<Command>
     ensures copy { IfSome result (λ copied. copied ≡ command.now) }
     ensures journal { journal.new.items ≡ journal.old.items }
     ensures writes { writes.new.items ≡ writes.old.items }
     ensures entry { IfSome result (λ _. vec_len journal.new < vec_capacity journal.new) }
-    ensures write { IfSome result (λ _. vec_len writes.new < vec_capacity writes.new) }
+    ensures write { IfSome result (λ _. 0 < writes.new.rows) }
+    ensures answer { IfSome result (λ _. 256 ≤ writes.new.bytes) }
 {
-    if journal.reserve(1).is_err() || writes.reserve(1).is_err() {
+    if journal.reserve(1).is_err() || writes.reserve().is_err() {
         return None;
     }
     command.copy().ok()
@@ -66,11 +63,12 @@ fn append(
     tally: &mut Tally,
     session: u32,
     command: Command,
-    answer: ArrayVec<u8, 256>,
+    answer: &[u8],
 )
     requires room { vec_len journal.old < vec_capacity journal.old }
     requires count { tally.old.count ≤ vec_len journal.old }
-    ensures entry { journal.new.items ≡ journal.old.items ++ record { session = session; serial = tally.old.count + 1; command = command; answer = answer.items } ∷ [] }
+    requires answer { length answer.now ≤ 256 }
+    ensures entry { journal.new.items ≡ journal.old.items ++ record { session = session; serial = tally.old.count + 1; command = command; answer = answer.now } ∷ [] }
     ensures tally { tally.new ≡ record { count = tally.old.count + 1; last = vec_len journal.old + 1 } }
 {
     let serial = tally.count + 1;
@@ -82,7 +80,7 @@ fn append(
         session,
         serial,
         command,
-        answer,
+        answer: kept(answer),
     });
 }
 
@@ -192,11 +190,7 @@ impl TableCell {
             drop(command);
             return;
         }
-        track.set_look(Answered {
-            number: self.journal.len() as u64,
-            command,
-            answer: first_bytes(out, start),
-        });
+        track.set_look(self.journal.len() as u64, command, first_bytes(out, start));
     }
 
     // The same of a command that may change a table.
@@ -220,28 +214,15 @@ impl TableCell {
         }
         let number = self.journal.len() as u64;
         if let Outcome::Write = outcome {
+            let line = first_bytes(out, start);
             let tally = &mut self.tallies[session as usize];
-            append(
-                &mut self.journal,
-                tally,
-                session,
-                command,
-                first_bytes(out, start),
-            );
-            track.writes.push_reserved(Answered {
-                number: number + 1,
-                command: copied,
-                answer: first_bytes(out, start),
-            });
+            append(&mut self.journal, tally, session, command, line);
+            track.writes.push(number + 1, copied, line);
             track.seen = number + 1;
             return;
         }
         drop(copied);
-        track.set_look(Answered {
-            number,
-            command,
-            answer: first_bytes(out, start),
-        });
+        track.set_look(number, command, first_bytes(out, start));
     }
 
     /// How many entries a session has.

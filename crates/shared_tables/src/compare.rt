@@ -9,7 +9,8 @@ ghost use Rattle.shared_tables.specs.Looks.{WritesAgree};
 use crate::cell::TableCell;
 use crate::holder::Holder;
 use crate::looks::lesser;
-use crate::pass::{Answered, Pass};
+use crate::pass::Pass;
+use crate::writes::Writes;
 use std::alloc::{AllocError, Global};
 use table_reply::Out;
 
@@ -49,13 +50,13 @@ fn first_beyond(passes: &[Pass], workers: usize) -> Option<u32>
 
 impl TableCell {
     // Whether the session's entries are these, in order.
-    fn has_writes(&self, session: u32, writes: &[Answered]) -> bool
-        ensures { IsTrue result ↔ (own session self.now.journal ≡ writes.now) }
+    fn has_writes(&self, session: u32, writes: &Writes) -> bool
+        ensures { IsTrue result ↔ (own session self.now.journal ≡ writes.now.items) }
     {
         let mut next = 0;
         for (before, entry) in self.journal.iter().enumerate() {
             if entry.session == session {
-                if next >= writes.len() || !writes[next].is_entry(before, entry) {
+                if next >= writes.len() || !writes.is_entry(next, before, entry) {
                     return false;
                 }
                 next += 1;

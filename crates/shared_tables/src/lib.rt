@@ -20,6 +20,7 @@ mod shared;
 mod tally;
 mod unlocked;
 mod write;
+mod writes;
 
 pub use cell::TableCell;
 pub use entry::Entry;

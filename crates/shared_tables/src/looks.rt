@@ -35,7 +35,7 @@ pub(crate) fn lesser(a: Option<u32>, b: Option<u32>) -> Option<u32>
 fn begins(out: &Out, answer: &ArrayVec<u8, 256>) -> bool
     ensures { IsTrue result ↔ (take 256 out.now.bytes ≡ answer.now.items) }
 {
-    first_bytes(out, 0).as_slice() == answer.as_slice()
+    first_bytes(out, 0) == answer.as_slice()
 }
 
 // Empties a buffer, and makes it ready for an answer.

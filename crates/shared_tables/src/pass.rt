@@ -1,13 +1,14 @@
 //! What a session knows of its calls.
 
-ghost use Rattle.std.specs.Prelude.{◌≡◌, ◌↔◌, ◌+◌, IsTrue, IfOk, Some};
+ghost use Rattle.std.specs.Prelude.{◌≡◌, ◌≤◌, IfOk, Some, length};
 ghost use Rattle.std.specs.Option.{option_copied};
 ghost use Rattle.shared_tables.specs.Journal.{last_number};
 ghost use Rattle.shared_tables.specs.Pass.{fresh, fresh_pass};
 ghost use Rattle.shared_tables.specs.Call.{is_known};
 ghost use Rattle.shared_tables.specs.Looks.{look_of};
 
-use crate::entry::Entry;
+use crate::line::kept;
+use crate::writes::Writes;
 use arrayvec::ArrayVec;
 use std::alloc::{AllocError, Global};
 use std::marker::Model;
@@ -30,21 +31,22 @@ impl Model for Answered {
 }
 
 impl Answered {
-    /// Whether it is the entry before which so many stand.
-    pub(crate) fn is_entry(&self, before: usize, entry: &Entry) -> bool
-        ensures { IsTrue result ↔ (self.now ≡ record { number = before + 1; command = entry.now.command; answer = entry.now.answer }) }
+    // What was answered to a command at this number of writes, in place of what this is.
+    fn set(&mut self, number: u64, command: Command, answer: &[u8])
+        requires { length answer.now ≤ 256 }
+        ensures { self.new ≡ record { number = number; command = command; answer = answer.now } }
     {
-        self.number > 0
-            && self.number - 1 == before as u64
-            && self.answer.as_slice() == entry.answer.as_slice()
-            && self.command.is_same(&entry.command)
+        self.number = number;
+        self.command = command;
+        self.answer.clear();
+        self.answer.try_extend_from_slice(answer).unwrap();
     }
 }
 
 /// What a session knows of one table.
 #[derive(Drop)]
 pub(crate) struct Track {
-    pub(crate) writes: Vec<Answered>,
+    pub(crate) writes: Writes,
     pub(crate) seen: u64,
     pub(crate) look: Option<Answered>,
 }
@@ -63,18 +65,27 @@ impl Track {
         ensures { result ≡ fresh }
     {
         Track {
-            writes: Vec::new(alloc),
+            writes: Writes::new(alloc),
             seen: 0,
             look: None,
         }
     }
 
     /// Keeps what was answered to a command that was no accepted write.
-    pub(crate) fn set_look(&mut self, look: Answered)
-        ensures { self.new ≡ record { writes = self.old.writes; seen = look.number; look = Some look } }
+    pub(crate) fn set_look(&mut self, number: u64, command: Command, answer: &[u8])
+        requires { length answer.now ≤ 256 }
+        ensures { self.new ≡ record { writes = self.old.writes; seen = number; look = Some (record { number = number; command = command; answer = answer.now }) } }
     {
-        self.seen = look.number;
-        self.look = Some(look);
+        self.seen = number;
+        if let Some(look) = &mut self.look {
+            look.set(number, command, answer);
+            return;
+        }
+        self.look = Some(Answered {
+            number,
+            command,
+            answer: kept(answer),
+        });
     }
 
     /// The last look at the table.
@@ -88,10 +99,7 @@ impl Track {
     pub(crate) fn last_write(&self) -> u64
         ensures { result ≡ last_number self.now.writes }
     {
-        match self.writes.last() {
-            Some(write) => write.number,
-            None => 0,
-        }
+        self.writes.last_number()
     }
 }
 

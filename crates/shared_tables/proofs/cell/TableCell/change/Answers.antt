@@ -28,9 +28,9 @@ invariant_of-self-in-Write c =
     let within : c.args.session < length c.self.inside.tallies.items = subst (λ (d : CellData). c.args.session < d.workers) (sym c.self.view_is) c.requires.session in
     let took = c.in-Write.ensures.answer in
     let kept = kept_after c.self.inside.spec c.self.inside.table c.step-outcome.new.self c.self.inside.journal.items c.append.new.journal.items c.prepare.new.journal.items
-    c.self.inside.tallies.items c.args.session c.args.command c.index_mut-tally.result.now c.prepare.new.journal.len c.args.out.now.bytes c.step-outcome.new.out.bytes c.first_bytes.result.items
+    c.self.inside.tallies.items c.args.session c.args.command c.index_mut-tally.result.now c.prepare.new.journal.len c.args.out.now.bytes c.step-outcome.new.out.bytes c.first_bytes-line.result.now
     c.self.invariant within c.index_mut-tally.ensures.value took c.in-Write.ensures.short
-    (line_kept c.args.out.now.bytes c.step-outcome.new.out.bytes (line_of (step_of c.self.inside.table c.args.command)) c.first_bytes.result.items _ (ap length c.bytes-start.ensures) took.line c.first_bytes.ensures)
+    (line_kept c.args.out.now.bytes c.step-outcome.new.out.bytes (line_of (step_of c.self.inside.table c.args.command)) c.first_bytes-line.result.now _ (ap length c.bytes-start.ensures) took.line c.first_bytes-line.ensures.bytes)
     c.prepare.ensures.journal c.prepare.new.journal.ok.0 c.append.ensures.entry in
     rw c.append.ensures.tally kept
 
@@ -39,15 +39,15 @@ returns-in-Write-clause-answered c =
     let within : c.args.session < length c.self.inside.tallies.items = subst (λ (d : CellData). c.args.session < d.workers) (sym c.self.view_is) c.requires.session in
     let took = c.in-Write.ensures.answer in
     let number : c.len-number.result ≡ length c.prepare.new.journal.items = c.len-number.ensures ∙ c.prepare.new.journal.ok.0 in
-    let copied : c.prepare.new.writes.items ++ answered (c.len-number.result + 1) c.in-Some.copied c.first_bytes-in-Write.result.items ∷ [] ≡ c.prepare.new.writes.items ++ answered (c.len-number.result + 1) c.args.command c.first_bytes-in-Write.result.items ∷ [] =
-    (λ i. c.prepare.new.writes.items ++ answered (c.len-number.result + 1) (c.in-Some.ensures.copy i) c.first_bytes-in-Write.result.items ∷ []) in
+    let copied : c.prepare.new.writes.items ++ answered (c.len-number.result + 1) c.in-Some.copied c.first_bytes-line.result.now ∷ [] ≡ c.prepare.new.writes.items ++ answered (c.len-number.result + 1) c.args.command c.first_bytes-line.result.now ∷ [] =
+    (λ i. c.prepare.new.writes.items ++ answered (c.len-number.result + 1) (c.in-Some.ensures.copy i) c.first_bytes-line.result.now ∷ []) in
     let told = told_write c.self.inside.spec (length c.self.inside.tallies.items) c.self.inside.table c.step-outcome.new.self c.self.inside.journal.items c.append.new.journal.items c.prepare.new.journal.items
-    c.self.inside.tallies.items c.args.session c.args.command c.track.inside.writes.items c.push_reserved.new.self.items c.prepare.new.writes.items c.track.inside.seen c.track.inside.look
-    c.index_mut-tally.result.now c.len-number.result c.args.out.now.bytes c.step-outcome.new.out.bytes c.first_bytes.result.items c.first_bytes-in-Write.result.items
+    c.self.inside.tallies.items c.args.session c.args.command c.track.inside.writes.items c.push.new.self.items c.prepare.new.writes.items c.track.inside.seen c.track.inside.look
+    c.index_mut-tally.result.now c.len-number.result c.args.out.now.bytes c.step-outcome.new.out.bytes c.first_bytes-line.result.now c.first_bytes-line.result.now
     c.self.invariant within c.index_mut-tally.ensures.value took c.in-Write.ensures.short
-    (line_kept c.args.out.now.bytes c.step-outcome.new.out.bytes (line_of (step_of c.self.inside.table c.args.command)) c.first_bytes.result.items _ (ap length c.bytes-start.ensures) took.line c.first_bytes.ensures)
-    (line_kept c.args.out.now.bytes c.step-outcome.new.out.bytes (line_of (step_of c.self.inside.table c.args.command)) c.first_bytes-in-Write.result.items _ (ap length c.bytes-start.ensures) took.line c.first_bytes-in-Write.ensures)
-    c.prepare.ensures.journal number c.append.ensures.entry c.prepare.ensures.writes (c.push_reserved.ensures.items ∙ copied) in
+    (line_kept c.args.out.now.bytes c.step-outcome.new.out.bytes (line_of (step_of c.self.inside.table c.args.command)) c.first_bytes-line.result.now _ (ap length c.bytes-start.ensures) took.line c.first_bytes-line.ensures.bytes)
+    (line_kept c.args.out.now.bytes c.step-outcome.new.out.bytes (line_of (step_of c.self.inside.table c.args.command)) c.first_bytes-line.result.now _ (ap length c.bytes-start.ensures) took.line c.first_bytes-line.ensures.bytes)
+    c.prepare.ensures.journal number c.append.ensures.entry c.prepare.ensures.writes (c.push.ensures ∙ copied) in
     let width : length c.self.inside.tallies.items ≡ length (slice_set c.self.inside.tallies.items c.args.session c.append.new.tally) = sym (length-set c.self.inside.tallies.items c.args.session c.append.new.tally) in
     rw (← c.self.view_is, ← c.track.view_is, ← width) told
 
@@ -64,8 +64,8 @@ returns-clause-answered c =
     let number : c.len-number.result ≡ length c.prepare.new.journal.items = c.len-number.ensures ∙ c.prepare.new.journal.ok.0 in
     let told = told_read c.self.inside.spec (length c.self.inside.tallies.items) c.self.inside.table c.self.inside.journal.items c.prepare.new.journal.items
     c.self.inside.tallies.items c.args.session c.args.command c.track.inside.writes.items c.prepare.new.writes.items c.track.inside.seen c.track.inside.look
-    c.len-number.result c.args.out.now.bytes c.step-outcome.new.out.bytes c.first_bytes-2.result.items
+    c.len-number.result c.args.out.now.bytes c.step-outcome.new.out.bytes c.first_bytes.result.now
     c.self.invariant read.0 read.1
-    (line_kept c.args.out.now.bytes c.step-outcome.new.out.bytes (line_of step) c.first_bytes-2.result.items _ (ap length c.bytes-start.ensures) read.1 c.first_bytes-2.ensures)
+    (line_kept c.args.out.now.bytes c.step-outcome.new.out.bytes (line_of step) c.first_bytes.result.now _ (ap length c.bytes-start.ensures) read.1 c.first_bytes.ensures.bytes)
     c.prepare.ensures.journal number c.prepare.ensures.writes in
     rw (c.set_look.ensures, ← c.self.view_is, ← c.track.view_is) told
