@@ -17,6 +17,7 @@ import json
 import os
 import random
 import subprocess
+import sys
 import tempfile
 from unittest import mock
 
@@ -155,6 +156,34 @@ def test_answers(line, explained, answers):
         fault = json.loads(answers[1]).get("err")
         if fault != (explained.then[0] if explained.then else None) or fault and fault not in AFTER:
             raise Wrong(f"{explained.right[:200]!r}, shown for {line[:200]!r}, is answered {answers[1][:200]!r}")
+
+
+# The words that the tool is called with.
+
+TASKS = f"{TOP}/examples/tasks/schema.toml"
+SIZE, WRONG = '{"op":"size","t":"tasks"}', '{"op":"size","t":"task"}'
+# The words, standard input, the status, and the beginnings of the lines that are said.
+CALLS = [
+    ([TASKS, SIZE], "", 0, ["line 1: ok: "]),
+    (["--schema", TASKS, SIZE], "", 0, ["line 1: ok: "]),
+    (["--schema", TASKS], f"{WRONG}\n", 1, ["line 1: table: ", f"    right: {SIZE}"]),
+    ([TASKS, SIZE, WRONG], "", 1, ["line 1: ok: ", "line 2: table: ", f"    right: {SIZE}"]),
+    (["--schema", TASKS, f"{TOP}/examples/tasks/absent"], "", 1, []),
+    (["--built-in", '{"op":"size","t":"f"}'], "", 0, ["line 1: ok: "]),
+    (["--schema"], "", 1, []),
+    (["--help"], "", 0, ["Says what is wrong with lines"]),
+]
+
+
+def run_calls():
+    """Calls the tool with words of each form. Returns how many there are."""
+    for words, given, status, said in CALLS:
+        done = subprocess.run([sys.executable, f"{TOP}/tools/explain_line", *words], input=given, capture_output=True, encoding="utf-8", timeout=60)
+        lines = done.stdout.splitlines()
+        told = all(line.startswith(it) for line, it in zip(lines, said)) and (len(lines) == len(said) or words == ["--help"])
+        if done.returncode != status or not told:
+            raise Wrong(f"explain_line {words}: status {done.returncode}, {done.stdout!r}, {done.stderr[-200:]!r}")
+    return len(CALLS)
 
 
 # Drawn lines.
@@ -317,6 +346,7 @@ def self_check(program=None):
         with tempfile.TemporaryDirectory() as room:
             faults = run_cases(program, room)
         print(f"stored lines explained: {sum(faults.values())}, each with its phrases, and as the program answers: {told_of(faults)}")
+        print(f"calls of the tool with words of each form: {run_calls()}, each answered as it has to be")
         print(f"self-test: {self_test()} planted faults, each found by the stored lines")
     except (OSError, subprocess.SubprocessError, Wrong) as why:
         print(why)

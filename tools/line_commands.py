@@ -151,6 +151,8 @@ class Advice:
         options = MEANT_OPS.get(word, "").split()
         if options:
             self.said["op"] = best_op(options, others)
+            if options == ["insert", "replace"]:
+                return f'no op is called {named(op)}: "insert" {DOES["insert"]}; where it is banned, "replace" gives the row to the record that the answer names'
             return f"no op is called {named(op)}: " + "; ".join(f'"{it}" {DOES[it]}' for it in options)
         if word in OTHER_OPS:
             self.said["op"] = best_op(GUESSED, others)

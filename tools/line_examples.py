@@ -1,4 +1,5 @@
 """Values for the lines that tools/explain_line shows: those that were meant by others, and such as fit a table as it is."""
+import datetime
 import json
 import math
 import re
@@ -23,8 +24,19 @@ def cut(text, most=MOST_BYTES):
     return text.encode()[:most].decode("utf-8", "ignore")
 
 
+def days_of(value):
+    """The days from 1970 to the date that a text spells, or None."""
+    found = re.fullmatch(r"\s*(\d{4}-\d\d-\d\d)([T ].*)?\s*", value, re.ASCII) if isinstance(value, str) else None
+    try:
+        return found and (datetime.date.fromisoformat(found[1]) - datetime.date(1970, 1, 1)).days
+    except ValueError:
+        return None
+
+
 def whole_number(value):
     """The whole number that a value means, or None."""
+    if days_of(value) is not None:
+        return days_of(value)
     if isinstance(value, str) and re.fullmatch(r"\s*[-+]?[0-9]{1,30}(\.[0-9]*)?\s*", value):
         value = float(value) if "." in value else int(value)
     if isinstance(value, bool) or not isinstance(value, (int, float)) or not math.isfinite(value):

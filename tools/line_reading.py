@@ -328,7 +328,7 @@ class Reader:
         if NUMBER.fullmatch(token):
             return self.finite(token, begin)
         if re.match(r"\d{4}-\d", token):
-            self.slip("number", f"{shown(token, 24)[1:-1]} is no number: a date is a text, in quotes", begin)
+            self.slip("number", f"{shown(token, 24)[1:-1]} is no number: a date is a text, in quotes, and in a column of ints a whole number, as its days since 1970", begin)
             return token
         if re.fullmatch(r"[-+]?(inf|infinity|nan)", token, re.I):
             self.slip("number", f"JSON has no {token}", begin)

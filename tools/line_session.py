@@ -3,7 +3,7 @@ import dataclasses
 import json
 
 from line_commands import advise_command, from_words
-from line_examples import cut
+from line_examples import cut, days_of
 from line_reading import meant
 from line_states import STATES, History, advise_banned, advise_erased, is_of_state
 from line_tables import advise_definition, advise_index, advise_key, advise_kind, advise_row, advise_table
@@ -174,11 +174,22 @@ class Session:
         else:
             explained.steps.append(("json", [f"column {it.at + 1}: {it.sentence}" for it in found.slips]))
             explained.is_open = found.is_open
+            if any(it.kind == "number" and "a date" in it.sentence for it in found.slips):
+                found.values = [self.with_days(it) for it in found.values]
             if self.broken and not line.strip().startswith(b"{"):
                 explained.causes_of_first().append(f"perhaps it goes on from line {self.broken[0][0]}: a command stands on one line")
         if found.values and isinstance(found.values[0], (dict, list)):
             return found.values[0]
         return from_words(self, found.text)
+
+    def with_days(self, value):
+        """A command with the days since 1970 for each date that stands in a column of ints."""
+        if not isinstance(value, dict):
+            return value
+        columns = self.table_near(value.get("t") if isinstance(value.get("t"), str) else None, value).columns
+        is_int = lambda name: name in columns and columns[name].cell == "int"
+        rows = {key: value[key] for key in ("r", "set") if isinstance(value.get(key), dict)}
+        return value | {key: {name: days_of(it) if is_int(name) and days_of(it) is not None else it for name, it in row.items()} for key, row in rows.items()}
 
 
 def too_long(line):

@@ -4,7 +4,7 @@ Each function gives the causes, and the command without them.
 """
 import re
 
-from line_examples import cell_near, first_column, fitting_indices, free_name, fresh_cell, index_near, key_near, key_sample, some_cell
+from line_examples import cell_near, days_of, first_column, fitting_indices, free_name, fresh_cell, index_near, key_near, key_sample, some_cell
 from line_words import OF_KIND, in_words, kinds_in_words, named, nearest, shown
 from plain_machine import MAX_INDICES, MAX_PARTS, OPS, SEQUENCES, SORTED, Column, Index, is_cell
 
@@ -89,10 +89,12 @@ def advise_kind(session, command):
         without = {it: command[it] for it in command if it not in ("i", "p")}
         return [f'{what}: the {OF_KIND[index.kind]} index places its records itself, so leave "i" and "p" out'], without
     if fitting:
-        columns = [name for name, _ in index.parts[:1]]
-        is_missing = columns and OPS[op][2] & SORTED and len(table.indices) < MAX_INDICES and not any(same_columns(table, index.name, it) for it in fitting)
-        more = f"; add_index makes one by {columns[0]}" if is_missing else ""
-        return [f"{what}: here {indices_in_words(fitting)}{more}"], with_index(table, command, index_near(table, op, index.name, command.get("k")))
+        # (a question about other columns is another one)
+        alike = sorted((it for it in fitting if same_columns(table, index.name, it)), key=lambda it: parts_in_words(it) != parts_in_words(index))
+        if index.parts and not alike and OPS[op][2] & SORTED and len(table.indices) < MAX_INDICES:
+            return [f"{what}: here {indices_in_words(fitting)}; add_index makes one by {parts_in_words(index)}"], added_for(table, op, index)
+        target = alike[0] if index.parts and alike else index_near(table, op, index.name, command.get("k"))
+        return [f"{what}: here {indices_in_words(fitting)}"], with_index(table, command, target)
     hint = f" ({KIND_HINTS[op]})" if op in KIND_HINTS and index.kind == "ordered" else ""
     causes = [f'{what}{hint}: table "{table.name}" has none, and add_index gives it one']
     if len(table.indices) == MAX_INDICES:
@@ -141,7 +143,9 @@ def cell_fault(what, value, column):
     if column.cell == "text" and isinstance(value, str):
         return f"{what} is a text of {len(value.encode()):,} bytes, and a cell has at most 4,096"
     why = ""
-    if column.cell == "int" and isinstance(value, float):
+    if column.cell == "int" and days_of(value) is not None:
+        why = " (a date is one as its days since 1970)"
+    elif column.cell == "int" and isinstance(value, float):
         why = " (an int has no point and no exponent, and is not -0)" if abs(value) < 2**63 else " (an int is from -2^63 to 2^63-1)"
     elif column.cell == "int" and isinstance(value, int) and not isinstance(value, bool):
         why = " (an int is from -2^63 to 2^63-1)"

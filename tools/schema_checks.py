@@ -6,6 +6,10 @@ import io
 import json
 import os
 import random
+import shutil
+import subprocess
+import sys
+import tempfile
 import tomllib
 
 from case_files import parts_of, spelled
@@ -52,6 +56,41 @@ def check_verdicts(explain):
             print(f"{data!r} with the verdict {verdict}: status {given}, {told.getvalue()!r}")
             wrong += 1
     print(f"verdicts of the built program taken: {len(VERDICTS)} cases, {wrong} of them otherwise")
+    return wrong
+
+
+NOTE = "(there is no built program: the tool judges by itself)\n"
+# Which programs a clone has, by the fault that each names; the words for the tool; and its status, what it says, and its note.
+ASKED = [
+    ({}, ["people.toml"], 0, "a schema of 1 table: people\n", NOTE),
+    ({"table_server-unproved": "name"}, ["people.toml"], 3, "schema: name\n", ""),
+    ({"table_server-unproved": "name", "table_server": "limit"}, ["people.toml"], 3, "schema: limit\n", ""),
+    ({}, ["--help"], 0, "Says what is wrong with a schema file", ""),
+    ({}, ["-h"], 0, "Says what is wrong with a schema file", ""),
+    ({}, ["absent.toml"], 1, "absent.toml: No such file or directory\n", ""),
+]
+
+
+def check_asked():
+    """That the tool asks the proved program first, then the one without proof, and notes where there is none. Returns how many runs are otherwise."""
+    wrong = 0
+    with tempfile.TemporaryDirectory() as room:
+        shutil.copytree(HERE, f"{room}/tools")
+        with open(f"{room}/people.toml", "wb") as file:
+            file.write(PEOPLE)
+        for programs, words, status, said, note in ASKED:
+            out = f"{room}/crates/table_server/out"
+            shutil.rmtree(out, ignore_errors=True)
+            os.makedirs(out)
+            for name, fault in programs.items():
+                with open(f"{out}/{name}", "w", encoding="ascii") as file:
+                    file.write(f"#!/bin/sh\necho schema: {fault} >&2\nexit 3\n")
+                os.chmod(f"{out}/{name}", 0o755)
+            ran = subprocess.run([sys.executable, f"{room}/tools/explain_schema", *words], cwd=room, capture_output=True, encoding="utf-8")
+            if (ran.returncode, ran.stderr) != (status, note) or not ran.stdout.startswith(said):
+                print(f"explain_schema {' '.join(words)} with {[*programs]}: {ran}")
+                wrong += 1
+    print(f"runs with and without built programs, and of --help: {len(ASKED)}, {wrong} of them otherwise")
     return wrong
 
 
@@ -176,8 +215,5 @@ def check_lines(count):
 
 
 def self_check(verdict_of, explain):
-    if verdict_of(b"") is None:
-        print("there is no built program: `tools/prove table_server` makes it")
-        return 1
-    wrong = check_verdicts(explain) + check_cases(verdict_of) + check_stored() + check_drawn(verdict_of) + check_lines(LINES)
+    wrong = check_verdicts(explain) + check_asked() + check_cases(verdict_of) + check_stored() + check_drawn(verdict_of) + check_lines(LINES)
     return 1 if wrong else 0
