@@ -2,7 +2,7 @@
 
 use crate::meeting::Meeting;
 use crate::report::Report;
-use crate::start::{Start, Told, answered, tell_gathered};
+use crate::start::{Start, Told, answered, passes_of, tell_gathered};
 use shared_tables::{Gate, Pass, Shared};
 use std::alloc::{AllocError, Global};
 use std::sync::Wait;
@@ -42,6 +42,27 @@ fn pass_by(
     told
 }
 
+// What both sessions are answered: the one that is held, and the one that passes by.
+fn call_both<R: Threads + Wait + Sync>(
+    rt: &R,
+    alloc: Global,
+    meeting: &Meeting,
+    shared: &Shared<Holding<'_>>,
+    passes: Vec<Pass>,
+) -> Result<(Told, Told), AllocError> {
+    let mut passes = passes;
+    let (Some(second), Some(first)) = (passes.pop(), passes.pop()) else {
+        return Err(AllocError);
+    };
+    let (held, told) = thread::join(
+        rt,
+        || answered(alloc, rt, shared, first, FIRST),
+        || pass_by(rt, alloc, meeting, shared, second),
+    );
+    let held = held?;
+    Ok((held, told?))
+}
+
 // Adds what both are answered, and whether it was in time.
 fn tell_both(
     meeting: &Meeting,
@@ -49,7 +70,7 @@ fn tell_both(
     second: &[u8],
     report: &mut Report,
 ) -> Result<(), AllocError> {
-    report.text("  ")?;
+    report.text("a session is held in a table, and another one calls the other table\n  ")?;
     report.push(first)?;
     report.text("  ")?;
     report.push(second)?;
@@ -64,19 +85,9 @@ pub fn tell_called<R: Threads + Wait + Sync>(
 ) -> Result<(), AllocError> {
     let (alloc, meeting) = (start.alloc, Meeting::new());
     let holding = Holding { meeting: &meeting };
-    let (shared, mut passes) = start.tables(2, holding)?;
-    let (Some(second), Some(first)) = (passes.pop(), passes.pop()) else {
-        return report.text("no passes\n");
-    };
-    let (held, told) = thread::join(
-        rt,
-        || answered(alloc, rt, &shared, first, FIRST),
-        || pass_by(rt, alloc, &meeting, &shared, second),
-    );
-    let (held, told) = (held?, told?);
-    report.text("a session is held in a table, and another one calls the other table\n")?;
+    let (shared, passes) = start.tables(2, holding)?;
+    let (held, told) = call_both(rt, alloc, &meeting, &shared, passes)?;
     tell_both(&meeting, &held.answer, &told.answer, report)?;
-    passes.push(held.pass)?;
-    passes.push(told.pass)?;
+    let passes = passes_of(alloc, held, told)?;
     tell_gathered(alloc, shared, passes, report)
 }

@@ -2,7 +2,7 @@
 
 use crate::meeting::Meeting;
 use crate::report::Report;
-use crate::start::{Start, Told, answered, tell_gathered};
+use crate::start::{Start, Told, answered, passes_of, tell_gathered};
 use shared_tables::{Gate, Pass, Shared};
 use std::alloc::{AllocError, Global};
 use std::sync::Wait;
@@ -58,6 +58,43 @@ fn come(
     told
 }
 
+// What both sessions are answered: the one that is held, and the one that comes then.
+fn call_both<R: Threads + Wait + Sync>(
+    rt: &R,
+    alloc: Global,
+    meeting: &Meeting,
+    shared: &Shared<Keeping<'_>>,
+    passes: Vec<Pass>,
+    lines: (&str, &str),
+) -> Result<(Told, Told), AllocError> {
+    let mut passes = passes;
+    let (Some(second), Some(first)) = (passes.pop(), passes.pop()) else {
+        return Err(AllocError);
+    };
+    let (held, told) = thread::join(
+        rt,
+        || answered(alloc, rt, shared, first, lines.0),
+        || come(rt, alloc, meeting, shared, second, lines.1),
+    );
+    let held = held?;
+    Ok((held, told?))
+}
+
+// Adds what both are answered, whether they were there at once, and whether it was in time.
+fn tell_both(
+    meeting: &Meeting,
+    held: &[u8],
+    told: &[u8],
+    report: &mut Report,
+) -> Result<(), AllocError> {
+    report.text("a session is held in a table, and another one calls the same table\n  ")?;
+    report.push(held)?;
+    report.text("  ")?;
+    report.push(told)?;
+    report.whether("  both were there at once", meeting.met.is_raised())?;
+    report.whether("  in time", meeting.is_in_time())
+}
+
 // Lets two sessions come to one table, and adds what they are answered, and whether they were there at once.
 fn tell_table<R: Threads + Wait + Sync>(
     rt: &R,
@@ -67,24 +104,10 @@ fn tell_table<R: Threads + Wait + Sync>(
 ) -> Result<(), AllocError> {
     let (alloc, meeting) = (start.alloc, Meeting::new());
     let keeping = Keeping { meeting: &meeting };
-    let (shared, mut passes) = start.tables(2, keeping)?;
-    let (Some(second), Some(first)) = (passes.pop(), passes.pop()) else {
-        return report.text("no passes\n");
-    };
-    let (held, told) = thread::join(
-        rt,
-        || answered(alloc, rt, &shared, first, lines.0),
-        || come(rt, alloc, &meeting, &shared, second, lines.1),
-    );
-    let (held, told) = (held?, told?);
-    report.text("a session is held in a table, and another one calls the same table\n  ")?;
-    report.push(&held.answer)?;
-    report.text("  ")?;
-    report.push(&told.answer)?;
-    report.whether("  both were there at once", meeting.met.is_raised())?;
-    report.whether("  in time", meeting.is_in_time())?;
-    passes.push(held.pass)?;
-    passes.push(told.pass)?;
+    let (shared, passes) = start.tables(2, keeping)?;
+    let (held, told) = call_both(rt, alloc, &meeting, &shared, passes, lines)?;
+    tell_both(&meeting, &held.answer, &told.answer, report)?;
+    let passes = passes_of(alloc, held, told)?;
     tell_gathered(alloc, shared, passes, report)
 }
 

@@ -90,6 +90,14 @@ pub fn tell_gathered<G: Gate + Drop>(
     }
 }
 
+/// The passes of two calls.
+pub fn passes_of(alloc: Global, first: Told, second: Told) -> Result<Vec<Pass>, AllocError> {
+    let mut passes = Vec::new(alloc);
+    passes.push(first.pass)?;
+    passes.push(second.pass)?;
+    Ok(passes)
+}
+
 impl Start {
     /// Takes standard input as the text of the schema.
     pub fn read<R: Input>(rt: &R, alloc: Global) -> io::Result<Start> {

@@ -58,27 +58,54 @@ fn fill<G: Gate>(
     Ok(())
 }
 
+/// The bytes of a list, and of the process before its call and behind it.
+#[derive(Clone, Copy)]
+struct Weighed {
+    length: u64,
+    before: u64,
+    behind: u64,
+}
+
+// Calls for the list of the records.
+fn weigh<R: Runtime + Wait, G: Gate>(
+    rt: &R,
+    start: &Start,
+    shared: &Shared<G>,
+    pass: &mut Pass,
+) -> io::Result<Weighed> {
+    let before = resident(rt)?;
+    let told = answer(start.alloc, rt, shared, pass, LIST)?;
+    let behind = resident(rt)?;
+    Ok(Weighed {
+        length: told.len() as u64,
+        before,
+        behind,
+    })
+}
+
+// Adds where the memory of the list was taken, beside the bytes of the process at the gate.
+fn tell_weighed(weighed: Weighed, at: u64, report: &mut Report) -> Result<(), AllocError> {
+    report.text("a list\n  bytes: ")?;
+    report.number(weighed.length)?;
+    report.text("\n")?;
+    report.whether(
+        "  its memory is there before the gate",
+        at.saturating_sub(weighed.before) > weighed.length / 2,
+    )?;
+    report.whether(
+        "  its memory is there behind the gate",
+        weighed.behind.saturating_sub(at) > weighed.length / 2,
+    )
+}
+
 /// Adds whether the memory of a long answer is taken behind the gate.
 pub fn tell_step<R: Runtime + Wait>(rt: &R, start: &Start, report: &mut Report) -> io::Result<()> {
     let bytes = AtomicU64::new(0);
     let (shared, mut passes) = start.tables(1, Weighing { rt, bytes: &bytes })?;
     if let Some(pass) = passes.first_mut() {
         fill(rt, start, &shared, pass)?;
-        let before = resident(rt)?;
-        let told = answer(start.alloc, rt, &shared, pass, LIST)?;
-        let behind = resident(rt)?;
-        let (at, length) = (bytes.load(Ordering::SeqCst), told.len() as u64);
-        report.text("a list\n  bytes: ")?;
-        report.number(length)?;
-        report.text("\n")?;
-        report.whether(
-            "  its memory is there before the gate",
-            at.saturating_sub(before) > length / 2,
-        )?;
-        report.whether(
-            "  its memory is there behind the gate",
-            behind.saturating_sub(at) > length / 2,
-        )?;
+        let weighed = weigh(rt, start, &shared, pass)?;
+        tell_weighed(weighed, bytes.load(Ordering::SeqCst), report)?;
     }
     Ok(tell_gathered(start.alloc, shared, passes, report)?)
 }
