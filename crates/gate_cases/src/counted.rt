@@ -49,10 +49,10 @@ pub fn tell_counted<R: Files + Net + Threads + Wait + Sync>(
     let opened = connect(rt, start)?;
     let done = serve_on(rt, listening, shared, passes, EACH);
     remove(rt)?;
-    let mut answered = 0;
+    let mut answered = 0u64;
     for stream in opened {
         if !answers(alloc, stream).is_empty() {
-            answered += 1;
+            answered = answered.saturating_add(1);
         }
     }
     report.text("eight connections, of which two threads take three each\n  answered: ")?;
