@@ -3,7 +3,7 @@ use Rattle.std.proofs.Common.{◌≡◌, ◌⊎◌, inl, inr, ℕ, ◌+◌, ◌<
 use Rattle.std.proofs.lemmas.Bool.Decides.{leb_tells}
 use Rattle.table_step.specs.Step.{TableState}
 use Rattle.command_lines.specs.Meaning.{meaning}
-use Rattle.table_engine.specs.Lines.{Unfinished, short, long, add, added, is_empty, is_blank}
+use Rattle.table_engine.specs.Lines.{Unfinished, short, long, added, is_empty, is_blank}
 use Rattle.table_engine.specs.Tables.{AnswersLine, MayAnswer, answer_to}
 use Rattle.table_engine.specs.Whole.{as_line}
 use Rattle.table_engine.proofs.Whole.{add-as_line}

@@ -1,13 +1,11 @@
 -- What is read and written, one part after another.
-use Rattle.std.proofs.Common.{◌≡◌, ℕ, zero, suc, ◌+◌, ◌<◌, ◌==◌, ◌&&◌, nat_lt, List, ◌++◌, length, take, drop, Option, cond, sym, ap, ◌∙◌, refl, append_assoc, arith}
+use Rattle.std.proofs.Common.{◌≡◌, ℕ, zero, suc, ◌+◌, ◌<◌, ◌==◌, ◌&&◌, nat_lt, List, ◌++◌, Option, cond, sym, ap, ◌∙◌, refl, append_assoc, arith}
 use Rattle.std.proofs.KnownBytes.{Appends-trans}
 use Rattle.std.proofs.lemmas.Bool.{ne_eqb}
 use Rattle.std.proofs.lemmas.Grind.{flat_map-append}
-use Rattle.std.proofs.lemmas.List.{take-append-drop, take-append-le, take-map}
 use Rattle.std.specs.Io.KnownBytes.{Appends}
 use Rattle.table_reply.specs.Buffer.{joined}
 use Rattle.table_engine.specs.Devices.{AppendsFront, raised, raised_by}
-use Rattle.table_engine.specs.Run.{byte, bytes_of}
 
 -- a count that a transfer of at least one byte leaves
 pub kept_count : (n size count : ℕ) → (n ≡ 0 → ⊥) → cond (n == 0 && nat_lt 0 size) (raised count) count ≡ count
@@ -33,9 +31,3 @@ pub waits_on : (written further waits left : List ℕ) (told more : List (List �
 waits_on written further waits left told more before after =
     append_assoc written further left ∙ (ap (λ xs. written ++ xs) after ∙ (sym (append_assoc written waits (joined more))
     ∙ (ap (λ xs. xs ++ joined more) before ∙ sym (flat_map-append (λ x. x) told more))))
-
--- the first bytes of a line are those of what it begins
-pub front_of_line : (s n m : ℕ) (rest : List ℕ) → n < length (take m rest) → take n (bytes_of s (take m rest)) ≡ bytes_of s (take n rest)
-front_of_line s n m rest within =
-    take-map (byte s) n (take m rest)
-    ∙ ap (bytes_of s) (sym (take-append-le n (take m rest) (drop m rest) (omega arith)) ∙ ap (take n) (take-append-drop m rest))

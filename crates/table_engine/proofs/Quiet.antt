@@ -1,5 +1,5 @@
 -- Runs over bytes among which is no newline, and over a line with its newline.
-use Rattle.std.proofs.Common.{◌≡◌, inl, inr, ◌⊎◌, ℕ, zero, suc, ◌+◌, ◌<◌, ◌==◌, eqb, Bool, true, false, List, [], ◌∷◌, ◌++◌, length, map, take, drop, get_or, slice_set, slice_get, Option, Some, None, IsTrue, refl, sym, ap, subst, ◌∙◌, append_assoc, append-nil, length-append, take-append-drop, arith}
+use Rattle.std.proofs.Common.{◌≡◌, inl, inr, ◌⊎◌, ℕ, suc, ◌+◌, ◌<◌, ◌==◌, eqb, true, false, List, [], ◌∷◌, ◌++◌, length, map, take, get_or, slice_set, slice_get, Option, Some, None, IsTrue, refl, sym, ap, subst, ◌∙◌, append_assoc, append-nil, length-append, take-suc, arith}
 use Rattle.std.proofs.lemmas.Bool.Decides.{eqb_tells}
 use Rattle.std.proofs.lemmas.List.{map-set, map-append, set-set, set-get_or, get_or-set_same, get_or-map, get_or-take, get_or-append-add, length-set, length-map, length-take-le, take-map, take_at}
 use Rattle.std.proofs.lemmas.Grind.{flat_map-append}
@@ -136,14 +136,19 @@ quiet_front rest n found k below =
 pub quiet_whole : (rest : List ℕ) → IsFirstByte (is_byte 10) rest None → IsQuiet rest
 quiet_whole rest none k below = no_newline (get_or rest k 0) (λ e. none k (omega arith) below e)
 
-pub line_of_rest : (n : ℕ) (rest behind : List ℕ) → n < length rest → get_or rest n 0 ≡ 10 → behind ≡ drop 1 (drop n rest) → take n rest ++ 10 ∷ behind ≡ rest
-line_of_rest n [] behind within is e = absurd (omega (arith, within))
-line_of_rest zero (b ∷ bs) behind within is e = ap (λ x. x ∷ behind) (sym is) ∙ ap (λ xs. b ∷ xs) e
-line_of_rest (suc n) (b ∷ bs) behind within is e = ap (λ xs. b ∷ xs) (line_of_rest n bs behind (omega (arith, within)) is e)
+pub front_with_newline : (n : ℕ) (rest : List ℕ) → n < length rest → get_or rest n 0 ≡ 10 → take n rest ++ 10 ∷ [] ≡ take (n + 1) rest
+front_with_newline n rest within is =
+    let next : suc n ≡ n + 1 = omega arith in
+    ap (λ b. take n rest ++ b ∷ []) (sym is) ∙ (sym (take-suc rest n 0 within) ∙ ap (λ k. take k rest) next)
 
-pub newline_next : (s n taken : ℕ) (piece done rest : List ℕ) → done ++ rest ≡ piece → taken ≡ length done → n < length rest → get_or rest n 0 ≡ 10
-    → slice_get (bytes_of s piece) (taken + n) ≡ Some (byte s 10)
-newline_next s n taken piece done rest split counted within is =
+pub newline_next : (s n : ℕ) (rest : List ℕ) → n < length rest → get_or rest n 0 ≡ 10 → slice_get (bytes_of s rest) n ≡ Some (byte s 10)
+newline_next s n rest within is = next_byte s rest n n refl within ∙ ap (λ b. Some (byte s b)) is
+
+-- the byte at a place behind what is done is that of the rest
+pub next_of_rest : (s n taken : ℕ) (piece done rest : List ℕ) → done ++ rest ≡ piece → taken ≡ length done → n < length rest
+    → slice_get (bytes_of s piece) (taken + n) ≡ slice_get (bytes_of s rest) n
+next_of_rest s n taken piece done rest split counted within =
     let whole : length piece ≡ length done + length rest = ap length (sym split) ∙ length-append done rest in
     next_byte s piece (taken + n) (taken + n) refl (omega arith)
-    ∙ ap (λ b. Some (byte s b)) (ap (λ xs. get_or xs (taken + n) 0) (sym split) ∙ (ap (λ k. get_or (done ++ rest) (k + n) 0) counted ∙ (get_or-append-add done rest n 0 ∙ is)))
+    ∙ (ap (λ b. Some (byte s b)) (ap (λ xs. get_or xs (taken + n) 0) (sym split) ∙ (ap (λ k. get_or (done ++ rest) (k + n) 0) counted ∙ get_or-append-add done rest n 0))
+    ∙ sym (next_byte s rest n n refl within))

@@ -1,9 +1,9 @@
 -- What is answered to streams that come in pieces, as one machine over whole lines would.
-use Rattle.std.specs.Prelude.{◌≡◌, ℕ, ◌<◌, ◌==◌, List, [], ◌∷◌, ◌++◌, length, Bool, true, false, ◌&&◌, if◌then◌else◌, IsTrue, Option, Some, slice_set, map, slice_index_or}
+use Rattle.std.specs.Prelude.{◌≡◌, ℕ, ◌<◌, ◌==◌, List, [], ◌∷◌, ◌++◌, length, Bool, ◌&&◌, if◌then◌else◌, IsTrue, Option, Some, slice_set, map, slice_index_or}
 use Rattle.std.specs.Bool.{MatchBool}
 use Rattle.table_reply.specs.Buffer.{Buffer, Keeps}
 use Rattle.table_step.specs.Step.{TableState}
-use Rattle.table_engine.specs.Lines.{Unfinished, short, long, add, is_empty, has_answer}
+use Rattle.table_engine.specs.Lines.{Unfinished, short, add, is_empty, has_answer}
 use Rattle.table_engine.specs.Tables.{AnswersLine}
 
 -- ---- one session

@@ -1,6 +1,6 @@
 //! The tables of a schema behind several sessions.
 
-ghost use Rattle.std.specs.Prelude.{◌≡◌, ◌≤◌, ◌<◌, ◌++◌, [], ◌∷◌, List, ℕ, IsOk, OnErr, IfOk, IfErr, Some, length, map, replicate, slice_get};
+ghost use Rattle.std.specs.Prelude.{◌≡◌, ◌≤◌, ◌<◌, ◌++◌, [], ◌∷◌, List, ℕ, IsOk, OnErr, IfOk, IfErr, Some, length, map, replicate, slice_get, take};
 ghost use Rattle.table_reply.specs.Buffer.{joined, Keeps};
 ghost use Rattle.table_step.specs.Step.{new_table};
 ghost use Rattle.table_engine.specs.Events.{taken_of};
@@ -9,7 +9,7 @@ ghost use Rattle.table_engine.specs.Run.{Run, Waits, bytes_of, end, forgotten};
 
 use crate::cutter::LineCutter;
 use crate::event::Stop;
-use crate::session::{take_end, take_piece};
+use crate::session::{take_end, take_first, take_piece};
 use std::alloc::{AllocError, Global};
 use std::marker::Model;
 use table_reply::{Out, READY_ROOM};
@@ -68,6 +68,28 @@ impl Engine {
     {
         let alloc = self.alloc;
         take_piece(
+            alloc,
+            &mut self.tables,
+            &mut self.cutters,
+            session,
+            piece,
+            out,
+        )
+    }
+
+    // Takes the next piece of a session's stream up to its first newline, with it, or all of it where there is none, and says
+    // how many bytes it took.
+    pub(crate) fn feed_first(&mut self, session: usize, piece: &[u8], out: &mut Out) -> Result<usize, usize>
+        requires session { session < length self.old.unfinished }
+        requires some { 0 < length piece.now }
+        ensures fed { IfOk result (λ n. (0 < n) × (n ≤ length piece.now) × (told : List (List ℕ))
+            × Run self.old (bytes_of session (take n piece.now)) told self.new × (out.new.bytes ≡ out.old.bytes ++ joined told)) }
+        ensures ready { READY_ROOM ≤ out.old.room → IsOk result }
+        ensures kept { Keeps out.old out.new }
+        ensures sessions { length self.new.unfinished ≡ length self.old.unfinished }
+    {
+        let alloc = self.alloc;
+        take_first(
             alloc,
             &mut self.tables,
             &mut self.cutters,

@@ -9,7 +9,6 @@ ghost use Rattle.table_engine.specs.Run.{Run, bytes_of, end};
 use crate::engine::Engine;
 use crate::sink::{Sink, Unwritten};
 use crate::waiting::{make_room, write_out};
-use memchr::memchr;
 use std::alloc::Global;
 use std::io::Write;
 use table_reply::{Out, READY_ROOM};
@@ -93,20 +92,5 @@ fn feed_line<W: Write>(
     ensures sessions { length engine.new.unfinished ≡ length engine.old.unfinished }
 {
     make_room(alloc, sink, out)?;
-    let line = &rest[..line_length(rest)];
-    match engine.feed(session, line, out) {
-        Ok(()) => Ok(line.len()),
-        Err(stop) => Ok(stop.taken),
-    }
-}
-
-// How many bytes stand up to the first newline, with it, or in all where there is none.
-fn line_length(rest: &[u8]) -> usize
-    requires { 0 < length rest.now }
-    ensures { (0 < result) × (result ≤ length rest.now) }
-{
-    match memchr(b'\n', rest) {
-        Some(newline) => newline + 1,
-        None => rest.len(),
-    }
+    Ok(engine.feed_first(session, rest, out).unwrap())
 }

@@ -1,6 +1,6 @@
 //! One session's stream.
 
-ghost use Rattle.std.specs.Prelude.{◌≡◌, ◌≤◌, ◌<◌, ◌++◌, ◌==◌, ◌&&◌, List, ℕ, IsTrue, IsOk, OnOk, OnErr, IfErr, length, slice_get};
+ghost use Rattle.std.specs.Prelude.{◌≡◌, ◌≤◌, ◌<◌, ◌++◌, ◌==◌, ◌&&◌, List, ℕ, IsTrue, IsOk, OnOk, OnErr, IfOk, IfErr, length, slice_get, take};
 ghost use Rattle.table_reply.specs.Buffer.{joined, Keeps};
 ghost use Rattle.table_engine.specs.Events.{taken_of};
 ghost use Rattle.table_engine.specs.Lines.{added, has_answer};
@@ -93,6 +93,40 @@ pub(crate) fn take_end(
     Ok(())
 }
 
+// Takes the bytes of a piece up to its first newline, with it, or all of them where there is none, and says how many they are.
+// At an `Err` the bytes before the newline were taken, of which it says how many they are.
+pub(crate) fn take_first(
+    alloc: Global,
+    tables: &mut [Table],
+    cutters: &mut [LineCutter],
+    session: usize,
+    piece: &[u8],
+    out: &mut Out,
+) -> Result<usize, usize>
+    requires session { session < length cutters.old }
+    requires some { 0 < length piece.now }
+    ensures taken { IfOk result (λ n. (0 < n) × (n ≤ length piece.now) × (told : List (List ℕ))
+        × Run (machine tables.old cutters.old) (bytes_of session (take n piece.now)) told (machine tables.new cutters.new)
+        × (out.new.bytes ≡ out.old.bytes ++ joined told)) }
+    ensures stopped { IfErr result (λ n. (n < length piece.now) × (told : List (List ℕ))
+        × Run (machine tables.old cutters.old) (bytes_of session (take n piece.now)) told (machine tables.new cutters.new)
+        × (out.new.bytes ≡ out.old.bytes ++ joined told)) }
+    ensures waits { IfErr result (λ n. Waits (machine tables.new cutters.new) (λ _. out.new.room) (slice_get (bytes_of session piece.now) n)) }
+    ensures unready { OnErr result (out.old.room < READY_ROOM) }
+    ensures kept { Keeps out.old out.new }
+    ensures sessions { length cutters.new ≡ length cutters.old }
+{
+    let Some(length) = memchr(b'\n', piece) else {
+        cutters[session].extend(piece);
+        return Ok(piece.len());
+    };
+    let (line, _) = piece.split_at(length);
+    match take_line(alloc, tables, &mut cutters[session], line, out) {
+        Ok(()) => Ok(length + 1),
+        Err(_) => Err(length),
+    }
+}
+
 // Takes the bytes of a piece, line by line. At an `Err` as many bytes were taken as it says.
 pub(crate) fn take_piece(
     alloc: Global,
@@ -111,20 +145,18 @@ pub(crate) fn take_piece(
     ensures kept { Keeps out.old out.new }
     ensures sessions { length cutters.new ≡ length cutters.old }
 {
-    let mut taken = 0;
     let mut rest = piece;
-    while let Some(length) = memchr(b'\n', rest) {
-        let (line, after) = rest.split_at(length);
-        match take_line(alloc, tables, &mut cutters[session], line, out) {
-            Ok(()) => taken += length + 1,
-            Err(_) => return Err(Stop {
+    while !rest.is_empty() {
+        match take_first(alloc, tables, cutters, session, rest, out) {
+            Ok(taken) => {
+                let (_, behind) = rest.split_at(taken);
+                rest = behind;
+            }
+            Err(taken) => return Err(Stop {
                 event: 0,
-                taken: taken + length,
+                taken: piece.len() - rest.len() + taken,
             }),
         }
-        let (_, behind) = after.split_at(1);
-        rest = behind;
     }
-    cutters[session].extend(rest);
     Ok(())
 }

@@ -1,4 +1,4 @@
-use Rattle.std.proofs.Common.{◌≡◌, ◌≤◌, [], ◌++◌, true, false, length, sym, ap, ◌∙◌, append-nil, arith}
+use Rattle.std.proofs.Common.{◌≡◌, [], ◌++◌, true, false, sym, ap, ◌∙◌, append-nil, arith}
 use Rattle.table_engine.specs.Lines.{is_blank, is_empty}
 use Rattle.table_engine.proofs.Added.{answers_blank, answers_whole, begins}
 use Rattle.table_engine.proofs.session.take_line.Goals as goal

@@ -1,4 +1,4 @@
-use Rattle.std.proofs.Common.{◌≡◌, ◌++◌, false, sym, ap, ◌∙◌, arith}
+use Rattle.std.proofs.Common.{◌≡◌, false, sym, ap, ◌∙◌, arith}
 use Rattle.table_engine.specs.Lines.{Cutter, Unfinished, short, added}
 use Rattle.table_engine.proofs.Added.{line_in, ended_line, takes_all, takes_too_many}
 use Rattle.table_engine.proofs.cutter.LineCutter.extend.Goals as goal
