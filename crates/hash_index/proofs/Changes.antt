@@ -1,5 +1,5 @@
 -- A node goes into a bucket, and out of it.
-use Rattle.std.proofs.Common.{◌≡◌, ◌≢◌, ℕ, Bool, true, false, ◌+◌, ◌-◌, ◌*◌, ◌<◌, ◌≤◌, List, [], ◌∷◌, ◌++◌, length, map, get_or, set, Option, Some, None, refl, sym, ap, ◌∙◌, subst, arith, append_assoc}
+use Rattle.std.proofs.Common.{◌≡◌, ◌≢◌, ℕ, Bool, true, false, ◌+◌, ◌-◌, ◌*◌, ◌<◌, ◌≤◌, List, [], ◌∷◌, ◌++◌, length, map, get_or, set, Option, Some, None, option_and_then, refl, sym, ap, ◌∙◌, subst, arith, append_assoc}
 use Rattle.std.specs.Prelude.{IsPermutation}
 use Rattle.std.proofs.lemmas.List.Sorted.{IsPermutation-sym, IsPermutation-middle}
 use Rattle.std.specs.List.{AllByRecursion, slice_get}
@@ -20,21 +20,24 @@ use Rattle.hash_index.proofs.Oldest.{old_tags, old_more, old_less, oldest_at, ol
 use Rattle.hash_index.specs.Spelled.{all_of, heads_of, Spells, IsSound, spelled, leads_to, Holds}
 use Rattle.node_store.specs.Nodes.{Lacks, AreApart, IsDistinct, IsSameAt, first_or, last_or}
 use Rattle.node_store.proofs.Members.{each_node}
-use Rattle.node_store.proofs.NodeLists.{Lacks-front, Lacks-back, IsDistinct-parts, IsSameAt-others, IsSameAt-trans, AreApart-sym, AreApart-append, AreApart-head}
+use Rattle.node_store.proofs.NodeLists.{Lacks-front, Lacks-back, IsDistinct-parts, IsSameAt-others, IsSameAt-trans, AreApart-sym, AreApart-append, AreApart-join, AreApart-head, first_or-append, last_or-append}
 use Rattle.list_model.proofs.Lists.{All-join}
 use Rattle.list_model.proofs.InOrder.{All-map}
 use Rattle.list_model.proofs.Kept.{All-split}
 use Rattle.seq_index.specs.Links.{Runs, chain_link, SetsNext, SetsPrev, end_beside}
-use Rattle.seq_index.proofs.Runs.{Runs-insert, Runs-remove, SetsNext-none, IsSameAt-end, LacksEnd-first, LacksEnd-last, Lacks-first, Lacks-last, AreNodes-first, Distinct-insert, Distinct-remove}
+use Rattle.seq_index.proofs.Runs.{Runs-same, Runs-insert, Runs-remove, SetsNext-none, IsSameAt-end, LacksEnd-first, LacksEnd-last, Lacks-first, Lacks-last, AreNodes-first, Distinct-insert, Distinct-remove}
 use Rattle.seq_index.proofs.ChainLists.{first-remove, length-insert, length-remove}
 use Rattle.hash_index.specs.Chains.{untagged_link, untagged, tag_at, KeepsTags, KeepsOtherNodes, IsIn}
 use Rattle.node_store.specs.Store.{Store, number_of}
-use Rattle.hash_index.proofs.Untagged.{put_untagged, tag_put, tag_other, tag_is, tagged_node}
-use Rattle.hash_index.proofs.Heads.{first_has, last_has, others_of, one_chain, right_at, right_set, slice_first}
+use Rattle.hash_index.proofs.Untagged.{same_all, put_untagged, tag_put, tag_other, tag_is, tagged_node}
+use Rattle.hash_index.proofs.Heads.{first_has, last_has, others_of, one_chain, right_at, right_set, right_up, slice_first}
 use Rattle.hash_index.proofs.OneBucket.{Focus, Hangs, IsElsewhere}
 use Rattle.std.specs.Prelude.{nat_lt}
 use Rattle.std.proofs.lemmas.Bool.{ltb-true, ltb-false}
-use Rattle.hash_index.proofs.Spelling.{hangs_of, Spells_nodes, neighbours, Spells_from, IsSound_from, focus_of, held_chain, is_in, split_at}
+use Rattle.hash_index.specs.Rising.{up_at, KeepsUps, IsRising, top_beside, IsAbove}
+use Rattle.hash_index.specs.Walks.{rest_of}
+use Rattle.hash_index.proofs.Rising.{rising_none, rising_out, rising_behind}
+use Rattle.hash_index.proofs.Spelling.{Neighbours, beside_some, rest_is, held_in, hangs_of, Spells_nodes, neighbours, Spells_from, IsSound_from, focus_of, held_chain, is_in, split_at}
 
 in_tags : (c f : Column) (to : ℕ → ℕ) (b : ℕ) (n : Node) (xs : List Node) → ((m : Node) → m ≢ n → tag_at f m ≡ tag_at c m) → Lacks xs n → AllByRecursion (IsIn c to b) xs → AllByRecursion (IsIn f to b) xs
 in_tags c f to b n [] kept lacks h = tt
@@ -76,33 +79,46 @@ put_hangs c d f to b heads xs n hash head at dist new bucket first put prev tags
         ap (option_map to) (tags n ∙ tag_put c d n (record { a = None; b = head; up = None; tag = hash; height = 0 }) put) ∙ ap Some bucket,
         in_tags c f to b n at.chain (λ m ne. tags m ∙ tag_other c d n m (record { a = None; b = head; up = None; tag = hash; height = 0 }) put ne) lacks_chain at.here.members,
       );
+      rising = rising_none f n at.chain (ap (option_and_then (λ (l : Link). l.up)) (same2 n (Lacks-first at.chain n lacks_chain) ∙ put.at));
     })
 
-pub out_hangs : (c d f : Column) (to : ℕ → ℕ) (b : ℕ) (heads : List (Option Node)) (xs : List Node) (n : Node) (link : Link) (ps qs : List Node) (at : Focus c to 0 b b heads xs) → IsDistinct xs → at.chain ≡ ps ++ n ∷ qs → c n ≡ Some link
-    → SetsNext (untagged c) (untagged d) link.a link.b → KeepsOtherNodes c d link.a → SetsPrev (untagged d) (untagged f) link.b link.a → KeepsOtherNodes d f link.b → KeepsTags c f → Hangs f to 0 (set heads b (end_beside link.a (get_or heads b None) link.b)) (at.front ++ ((ps ++ qs) ++ at.back))
-out_hangs c d f to b heads xs n link ps qs at dist is link_is next same_next prev same_prev tags =
+-- the first node of a chain once one has gone
+pub end_first : (c : Column) (heads : List (Option Node)) (b : ℕ) (link : Link) (ps : List Node) (n : Node) (qs : List Node) → Neighbours link ps qs → get_or heads b None ≡ first_or (ps ++ n ∷ qs) None → end_beside link.a (get_or heads b None) link.b ≡ first_or (ps ++ qs) None
+end_first c heads b link ps n qs near first =
+    ap (λ o. end_beside o (get_or heads b None) link.b) near.a
+    ∙ (ap (λ o. end_beside (last_or ps None) (get_or heads b None) o) near.b
+    ∙ (ap (λ o. end_beside (last_or ps None) o (first_or qs None)) first ∙ first-remove ps n qs))
+
+pub out_hangs : (c d e f : Column) (to : ℕ → ℕ) (b : ℕ) (heads : List (Option Node)) (xs : List Node) (n : Node) (link : Link) (ps qs : List Node) (at : Focus c to 0 b b heads xs) → IsDistinct xs → at.chain ≡ ps ++ n ∷ qs → c n ≡ Some link
+    → SetsNext (untagged c) (untagged d) link.a link.b → KeepsOtherNodes c d link.a → SetsPrev (untagged d) (untagged e) link.b link.a → KeepsOtherNodes d e link.b → ((m : Node) → untagged f m ≡ untagged e m) → KeepsOtherNodes e f (first_or (ps ++ qs) None)
+    → ((m : Node) → first_or (ps ++ qs) None ≡ Some m → up_at f m ≡ top_beside link.a link.b link.up (up_at c m)) → KeepsTags c f → Hangs f to 0 (set heads b (end_beside link.a (get_or heads b None) link.b)) (at.front ++ ((ps ++ qs) ++ at.back))
+out_hangs c d e f to b heads xs n link ps qs at dist is link_is next same_next prev same_prev links same_top tops tags =
     let runs = subst (λ z. Runs (untagged c) None z None) is at.here.runs in
     let near = neighbours c ps n qs link runs link_is in
     let p = apart_of at.front at.chain at.back (subst IsDistinct at.whole dist) in
     let distinct : IsDistinct (ps ++ n ∷ qs) = subst IsDistinct is p.chain_distinct in
     let parts = IsDistinct-parts ps (n ∷ qs) distinct in
     let next2 = subst (λ o. SetsNext (untagged c) (untagged d) o (first_or qs None)) near.a (subst (λ o. SetsNext (untagged c) (untagged d) link.a o) near.b next) in
-    let prev2 = subst (λ o. SetsPrev (untagged d) (untagged f) o (last_or ps None)) near.b (subst (λ o. SetsPrev (untagged d) (untagged f) link.b o) near.a prev) in
+    let prev2 = subst (λ o. SetsPrev (untagged d) (untagged e) o (last_or ps None)) near.b (subst (λ o. SetsPrev (untagged d) (untagged e) link.b o) near.a prev) in
     let same_next2 = subst (λ o. KeepsOtherNodes c d o) near.a same_next in
-    let same_prev2 = subst (λ o. KeepsOtherNodes d f o) near.b same_prev in
+    let same_prev2 = subst (λ o. KeepsOtherNodes d e o) near.b same_prev in
     let kept : (zs : List Node) → AreApart at.chain zs → IsSameAt c f zs = λ zs a.
     let q = AreApart-append ps (n ∷ qs) zs (subst (λ z. AreApart z zs) is a) in
-    IsSameAt-trans c d f zs (IsSameAt-end c d (last_or ps None) same_next2 zs (LacksEnd-last ps zs q.0)) (IsSameAt-end d f (first_or qs None) same_prev2 zs (LacksEnd-first zs qs (AreApart-sym qs zs q.1.1))) in
-    let here : f n ≡ Some link = same_prev2 n (Lacks-first qs n parts.back.0) ∙ (same_next2 n (Lacks-last ps n (AreApart-head ps qs n parts.apart)) ∙ link_is) in
-    let stays : IsPut (untagged f) (untagged f) n (untagged_link link) = record { at = ap (option_map untagged_link) here; others = λ m ne. refl; nodes = λ m h. h } in
+    let away = AreApart-sym (ps ++ qs) zs (AreApart-join ps qs zs q.0 q.1.1) in
+    IsSameAt-trans c d f zs (IsSameAt-end c d (last_or ps None) same_next2 zs (LacksEnd-last ps zs q.0))
+    (IsSameAt-trans d e f zs (IsSameAt-end d e (first_or qs None) same_prev2 zs (LacksEnd-first zs qs (AreApart-sym qs zs q.1.1))) (IsSameAt-end e f (first_or (ps ++ qs) None) same_top zs (LacksEnd-first zs (ps ++ qs) away))) in
+    let here : e n ≡ Some link = same_prev2 n (Lacks-first qs n parts.back.0) ∙ (same_next2 n (Lacks-last ps n (AreApart-head ps qs n parts.apart)) ∙ link_is) in
+    let stays : IsPut (untagged e) (untagged f) n (untagged_link link) = record { at = links n ∙ ap (option_map untagged_link) here; others = λ m ne. links m; nodes = λ m h. record { block = h.block; is = links m ∙ h.is } } in
     let members = All-split (IsIn c to b) ps (n ∷ qs) (subst (AllByRecursion (IsIn c to b)) is at.here.members) in
     at.with_chain f to (λ k ne. refl) (end_beside link.a (get_or heads b None) link.b) (ps ++ qs) (kept at.front p.before) (kept at.back p.after)
     (record {
-      first = ap (λ o. end_beside o (get_or heads b None) link.b) near.a
-          ∙ (ap (λ o. end_beside (last_or ps None) (get_or heads b None) o) near.b
-          ∙ (ap (λ o. end_beside (last_or ps None) o (first_or qs None)) (at.here.first ∙ ap (λ z. first_or z None) is) ∙ first-remove ps n qs));
-      runs = Runs-remove (untagged c) (untagged d) (untagged f) (untagged f) ps n qs (untagged_link link) distinct next2 prev2 stays runs;
+      first = end_first c heads b link ps n qs near (at.here.first ∙ ap (λ z. first_or z None) is);
+      runs = Runs-remove (untagged c) (untagged d) (untagged e) (untagged f) ps n qs (untagged_link link) distinct next2 prev2 stays runs;
       members = All-map (IsIn c to b) (IsIn f to b) (λ m h. ap (option_map to) (tags m) ∙ h) (ps ++ qs) (All-join (IsIn c to b) ps qs members.0 members.1.1);
+      rising = rising_out c f ps n qs
+          (λ m k. tops m k ∙ (ap (λ o. top_beside o link.b link.up (up_at c m)) near.a ∙ (ap (λ o. top_beside (last_or ps None) o link.up (up_at c m)) near.b
+          ∙ ap (λ o. top_beside (last_or ps None) (first_or qs None) o (up_at c m)) (sym (ap (option_and_then (λ (l : Link). l.up)) link_is)))))
+          (subst (IsRising c) is at.here.rising);
     })
 
 -- ---- the same for an index
@@ -197,9 +213,11 @@ module _ (cs ds : ℕ → Column) (d : Column) (i j : HashIndex) (n : Node) (b :
     pub put_moved : IsPermutation (n ∷ spelled cs i) (spelled ds j)
     put_moved = put_both.1
 
-  pub out_done : (link : Link) (head : Head) → PutsHead i j b head → first_in head ≡ end_beside link.a (get_or (heads_of i) b None) link.b → ((m : Node) → link.a ≡ Some m → slice_get (all_of i) b ≡ Some head) → (link.a ≡ None → IsRight (ds i.col) head) → (link.a ≡ None → head.mark < 192) → j.len + 1 ≡ i.len → j.len * 4 ≤ j.buckets.len → Holds (spelled cs i) n → b ≡ leads_to i link.tag → cs i.col n ≡ Some link
-      → SetsNext (untagged (cs i.col)) (untagged d) link.a link.b → KeepsOtherNodes (cs i.col) d link.a → SetsPrev (untagged d) (untagged (ds i.col)) link.b link.a → KeepsOtherNodes d (ds i.col) link.b → KeepsTags (cs i.col) (ds i.col) → Spells ds j (without (same_node n) (spelled cs i))
-  out_done link head puts first kept right plain len load held bucket is next same_next prev same_prev tags =
+  pub out_done : (e : Column) (link : Link) (head : Head) → PutsHead i j b head → first_in head ≡ end_beside link.a (get_or (heads_of i) b None) link.b → ((m : Node) → link.a ≡ Some m → slice_get (all_of i) b ≡ Some head) → (link.a ≡ None → IsRight e head) → (link.a ≡ None → head.mark < 192) → j.len + 1 ≡ i.len → j.len * 4 ≤ j.buckets.len → Holds (spelled cs i) n → b ≡ leads_to i link.tag → cs i.col n ≡ Some link
+      → SetsNext (untagged (cs i.col)) (untagged d) link.a link.b → KeepsOtherNodes (cs i.col) d link.a → SetsPrev (untagged d) (untagged e) link.b link.a → KeepsOtherNodes d e link.b → KeepsTags (cs i.col) e → KeepsUps (cs i.col) e
+      → ((m : Node) → untagged (ds i.col) m ≡ untagged e m) → KeepsTags e (ds i.col) → KeepsOtherNodes e (ds i.col) (first_in head) → ((m : Node) → first_in head ≡ Some m → up_at (ds i.col) m ≡ top_beside link.a link.b link.up (up_at e m)) → Spells ds j (without (same_node n) (spelled cs i))
+  out_done e link head puts first kept right plain len load held bucket is next same_next prev same_prev tags_e ups links tags_f same_top tops =
+      let tags : KeepsTags (cs i.col) (ds i.col) = λ m. tags_f m ∙ tags_e m in
       let f = focus_of cs i (spelled cs i) b within h in
       let here : IsIn (cs i.col) (leads_to i) b n = subst (λ k. IsIn (cs i.col) (leads_to i) k n) (sym bucket) (is_in (cs i.col) (leads_to i) n link is) in
       let k = held_chain (cs i.col) (leads_to i) 0 b b (heads_of i) (spelled cs i) n f here held in
@@ -207,16 +225,20 @@ module _ (cs ds : ℕ → Column) (d : Column) (i j : HashIndex) (n : Node) (b :
       let ys : List Node = (f.front ++ k.before) ++ (k.after ++ f.back) in
       let joins : f.front ++ ((k.before ++ k.after) ++ f.back) ≡ ys =
       ap (λ z. f.front ++ z) (append_assoc k.before k.after f.back) ∙ sym (append_assoc f.front k.before (k.after ++ f.back)) in
-      let hangs = subst (λ z. Hangs (ds i.col) (leads_to i) 0 (set (heads_of i) b (end_beside link.a (get_or (heads_of i) b None) link.b)) z) joins
-      (out_hangs (cs i.col) d (ds i.col) (leads_to i) b (heads_of i) (spelled cs i) n link k.before k.after f h.distinct k.is is next same_next prev same_prev tags) in
       let runs = subst (λ z. Runs (untagged (cs i.col)) None z None) k.is f.here.runs in
       let near = neighbours (cs i.col) k.before n k.after link runs is in
+      let begins : first_in head ≡ first_or (k.before ++ k.after) None = first ∙ end_first (cs i.col) (heads_of i) b link k.before n k.after near (f.here.first ∙ ap (λ z. first_or z None) k.is) in
+      let hangs = subst (λ z. Hangs (ds i.col) (leads_to i) 0 (set (heads_of i) b (end_beside link.a (get_or (heads_of i) b None) link.b)) z) joins
+      (out_hangs (cs i.col) d e (ds i.col) (leads_to i) b (heads_of i) (spelled cs i) n link k.before k.after f h.distinct k.is is next same_next prev same_prev links (subst (KeepsOtherNodes e (ds i.col)) begins same_top)
+      (λ m z. tops m (begins ∙ z) ∙ ap (top_beside link.a link.b link.up) (ups m)) tags) in
       let beside = All-split (IsIn (cs i.col) (leads_to i) b) k.before (n ∷ k.after) (subst (AllByRecursion (IsIn (cs i.col) (leads_to i) b)) k.is f.here.members) in
+      let stay = All-join (IsIn (cs i.col) (leads_to i) b) k.before k.after beside.0 beside.1.1 in
       let are = right_put cs ds i j b head (IsNode (cs i.col)) h puts (each_node (cs i.col) (spelled cs i) (Spells_nodes cs i (spelled cs i) h))
       (λ q m ne node away.
-      same_prev m (λ e. ne (one_chain (cs i.col) (leads_to i) b q m (first_has (IsIn (cs i.col) (leads_to i) b) k.after m beside.1.1 (sym near.b ∙ e)) away))
-      ∙ same_next m (λ e. ne (one_chain (cs i.col) (leads_to i) b q m (last_has (IsIn (cs i.col) (leads_to i) b) k.before m beside.0 (sym near.a ∙ e)) away)))
-      (right_beside (cs i.col) (ds i.col) (all_of i) b head link.a k.before n k.after near.a (slice_first (heads_of i) (all_of i) b refl) (f.here.first ∙ ap (λ z. first_or z None) k.is) runs h.right kept right) in
+      same_top m (λ z. ne (one_chain (cs i.col) (leads_to i) b q m (first_has (IsIn (cs i.col) (leads_to i) b) (k.before ++ k.after) m stay (sym begins ∙ z)) away))
+      ∙ (same_prev m (λ z. ne (one_chain (cs i.col) (leads_to i) b q m (first_has (IsIn (cs i.col) (leads_to i) b) k.after m beside.1.1 (sym near.b ∙ z)) away))
+      ∙ same_next m (λ z. ne (one_chain (cs i.col) (leads_to i) b q m (last_has (IsIn (cs i.col) (leads_to i) b) k.before m beside.0 (sym near.a ∙ z)) away))))
+      (right_beside (cs i.col) (ds i.col) (all_of i) b head link.a k.before n k.after near.a (slice_first (heads_of i) (all_of i) b refl) (f.here.first ∙ ap (λ z. first_or z None) k.is) runs h.right kept (λ none. right_up e (ds i.col) head links tags_f (right none))) in
       let change : (m : Node) → IsOldestOf (cs i.col) (spelled cs i) m → IsOldestOf (ds i.col) ys m =
       λ m old. old_tags (cs i.col) (ds i.col) ys m tags (old_less (cs i.col) (f.front ++ k.before) n (k.after ++ f.back) m (subst (λ z. IsOldestOf (cs i.col) z m) split old)) in
       let chains = hangs_of cs i (spelled cs i) h in
@@ -228,7 +250,7 @@ module _ (cs ds : ℕ → Column) (d : Column) (i j : HashIndex) (n : Node) (b :
       let s = Spells_from ds j ys (hangs_kept ds i j b head ys puts (subst (λ o. Hangs (ds i.col) (leads_to i) 0 (set (heads_of i) b o) ys) (sym first) hangs)) (Distinct-remove (f.front ++ k.before) n (k.after ++ f.back) dist) (omega (arith, left, len, h.len, ap length split)) load are old in
       subst (λ z. Spells ds j z) (sym (ap (λ z. without (same_node n) z) split ∙ without_at (f.front ++ k.before) n (k.after ++ f.back) dist)) s
 
--- ---- a node behind the first of a chain
+-- ---- the first node of a chain
 
 first_split : (xs : List Node) (n : Node) → first_or xs None ≡ Some n → (tail : List Node) × (xs ≡ n ∷ tail)
 first_split [] n e = absurd (cc)
@@ -274,80 +296,113 @@ pub joined_oldest : (cs : ℕ → Column) (i : HashIndex) (b : ℕ) (head new : 
 joined_oldest cs i b head new first link within at begin is h says =
     oldest_by (cs i.col) (all_of i) (spelled cs i) b head new first (nat_lt head.mark 128) refl h.oldest at begin (alone_oldest cs i b head first link within at begin is h) says
 
--- the links of a node that is not there stay
-pub second_same : (cs : ℕ → Column) (i : HashIndex) (b : ℕ) (first : Node) (link : Link) → b < i.buckets.len → get_or (heads_of i) b None ≡ Some first → cs i.col first ≡ Some link → IsSound cs i → (m : Node) → Lacks (spelled cs i) m → (f e d : Column) → KeepsOtherNodes e f link.b → KeepsOtherNodes d e (Some first) → f m ≡ d m
-second_same cs i b first link within began is h m lacks f e d same_prev same_next =
-    let at = focus_of cs i (spelled cs i) b within h in
-    let tail = first_split at.chain first (sym at.here.first ∙ began) in
-    let near = neighbours (cs i.col) [] first tail.0 link (subst (λ z. Runs (untagged (cs i.col)) None z None) tail.1 at.here.runs) is in
-    let l = subst (λ z. Lacks z m) tail.1 (Lacks-front at.chain at.back m (Lacks-back at.front (at.chain ++ at.back) m (subst (λ z. Lacks z m) at.whole lacks))) in
-    same_prev m (λ e. Lacks-first tail.0 m l.1 (sym near.b ∙ e)) ∙ same_next m (λ e. let same : first ≡ m = cc in l.0 (sym same))
+-- ---- behind a node of a chain
 
-second_hangs : (c d e f : Column) (to : ℕ → ℕ) (b : ℕ) (heads : List (Option Node)) (xs : List Node) (n first : Node) (hash : ℕ) (after : Option Node) (qs : List Node) (at : Focus c to 0 b b heads xs) → IsDistinct xs → Lacks xs n → to hash ≡ b → at.chain ≡ first ∷ qs → after ≡ first_or qs None
-    → IsPut c d n (record { a = Some first; b = after; up = None; tag = hash; height = 0 }) → SetsNext (untagged d) (untagged e) (Some first) (Some n) → KeepsOtherNodes d e (Some first) → SetsPrev (untagged e) (untagged f) after (Some n) → KeepsOtherNodes e f after → KeepsTags d f → Hangs f to 0 (set heads b (Some first)) (at.front ++ ((first ∷ (n ∷ qs)) ++ at.back))
-second_hangs c d e f to b heads xs n first hash after qs at dist new bucket is near put next same_next prev same_prev tags =
-    let link : Link = record { a = Some first; b = after; up = None; tag = hash; height = 0 } in
-    let put2 : IsPut (untagged c) (untagged d) n (chain_link (Some first) (first_or qs None)) = subst (λ o. IsPut (untagged c) (untagged d) n (chain_link (Some first) o)) near (put_untagged c d n link put) in
+first_front : (xs : List Node) (n : Node) (ys : List Node) → first_or (xs ++ n ∷ []) None ≡ first_or (xs ++ n ∷ ys) None
+first_front [] n ys = refl
+first_front (x ∷ xs) n ys = refl
+
+pub chain_rest : (cs : ℕ → Column) (i : HashIndex) (b : ℕ) (first : Node) (h : IsSound cs i) (within : b < i.buckets.len) → get_or (heads_of i) b None ≡ Some first → rest_of cs i (Some first) ≡ (focus_of cs i (spelled cs i) b within h).chain
+chain_rest cs i b first h within began = ap (λ o. rest_of cs i o) (sym began) ∙ (rest_is cs i (spelled cs i) b (focus_of cs i (spelled cs i) b within h) h.len).1
+
+-- a node of a chain is one of all
+pub stands_held : (cs : ℕ → Column) (i : HashIndex) (b : ℕ) (first by : Node) (h : IsSound cs i) (within : b < i.buckets.len) → get_or (heads_of i) b None ≡ Some first → Holds (rest_of cs i (Some first)) by → Holds (spelled cs i) by
+stands_held cs i b first by h within began stands =
+    let f = focus_of cs i (spelled cs i) b within h in
+    let k = subst (λ z. Holds z by) (chain_rest cs i b first h within began) stands in
+    record { before = f.front ++ k.before; after = k.after ++ f.back; is = split_at (spelled cs i) f.front f.chain f.back k.before by k.after f.whole k.is }
+
+-- the links of a node that is not there stay
+pub behind_same : (cs : ℕ → Column) (i : HashIndex) (b : ℕ) (first by : Node) (link : Link) (h : IsSound cs i) (within : b < i.buckets.len) → get_or (heads_of i) b None ≡ Some first → Holds (rest_of cs i (Some first)) by → cs i.col by ≡ Some link → (m : Node) → Lacks (spelled cs i) m → (g f e d : Column) → KeepsOtherNodes f g (Some first) → KeepsOtherNodes e f link.b → KeepsOtherNodes d e (Some by) → g m ≡ d m
+behind_same cs i b first by link h within began stands is m lacks g f e d same_up same_prev same_next =
+    let at = focus_of cs i (spelled cs i) b within h in
+    let k = subst (λ z. Holds z by) (chain_rest cs i b first h within began) stands in
+    let near = neighbours (cs i.col) k.before by k.after link (subst (λ z. Runs (untagged (cs i.col)) None z None) k.is at.here.runs) is in
+    let chain = Lacks-front at.chain at.back m (Lacks-back at.front (at.chain ++ at.back) m (subst (λ z. Lacks z m) at.whole lacks)) in
+    let l = Lacks-back k.before (by ∷ k.after) m (subst (λ z. Lacks z m) k.is chain) in
+    same_up m (λ e. Lacks-first at.chain m chain (sym at.here.first ∙ (began ∙ e)))
+    ∙ (same_prev m (λ e. Lacks-first k.after m l.1 (sym near.b ∙ e)) ∙ same_next m (λ e. let same : by ≡ m = cc in l.0 (sym same)))
+
+behind_hangs : (c d e f g : Column) (to : ℕ → ℕ) (b : ℕ) (heads : List (Option Node)) (xs : List Node) (n first by : Node) (hash : ℕ) (after up : Option Node) (us qs : List Node) (at : Focus c to 0 b b heads xs) → IsDistinct xs → Lacks xs n → to hash ≡ b → at.chain ≡ us ++ qs → last_or us None ≡ Some by → first_or us None ≡ Some first → after ≡ first_or qs None → IsAbove at.chain by n up
+    → IsPut c d n (record { a = Some by; b = after; up = None; tag = hash; height = 0 }) → SetsNext (untagged d) (untagged e) (Some by) (Some n) → KeepsOtherNodes d e (Some by) → SetsPrev (untagged e) (untagged f) after (Some n) → KeepsOtherNodes e f after
+    → ((m : Node) → untagged g m ≡ untagged f m) → KeepsOtherNodes f g (Some first) → up_at g first ≡ up → KeepsTags d g → Hangs g to 0 (set heads b (Some first)) (at.front ++ ((us ++ n ∷ qs) ++ at.back))
+behind_hangs c d e f g to b heads xs n first by hash after up us qs at dist new bucket is last start near above put next same_next prev same_prev links same_up up_is tags =
+    let link : Link = record { a = Some by; b = after; up = None; tag = hash; height = 0 } in
+    let put2 : IsPut (untagged c) (untagged d) n (chain_link (last_or us None) (first_or qs None)) = subst (λ o. IsPut (untagged c) (untagged d) n (chain_link o (first_or qs None))) (sym last) (subst (λ o. IsPut (untagged c) (untagged d) n (chain_link (Some by) o)) near (put_untagged c d n link put)) in
+    let next2 = subst (λ o. SetsNext (untagged d) (untagged e) o (Some n)) (sym last) next in
     let prev2 = subst (λ o. SetsPrev (untagged e) (untagged f) o (Some n)) near prev in
+    let same_next2 = subst (λ o. KeepsOtherNodes d e o) (sym last) same_next in
     let same_prev2 = subst (λ o. KeepsOtherNodes e f o) near same_prev in
+    let same_up2 = subst (λ o. KeepsOtherNodes f g o) (sym start) same_up in
     let lacks = subst (λ z. Lacks z n) at.whole new in
     let lacks_rest = Lacks-back at.front (at.chain ++ at.back) n lacks in
     let lacks_chain = subst (λ z. Lacks z n) is (Lacks-front at.chain at.back n lacks_rest) in
     let p = apart_of at.front at.chain at.back (subst IsDistinct at.whole dist) in
-    let kept : (zs : List Node) → Lacks zs n → AreApart at.chain zs → IsSameAt c f zs =
+    let distinct : IsDistinct (us ++ qs) = subst IsDistinct is p.chain_distinct in
+    let kept : (zs : List Node) → Lacks zs n → AreApart at.chain zs → IsSameAt c g zs =
     λ zs l a.
-    let q = AreApart-append (first ∷ []) qs zs (subst (λ z. AreApart z zs) is a) in
-    IsSameAt-trans c d f zs (IsSameAt-others c d n put.others zs l)
-    (IsSameAt-trans d e f zs (IsSameAt-end d e (Some first) same_next zs (LacksEnd-last (first ∷ []) zs q.0)) (IsSameAt-end e f (first_or qs None) same_prev2 zs (LacksEnd-first zs qs (AreApart-sym qs zs q.1)))) in
-    let members = in_tags c f to b n (first ∷ qs) (λ m ne. tags m ∙ tag_other c d n m link put ne) lacks_chain (subst (AllByRecursion (IsIn c to b)) is at.here.members) in
-    at.with_chain f to (λ k ne. refl) (Some first) (first ∷ (n ∷ qs))
+    let q = AreApart-append us qs zs (subst (λ z. AreApart z zs) is a) in
+    IsSameAt-trans c d g zs (IsSameAt-others c d n put.others zs l)
+    (IsSameAt-trans d e g zs (IsSameAt-end d e (last_or us None) same_next2 zs (LacksEnd-last us zs q.0))
+    (IsSameAt-trans e f g zs (IsSameAt-end e f (first_or qs None) same_prev2 zs (LacksEnd-first zs qs (AreApart-sym qs zs q.1))) (IsSameAt-end f g (first_or us None) same_up2 zs (LacksEnd-first zs us (AreApart-sym us zs q.0))))) in
+    let begin : first_or (us ++ n ∷ qs) None ≡ Some first = first_or-append us (n ∷ qs) None ∙ beside_some us (Some n) first start in
+    let runs = Runs-insert (untagged c) (untagged d) (untagged e) (untagged f) us n qs distinct lacks_chain put2 next2 prev2 (subst (λ z. Runs (untagged c) None z None) is at.here.runs) in
+    let members = All-split (IsIn g to b) us qs (in_tags c g to b n (us ++ qs) (λ m ne. tags m ∙ tag_other c d n m link put ne) lacks_chain (subst (AllByRecursion (IsIn c to b)) is at.here.members)) in
+    at.with_chain g to (λ k ne. refl) (Some first) (us ++ n ∷ qs)
     (kept at.front (Lacks-front at.front (at.chain ++ at.back) n lacks) p.before)
     (kept at.back (Lacks-back at.chain at.back n lacks_rest) p.after)
     (record {
-      first = refl;
-      runs = Runs-insert (untagged c) (untagged d) (untagged e) (untagged f) (first ∷ []) n qs (subst IsDistinct is p.chain_distinct) lacks_chain put2 next prev2 (subst (λ z. Runs (untagged c) None z None) is at.here.runs);
-      members = (members.0, (ap (option_map to) (tags n ∙ tag_put c d n link put) ∙ ap Some bucket, members.1));
+      first = sym begin;
+      runs = Runs-same (untagged f) (untagged g) None (us ++ n ∷ qs) None (same_all (untagged f) (untagged g) links (us ++ n ∷ qs)) runs;
+      members = All-join (IsIn g to b) us (n ∷ qs) members.0 (ap (option_map to) (tags n ∙ tag_put c d n link put) ∙ ap Some bucket, members.1);
+      rising = rising_behind g us qs by n up distinct last (subst (λ z. IsAbove z by n up) is above) (λ k z. let both : Some first ≡ Some k = sym begin ∙ z in let same : first ≡ k = cc in subst (λ m. up_at g m ≡ up) same up_is);
     })
 
-module _ (cs ds : ℕ → Column) (d e : Column) (i j : HashIndex) (n first : Node) (b hash : ℕ) (link : Link) (head : Head) (h : IsSound cs i) (within : b < i.buckets.len) (puts : PutsHead i j b head) (begin : first_in head ≡ Some first) (followed : 128 ≤ head.mark) (len : j.len ≡ i.len + 1) (load : j.len * 4 ≤ j.buckets.len) (new : Lacks (spelled cs i) n) (bucket : b ≡ leads_to i hash)
-    (began : get_or (heads_of i) b None ≡ Some first) (is : cs i.col first ≡ Some link) (put : IsPut (cs i.col) d n (record { a = Some first; b = link.b; up = None; tag = hash; height = 0 })) (next : SetsNext (untagged d) (untagged e) (Some first) (Some n)) (same_next : KeepsOtherNodes d e (Some first)) (prev : SetsPrev (untagged e) (untagged (ds i.col)) link.b (Some n)) (same_prev : KeepsOtherNodes e (ds i.col) link.b) (tags : KeepsTags d (ds i.col))
-    (oldest : 192 ≤ head.mark → IsOldestOf (cs i.col) (spelled cs i) first) (later : link.tag ≡ hash → number_of first < number_of n) where
-  second_both : IsSound ds j × IsPermutation (n ∷ spelled cs i) (spelled ds j)
-  second_both =
+module _ (cs ds : ℕ → Column) (d e f : Column) (i j : HashIndex) (n first by : Node) (b hash : ℕ) (link : Link) (up : Option Node) (head : Head) (h : IsSound cs i) (within : b < i.buckets.len) (puts : PutsHead i j b head) (begin : first_in head ≡ Some first) (followed : 128 ≤ head.mark) (len : j.len ≡ i.len + 1) (load : j.len * 4 ≤ j.buckets.len) (new : Lacks (spelled cs i) n) (bucket : b ≡ leads_to i hash)
+    (began : get_or (heads_of i) b None ≡ Some first) (stands : Holds (rest_of cs i (Some first)) by) (above : IsAbove (rest_of cs i (Some first)) by n up) (is : cs i.col by ≡ Some link) (put : IsPut (cs i.col) d n (record { a = Some by; b = link.b; up = None; tag = hash; height = 0 })) (next : SetsNext (untagged d) (untagged e) (Some by) (Some n)) (same_next : KeepsOtherNodes d e (Some by)) (prev : SetsPrev (untagged e) (untagged f) link.b (Some n)) (same_prev : KeepsOtherNodes e f link.b)
+    (links : (m : Node) → untagged (ds i.col) m ≡ untagged f m) (same_up : KeepsOtherNodes f (ds i.col) (Some first)) (up_is : up_at (ds i.col) first ≡ up) (tags : KeepsTags d (ds i.col)) (oldest : 192 ≤ head.mark → IsOldestOf (cs i.col) (spelled cs i) first) (later : tag_at (cs i.col) first ≡ Some hash → number_of first < number_of n) where
+  behind_both : IsSound ds j × IsPermutation (n ∷ spelled cs i) (spelled ds j)
+  behind_both =
       let c = cs i.col in
-      let f = focus_of cs i (spelled cs i) b within h in
-      let tail = first_split f.chain first (sym f.here.first ∙ began) in
-      let qs = tail.0 in
-      let near = neighbours c [] first qs link (subst (λ z. Runs (untagged c) None z None) tail.1 f.here.runs) is in
-      let members = subst (AllByRecursion (IsIn c (leads_to i) b)) tail.1 f.here.members in
-      let between : Link = record { a = Some first; b = link.b; up = None; tag = hash; height = 0 } in
-      let front = f.front ++ first ∷ [] in
-      let back = qs ++ f.back in
+      let at = focus_of cs i (spelled cs i) b within h in
+      let rest = chain_rest cs i b first h within began in
+      let k = subst (λ z. Holds z by) rest stands in
+      let us = k.before ++ by ∷ [] in
+      let qs = k.after in
+      let split : at.chain ≡ us ++ qs = k.is ∙ sym (append_assoc k.before (by ∷ []) qs) in
+      let last : last_or us None ≡ Some by = last_or-append k.before (by ∷ []) None in
+      let start : first_or us None ≡ Some first = first_front k.before by qs ∙ (sym (ap (λ z. first_or z None) k.is) ∙ (sym at.here.first ∙ began)) in
+      let near = neighbours c k.before by qs link (subst (λ z. Runs (untagged c) None z None) k.is at.here.runs) is in
+      let members = All-split (IsIn c (leads_to i) b) k.before (by ∷ qs) (subst (AllByRecursion (IsIn c (leads_to i) b)) k.is at.here.members) in
+      let between : Link = record { a = Some by; b = link.b; up = None; tag = hash; height = 0 } in
+      let front = at.front ++ us in
+      let back = qs ++ at.back in
       let ys : List Node = front ++ n ∷ back in
-      let joins : f.front ++ ((first ∷ (n ∷ qs)) ++ f.back) ≡ ys = sym (append_assoc f.front (first ∷ []) (n ∷ back)) in
-      let whole : spelled cs i ≡ front ++ back = f.whole ∙ (ap (λ z. f.front ++ (z ++ f.back)) tail.1 ∙ sym (append_assoc f.front (first ∷ []) back)) in
+      let joins : at.front ++ ((us ++ n ∷ qs) ++ at.back) ≡ ys = ap (λ z. at.front ++ z) (append_assoc us (n ∷ qs) at.back) ∙ sym (append_assoc at.front us (n ∷ back)) in
+      let whole : spelled cs i ≡ front ++ back = at.whole ∙ (ap (λ z. at.front ++ (z ++ at.back)) split ∙ (ap (λ z. at.front ++ z) (append_assoc us qs at.back) ∙ sym (append_assoc at.front us back))) in
       let lacks = subst (λ z. Lacks z n) whole new in
       let hangs = hangs_kept ds i j b head ys puts (subst (λ o. Hangs (ds i.col) (leads_to i) 0 (set (heads_of i) b o) ys) (sym begin) (subst (λ z. Hangs (ds i.col) (leads_to i) 0 (set (heads_of i) b (Some first)) z) joins
-      (second_hangs c d e (ds i.col) (leads_to i) b (heads_of i) (spelled cs i) n first hash link.b qs f h.distinct new (sym bucket) tail.1 near.b put next same_next prev same_prev tags))) in
+      (behind_hangs c d e f (ds i.col) (leads_to i) b (heads_of i) (spelled cs i) n first by hash link.b up us qs at h.distinct new (sym bucket) split last start near.b (subst (λ z. IsAbove z by n up) rest above) put next same_next prev same_prev links same_up up_is tags))) in
       let are = right_put cs ds i j b head (λ m. m ≢ n) h puts (others_of (spelled cs i) n new)
-      (λ k m ne other there.
-      same_prev m (λ at. ne (one_chain c (leads_to i) b k m (first_has (IsIn c (leads_to i) b) qs m members.1 (sym near.b ∙ at)) there))
-      ∙ (same_next m (λ at. let same : first ≡ m = cc in ne (one_chain c (leads_to i) b k m (subst (IsIn c (leads_to i) b) same members.0) there)) ∙ put.others m other))
+      (λ q m ne other there.
+      same_up m (λ z. ne (one_chain c (leads_to i) b q m (first_has (IsIn c (leads_to i) b) at.chain m at.here.members (sym at.here.first ∙ (began ∙ z))) there))
+      ∙ (same_prev m (λ z. ne (one_chain c (leads_to i) b q m (first_has (IsIn c (leads_to i) b) qs m members.1.1 (sym near.b ∙ z)) there))
+      ∙ (same_next m (λ z. let same : by ≡ m = cc in ne (one_chain c (leads_to i) b q m (subst (IsIn c (leads_to i) b) same members.1.0) there)) ∙ put.others m other)))
       (λ alone m l from there. absurd (omega (arith, alone, followed))) in
       let tag : tag_at (ds i.col) n ≡ Some hash = tags n ∙ tag_put c d n between put in
       let kept : (m : Node) → m ≢ n → tag_at (ds i.col) m ≡ tag_at c m = λ m ne. tags m ∙ tag_other c d n m between put ne in
-      let apart : first ≢ n = λ same. (Lacks-back f.front (first ∷ back) n (subst (λ z. Lacks z n) (append_assoc f.front (first ∷ []) back) lacks)).0 (sym same) in
-      let comes : tag_at (ds i.col) n ≡ tag_at (ds i.col) first → n ≢ first → number_of first < number_of n =
-      λ same ne. let both : Some hash ≡ Some link.tag = sym tag ∙ (same ∙ (kept first apart ∙ tag_is c first link is)) in later (cc) in
+      let held = began_held cs i b first within began h in
+      let apart : first ≢ n = held_in (λ m. m ≢ n) (spelled cs i) first (others_of (spelled cs i) n new) held in
+      let comes : tag_at (ds i.col) n ≡ tag_at (ds i.col) first → n ≢ first → number_of first < number_of n = λ same ne. later (sym (kept first apart) ∙ (sym same ∙ tag)) in
       let old = old_put cs ds i j b head n hash front back h puts whole new (sym bucket) tag kept
-      (λ says m at. let same : first ≡ m = cc in subst (IsOldestOf (ds i.col) ys) same (old_more c (ds i.col) front n back first kept apart lacks comes (subst (λ z. IsOldestOf c z first) whole (oldest says)))) in
+      (λ says m z. let same : first ≡ m = cc in subst (IsOldestOf (ds i.col) ys) same (old_more c (ds i.col) front n back first kept apart lacks comes (subst (λ y. IsOldestOf c y first) whole (oldest says)))) in
       let dist = Distinct-insert front n back (subst IsDistinct whole h.distinct) lacks in
-      let s = Spells_from ds j ys hangs dist (len ∙ (ap (λ k. k + 1) (h.len ∙ ap length whole) ∙ length-insert front n back)) load are old in
+      let s = Spells_from ds j ys hangs dist (len ∙ (ap (λ q. q + 1) (h.len ∙ ap length whole) ∙ length-insert front n back)) load are old in
       let moved : IsPermutation (n ∷ (front ++ back)) ys = IsPermutation-sym _ _ (IsPermutation-middle front n back) in
       (IsSound_from ds j ys s, subst (λ z. IsPermutation (n ∷ spelled cs i) z) s.is (subst (λ z. IsPermutation (n ∷ z) ys) (sym whole) moved))
 
-  pub second_sound : IsSound ds j
-  second_sound = second_both.0
+  pub behind_sound : IsSound ds j
+  behind_sound = behind_both.0
 
-  pub second_moved : IsPermutation (n ∷ spelled cs i) (spelled ds j)
-  second_moved = second_both.1
+  pub behind_moved : IsPermutation (n ∷ spelled cs i) (spelled ds j)
+  behind_moved = behind_both.1

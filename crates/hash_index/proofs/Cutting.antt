@@ -127,6 +127,7 @@ halves_step c d f p q never zs n rest one new other dist h passes fails builds t
         first = h.other_is.first;
         last = h.other_is.last;
         runs = Runs-same (untagged d) (untagged f) None (filter q h.done) None (same_untagged d f (filter q h.done) still) h.other_is.runs;
+        rises = h.other_is.rises;
       });
       tags = λ m. tags m ∙ h.tags m;
       kept = λ m l.

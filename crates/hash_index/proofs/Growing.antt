@@ -24,6 +24,7 @@ use Rattle.hash_index.specs.Oldest.{IsOldestOf, IsOldest, AreOldest}
 use Rattle.hash_index.proofs.Oldest.{old_tags, old_cut, oldest_set}
 use Rattle.hash_index.specs.Chains.{tag_at, leads, members, IsIn, IsChain, AreChains, joined, KeepsTags}
 use Rattle.hash_index.specs.Spelled.{all_of, heads_of, Spells, IsSound, spelled, leads_to}
+use Rattle.hash_index.specs.Rising.{IsRising}
 use Rattle.hash_index.specs.Walks.{rest_of}
 use Rattle.hash_index.specs.Split.{Builds, IsSame, goes, left, taken}
 use Rattle.hash_index.proofs.Untagged.{leads_tag, leads_there, leads_elsewhere, in_tag}
@@ -213,7 +214,7 @@ module _ (i j : HashIndex) (level : j.level ≡ i.level) (count : j.buckets.len 
       omega (arith, lt, bad)
 
   module _ (cs ds : ℕ → Column) (stay moved : Chain) (head : Option Node) (from : ℕ) (h : IsSound cs i) (from_is : from ≡ i.buckets.len - i.level) (at : head ≡ get_or (heads_of i) from None)
-      (stay_is : Builds (ds i.col) stay (left (cs i.col) i (rest_of cs i head))) (moved_is : Builds (ds i.col) moved (taken (cs i.col) i (rest_of cs i head))) (tags : KeepsTags (cs i.col) (ds i.col)) (same : (m : Node) → Lacks (rest_of cs i head) m → ds i.col m ≡ cs i.col m)
+      (stay_is : Builds (ds i.col) stay (left (cs i.col) i (rest_of cs i head))) (moved_is : Builds (ds i.col) moved (taken (cs i.col) i (rest_of cs i head))) (stay_rising : IsRising (ds i.col) (left (cs i.col) i (rest_of cs i head))) (moved_rising : IsRising (ds i.col) (taken (cs i.col) i (rest_of cs i head))) (tags : KeepsTags (cs i.col) (ds i.col)) (same : (m : Node) → Lacks (rest_of cs i head) m → ds i.col m ≡ cs i.col m)
       (col : j.col ≡ i.col) (len : j.len ≡ i.len) (cuts : CutsHeads i j from stay.first moved.first) (stay_right : IsRight (ds i.col) cuts.stays) (moved_right : IsRight (ds i.col) cuts.goes)
       (stay_old : 192 ≤ cuts.stays.mark → (n : Node) → first_in cuts.stays ≡ Some n → IsOldestOf (cs i.col) (spelled cs i) n) (moved_old : 192 ≤ cuts.goes.mark → (n : Node) → first_in cuts.goes ≡ Some n → IsOldestOf (cs i.col) (spelled cs i) n) where
     abbrev c : Column
@@ -251,12 +252,18 @@ module _ (i j : HashIndex) (level : j.level ≡ i.level) (count : j.buckets.len 
           runs = b.runs;
           members = All-map (λ n. IsIn c (leads_to i) from n × (not (goes c i n) ≡ true)) (IsIn d (leads_to j) from) (λ n e. stays_in n e.0 e.1) (left c i focused.chain)
               (All-both (IsIn c (leads_to i) from) (λ n. not (goes c i n) ≡ true) (left c i focused.chain) (All-filter (IsIn c (leads_to i) from) (λ n. not (goes c i n)) focused.chain focused.here.members) (All-passed (λ n. not (goes c i n)) focused.chain));
+          rising = subst (λ z. IsRising d (left c i z)) rest stay_rising;
         }
 
     moved_chain : IsChain d (leads_to j) last moved.first (taken c i focused.chain)
     moved_chain =
         let b = subst (λ z. Builds d moved (taken c i z)) rest moved_is in
-        record { first = b.first; runs = b.runs; members = All-map (λ n. goes c i n ≡ true) (IsIn d (leads_to j) last) goes_in (taken c i focused.chain) (All-passed (goes c i) focused.chain) }
+        record {
+          first = b.first;
+          runs = b.runs;
+          members = All-map (λ n. goes c i n ≡ true) (IsIn d (leads_to j) last) goes_in (taken c i focused.chain) (All-passed (goes c i) focused.chain);
+          rising = subst (λ z. IsRising d (taken c i z)) rest moved_rising;
+        }
 
     same_apart : (zs : List Node) → AreApart zs focused.chain → IsSameAt c d zs
     same_apart [] apart = tt

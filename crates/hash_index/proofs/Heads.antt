@@ -12,7 +12,8 @@ use Rattle.list_model.proofs.Lists.{All-at}
 use Rattle.list_model.proofs.Kept.{All-split}
 use Rattle.hash_index.specs.declared.head.Head.{Head}
 use Rattle.hash_index.specs.Heads.{first_in, hinted_in, IsRight, AreRight}
-use Rattle.hash_index.specs.Chains.{IsIn, IsChain, AreChains, joined}
+use Rattle.hash_index.specs.Chains.{untagged_link, untagged, KeepsTags, IsIn, IsChain, AreChains, joined}
+use Rattle.hash_index.proofs.Untagged.{some_untagged, tag_of}
 
 -- ---- the ends of a list
 
@@ -56,6 +57,21 @@ pub slice_first : (firsts : List (Option Node)) (hs : List Head) (b : ℕ) → f
 slice_first firsts hs b is h e =
     let at : slice_get (map first_in hs) b ≡ Some (first_in h) = slice_get-map first_in hs b ∙ ap (option_map first_in) e in
     sym (ap (λ z. get_or z b None) is ∙ get_or_from_slice_get (map first_in hs) b (first_in h) None at)
+
+-- a head stays right where no more changes than where nodes lead up to
+pub right_up : (e f : Column) (h : Head) → ((m : Node) → untagged f m ≡ untagged e m) → KeepsTags e f → IsRight e h → IsRight f h
+right_up e f h links tags right = λ alone n l first at.
+    let t = some_untagged (e n) (untagged_link l) (sym (links n) ∙ ap (option_map untagged_link) at) in
+    let is = right alone n t.0 first t.1 in
+    let one : Some (untagged_link t.0) ≡ Some (untagged_link l) = sym (ap (option_map untagged_link) t.1) ∙ (sym (links n) ∙ ap (option_map untagged_link) at) in
+    let two : Some t.0.tag ≡ Some l.tag = sym (ap (option_map tag_of) t.1) ∙ (sym (tags n) ∙ ap (option_map tag_of) at) in
+    let b : t.0.b ≡ l.b = ap next_in one in
+    let tag : t.0.tag ≡ l.tag = cc in
+    (sym b ∙ is.0, is.1 ∙ ap (λ k. k / 2 ^ 58 + 64) tag)
+  where
+    next_in : Option Link → Option Node
+    next_in None = None
+    next_in (Some k) = k.b
 
 -- the head of no nodes
 pub right_none : (c : Column) (h : Head) → first_in h ≡ None → IsRight c h

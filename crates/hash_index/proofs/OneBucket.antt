@@ -13,6 +13,7 @@ use Rattle.seq_index.specs.Spelled.{follow, following}
 use Rattle.seq_index.proofs.Runs.{Runs-same}
 use Rattle.hash_index.specs.Chains.{untagged, IsIn, IsChain, AreChains, joined, first_head}
 use Rattle.hash_index.specs.Walks.{Leads}
+use Rattle.hash_index.proofs.Rising.{rising_same}
 use Rattle.hash_index.proofs.Untagged.{tag_of, same_untagged, tagged_node, in_tag}
 
 -- the node is in another bucket, or in none
@@ -40,6 +41,7 @@ chain_same c d to into b keeps head xs s h = record {
   first = h.first;
   runs = Runs-same (untagged c) (untagged d) None xs None (same_untagged c d xs s) h.runs;
   members = in_same c d to into b keeps xs s h.members;
+  rising = rising_same c d xs s h.rising;
 }
 
 pub chains_same : (c d : Column) (to into : ℕ → ℕ) (b : ℕ) → ((k : ℕ) → b ≤ k → (hash : ℕ) → to hash ≡ k → into hash ≡ k) → (heads : List (Option Node)) (xss : List (List Node)) → IsSameAt c d (joined xss) → AreChains c to b heads xss → AreChains d into b heads xss

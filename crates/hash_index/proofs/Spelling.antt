@@ -90,7 +90,7 @@ pub empty_hangs : (c : Column) (to : ℕ → ℕ) (k : ℕ) (heads : List (Optio
 empty_hangs c to k [] h = record { chains = []; are = tt; whole = refl }
 empty_hangs c to k (head ∷ heads) h =
     let r = empty_hangs c to (k + 1) heads h.1 in
-    record { chains = [] ∷ r.chains; are = (record { first = h.0; runs = tt; members = tt }, r.are); whole = r.whole }
+    record { chains = [] ∷ r.chains; are = (record { first = h.0; runs = tt; members = tt; rising = λ m e. absurd (cc) }, r.are); whole = r.whole }
 
 pub empty_sound : (cs : ℕ → Column) (i : HashIndex) → AllByRecursion (λ o. o ≡ None) (heads_of i) → i.len ≡ 0 → IsSound cs i
 empty_sound cs i h e = IsSound_from cs i [] (Spells_from cs i [] (empty_hangs (cs i.col) (leads_to i) 0 (heads_of i) h) tt e (omega (arith, e)) (all_none (cs i.col) (all_of i) h) (none_oldest (cs i.col) [] (all_of i) h))
@@ -192,7 +192,7 @@ has_neighbours cs i xs n link h k is =
       after = λ m e. tagged_node (cs i.col) m (AreNodes-first (untagged (cs i.col)) None (held.before ++ n ∷ []) held.after None past m (sym near.b ∙ e));
     }
 
-beside_some : (qs : List Node) (o : Option Node) (m : Node) → first_or qs None ≡ Some m → first_or qs o ≡ Some m
+pub beside_some : (qs : List Node) (o : Option Node) (m : Node) → first_or qs None ≡ Some m → first_or qs o ≡ Some m
 beside_some [] o m e = cc
 beside_some (q ∷ qs) o m e = e
 

@@ -14,7 +14,7 @@ abbrev pub tag_of : Link → ℕ
 tag_of l = l.tag
 
 -- what an option of links holds, where it is known without its tag
-some_untagged : (o : Option Link) (l : Link) → option_map untagged_link o ≡ Some l → (k : Link) × (o ≡ Some k)
+pub some_untagged : (o : Option Link) (l : Link) → option_map untagged_link o ≡ Some l → (k : Link) × (o ≡ Some k)
 some_untagged None l e = absurd (cc)
 some_untagged (Some k) l e = (k, refl)
 
@@ -30,6 +30,11 @@ put_untagged c d n l put = record {
   others = λ m ne. ap (option_map untagged_link) (put.others m ne);
   nodes = λ m h. untagged_node d m (put.nodes m (tagged_node c m h));
 }
+
+-- columns that are the same at each node
+pub same_all : (c d : Column) → ((n : Node) → d n ≡ c n) → (xs : List Node) → IsSameAt c d xs
+same_all c d same [] = tt
+same_all c d same (x ∷ xs) = (same x, same_all c d same xs)
 
 pub same_untagged : (c d : Column) (xs : List Node) → IsSameAt c d xs → IsSameAt (untagged c) (untagged d) xs
 same_untagged c d [] h = tt

@@ -7,10 +7,11 @@ use Rattle.node_store.specs.declared.Link.{Link}
 use Rattle.node_store.specs.Column.{Column}
 use Rattle.node_store.specs.Nodes.{first_or}
 use Rattle.seq_index.specs.Links.{Runs}
+use Rattle.hash_index.specs.Rising.{IsRising}
 
 -- links that lead to and fro, and no more
 abbrev pub untagged_link : Link → Link
-untagged_link l = record l { tag = 0 }
+untagged_link l = record l { up = None; tag = 0 }
 
 -- the same for those of a column
 abbrev pub untagged : Column → Column
@@ -36,11 +37,12 @@ leads c to b n = option_map_or (λ hash. to hash == b) (tag_at c n) false
 abbrev pub members : Column → (ℕ → ℕ) → ℕ → List Node → List Node
 members c to b xs = filter (leads c to b) xs
 
--- the nodes of one chain, linked to and fro, from the first of them
+-- the nodes of one chain, linked to and fro, from the first of them, whose link may say which one is the last of a chain that rises
 pub record IsChain (c : Column) (to : ℕ → ℕ) (b : ℕ) (head : Option Node) (xs : List Node) : Type 0 where
   pub first : head ≡ first_or xs None
   pub runs : Runs (untagged c) None xs None
   pub members : AllByRecursion (IsIn c to b) xs
+  pub rising : IsRising c xs
 
 -- the chains from this one on
 abbrev pub AreChains : Column → (ℕ → ℕ) → ℕ → List (Option Node) → List (List Node) → Type 0

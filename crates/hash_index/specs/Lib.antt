@@ -2,6 +2,7 @@ pub mod Mask
 pub mod Heads
 pub mod Segments
 pub mod Buckets
+pub mod Rising
 pub mod Chains
 pub mod Oldest
 pub mod Earliest

@@ -1,5 +1,5 @@
 -- A chain that is cut in two when one is added.
-use Rattle.std.specs.Prelude.{◌≡◌, ℕ, ◌*◌, ◌%◌, List, filter, Bool, not, None}
+use Rattle.std.specs.Prelude.{◌≡◌, ℕ, ◌*◌, ◌%◌, List, filter, Bool, not, None, IsTrue}
 use Rattle.node_store.specs.declared.Node.{Node}
 use Rattle.node_store.specs.Column.{Column}
 use Rattle.node_store.specs.Nodes.{first_or, last_or}
@@ -7,6 +7,7 @@ use Rattle.seq_index.specs.Links.{Runs}
 use Rattle.hash_index.specs.declared.HashIndex.{HashIndex}
 use Rattle.hash_index.specs.declared.chain.Chain.{Chain}
 use Rattle.hash_index.specs.Chains.{untagged, leads}
+use Rattle.hash_index.specs.Rising.{Rises}
 use Rattle.hash_index.specs.Spelled.{all_of, leads_to}
 
 -- the chain has these nodes
@@ -14,6 +15,7 @@ pub record Builds (c : Column) (chain : Chain) (xs : List Node) : Type 0 where
   pub first : chain.first ≡ first_or xs None
   pub last : chain.last ≡ last_or xs None
   pub runs : Runs (untagged c) None xs None
+  pub rises : IsTrue chain.rises → Rises xs
 
 -- whether the node goes to the chain after the last
 abbrev pub goes : Column → HashIndex → Node → Bool

@@ -1,11 +1,14 @@
 //! Writes of the links of a chain.
-ghost use Rattle.std.specs.Prelude.{◌≡◌, ◌≢◌, ◌<◌, List, [], ◌∷◌, ◌++◌, Some, None};
+ghost use Rattle.std.specs.Prelude.{◌≡◌, ◌≢◌, ◌<◌, nat_lt, true, List, [], ◌∷◌, ◌++◌, Some, None};
+ghost use Rattle.std.specs.Option.{option_map_or};
+ghost use Rattle.node_store.specs.Store.{number_of};
 ghost use Rattle.node_store.specs.declared.Node.{Node};
 ghost use Rattle.node_store.specs.Nodes.{IsDistinct};
 ghost use Rattle.node_store.specs.ByNode.{column_of, contents};
 ghost use Rattle.node_store.specs.Column.{KeepsOthers, KeepsNodes, IsNode, Column};
 ghost use Rattle.seq_index.specs.Links.{AreNodes, SetsNext, SetsPrev, end_beside};
 ghost use Rattle.hash_index.specs.Chains.{untagged, tag_at, KeepsTags, KeepsOtherNodes};
+ghost use Rattle.hash_index.specs.Rising.{up_at, KeepsUps, IsRising};
 ghost use Rattle.hash_index.specs.Split.{Builds};
 
 use node_store::{Link, Node, NodeStore};
@@ -21,6 +24,7 @@ pub(crate) fn set_next<R>(
     ensures ends { SetsNext (untagged (column_of store.old col))
         (untagged (column_of store.new col)) at next }
     ensures tags { KeepsTags (column_of store.old col) (column_of store.new col) }
+    ensures ups { KeepsUps (column_of store.old col) (column_of store.new col) }
     ensures same { KeepsOtherNodes (column_of store.old col) (column_of store.new col) at }
     ensures others { KeepsOthers (column_of store.old) (column_of store.new) col }
     ensures contents { contents store.new ≡ contents store.old }
@@ -42,6 +46,7 @@ pub(crate) fn set_prev<R>(
     ensures ends { SetsPrev (untagged (column_of store.old col))
         (untagged (column_of store.new col)) at prev }
     ensures tags { KeepsTags (column_of store.old col) (column_of store.new col) }
+    ensures ups { KeepsUps (column_of store.old col) (column_of store.new col) }
     ensures same { KeepsOtherNodes (column_of store.old col) (column_of store.new col) at }
     ensures others { KeepsOthers (column_of store.old) (column_of store.new) col }
     ensures contents { contents store.new ≡ contents store.old }
@@ -49,6 +54,38 @@ pub(crate) fn set_prev<R>(
     if let Some(m) = at {
         let link = store.link(m, col);
         store.set_link(m, col, Link { a: prev, ..link });
+    }
+}
+
+// Makes the link of the node `at`, if there is one, lead up to `up`.
+pub(crate) fn set_up<R>(
+    store: &mut NodeStore<R>,
+    col: usize,
+    at: Option<Node>,
+    up: Option<Node>,
+)
+    requires { AreNodes (column_of store.old col) at }
+    ensures up { (m : Node) → at ≡ Some m → up_at (column_of store.new col) m ≡ up }
+    ensures links { (m : Node) → untagged (column_of store.new col) m ≡ untagged (column_of store.old col) m }
+    ensures tags { KeepsTags (column_of store.old col) (column_of store.new col) }
+    ensures same { KeepsOtherNodes (column_of store.old col) (column_of store.new col) at }
+    ensures nodes { KeepsNodes (column_of store.old col) (column_of store.new col) }
+    ensures others { KeepsOthers (column_of store.old) (column_of store.new) col }
+    ensures contents { contents store.new ≡ contents store.old }
+{
+    if let Some(m) = at {
+        let link = store.link(m, col);
+        store.set_link(m, col, Link { up, ..link });
+    }
+}
+
+// Whether a node was added after the last one, if there is one.
+fn is_after(last: Option<Node>, n: Node) -> bool
+    ensures { result ≡ option_map_or (λ m. nat_lt (number_of m) (number_of n)) last true }
+{
+    match last {
+        Some(m) => m.number() < n.number(),
+        None => true,
     }
 }
 
@@ -63,11 +100,12 @@ pub(crate) fn first_beside(
     if before.is_some() { first } else { after }
 }
 
-// The ends of a chain that is made node by node.
+// The ends of a chain that is made node by node, and whether its nodes stand in the order in which they were added.
 #[derive(Clone, Copy)]
 pub(crate) struct Chain {
     pub(crate) first: Option<Node>,
     last: Option<Node>,
+    rises: bool,
 }
 
 impl Chain {
@@ -78,6 +116,7 @@ impl Chain {
         Chain {
             first: None,
             last: None,
+            rises: true,
         }
     }
 
@@ -106,6 +145,25 @@ impl Chain {
         store.set_link(n, col, link);
         set_next(store, col, self.last, Some(n));
         self.first = first_beside(self.last, self.first, Some(n));
+        self.rises = self.rises && is_after(self.last, n);
         self.last = Some(n);
+    }
+
+    // Makes the first node of a chain that rises lead up to the last.
+    pub(crate) fn close<R>(&self, store: &mut NodeStore<R>, col: usize)
+        requires { AreNodes (column_of store.old col) self.now.first }
+        ensures rising { (xs : List Node) → Builds (column_of store.old col) self.now xs →
+            IsRising (column_of store.new col) xs }
+        ensures links { (m : Node) → untagged (column_of store.new col) m ≡
+            untagged (column_of store.old col) m }
+        ensures tags { KeepsTags (column_of store.old col) (column_of store.new col) }
+        ensures same { KeepsOtherNodes (column_of store.old col) (column_of store.new col)
+            self.now.first }
+        ensures nodes { KeepsNodes (column_of store.old col) (column_of store.new col) }
+        ensures others { KeepsOthers (column_of store.old) (column_of store.new) col }
+        ensures contents { contents store.new ≡ contents store.old }
+    {
+        let up = if self.rises { self.last } else { None };
+        set_up(store, col, self.first, up);
     }
 }

@@ -43,7 +43,11 @@ impl HashIndex {
                 }
             }
         }
-        self.earliest_from(store, keys, probe, hash, head.node())
+        let first = head.node();
+        if self.rises(store, first) {
+            return self.match_from(store, keys, probe, hash, first);
+        }
+        self.earliest_from(store, keys, probe, hash, first)
     }
 
     // The node that was added first of those whose records have the whole key, which has this hash, of a chain from `at`

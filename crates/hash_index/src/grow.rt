@@ -10,6 +10,7 @@ ghost use Rattle.hash_index.specs.Walks.{rest_of, Ends};
 ghost use Rattle.hash_index.specs.Chains.{members};
 ghost use Rattle.hash_index.specs.Segments.{spare};
 ghost use Rattle.hash_index.specs.Split.{Builds, IsSame, left, taken};
+ghost use Rattle.hash_index.specs.Rising.{IsRising};
 
 use crate::HashIndex;
 use crate::chain::Chain;
@@ -166,6 +167,12 @@ impl HashIndex {
         ensures moved { Builds (column_of store.new (col_of self.now)) result.1
             (taken (column_of store.old (col_of self.now)) self.now
             (rest_of (column_of store.old) self.now at)) }
+        ensures stay_rising { IsRising (column_of store.new (col_of self.now))
+            (left (column_of store.old (col_of self.now)) self.now
+            (rest_of (column_of store.old) self.now at)) }
+        ensures moved_rising { IsRising (column_of store.new (col_of self.now))
+            (taken (column_of store.old (col_of self.now)) self.now
+            (rest_of (column_of store.old) self.now at)) }
         ensures tags { KeepsTags (column_of store.old (col_of self.now))
             (column_of store.new (col_of self.now)) }
         ensures same { (m : Node) → Lacks (rest_of (column_of store.old) self.now at) m →
@@ -186,6 +193,8 @@ impl HashIndex {
                 stay.append(store, self.col, n, link.tag);
             }
         }
+        stay.close(store, self.col);
+        moved.close(store, self.col);
         (stay, moved)
     }
 }

@@ -15,6 +15,7 @@ ghost use Rattle.seq_index.specs.Links.{AreNodes, end_beside};
 ghost use Rattle.hash_index.specs.Mask.{HasMask, HasMask_prop};
 ghost use Rattle.hash_index.specs.Heads.{first_in, IsRight};
 
+mod behind;
 mod buckets;
 mod chain;
 mod column;
@@ -124,6 +125,7 @@ impl HashIndex {
         let Link {
             a: before,
             b: after,
+            up,
             tag,
             ..
         } = store.link(n, self.col);
@@ -131,12 +133,14 @@ impl HashIndex {
         set_next(store, self.col, before, after);
         set_prev(store, self.col, after, before);
         let head = self.head_beside(store, before, bucket, after);
+        self.set_top(store, before, head.node(), after, up);
         self.buckets.set(bucket, head);
         self.len -= 1;
     }
 
-    // Puts `n` into the chain of a hash: behind the first node, which so stays the oldest of its hash if it is, and
-    // before it only where it is older and has the same hash.
+    // Puts `n` into the chain of a hash: behind the last node where the chain is known to rise to it and `n` is younger,
+    // else behind the first, which so stays the oldest of its hash if it is, and before it only where it is older and has
+    // the same hash.
     pub(crate) fn put<R>(&mut self, store: &mut NodeStore<R>, n: Node, hash: u64)
         requires chain { AreBucketsOf self.old store.old }
         requires node { IsNode (column_of store.old (col_of self.old)) n }
@@ -159,7 +163,7 @@ impl HashIndex {
         if let Some(first) = head.node() {
             let link = store.link(first, self.col);
             if link.tag != hash || first.number() < n.number() {
-                self.put_second(store, n, hash, head, first, link);
+                self.put_later(store, n, hash, head, first, link);
                 return;
             }
         }
@@ -196,52 +200,6 @@ impl HashIndex {
         store.set_link(n, self.col, link);
         set_prev(store, self.col, head, Some(n));
         self.buckets.set(bucket, Head::of(n, hash, head.is_some()));
-        self.len += 1;
-    }
-
-    // Puts `n` behind the first node of the chain of a hash.
-    fn put_second<R>(
-        &mut self,
-        store: &mut NodeStore<R>,
-        n: Node,
-        hash: u64,
-        head: Head,
-        first: Node,
-        link: Link,
-    )
-        requires chain { AreBucketsOf self.old store.old }
-        requires node { IsNode (column_of store.old (col_of self.old)) n }
-        requires new { Lacks (nodes_of self.old store.old) n }
-        requires room { HasRoom self.old }
-        requires head { slice_get (all_of self.old) (leads_to self.old hash) ≡ Some head }
-        requires first { first_in head ≡ Some first }
-        requires link { column_of store.old (col_of self.old) first ≡ Some link }
-        requires later { link.tag ≡ hash → number_of first < number_of n }
-        ensures chain { AreBucketsOf self.new store.new }
-        ensures list { IsPermutation (n ∷ nodes_of self.old store.old)
-            (nodes_of self.new store.new) }
-        ensures tag { tag_at (column_of store.new (col_of self.old)) n ≡ Some hash }
-        ensures tags { (m : Node) → m ≢ n → tag_at (column_of store.new (col_of self.old)) m ≡
-            tag_at (column_of store.old (col_of self.old)) m }
-        ensures same { (m : Node) → m ≢ n → Lacks (nodes_of self.old store.old) m →
-            column_of store.new (col_of self.old) m ≡ column_of store.old (col_of self.old) m }
-        ensures len { self.new.len ≡ self.old.len + 1 }
-        ensures buckets { buckets_of self.new ≡ buckets_of self.old }
-        ensures rest { KeepsRest self.old self.new store.old store.new }
-    {
-        let bucket = self.bucket(hash);
-        let after = link.b;
-        let between = Link {
-            a: Some(first),
-            b: after,
-            up: None,
-            tag: hash,
-            height: 0,
-        };
-        store.set_link(n, self.col, between);
-        set_next(store, self.col, Some(first), Some(n));
-        set_prev(store, self.col, after, Some(n));
-        self.buckets.set(bucket, head.joined());
         self.len += 1;
     }
 

@@ -116,7 +116,7 @@ impl HashIndex {
     }
 
     // The first node whose record has the whole key, which has this hash, of a chain from `at` on.
-    fn match_from<R, E: Extract<R>>(
+    pub(crate) fn match_from<R, E: Extract<R>>(
         &self,
         store: &NodeStore<R>,
         keys: &E,

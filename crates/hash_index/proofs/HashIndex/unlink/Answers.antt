@@ -1,5 +1,6 @@
-use Rattle.std.proofs.Common.{◌≡◌, ◌+◌, ◌-◌, ◌*◌, ◌≤◌, refl, ◌∙◌, arith}
+use Rattle.std.proofs.Common.{◌≡◌, ◌+◌, ◌-◌, ◌*◌, ◌≤◌, subst, refl, ◌∙◌, arith}
 use Rattle.node_store.specs.ByNode.{column_of}
+use Rattle.hash_index.specs.Chains.{KeepsOtherNodes}
 use Rattle.hash_index.proofs.Untagged.{tagged_node, untagged_node}
 use Rattle.hash_index.proofs.Spelling.{held_node, has_neighbours, some_bucket, some_node}
 use Rattle.hash_index.proofs.Changes.{out_done}
@@ -28,6 +29,7 @@ returns-clause-list g c =
     let some = some_node _ i _ c.args.n c.requires.chain c.requires.held in
     let len : (i.len - 1) + 1 ≡ i.len = omega arith in
     let load : (i.len - 1) * 4 ≤ c.set.new.self.len = omega (arith, c.requires.chain.load, c.set.ensures.len) in
-    out_done (column_of c.args.store.now) (column_of c.set_prev.new.store) _ i _ c.args.n c.bucket-bucket.result c.requires.chain c.bucket-bucket.ensures.within
+    out_done (column_of c.args.store.now) (column_of c.set_top.new.store) (column_of c.set_prev.new.store i.col) i _ c.args.n c.bucket-bucket.result c.requires.chain c.bucket-bucket.ensures.within
     c.link-before.result c.head_beside-head.result (record { col = refl; level = refl; count = c.set.ensures.len; heads = c.set.ensures.heads }) c.head_beside-head.ensures.first c.head_beside-head.ensures.kept c.head_beside-head.ensures.right c.head_beside-head.ensures.plain len load c.requires.held c.bucket-bucket.ensures.is c.link-before.ensures
-    c.set_next.ensures.ends c.set_next.ensures.same c.set_prev.ensures.ends c.set_prev.ensures.same (λ m. c.set_prev.ensures.tags m ∙ c.set_next.ensures.tags m)
+    c.set_next.ensures.ends c.set_next.ensures.same c.set_prev.ensures.ends c.set_prev.ensures.same (λ m. c.set_prev.ensures.tags m ∙ c.set_next.ensures.tags m) (λ m. c.set_prev.ensures.ups m ∙ c.set_next.ensures.ups m)
+    c.set_top.ensures.links c.set_top.ensures.tags (subst (KeepsOtherNodes (column_of c.set_prev.new.store i.col) (column_of c.set_top.new.store i.col)) c.node.ensures c.set_top.ensures.same) (λ m e. c.set_top.ensures.up m (c.node.ensures ∙ e))

@@ -12,4 +12,5 @@ returns-clause-builds g c = λ xs dist h.
       first = c.first_beside-self.ensures ∙ (ap (λ o. end_beside o was.first (Some c.args.n)) h.last ∙ (ap (λ o. end_beside (last_or xs None) o (Some c.args.n)) h.first ∙ first_appended xs c.args.n));
       last = last_appended xs c.args.n;
       runs = append_runs (column_of c.args.store.now c.args.col) _ (column_of c.set_next.new.store c.args.col) was.last c.args.n c.args.hash c.set_link.ensures.put c.set_next.ensures.ends xs h.last dist h.runs;
+      rises = λ yes. ?;
     }

@@ -1,0 +1,38 @@
+-- Chains whose nodes stand in the order in which they were added.
+use Rattle.std.specs.Prelude.{◌≡◌, ◌<◌, List, Option, Some, None, option_and_then}
+use Rattle.node_store.specs.declared.Node.{Node}
+use Rattle.node_store.specs.Column.{Column}
+use Rattle.node_store.specs.Nodes.{first_or, last_or}
+use Rattle.node_store.specs.Store.{number_of}
+use Rattle.list_model.specs.Order.{EachPair}
+
+-- each node of the list was added before all that come after it
+abbrev pub Rises : List Node → Type 0
+Rises xs = EachPair (λ x y. number_of x < number_of y) xs
+
+-- the node that the link of this one leads up to
+abbrev pub up_at : Column → Node → Option Node
+up_at c n = option_and_then (λ l. l.up) (c n)
+
+-- the new column leads up from each node as the old one does
+abbrev pub KeepsUps : Column → Column → Type 0
+KeepsUps c d = (n : Node) → up_at d n ≡ up_at c n
+
+-- the node that the link of the list's first node leads up to
+abbrev pub top_of : Column → List Node → Option Node
+top_of c xs = option_and_then (up_at c) (first_or xs None)
+
+-- where the first node leads up to a node, it is the last, and the list rises
+abbrev pub IsRising : Column → List Node → Type 0
+IsRising c xs = (m : Node) → top_of c xs ≡ Some m → (last_or xs None ≡ Some m) × Rises xs
+
+-- which node is to be the last of a chain that rises, once one between these two has gone, where the first node leads up to `top`, or to `up` before it was first
+abbrev pub top_beside : Option Node → Option Node → Option Node → Option Node → Option Node
+top_beside None after up top = up
+top_beside (Some m) None up None = None
+top_beside (Some m) None up (Some top) = Some m
+top_beside (Some m) (Some n) up top = top
+
+-- where `up` is a node, it is `n`, which was added after the last one of a list that rises and ends with `at`
+abbrev pub IsAbove : List Node → Node → Node → Option Node → Type 0
+IsAbove xs at n up = (m : Node) → up ≡ Some m → (n ≡ m) × (last_or xs None ≡ Some at) × Rises xs × number_of at < number_of n

@@ -1,0 +1,154 @@
+//! Nodes behind others of a chain, and which one is the last of a chain that rises.
+ghost use Rattle.std.specs.Prelude.{◌≡◌, ◌≢◌, ◌+◌, ◌<◌, ◌∷◌, slice_get, option_and_then, Some, None, IsPermutation};
+ghost use Rattle.std.specs.Option.{is_some};
+ghost use Rattle.node_store.specs.declared.Node.{Node};
+ghost use Rattle.node_store.specs.Store.{number_of};
+ghost use Rattle.node_store.specs.Column.{IsNode, KeepsOthers};
+ghost use Rattle.node_store.specs.Nodes.{Lacks, Holds};
+ghost use Rattle.node_store.specs.ByNode.{column_of, contents};
+ghost use Rattle.seq_index.specs.Links.{AreNodes};
+ghost use Rattle.hash_index.specs.Chains.{tag_at, untagged, KeepsTags, KeepsOtherNodes};
+ghost use Rattle.hash_index.specs.Heads.{first_in};
+ghost use Rattle.hash_index.specs.Rising.{IsAbove, up_at, top_beside};
+ghost use Rattle.hash_index.specs.Spelled.{col_of, all_of, buckets_of, HasRoom, leads_to};
+ghost use Rattle.hash_index.specs.Stored.{nodes_of, AreBucketsOf, KeepsRest};
+ghost use Rattle.hash_index.specs.Walks.{rest_of};
+
+use crate::HashIndex;
+use crate::chain::{set_next, set_prev, set_up};
+use crate::head::Head;
+use node_store::{Link, Node, NodeStore};
+
+impl HashIndex {
+    // Puts `n` behind the last node of the chain of a hash, or the first.
+    pub(crate) fn put_later<R>(
+        &mut self,
+        store: &mut NodeStore<R>,
+        n: Node,
+        hash: u64,
+        head: Head,
+        first: Node,
+        link: Link,
+    )
+        requires chain { AreBucketsOf self.old store.old }
+        requires node { IsNode (column_of store.old (col_of self.old)) n }
+        requires new { Lacks (nodes_of self.old store.old) n }
+        requires room { HasRoom self.old }
+        requires head { slice_get (all_of self.old) (leads_to self.old hash) ≡ Some head }
+        requires first { first_in head ≡ Some first }
+        requires link { column_of store.old (col_of self.old) first ≡ Some link }
+        requires later { link.tag ≡ hash → number_of first < number_of n }
+        ensures chain { AreBucketsOf self.new store.new }
+        ensures list { IsPermutation (n ∷ nodes_of self.old store.old)
+            (nodes_of self.new store.new) }
+        ensures tag { tag_at (column_of store.new (col_of self.old)) n ≡ Some hash }
+        ensures tags { (m : Node) → m ≢ n → tag_at (column_of store.new (col_of self.old)) m ≡
+            tag_at (column_of store.old (col_of self.old)) m }
+        ensures same { (m : Node) → m ≢ n → Lacks (nodes_of self.old store.old) m →
+            column_of store.new (col_of self.old) m ≡ column_of store.old (col_of self.old) m }
+        ensures len { self.new.len ≡ self.old.len + 1 }
+        ensures buckets { buckets_of self.new ≡ buckets_of self.old }
+        ensures rest { KeepsRest self.old self.new store.old store.new }
+    {
+        let last = if link.b.is_none() { Some(first) } else { link.up };
+        match last {
+            Some(at) if at.number() < n.number() => {
+                self.put_behind(store, n, hash, head, first, at, Some(n));
+            }
+            _ => self.put_behind(store, n, hash, head, first, first, None),
+        }
+    }
+
+    // Puts `n` behind the node `at` of the chain of a hash, and makes the first node lead up to `up`.
+    fn put_behind<R>(
+        &mut self,
+        store: &mut NodeStore<R>,
+        n: Node,
+        hash: u64,
+        head: Head,
+        first: Node,
+        at: Node,
+        up: Option<Node>,
+    )
+        requires chain { AreBucketsOf self.old store.old }
+        requires node { IsNode (column_of store.old (col_of self.old)) n }
+        requires new { Lacks (nodes_of self.old store.old) n }
+        requires room { HasRoom self.old }
+        requires head { slice_get (all_of self.old) (leads_to self.old hash) ≡ Some head }
+        requires first { first_in head ≡ Some first }
+        requires at { Holds (rest_of (column_of store.old) self.old (Some first)) at }
+        requires up { IsAbove (rest_of (column_of store.old) self.old (Some first)) at n up }
+        requires later { tag_at (column_of store.old (col_of self.old)) first ≡ Some hash →
+            number_of first < number_of n }
+        ensures chain { AreBucketsOf self.new store.new }
+        ensures list { IsPermutation (n ∷ nodes_of self.old store.old)
+            (nodes_of self.new store.new) }
+        ensures tag { tag_at (column_of store.new (col_of self.old)) n ≡ Some hash }
+        ensures tags { (m : Node) → m ≢ n → tag_at (column_of store.new (col_of self.old)) m ≡
+            tag_at (column_of store.old (col_of self.old)) m }
+        ensures same { (m : Node) → m ≢ n → Lacks (nodes_of self.old store.old) m →
+            column_of store.new (col_of self.old) m ≡ column_of store.old (col_of self.old) m }
+        ensures len { self.new.len ≡ self.old.len + 1 }
+        ensures buckets { buckets_of self.new ≡ buckets_of self.old }
+        ensures rest { KeepsRest self.old self.new store.old store.new }
+    {
+        let bucket = self.bucket(hash);
+        let after = store.link(at, self.col).b;
+        let between = Link {
+            a: Some(at),
+            b: after,
+            up: None,
+            tag: hash,
+            height: 0,
+        };
+        store.set_link(n, self.col, between);
+        set_next(store, self.col, Some(at), Some(n));
+        set_prev(store, self.col, after, Some(n));
+        set_up(store, self.col, Some(first), up);
+        self.buckets.set(bucket, head.joined());
+        self.len += 1;
+    }
+
+    // Says at the first node of a chain which one is the last, once the node between two neighbours has gone, whose link
+    // led up to `up`.
+    pub(crate) fn set_top<R>(
+        &self,
+        store: &mut NodeStore<R>,
+        before: Option<Node>,
+        first: Option<Node>,
+        after: Option<Node>,
+        up: Option<Node>,
+    )
+        requires { AreNodes (column_of store.old (col_of self.now)) first }
+        ensures up { (m : Node) → first ≡ Some m →
+            up_at (column_of store.new (col_of self.now)) m ≡
+            top_beside before after up (up_at (column_of store.old (col_of self.now)) m) }
+        ensures links { (m : Node) → untagged (column_of store.new (col_of self.now)) m ≡
+            untagged (column_of store.old (col_of self.now)) m }
+        ensures tags { KeepsTags (column_of store.old (col_of self.now))
+            (column_of store.new (col_of self.now)) }
+        ensures same { KeepsOtherNodes (column_of store.old (col_of self.now))
+            (column_of store.new (col_of self.now)) first }
+        ensures others { KeepsOthers (column_of store.old) (column_of store.new)
+            (col_of self.now) }
+        ensures contents { contents store.new ≡ contents store.old }
+    {
+        if before.is_none() {
+            set_up(store, self.col, first, up);
+        } else if after.is_none() && self.rises(store, first) {
+            set_up(store, self.col, first, before);
+        }
+    }
+
+    // Whether the chain that begins with this node is known to rise.
+    pub(crate) fn rises<R>(&self, store: &NodeStore<R>, first: Option<Node>) -> bool
+        requires { AreNodes (column_of store.now (col_of self.now)) first }
+        ensures { result ≡ is_some (option_and_then
+            (up_at (column_of store.now (col_of self.now))) first) }
+    {
+        match first {
+            Some(n) => store.link(n, self.col).up.is_some(),
+            None => false,
+        }
+    }
+}
