@@ -1,6 +1,6 @@
 -- The node that was added first of those that have a key.
 use Rattle.std.proofs.Common.{◌≡◌, ◌≢◌, ℕ, Bool, true, false, cond, ◌<◌, List, [], ◌∷◌, ◌++◌, Option, Some, None, refl, sym, ap, ◌∙◌, subst, arith, ⊎_elim}
-use Rattle.std.specs.Prelude.{filter}
+use Rattle.std.specs.Prelude.{filter, find}
 use Rattle.std.proofs.lemmas.Bool.Decides.{nat_tests}
 use Rattle.std.specs.List.{AllByRecursion}
 use Rattle.std.specs.Ordering.{is_le, nat_cmp}
@@ -11,6 +11,7 @@ use Rattle.node_store.proofs.ByNode.{node_cases}
 use Rattle.list_model.proofs.Lists.{All-both}
 use Rattle.list_model.proofs.InOrder.{All-map}
 use Rattle.list_model.proofs.Kept.{All-split, All-filter, All-passed}
+use Rattle.hash_index.specs.Rising.{Rises}
 use Rattle.hash_index.specs.Earliest.{earlier, earliest_of}
 
 -- what holds of two nodes holds of the earlier one
@@ -60,6 +61,20 @@ pub earliest_is : (xs : List Node) (n : Node) → Holds xs n → AllByRecursion 
 earliest_is xs n held all =
     let parts = All-split (IsBefore n) held.before (n ∷ held.after) (subst (AllByRecursion (IsBefore n)) held.is all) in
     ap (earliest_of None) held.is ∙ finds_least None held.before n held.after (λ m e. absurd (cc)) parts.0 parts.1.1
+
+-- ---- along a chain that rises
+
+rising_before : (x : Node) (xs : List Node) → AllByRecursion (λ y. number_of x < number_of y) xs → AllByRecursion (IsBefore x) xs
+rising_before x xs all = All-map (λ y. number_of x < number_of y) (IsBefore x) (λ y lt ne. lt) xs all
+
+least_by : (p : Node → Bool) (x : Node) (xs : List Node) (b : Bool) → AllByRecursion (λ y. number_of x < number_of y) xs → earliest_of None (filter p xs) ≡ find p xs → earliest_of None (cond b (x ∷ filter p xs) (filter p xs)) ≡ cond b (Some x) (find p xs)
+least_by p x xs true below rest = keeps_least x (filter p xs) (All-filter (IsBefore x) p xs (rising_before x xs below))
+least_by p x xs false below rest = rest
+
+-- the first that passes is the earliest of those that do
+pub least_first : (p : Node → Bool) (xs : List Node) → Rises xs → earliest_of None (filter p xs) ≡ find p xs
+least_first p [] rises = refl
+least_first p (x ∷ xs) rises = least_by p x xs (p x) rises.0 (least_first p xs rises.1)
 
 -- ---- along a walk
 

@@ -4,7 +4,8 @@ use Rattle.std.specs.Prelude.{IsPermutation}
 use Rattle.std.proofs.lemmas.List.Sorted.{IsPermutation-sym, IsPermutation-middle}
 use Rattle.std.specs.List.{AllByRecursion, slice_get}
 use Rattle.std.proofs.lemmas.List.{map-set}
-use Rattle.std.specs.Option.{option_map}
+use Rattle.std.specs.Option.{option_map, is_some}
+use Rattle.std.proofs.lemmas.Option.{slice_get_within}
 use Rattle.node_store.specs.declared.Node.{Node}
 use Rattle.node_store.specs.declared.Link.{Link}
 use Rattle.node_store.specs.Column.{Column, IsPut, IsNode}
@@ -17,7 +18,7 @@ use Rattle.hash_index.specs.declared.head.Head.{Head}
 use Rattle.hash_index.specs.Heads.{first_in, IsRight, AreRight}
 use Rattle.hash_index.specs.Oldest.{IsOldestOf, IsOldest, AreOldest}
 use Rattle.hash_index.proofs.Oldest.{old_tags, old_more, old_less, oldest_at, oldest_set}
-use Rattle.hash_index.specs.Spelled.{all_of, heads_of, Spells, IsSound, spelled, leads_to, Holds}
+use Rattle.hash_index.specs.Spelled.{HasRoom, all_of, heads_of, Spells, IsSound, spelled, leads_to, Holds}
 use Rattle.node_store.specs.Nodes.{Lacks, AreApart, IsDistinct, IsSameAt, first_or, last_or}
 use Rattle.node_store.proofs.Members.{each_node}
 use Rattle.node_store.proofs.NodeLists.{Lacks-front, Lacks-back, IsDistinct-parts, IsSameAt-others, IsSameAt-trans, AreApart-sym, AreApart-append, AreApart-join, AreApart-head, first_or-append, last_or-append}
@@ -25,19 +26,19 @@ use Rattle.list_model.proofs.Lists.{All-join}
 use Rattle.list_model.proofs.InOrder.{All-map}
 use Rattle.list_model.proofs.Kept.{All-split}
 use Rattle.seq_index.specs.Links.{Runs, chain_link, SetsNext, SetsPrev, end_beside}
-use Rattle.seq_index.proofs.Runs.{Runs-same, Runs-insert, Runs-remove, SetsNext-none, IsSameAt-end, LacksEnd-first, LacksEnd-last, Lacks-first, Lacks-last, AreNodes-first, Distinct-insert, Distinct-remove}
+use Rattle.seq_index.proofs.Runs.{EndsWith-last, Runs-same, Runs-insert, Runs-remove, SetsNext-none, IsSameAt-end, LacksEnd-first, LacksEnd-last, Lacks-first, Lacks-last, AreNodes-first, Distinct-insert, Distinct-remove}
 use Rattle.seq_index.proofs.ChainLists.{first-remove, length-insert, length-remove}
 use Rattle.hash_index.specs.Chains.{untagged_link, untagged, tag_at, KeepsTags, KeepsOtherNodes, IsIn}
 use Rattle.node_store.specs.Store.{Store, number_of}
-use Rattle.hash_index.proofs.Untagged.{same_all, put_untagged, tag_put, tag_other, tag_is, tagged_node}
+use Rattle.hash_index.proofs.Untagged.{same_all, put_untagged, tag_put, tag_other, tagged_node}
 use Rattle.hash_index.proofs.Heads.{first_has, last_has, others_of, one_chain, right_at, right_set, right_up, slice_first}
 use Rattle.hash_index.proofs.OneBucket.{Focus, Hangs, IsElsewhere}
 use Rattle.std.specs.Prelude.{nat_lt}
 use Rattle.std.proofs.lemmas.Bool.{ltb-true, ltb-false}
-use Rattle.hash_index.specs.Rising.{up_at, KeepsUps, IsRising, top_beside, IsAbove}
+use Rattle.hash_index.specs.Rising.{Rises, known_last, up_at, KeepsUps, IsRising, top_beside, IsAbove}
 use Rattle.hash_index.specs.Walks.{rest_of}
 use Rattle.hash_index.proofs.Rising.{rising_none, rising_out, rising_behind}
-use Rattle.hash_index.proofs.Spelling.{Neighbours, beside_some, rest_is, held_in, hangs_of, Spells_nodes, neighbours, Spells_from, IsSound_from, focus_of, held_chain, is_in, split_at}
+use Rattle.hash_index.proofs.Spelling.{Neighbours, HasNeighbours, beside_some, rest_is, held_in, hangs_of, Spells_nodes, neighbours, Spells_from, IsSound_from, focus_of, held_chain, is_in, split_at}
 
 in_tags : (c f : Column) (to : ℕ → ℕ) (b : ℕ) (n : Node) (xs : List Node) → ((m : Node) → m ≢ n → tag_at f m ≡ tag_at c m) → Lacks xs n → AllByRecursion (IsIn c to b) xs → AllByRecursion (IsIn f to b) xs
 in_tags c f to b n [] kept lacks h = tt
@@ -296,6 +297,14 @@ pub joined_oldest : (cs : ℕ → Column) (i : HashIndex) (b : ℕ) (head new : 
 joined_oldest cs i b head new first link within at begin is h says =
     oldest_by (cs i.col) (all_of i) (spelled cs i) b head new first (nat_lt head.mark 128) refl h.oldest at begin (alone_oldest cs i b head first link within at begin is h) says
 
+-- the first node of a chain once one has gone is one of the column
+pub new_first : (cs : ℕ → Column) (i : HashIndex) (b : ℕ) (link : Link) (m : Node) → b < i.buckets.len → IsSound cs i → HasNeighbours (cs i.col) link → end_beside link.a (get_or (heads_of i) b None) link.b ≡ Some m → IsNode (cs i.col) m
+new_first cs i b link m within h near e = by_side link.a refl e
+  where
+    by_side : (o : Option Node) → link.a ≡ o → end_beside o (get_or (heads_of i) b None) link.b ≡ Some m → IsNode (cs i.col) m
+    by_side None is first = near.after m first
+    by_side (Some p) is first = head_node _ _ _ _ _ (focus_of cs i (spelled cs i) b within h) m first
+
 -- ---- behind a node of a chain
 
 first_front : (xs : List Node) (n : Node) (ys : List Node) → first_or (xs ++ n ∷ []) None ≡ first_or (xs ++ n ∷ ys) None
@@ -304,6 +313,53 @@ first_front (x ∷ xs) n ys = refl
 
 pub chain_rest : (cs : ℕ → Column) (i : HashIndex) (b : ℕ) (first : Node) (h : IsSound cs i) (within : b < i.buckets.len) → get_or (heads_of i) b None ≡ Some first → rest_of cs i (Some first) ≡ (focus_of cs i (spelled cs i) b within h).chain
 chain_rest cs i b first h within began = ap (λ o. rest_of cs i o) (sym began) ∙ (rest_is cs i (spelled cs i) b (focus_of cs i (spelled cs i) b within h) h.len).1
+
+-- where the last node of a chain is known, the chain rises to it
+pub known_rising : (cs : ℕ → Column) (i : HashIndex) (b : ℕ) (first : Node) (link : Link) (h : IsSound cs i) (within : b < i.buckets.len) → get_or (heads_of i) b None ≡ Some first → cs i.col first ≡ Some link → (m : Node) → known_last first link.b link.up ≡ Some m → (last_or (rest_of cs i (Some first)) None ≡ Some m) × Rises (rest_of cs i (Some first))
+known_rising cs i b first link h within began is m known =
+    let at = focus_of cs i (spelled cs i) b within h in
+    let c = cs i.col in
+    let tail = first_split at.chain first (sym at.here.first ∙ began) in
+    let near = neighbours c [] first tail.0 link (subst (λ z. Runs (untagged c) None z None) tail.1 at.here.runs) is in
+    let rising = subst (IsRising c) tail.1 at.here.rising in
+    let up : up_at c first ≡ link.up = ap (option_and_then (λ (l : Link). l.up)) is in
+    subst (λ z. (last_or z None ≡ Some m) × Rises z) (sym (chain_rest cs i b first h within began ∙ tail.1)) (by_next tail.0 link.b near.b known (λ e. rising m (up ∙ e)))
+  where
+    by_next : (qs : List Node) (o : Option Node) → o ≡ first_or qs None → known_last first o link.up ≡ Some m → (link.up ≡ Some m → (last_or (first ∷ qs) None ≡ Some m) × Rises (first ∷ qs)) → (last_or (first ∷ qs) None ≡ Some m) × Rises (first ∷ qs)
+    by_next [] None e known rising = (known, (tt, tt))
+    by_next (q ∷ qs) None e known rising = absurd (cc)
+    by_next qs (Some o) e known rising = rising known
+
+-- a chain that is known to rise does
+pub rising_rest : (cs : ℕ → Column) (i : HashIndex) (hash : ℕ) (head : Head) (first : Option Node) → IsSound cs i → first ≡ first_in head → (first_in head ≢ None → slice_get (all_of i) (leads_to i hash) ≡ Some head) → is_some (option_and_then (up_at (cs i.col)) first) ≡ true → Rises (rest_of cs i first)
+rising_rest cs i hash head None h is there known = absurd (cc)
+rising_rest cs i hash head (Some n) h is there known =
+    let at = there (λ none. let bad : Some n ≡ None = is ∙ none in cc) in
+    let within : leads_to i hash < i.buckets.len = omega (arith, slice_get_within (all_of i) (leads_to i hash) head at, i.buckets.ok) in
+    let began : get_or (heads_of i) (leads_to i hash) None ≡ Some n = sym (slice_first (heads_of i) (all_of i) (leads_to i hash) refl head at) ∙ sym is in
+    let f = focus_of cs i (spelled cs i) (leads_to i hash) within h in
+    let top : option_and_then (up_at (cs i.col)) (first_or f.chain None) ≡ up_at (cs i.col) n = ap (option_and_then (up_at (cs i.col))) (sym f.here.first ∙ began) in
+    let m = some_of (up_at (cs i.col) n) known in
+    subst Rises (sym (chain_rest cs i (leads_to i hash) n h within began)) (f.here.rising m.0 (top ∙ m.1)).1
+  where
+    some_of : (o : Option Node) → is_some o ≡ true → (m : Node) × (o ≡ Some m)
+    some_of None e = absurd (cc)
+    some_of (Some m) e = (m, refl)
+
+-- an index that has room has chains
+pub some_room : (i : HashIndex) → HasRoom i → 0 < i.buckets.len
+some_room i room = omega (arith, room)
+
+-- the last node of a chain stands in it
+pub last_stands : (xs : List Node) (m : Node) → last_or xs None ≡ Some m → Holds xs m
+last_stands xs m e = let r = EndsWith-last xs m e in record { before = r.front; after = []; is = r.is }
+
+-- so does the first
+pub first_stands : (cs : ℕ → Column) (i : HashIndex) (b : ℕ) (first : Node) (h : IsSound cs i) (within : b < i.buckets.len) → get_or (heads_of i) b None ≡ Some first → Holds (rest_of cs i (Some first)) first
+first_stands cs i b first h within began =
+    let at = focus_of cs i (spelled cs i) b within h in
+    let tail = first_split at.chain first (sym at.here.first ∙ began) in
+    record { before = []; after = tail.0; is = chain_rest cs i b first h within began ∙ tail.1 }
 
 -- a node of a chain is one of all
 pub stands_held : (cs : ℕ → Column) (i : HashIndex) (b : ℕ) (first by : Node) (h : IsSound cs i) (within : b < i.buckets.len) → get_or (heads_of i) b None ≡ Some first → Holds (rest_of cs i (Some first)) by → Holds (spelled cs i) by

@@ -11,14 +11,16 @@ use Rattle.node_store.specs.Nodes.{Lacks, AreApart, IsDistinct, IsSameAt, first_
 use Rattle.node_store.proofs.NodeLists.{Lacks-front, Lacks-back, IsDistinct-parts, IsSameAt-others, AreApart-head, last_or-append}
 use Rattle.list_model.proofs.Kept.{All-passed}
 use Rattle.seq_index.specs.Links.{Runs, AreNodes, SetsNext, chain_link, end_beside}
-use Rattle.seq_index.proofs.Runs.{AreNodes-first, Runs-same, Runs-append, Runs-node, EndsWith-last, EndsWith-lacks, LacksEnd, LacksEnd-last, Lacks-last, Distinct-insert}
+use Rattle.seq_index.proofs.Runs.{AreNodes-first, Runs-same, Runs-append, Runs-node, EndsWith-last, EndsWith-lacks, LacksEnd, LacksEnd-last, LacksEnd-first, IsSameAt-end, Lacks-last, Distinct-insert}
 use Rattle.seq_index.proofs.ChainLists.{first-insert}
 use Rattle.hash_index.specs.declared.HashIndex.{HashIndex}
 use Rattle.hash_index.specs.declared.chain.Chain.{Chain}
-use Rattle.hash_index.specs.Chains.{untagged, KeepsTags}
+use Rattle.hash_index.specs.Chains.{untagged, KeepsTags, KeepsOtherNodes}
+use Rattle.hash_index.specs.Rising.{IsRising}
+use Rattle.hash_index.proofs.Rising.{rising_same}
 use Rattle.hash_index.specs.Split.{Builds}
 use Rattle.hash_index.specs.Walks.{rest_of, Ends}
-use Rattle.hash_index.proofs.Untagged.{put_untagged, same_untagged, tagged_node}
+use Rattle.hash_index.proofs.Untagged.{same_all, put_untagged, same_untagged, tagged_node}
 use Rattle.hash_index.proofs.Matching.{walk_rest, walk_step}
 
 -- ---- one node more
@@ -146,13 +148,25 @@ halves_done c d p q zs rest one other h e = subst (λ z. Halves c d p q zs z one
 pub done_is : (c d : Column) (p q : Node → Bool) (zs : List Node) (one other : Chain) (h : Halves c d p q zs [] one other) → h.done ≡ zs
 done_is c d p q zs one other h = sym (h.whole ∙ append-nil h.done)
 
--- ---- in an index
-
 pub never_both : (p : Node → Bool) (n : Node) → p n ≡ true → not (p n) ≡ true → ⊥
 never_both p n passes fails = let bad : false ≡ true = ap not (sym passes) ∙ fails in cc
 
 pub either_both : (p : Node → Bool) (n : Node) → not (p n) ≡ true → p n ≡ true → ⊥
 either_both p n fails passes = never_both p n passes fails
+
+-- ---- where no more changes than where nodes lead up to
+
+pub builds_links : (c d : Column) (chain : Chain) (xs : List Node) → ((m : Node) → untagged d m ≡ untagged c m) → Builds c chain xs → Builds d chain xs
+builds_links c d chain xs links h = record { first = h.first; last = h.last; runs = Runs-same (untagged c) (untagged d) None xs None (same_all (untagged c) (untagged d) links xs) h.runs; rises = h.rises }
+
+-- the nodes that stay still rise once the first of those that go leads up to another
+pub rising_apart : (b c d : Column) (moved : Chain) (p : Node → Bool) (zs : List Node) → Builds b moved (filter p zs) → KeepsOtherNodes c d moved.first → IsRising c (filter (λ n. not (p n)) zs) → IsRising d (filter (λ n. not (p n)) zs)
+rising_apart b c d moved p zs builds same h =
+    let stay = filter (λ n. not (p n)) zs in
+    let apart = filters_apart (λ n. not (p n)) p (either_both p) zs zs in
+    rising_same c d stay (IsSameAt-end c d moved.first same stay (subst (LacksEnd stay) (sym builds.first) (LacksEnd-first stay (filter p zs) apart))) h
+
+-- ---- in an index
 
 -- the next node of a walk over the old chain, which is still as it was
 pub record Ready (cs : ℕ → Column) (i : HashIndex) (d : Column) (p q : Node → Bool) (zs : List Node) (at after : Option Node) (n : Node) (link : Link) (one other : Chain) : Type 0 where

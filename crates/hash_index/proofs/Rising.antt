@@ -1,14 +1,14 @@
 -- Chains that rise: what they become, and what a walk along them finds.
-use Rattle.std.proofs.Common.{◌≡◌, ◌≢◌, ℕ, Bool, true, false, cond, ◌<◌, List, [], ◌∷◌, ◌++◌, Option, Some, None, option_and_then, refl, sym, ap, ◌∙◌, subst, arith}
-use Rattle.std.specs.Prelude.{filter, nat_lt}
+use Rattle.std.proofs.Common.{◌≡◌, ℕ, true, ◌<◌, List, [], ◌∷◌, ◌++◌, Option, Some, None, option_and_then, refl, sym, ap, ◌∙◌, subst, arith}
+use Rattle.std.specs.Prelude.{nat_lt}
 use Rattle.std.specs.List.{AllByRecursion}
-use Rattle.std.specs.Option.{option_map, option_map_or}
+use Rattle.std.specs.Option.{option_map_or}
 use Rattle.std.proofs.lemmas.Bool.{ltb-true}
 use Rattle.std.proofs.lemmas.List.{append-nil}
 use Rattle.node_store.specs.declared.Node.{Node}
 use Rattle.node_store.specs.declared.Link.{Link}
 use Rattle.node_store.specs.Column.{Column}
-use Rattle.node_store.specs.Nodes.{AreApart, IsDistinct, IsSameAt, first_or, last_or}
+use Rattle.node_store.specs.Nodes.{IsDistinct, IsSameAt, first_or, last_or}
 use Rattle.node_store.specs.Store.{number_of}
 use Rattle.node_store.proofs.NodeLists.{IsDistinct-parts, last_or-append}
 use Rattle.list_model.proofs.Lists.{EachPair-push}

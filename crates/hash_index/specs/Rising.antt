@@ -26,6 +26,11 @@ top_of c xs = option_and_then (up_at c) (first_or xs None)
 abbrev pub IsRising : Column → List Node → Type 0
 IsRising c xs = (m : Node) → top_of c xs ≡ Some m → (last_or xs None ≡ Some m) × Rises xs
 
+-- the last node of a chain, where that is known by what its first node leads to and up to
+abbrev pub known_last : Node → Option Node → Option Node → Option Node
+known_last first None up = Some first
+known_last first (Some n) up = up
+
 -- which node is to be the last of a chain that rises, once one between these two has gone, where the first node leads up to `top`, or to `up` before it was first
 abbrev pub top_beside : Option Node → Option Node → Option Node → Option Node → Option Node
 top_beside None after up top = up

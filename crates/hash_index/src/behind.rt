@@ -9,7 +9,7 @@ ghost use Rattle.node_store.specs.ByNode.{column_of, contents};
 ghost use Rattle.seq_index.specs.Links.{AreNodes};
 ghost use Rattle.hash_index.specs.Chains.{tag_at, untagged, KeepsTags, KeepsOtherNodes};
 ghost use Rattle.hash_index.specs.Heads.{first_in};
-ghost use Rattle.hash_index.specs.Rising.{IsAbove, up_at, top_beside};
+ghost use Rattle.hash_index.specs.Rising.{IsAbove, known_last, up_at, top_beside};
 ghost use Rattle.hash_index.specs.Spelled.{col_of, all_of, buckets_of, HasRoom, leads_to};
 ghost use Rattle.hash_index.specs.Stored.{nodes_of, AreBucketsOf, KeepsRest};
 ghost use Rattle.hash_index.specs.Walks.{rest_of};
@@ -18,6 +18,13 @@ use crate::HashIndex;
 use crate::chain::{set_next, set_prev, set_up};
 use crate::head::Head;
 use node_store::{Link, Node, NodeStore};
+
+// The last node of the chain that begins with `first`, which has this link, where the chain is known to rise.
+fn last_of(first: Node, link: Link) -> Option<Node>
+    ensures { result ≡ known_last first link.b link.up }
+{
+    if link.b.is_some() { link.up } else { Some(first) }
+}
 
 impl HashIndex {
     // Puts `n` behind the last node of the chain of a hash, or the first.
@@ -50,9 +57,9 @@ impl HashIndex {
         ensures buckets { buckets_of self.new ≡ buckets_of self.old }
         ensures rest { KeepsRest self.old self.new store.old store.new }
     {
-        let last = if link.b.is_none() { Some(first) } else { link.up };
-        match last {
-            Some(at) if at.number() < n.number() => {
+        let number = n.number();
+        match last_of(first, link) {
+            Some(at) if at.number() < number => {
                 self.put_behind(store, n, hash, head, first, at, Some(n));
             }
             _ => self.put_behind(store, n, hash, head, first, first, None),

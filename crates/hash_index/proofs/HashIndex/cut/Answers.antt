@@ -1,11 +1,13 @@
 use Rattle.std.proofs.Common.{◌∙◌, ◌*◌, ◌%◌, not, length, ap, sym, refl, subst, arith}
 use Rattle.node_store.specs.ByNode.{column_of}
+use Rattle.node_store.specs.Nodes.{Lacks}
+use Rattle.seq_index.proofs.Runs.{Lacks-first}
 use Rattle.hash_index.specs.Spelled.{col_of}
 use Rattle.hash_index.specs.Split.{Builds, goes, left, taken}
 use Rattle.hash_index.specs.Walks.{rest_of}
 use Rattle.hash_index.proofs.Untagged.{tag_is, leads_there, leads_elsewhere}
 use Rattle.hash_index.proofs.Matching.{rest_none}
-use Rattle.hash_index.proofs.Cutting.{last_node, halves_start, halves_flip, halves_step, halves_done, done_is, never_both, either_both, ready}
+use Rattle.hash_index.proofs.Cutting.{first_node, Lacks_filter, builds_links, rising_apart, last_node, halves_start, halves_flip, halves_step, halves_done, done_is, never_both, either_both, ready}
 use Rattle.hash_index.proofs.HashIndex.cut.Goals as goal
 
 pub loop-at-init : goal.loop-at-init
@@ -60,16 +62,80 @@ loop-at-preserved g c =
       contents = c.append-else-remainder-len.ensures.contents ∙ c.loop-at.invariant.contents;
     }
 
+pub close-requires : goal.close-requires
+close-requires g c =
+    let i = c.args.self.now in
+    let old = column_of c.args.store.now (col_of i) in
+    let none = ap (λ o. rest_of (column_of c.args.store.now) i o) c.in_default.is ∙ rest_none (column_of c.args.store.now) i in
+    let h = halves_done _ _ _ _ _ _ _ _ c.loop-at.invariant.halves none in
+    let all = done_is _ _ _ _ _ _ _ h in
+    let stay = subst (λ z. Builds (column_of c.loop-at.store (col_of i)) c.loop-at.stay (left old i z)) all h.other_is in
+    let moved = subst (λ z. Builds (column_of c.loop-at.store (col_of i)) c.loop-at.moved (taken old i z)) all h.one_is in
+    first_node _ _ _ stay
+
+pub close-requires-2 : goal.close-requires-2
+close-requires-2 g c = λ m e.
+    let i = c.args.self.now in
+    let old = column_of c.args.store.now (col_of i) in
+    let none = ap (λ o. rest_of (column_of c.args.store.now) i o) c.in_default.is ∙ rest_none (column_of c.args.store.now) i in
+    let h = halves_done _ _ _ _ _ _ _ _ c.loop-at.invariant.halves none in
+    let all = done_is _ _ _ _ _ _ _ h in
+    let stay = subst (λ z. Builds (column_of c.loop-at.store (col_of i)) c.loop-at.stay (left old i z)) all h.other_is in
+    let moved = subst (λ z. Builds (column_of c.loop-at.store (col_of i)) c.loop-at.moved (taken old i z)) all h.one_is in
+    c.close.ensures.nodes m (first_node _ _ _ moved m e)
+
 pub returns-clause-stay : goal.returns-clause-stay
 returns-clause-stay g c =
     let i = c.args.self.now in
-    let none = ap (λ o. rest_of (column_of c.args.store.now) c.args.self.now o) c.in_default.is ∙ rest_none (column_of c.args.store.now) i in
+    let old = column_of c.args.store.now (col_of i) in
+    let none = ap (λ o. rest_of (column_of c.args.store.now) i o) c.in_default.is ∙ rest_none (column_of c.args.store.now) i in
     let h = halves_done _ _ _ _ _ _ _ _ c.loop-at.invariant.halves none in
-    subst (λ z. Builds (column_of c.loop-at.store (col_of c.args.self.now)) c.loop-at.stay (left (column_of c.args.store.now (col_of c.args.self.now)) c.args.self.now z)) (done_is _ _ _ _ _ _ _ h) h.other_is
+    let all = done_is _ _ _ _ _ _ _ h in
+    let stay = subst (λ z. Builds (column_of c.loop-at.store (col_of i)) c.loop-at.stay (left old i z)) all h.other_is in
+    let moved = subst (λ z. Builds (column_of c.loop-at.store (col_of i)) c.loop-at.moved (taken old i z)) all h.one_is in
+    builds_links _ _ _ _ (λ m. c.close-2.ensures.links m ∙ c.close.ensures.links m) stay
 
 pub returns-clause-moved : goal.returns-clause-moved
 returns-clause-moved g c =
     let i = c.args.self.now in
-    let none = ap (λ o. rest_of (column_of c.args.store.now) c.args.self.now o) c.in_default.is ∙ rest_none (column_of c.args.store.now) i in
+    let old = column_of c.args.store.now (col_of i) in
+    let none = ap (λ o. rest_of (column_of c.args.store.now) i o) c.in_default.is ∙ rest_none (column_of c.args.store.now) i in
     let h = halves_done _ _ _ _ _ _ _ _ c.loop-at.invariant.halves none in
-    subst (λ z. Builds (column_of c.loop-at.store (col_of c.args.self.now)) c.loop-at.moved (taken (column_of c.args.store.now (col_of c.args.self.now)) c.args.self.now z)) (done_is _ _ _ _ _ _ _ h) h.one_is
+    let all = done_is _ _ _ _ _ _ _ h in
+    let stay = subst (λ z. Builds (column_of c.loop-at.store (col_of i)) c.loop-at.stay (left old i z)) all h.other_is in
+    let moved = subst (λ z. Builds (column_of c.loop-at.store (col_of i)) c.loop-at.moved (taken old i z)) all h.one_is in
+    builds_links _ _ _ _ (λ m. c.close-2.ensures.links m ∙ c.close.ensures.links m) moved
+
+pub returns-clause-stay_rising : goal.returns-clause-stay_rising
+returns-clause-stay_rising g c =
+    let i = c.args.self.now in
+    let old = column_of c.args.store.now (col_of i) in
+    let none = ap (λ o. rest_of (column_of c.args.store.now) i o) c.in_default.is ∙ rest_none (column_of c.args.store.now) i in
+    let h = halves_done _ _ _ _ _ _ _ _ c.loop-at.invariant.halves none in
+    let all = done_is _ _ _ _ _ _ _ h in
+    let stay = subst (λ z. Builds (column_of c.loop-at.store (col_of i)) c.loop-at.stay (left old i z)) all h.other_is in
+    let moved = subst (λ z. Builds (column_of c.loop-at.store (col_of i)) c.loop-at.moved (taken old i z)) all h.one_is in
+    rising_apart _ _ _ _ (goes old i) _ moved c.close-2.ensures.same (c.close.ensures.rising _ stay)
+
+pub returns-clause-moved_rising : goal.returns-clause-moved_rising
+returns-clause-moved_rising g c =
+    let i = c.args.self.now in
+    let old = column_of c.args.store.now (col_of i) in
+    let none = ap (λ o. rest_of (column_of c.args.store.now) i o) c.in_default.is ∙ rest_none (column_of c.args.store.now) i in
+    let h = halves_done _ _ _ _ _ _ _ _ c.loop-at.invariant.halves none in
+    let all = done_is _ _ _ _ _ _ _ h in
+    let stay = subst (λ z. Builds (column_of c.loop-at.store (col_of i)) c.loop-at.stay (left old i z)) all h.other_is in
+    let moved = subst (λ z. Builds (column_of c.loop-at.store (col_of i)) c.loop-at.moved (taken old i z)) all h.one_is in
+    c.close-2.ensures.rising _ (builds_links _ _ _ _ c.close.ensures.links moved)
+
+pub returns-clause-same : goal.returns-clause-same
+returns-clause-same g c = λ m lacks.
+    let i = c.args.self.now in
+    let old = column_of c.args.store.now (col_of i) in
+    let none = ap (λ o. rest_of (column_of c.args.store.now) i o) c.in_default.is ∙ rest_none (column_of c.args.store.now) i in
+    let h = halves_done _ _ _ _ _ _ _ _ c.loop-at.invariant.halves none in
+    let all = done_is _ _ _ _ _ _ _ h in
+    let stay = subst (λ z. Builds (column_of c.loop-at.store (col_of i)) c.loop-at.stay (left old i z)) all h.other_is in
+    let moved = subst (λ z. Builds (column_of c.loop-at.store (col_of i)) c.loop-at.moved (taken old i z)) all h.one_is in
+    c.close-2.ensures.same m (λ e. Lacks-first _ m (Lacks_filter (goes old i) _ m lacks) (sym moved.first ∙ e))
+    ∙ (c.close.ensures.same m (λ e. Lacks-first _ m (Lacks_filter (λ n. not (goes old i n)) _ m lacks) (sym stay.first ∙ e)) ∙ h.kept m (subst (λ z. Lacks z m) (sym all) lacks))

@@ -4,7 +4,9 @@ use Rattle.node_store.specs.Nodes.{Holds}
 use Rattle.hash_index.specs.Chains.{tag_at}
 use Rattle.hash_index.specs.Earliest.{earliest_of}
 use Rattle.hash_index.proofs.Oldest.{oldest_at}
-use Rattle.hash_index.proofs.AddedFirst.{oldest_is}
+use Rattle.hash_index.proofs.AddedFirst.{oldest_is, least_first}
+use Rattle.hash_index.proofs.Changes.{rising_rest}
+use Rattle.hash_index.specs.Walks.{rest_of}
 use Rattle.node_store.specs.ByNode.{column_of}
 use Rattle.node_store.proofs.ByNode.{node_of_column}
 use Rattle.hash_index.specs.Heads.{first_in}
@@ -16,13 +18,38 @@ use Rattle.hash_index.proofs.Matching.{walk_node, walk_rest, matched_in, rest_ha
 use Rattle.hash_index.proofs.HashIndex.earliest_of.Goals as goal
 
 pub earliest_from-requires-clause-ends : goal.earliest_from-requires-clause-ends
-earliest_from-requires-clause-ends g c = (has_start (column_of c.args.store.now) c.args.self.now c.hash_probe-hash.result c.node.result (c.node.ensures ∙ c.head-head.ensures.first) c.requires.chain).ends
+earliest_from-requires-clause-ends g c = (has_start (column_of c.args.store.now) c.args.self.now c.hash_probe-hash.result c.node-first.result (c.node-first.ensures ∙ c.head-head.ensures.first) c.requires.chain).ends
 
 pub earliest_from-requires-clause-hashed : goal.earliest_from-requires-clause-hashed
 earliest_from-requires-clause-hashed g c =
-    let at = has_start (column_of c.args.store.now) c.args.self.now c.hash_probe-hash.result c.node.result (c.node.ensures ∙ c.head-head.ensures.first) c.requires.chain in
+    let at = has_start (column_of c.args.store.now) c.args.self.now c.hash_probe-hash.result c.node-first.result (c.node-first.ensures ∙ c.head-head.ensures.first) c.requires.chain in
     rest_hashed c.args.store.now c.args.self.now (g.E.Extract.hash_of c.args.keys.now (index_of c.args.self.now)) c.hash_probe-hash.result (λ a. g.E.Extract.probe_order_of c.args.keys.now (index_of c.args.self.now) a c.args.probe.now)
-    (λ a e. g.met.E.Extract.whole_hash c.args.keys.now (index_of c.args.self.now) a c.args.probe.now c.requires.has_key c.requires.whole e ∙ sym c.hash_probe-hash.ensures) c.node.result at c.requires.hashed
+    (λ a e. g.met.E.Extract.whole_hash c.args.keys.now (index_of c.args.self.now) a c.args.probe.now c.requires.has_key c.requires.whole e ∙ sym c.hash_probe-hash.ensures) c.node-first.result at c.requires.hashed
+
+pub rises-requires : goal.rises-requires
+rises-requires g c = λ m e.
+    let at = has_start (column_of c.args.store.now) c.args.self.now c.hash_probe-hash.result c.node-first.result (c.node-first.ensures ∙ c.head-head.ensures.first) c.requires.chain in
+    walk_node (column_of c.args.store.now) c.args.self.now c.node-first.result m at.ends e
+
+pub match_from-requires-clause-ends : goal.match_from-requires-clause-ends
+match_from-requires-clause-ends g c = (has_start (column_of c.args.store.now) c.args.self.now c.hash_probe-hash.result c.node-first.result (c.node-first.ensures ∙ c.head-head.ensures.first) c.requires.chain).ends
+
+pub match_from-requires-clause-hashed : goal.match_from-requires-clause-hashed
+match_from-requires-clause-hashed g c =
+    let at = has_start (column_of c.args.store.now) c.args.self.now c.hash_probe-hash.result c.node-first.result (c.node-first.ensures ∙ c.head-head.ensures.first) c.requires.chain in
+    rest_hashed c.args.store.now c.args.self.now (g.E.Extract.hash_of c.args.keys.now (index_of c.args.self.now)) c.hash_probe-hash.result (λ a. g.E.Extract.probe_order_of c.args.keys.now (index_of c.args.self.now) a c.args.probe.now)
+    (λ a e. g.met.E.Extract.whole_hash c.args.keys.now (index_of c.args.self.now) a c.args.probe.now c.requires.has_key c.requires.whole e ∙ sym c.hash_probe-hash.ensures) c.node-first.result at c.requires.hashed
+
+-- the first of a chain that rises to have the key is the earliest
+pub returns-then-rises : goal.returns-then-rises
+returns-then-rises g c =
+    let i = c.args.self.now in
+    let cs = column_of c.args.store.now in
+    let side = (side_of (λ a. g.E.Extract.probe_order_of c.args.keys.now (index_of c.args.self.now) a c.args.probe.now) c.args.store.now) in
+    let at = has_start cs i c.hash_probe-hash.result c.node-first.result (c.node-first.ensures ∙ c.head-head.ensures.first) c.requires.chain in
+    let matched = matched_in c.args.store.now i (g.E.Extract.hash_of c.args.keys.now (index_of i)) c.hash_probe-hash.result (λ a. g.E.Extract.probe_order_of c.args.keys.now (index_of i) a c.args.probe.now) (λ a e. g.met.E.Extract.whole_hash c.args.keys.now (index_of i) a c.args.probe.now c.requires.has_key c.requires.whole e ∙ sym c.hash_probe-hash.ensures) c.node-first.result at c.requires.hashed in
+    let rises = rising_rest cs i c.hash_probe-hash.result c.head-head.result c.node-first.result c.requires.chain c.node-first.ensures c.head-head.ensures.head (sym c.rises.ensures ∙ c.if-rises.true) in
+    c.match_from.ensures ∙ (sym (least_first (λ m. is_eq (side m)) (rest_of cs i c.node-first.result) rises) ∙ ap (earliest_of None) (sym matched))
 
 pub is_match-requires-clause-node : goal.is_match-requires-clause-node
 is_match-requires-clause-node g c =
@@ -52,6 +79,6 @@ returns-then-is_match g c =
 pub returns : goal.returns
 returns g c =
     let side = (side_of (λ a. g.E.Extract.probe_order_of c.args.keys.now (index_of c.args.self.now) a c.args.probe.now) c.args.store.now) in
-    let at = has_start (column_of c.args.store.now) c.args.self.now c.hash_probe-hash.result c.node.result (c.node.ensures ∙ c.head-head.ensures.first) c.requires.chain in
-    let matched = matched_in c.args.store.now c.args.self.now (g.E.Extract.hash_of c.args.keys.now (index_of c.args.self.now)) c.hash_probe-hash.result (λ a. g.E.Extract.probe_order_of c.args.keys.now (index_of c.args.self.now) a c.args.probe.now) (λ a e. g.met.E.Extract.whole_hash c.args.keys.now (index_of c.args.self.now) a c.args.probe.now c.requires.has_key c.requires.whole e ∙ sym c.hash_probe-hash.ensures) c.node.result at c.requires.hashed in
+    let at = has_start (column_of c.args.store.now) c.args.self.now c.hash_probe-hash.result c.node-first.result (c.node-first.ensures ∙ c.head-head.ensures.first) c.requires.chain in
+    let matched = matched_in c.args.store.now c.args.self.now (g.E.Extract.hash_of c.args.keys.now (index_of c.args.self.now)) c.hash_probe-hash.result (λ a. g.E.Extract.probe_order_of c.args.keys.now (index_of c.args.self.now) a c.args.probe.now) (λ a e. g.met.E.Extract.whole_hash c.args.keys.now (index_of c.args.self.now) a c.args.probe.now c.requires.has_key c.requires.whole e ∙ sym c.hash_probe-hash.ensures) c.node-first.result at c.requires.hashed in
     c.earliest_from.ensures ∙ ap (earliest_of None) (sym matched)

@@ -1,11 +1,11 @@
 use Rattle.std.proofs.Common.{◌≡◌, ◌+◌, ◌*◌, ◌≤◌, slice_get, get_or, Some, None, refl, sym, ap, ◌∙◌, subst, arith}
 use Rattle.node_store.specs.Column.{IsNode}
 use Rattle.node_store.specs.ByNode.{column_of}
-use Rattle.hash_index.specs.Spelled.{all_of, heads_of, spelled}
+use Rattle.hash_index.specs.Spelled.{all_of, heads_of}
 use Rattle.hash_index.proofs.Heads.{slice_first}
 use Rattle.hash_index.proofs.Untagged.{tagged_node, untagged_node}
 use Rattle.hash_index.proofs.Spelling.{held_node, has_neighbours}
-use Rattle.hash_index.proofs.Changes.{began_held, head_there, stands_held, joined_oldest, behind_same, behind_sound, behind_moved}
+use Rattle.hash_index.proofs.Changes.{head_there, stands_held, joined_oldest, behind_same, behind_sound, behind_moved}
 use Rattle.hash_index.proofs.HashIndex.put_behind.Goals as goal
 
 pub link-after-requires : goal.link-after-requires
