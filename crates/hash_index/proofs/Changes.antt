@@ -17,7 +17,8 @@ use Rattle.hash_index.specs.Buckets.{bucket_of}
 use Rattle.hash_index.specs.declared.head.Head.{Head}
 use Rattle.hash_index.specs.Heads.{first_in, IsRight, AreRight}
 use Rattle.hash_index.specs.Oldest.{IsOldestOf, IsOldest, AreOldest}
-use Rattle.hash_index.proofs.Oldest.{old_tags, old_more, old_less, oldest_at, oldest_set}
+use Rattle.node_store.proofs.ByNode.{node_of_column}
+use Rattle.hash_index.proofs.Oldest.{same_number, old_tags, old_more, old_less, oldest_at, oldest_set}
 use Rattle.hash_index.specs.Spelled.{HasRoom, all_of, heads_of, Spells, IsSound, spelled, leads_to, Holds}
 use Rattle.node_store.specs.Nodes.{Lacks, AreApart, IsDistinct, IsSameAt, first_or, last_or}
 use Rattle.node_store.proofs.Members.{each_node}
@@ -26,7 +27,7 @@ use Rattle.list_model.proofs.Lists.{All-join}
 use Rattle.list_model.proofs.InOrder.{All-map}
 use Rattle.list_model.proofs.Kept.{All-split}
 use Rattle.seq_index.specs.Links.{Runs, chain_link, SetsNext, SetsPrev, end_beside}
-use Rattle.seq_index.proofs.Runs.{EndsWith-last, Runs-same, Runs-insert, Runs-remove, SetsNext-none, IsSameAt-end, LacksEnd-first, LacksEnd-last, Lacks-first, Lacks-last, AreNodes-first, Distinct-insert, Distinct-remove}
+use Rattle.seq_index.proofs.Runs.{Runs-same, Runs-insert, Runs-remove, SetsNext-none, IsSameAt-end, LacksEnd-first, LacksEnd-last, Lacks-first, Lacks-last, AreNodes-first, Distinct-insert, Distinct-remove}
 use Rattle.seq_index.proofs.ChainLists.{first-remove, length-insert, length-remove}
 use Rattle.hash_index.specs.Chains.{untagged_link, untagged, tag_at, KeepsTags, KeepsOtherNodes, IsIn}
 use Rattle.node_store.specs.Store.{Store, number_of}
@@ -35,9 +36,9 @@ use Rattle.hash_index.proofs.Heads.{first_has, last_has, others_of, one_chain, r
 use Rattle.hash_index.proofs.OneBucket.{Focus, Hangs, IsElsewhere}
 use Rattle.std.specs.Prelude.{nat_lt}
 use Rattle.std.proofs.lemmas.Bool.{ltb-true, ltb-false}
-use Rattle.hash_index.specs.Rising.{Rises, known_last, up_at, KeepsUps, IsRising, top_beside, IsAbove}
+use Rattle.hash_index.specs.Rising.{Rises, known_last, up_at, KeepsUps, IsRising, top_beside, IsBefore, IsBehind, IsLast}
 use Rattle.hash_index.specs.Walks.{rest_of}
-use Rattle.hash_index.proofs.Rising.{rising_none, rising_out, rising_behind}
+use Rattle.hash_index.proofs.Rising.{rises_below, rising_before, rising_out, rising_behind}
 use Rattle.hash_index.proofs.Spelling.{Neighbours, HasNeighbours, beside_some, rest_is, held_in, hangs_of, Spells_nodes, neighbours, Spells_from, IsSound_from, focus_of, held_chain, is_in, split_at}
 
 in_tags : (c f : Column) (to : ℕ → ℕ) (b : ℕ) (n : Node) (xs : List Node) → ((m : Node) → m ≢ n → tag_at f m ≡ tag_at c m) → Lacks xs n → AllByRecursion (IsIn c to b) xs → AllByRecursion (IsIn f to b) xs
@@ -57,11 +58,11 @@ apart_of front chain back dist =
     let q = IsDistinct-parts chain back p.back in
     record { chain_distinct = q.front; before = (AreApart-append chain back front (AreApart-sym front (chain ++ back) p.apart)).0; after = q.apart }
 
-pub put_hangs : (c d f : Column) (to : ℕ → ℕ) (b : ℕ) (heads : List (Option Node)) (xs : List Node) (n : Node) (hash : ℕ) (head : Option Node) (at : Focus c to 0 b b heads xs) → IsDistinct xs → Lacks xs n → to hash ≡ b → head ≡ get_or heads b None
-    → IsPut c d n (record { a = None; b = head; up = None; tag = hash; height = 0 }) → SetsPrev (untagged d) (untagged f) head (Some n) → KeepsTags d f → KeepsOtherNodes d f head → Hangs f to 0 (set heads b (Some n)) (at.front ++ (n ∷ at.chain ++ at.back))
-put_hangs c d f to b heads xs n hash head at dist new bucket first put prev tags same =
+pub put_hangs : (c d f : Column) (to : ℕ → ℕ) (b : ℕ) (heads : List (Option Node)) (xs : List Node) (n : Node) (hash : ℕ) (head up : Option Node) (at : Focus c to 0 b b heads xs) → IsDistinct xs → Lacks xs n → to hash ≡ b → head ≡ get_or heads b None → IsBefore at.chain n up
+    → IsPut c d n (record { a = None; b = head; up = up; tag = hash; height = 0 }) → SetsPrev (untagged d) (untagged f) head (Some n) → KeepsTags d f → KeepsOtherNodes d f head → Hangs f to 0 (set heads b (Some n)) (at.front ++ (n ∷ at.chain ++ at.back))
+put_hangs c d f to b heads xs n hash head up at dist new bucket first before put prev tags same =
     let e : head ≡ first_or at.chain None = first ∙ at.here.first in
-    let put2 : IsPut (untagged c) (untagged d) n (chain_link None (first_or at.chain None)) = subst (λ o. IsPut (untagged c) (untagged d) n (chain_link None o)) e (put_untagged c d n (record { a = None; b = head; up = None; tag = hash; height = 0 }) put) in
+    let put2 : IsPut (untagged c) (untagged d) n (chain_link None (first_or at.chain None)) = subst (λ o. IsPut (untagged c) (untagged d) n (chain_link None o)) e (put_untagged c d n (record { a = None; b = head; up = up; tag = hash; height = 0 }) put) in
     let prev2 = subst (λ o. SetsPrev (untagged d) (untagged f) o (Some n)) e prev in
     let same2 = subst (λ o. KeepsOtherNodes d f o) e same in
     let lacks = subst (λ z. Lacks z n) at.whole new in
@@ -77,10 +78,10 @@ put_hangs c d f to b heads xs n hash head at dist new bucket first put prev tags
       first = refl;
       runs = Runs-insert (untagged c) (untagged d) (untagged d) (untagged f) [] n at.chain p.chain_distinct lacks_chain put2 (SetsNext-none (untagged d) (Some n)) prev2 at.here.runs;
       members = (
-        ap (option_map to) (tags n ∙ tag_put c d n (record { a = None; b = head; up = None; tag = hash; height = 0 }) put) ∙ ap Some bucket,
-        in_tags c f to b n at.chain (λ m ne. tags m ∙ tag_other c d n m (record { a = None; b = head; up = None; tag = hash; height = 0 }) put ne) lacks_chain at.here.members,
+        ap (option_map to) (tags n ∙ tag_put c d n (record { a = None; b = head; up = up; tag = hash; height = 0 }) put) ∙ ap Some bucket,
+        in_tags c f to b n at.chain (λ m ne. tags m ∙ tag_other c d n m (record { a = None; b = head; up = up; tag = hash; height = 0 }) put ne) lacks_chain at.here.members,
       );
-      rising = rising_none f n at.chain (ap (option_and_then (λ (l : Link). l.up)) (same2 n (Lacks-first at.chain n lacks_chain) ∙ put.at));
+      rising = rising_before f n at.chain up (ap (option_and_then (λ (l : Link). l.up)) (same2 n (Lacks-first at.chain n lacks_chain) ∙ put.at)) before;
     })
 
 -- the first node of a chain once one has gone
@@ -191,17 +192,17 @@ old_put cs ds i j b head n hash front back h puts whole new bucket tag kept is =
     (oldest_set (cs i.col) (ds i.col) (leads_to i) (λ m. m ≢ n) (spelled cs i) (front ++ n ∷ back) 0 b (all_of i) k.chains head k.are (subst (AllByRecursion (λ m. m ≢ n)) (sym k.whole) (others_of (spelled cs i) n new)) (λ q m ne. change q m (λ e. ne (omega (arith, e)))) is h.oldest))
 
 module _ (cs ds : ℕ → Column) (d : Column) (i j : HashIndex) (n : Node) (b : ℕ) (h : IsSound cs i) (within : b < i.buckets.len) where
-  module _ (hash : ℕ) (head : Option Node) (begins : Head) (puts : PutsHead i j b begins) (begin : first_in begins ≡ Some n) (right : IsRight (ds i.col) begins) (plain : begins.mark < 192) (len : j.len ≡ i.len + 1) (load : j.len * 4 ≤ j.buckets.len) (new : Lacks (spelled cs i) n) (bucket : b ≡ leads_to i hash) (first : head ≡ get_or (heads_of i) b None)
-      (put : IsPut (cs i.col) d n (record { a = None; b = head; up = None; tag = hash; height = 0 })) (prev : SetsPrev (untagged d) (untagged (ds i.col)) head (Some n)) (tags : KeepsTags d (ds i.col)) (same : KeepsOtherNodes d (ds i.col) head) where
+  module _ (hash : ℕ) (head up : Option Node) (begins : Head) (puts : PutsHead i j b begins) (begin : first_in begins ≡ Some n) (right : IsRight (ds i.col) begins) (plain : begins.mark < 192) (len : j.len ≡ i.len + 1) (load : j.len * 4 ≤ j.buckets.len) (new : Lacks (spelled cs i) n) (bucket : b ≡ leads_to i hash) (first : head ≡ get_or (heads_of i) b None) (before : IsBefore (rest_of cs i (get_or (heads_of i) b None)) n up)
+      (put : IsPut (cs i.col) d n (record { a = None; b = head; up = up; tag = hash; height = 0 })) (prev : SetsPrev (untagged d) (untagged (ds i.col)) head (Some n)) (tags : KeepsTags d (ds i.col)) (same : KeepsOtherNodes d (ds i.col) head) where
     put_both : IsSound ds j × IsPermutation (n ∷ spelled cs i) (spelled ds j)
     put_both =
         let f = focus_of cs i (spelled cs i) b within h in
         let ys : List Node = f.front ++ n ∷ (f.chain ++ f.back) in
-        let hangs = hangs_kept ds i j b begins ys puts (subst (λ o. Hangs (ds i.col) (leads_to i) 0 (set (heads_of i) b o) ys) (sym begin) (put_hangs (cs i.col) d (ds i.col) (leads_to i) b (heads_of i) (spelled cs i) n hash head f h.distinct new (sym bucket) first put prev tags same)) in
+        let hangs = hangs_kept ds i j b begins ys puts (subst (λ o. Hangs (ds i.col) (leads_to i) 0 (set (heads_of i) b o) ys) (sym begin) (put_hangs (cs i.col) d (ds i.col) (leads_to i) b (heads_of i) (spelled cs i) n hash head up f h.distinct new (sym bucket) first (subst (λ z. IsBefore z n up) (rest_is cs i (spelled cs i) b f h.len).1 before) put prev tags same)) in
         let here : (m : Node) → head ≡ Some m → IsIn (cs i.col) (leads_to i) b m = λ m e. first_has (IsIn (cs i.col) (leads_to i) b) f.chain m f.here.members (sym f.here.first ∙ (sym first ∙ e)) in
         let are = right_put cs ds i j b begins (λ m. m ≢ n) h puts (others_of (spelled cs i) n new)
         (λ k m ne other is. same m (λ e. ne (one_chain (cs i.col) (leads_to i) b k m (here m e) is)) ∙ put.others m other) right in
-        let link : Link = record { a = None; b = head; up = None; tag = hash; height = 0 } in
+        let link : Link = record { a = None; b = head; up = up; tag = hash; height = 0 } in
         let old = old_put cs ds i j b begins n hash f.front (f.chain ++ f.back) h puts f.whole new (sym bucket) (tags n ∙ tag_put (cs i.col) d n link put) (λ m ne. tags m ∙ tag_other (cs i.col) d n m link put ne) (λ says m begin. absurd (omega (arith, says, plain))) in
         let dist = Distinct-insert f.front n (f.chain ++ f.back) (subst IsDistinct f.whole h.distinct) (subst (λ z. Lacks z n) f.whole new) in
         let s = Spells_from ds j ys hangs dist (len ∙ (ap (λ k. k + 1) (h.len ∙ ap length f.whole) ∙ length-insert f.front n (f.chain ++ f.back))) load are old in
@@ -350,16 +351,33 @@ rising_rest cs i hash head (Some n) h is there known =
 pub some_room : (i : HashIndex) → HasRoom i → 0 < i.buckets.len
 some_room i room = omega (arith, room)
 
--- the last node of a chain stands in it
-pub last_stands : (xs : List Node) (m : Node) → last_or xs None ≡ Some m → Holds xs m
-last_stands xs m e = let r = EndsWith-last xs m e in record { before = r.front; after = []; is = r.is }
+-- the chain from its first node on
+pub chain_begins : (cs : ℕ → Column) (i : HashIndex) (b : ℕ) (first : Node) (h : IsSound cs i) (within : b < i.buckets.len) → get_or (heads_of i) b None ≡ Some first → first_or (rest_of cs i (Some first)) None ≡ Some first
+chain_begins cs i b first h within began = ap (λ z. first_or z None) (chain_rest cs i b first h within began) ∙ (sym (focus_of cs i (spelled cs i) b within h).here.first ∙ began)
 
--- so does the first
-pub first_stands : (cs : ℕ → Column) (i : HashIndex) (b : ℕ) (first : Node) (h : IsSound cs i) (within : b < i.buckets.len) → get_or (heads_of i) b None ≡ Some first → Holds (rest_of cs i (Some first)) first
-first_stands cs i b first h within began =
+pub chain_runs : (cs : ℕ → Column) (i : HashIndex) (b : ℕ) (first : Node) (h : IsSound cs i) (within : b < i.buckets.len) → get_or (heads_of i) b None ≡ Some first → Runs (untagged (cs i.col)) None (rest_of cs i (Some first)) None
+chain_runs cs i b first h within began = subst (λ z. Runs (untagged (cs i.col)) None z None) (sym (chain_rest cs i b first h within began)) (focus_of cs i (spelled cs i) b within h).here.runs
+
+pub chain_lacks : (cs : ℕ → Column) (i : HashIndex) (b : ℕ) (first : Node) (h : IsSound cs i) (within : b < i.buckets.len) → get_or (heads_of i) b None ≡ Some first → (n : Node) → Lacks (spelled cs i) n → Lacks (rest_of cs i (Some first)) n
+chain_lacks cs i b first h within began n new =
     let at = focus_of cs i (spelled cs i) b within h in
-    let tail = first_split at.chain first (sym at.here.first ∙ began) in
-    record { before = []; after = tail.0; is = chain_rest cs i b first h within began ∙ tail.1 }
+    subst (λ z. Lacks z n) (sym (chain_rest cs i b first h within began)) (Lacks-front at.chain at.back n (Lacks-back at.front (at.chain ++ at.back) n (subst (λ z. Lacks z n) at.whole new)))
+
+-- a node that was not added after the first of a chain that rises comes before all
+older_by : (xs : List Node) (first n m : Node) → first_or xs None ≡ Some first → (number_of first ≡ number_of n → first ≡ n) → Lacks xs n → ¬ (number_of first < number_of n) → last_or xs None ≡ Some m → Rises xs → (last_or xs None ≡ Some m) × Rises (n ∷ xs)
+older_by [] first n m begin same lacks later last rises = absurd (cc)
+older_by (x ∷ xs) first n m begin same lacks later last rises =
+    let is : x ≡ first = cc in
+    let differ : number_of first ≢ number_of n = λ e. lacks.0 (sym (same e) ∙ sym is) in
+    let lt : number_of n < number_of x = omega (arith, differ, later, ap number_of is) in
+    (last, rises_below x n xs lt rises)
+
+pub older_first : {R : Type 0} (s : Store R) (i : HashIndex) (b : ℕ) (first n : Node) (h : IsSound (column_of s) i) (within : b < i.buckets.len) → get_or (heads_of i) b None ≡ Some first → IsNode (column_of s i.col) first → IsNode (column_of s i.col) n → Lacks (spelled (column_of s) i) n → ¬ (number_of first < number_of n)
+    → (up : Option Node) → IsLast (rest_of (column_of s) i (Some first)) up → IsBefore (rest_of (column_of s) i (Some first)) n up
+older_first s i b first n h within began there node new later up known = λ m e.
+    let rises = known m e in
+    older_by (rest_of (column_of s) i (Some first)) first n m (chain_begins (column_of s) i b first h within began) (same_number s first n (node_of_column s i.col first there) (node_of_column s i.col n node))
+    (chain_lacks (column_of s) i b first h within began n new) later rises.0 rises.1
 
 -- a node of a chain is one of all
 pub stands_held : (cs : ℕ → Column) (i : HashIndex) (b : ℕ) (first by : Node) (h : IsSound cs i) (within : b < i.buckets.len) → get_or (heads_of i) b None ≡ Some first → Holds (rest_of cs i (Some first)) by → Holds (spelled cs i) by
@@ -367,6 +385,10 @@ stands_held cs i b first by h within began stands =
     let f = focus_of cs i (spelled cs i) b within h in
     let k = subst (λ z. Holds z by) (chain_rest cs i b first h within began) stands in
     record { before = f.front ++ k.before; after = k.after ++ f.back; is = split_at (spelled cs i) f.front f.chain f.back k.before by k.after f.whole k.is }
+
+-- a node behind which another may be put stands there
+pub behind_stands : (xs : List Node) (at n : Node) (up : Option Node) → IsBehind xs at n up → Holds xs at
+behind_stands xs at n up h = record { before = h.front; after = h.back; is = h.is }
 
 -- the links of a node that is not there stay
 pub behind_same : (cs : ℕ → Column) (i : HashIndex) (b : ℕ) (first by : Node) (link : Link) (h : IsSound cs i) (within : b < i.buckets.len) → get_or (heads_of i) b None ≡ Some first → Holds (rest_of cs i (Some first)) by → cs i.col by ≡ Some link → (m : Node) → Lacks (spelled cs i) m → (g f e d : Column) → KeepsOtherNodes f g (Some first) → KeepsOtherNodes e f link.b → KeepsOtherNodes d e (Some by) → g m ≡ d m
@@ -379,10 +401,10 @@ behind_same cs i b first by link h within began stands is m lacks g f e d same_u
     same_up m (λ e. Lacks-first at.chain m chain (sym at.here.first ∙ (began ∙ e)))
     ∙ (same_prev m (λ e. Lacks-first k.after m l.1 (sym near.b ∙ e)) ∙ same_next m (λ e. let same : by ≡ m = cc in l.0 (sym same)))
 
-behind_hangs : (c d e f g : Column) (to : ℕ → ℕ) (b : ℕ) (heads : List (Option Node)) (xs : List Node) (n first by : Node) (hash : ℕ) (after up : Option Node) (us qs : List Node) (at : Focus c to 0 b b heads xs) → IsDistinct xs → Lacks xs n → to hash ≡ b → at.chain ≡ us ++ qs → last_or us None ≡ Some by → first_or us None ≡ Some first → after ≡ first_or qs None → IsAbove at.chain by n up
+behind_hangs : (c d e f g : Column) (to : ℕ → ℕ) (b : ℕ) (heads : List (Option Node)) (xs : List Node) (n first by : Node) (hash : ℕ) (after up : Option Node) (us qs : List Node) (at : Focus c to 0 b b heads xs) → IsDistinct xs → Lacks xs n → to hash ≡ b → at.chain ≡ us ++ qs → last_or us None ≡ Some by → first_or us None ≡ Some first → after ≡ first_or qs None → ((m : Node) → up ≡ Some m → (last_or (us ++ n ∷ qs) None ≡ Some m) × Rises (us ++ n ∷ qs))
     → IsPut c d n (record { a = Some by; b = after; up = None; tag = hash; height = 0 }) → SetsNext (untagged d) (untagged e) (Some by) (Some n) → KeepsOtherNodes d e (Some by) → SetsPrev (untagged e) (untagged f) after (Some n) → KeepsOtherNodes e f after
     → ((m : Node) → untagged g m ≡ untagged f m) → KeepsOtherNodes f g (Some first) → up_at g first ≡ up → KeepsTags d g → Hangs g to 0 (set heads b (Some first)) (at.front ++ ((us ++ n ∷ qs) ++ at.back))
-behind_hangs c d e f g to b heads xs n first by hash after up us qs at dist new bucket is last start near above put next same_next prev same_prev links same_up up_is tags =
+behind_hangs c d e f g to b heads xs n first by hash after up us qs at dist new bucket is last start near rises put next same_next prev same_prev links same_up up_is tags =
     let link : Link = record { a = Some by; b = after; up = None; tag = hash; height = 0 } in
     let put2 : IsPut (untagged c) (untagged d) n (chain_link (last_or us None) (first_or qs None)) = subst (λ o. IsPut (untagged c) (untagged d) n (chain_link o (first_or qs None))) (sym last) (subst (λ o. IsPut (untagged c) (untagged d) n (chain_link (Some by) o)) near (put_untagged c d n link put)) in
     let next2 = subst (λ o. SetsNext (untagged d) (untagged e) o (Some n)) (sym last) next in
@@ -411,25 +433,25 @@ behind_hangs c d e f g to b heads xs n first by hash after up us qs at dist new 
       first = sym begin;
       runs = Runs-same (untagged f) (untagged g) None (us ++ n ∷ qs) None (same_all (untagged f) (untagged g) links (us ++ n ∷ qs)) runs;
       members = All-join (IsIn g to b) us (n ∷ qs) members.0 (ap (option_map to) (tags n ∙ tag_put c d n link put) ∙ ap Some bucket, members.1);
-      rising = rising_behind g us qs by n up distinct last (subst (λ z. IsAbove z by n up) is above) (λ k z. let both : Some first ≡ Some k = sym begin ∙ z in let same : first ≡ k = cc in subst (λ m. up_at g m ≡ up) same up_is);
+      rising = rising_behind g (us ++ n ∷ qs) up rises (λ k z. let both : Some first ≡ Some k = sym begin ∙ z in let same : first ≡ k = cc in subst (λ m. up_at g m ≡ up) same up_is);
     })
 
 module _ (cs ds : ℕ → Column) (d e f : Column) (i j : HashIndex) (n first by : Node) (b hash : ℕ) (link : Link) (up : Option Node) (head : Head) (h : IsSound cs i) (within : b < i.buckets.len) (puts : PutsHead i j b head) (begin : first_in head ≡ Some first) (followed : 128 ≤ head.mark) (len : j.len ≡ i.len + 1) (load : j.len * 4 ≤ j.buckets.len) (new : Lacks (spelled cs i) n) (bucket : b ≡ leads_to i hash)
-    (began : get_or (heads_of i) b None ≡ Some first) (stands : Holds (rest_of cs i (Some first)) by) (above : IsAbove (rest_of cs i (Some first)) by n up) (is : cs i.col by ≡ Some link) (put : IsPut (cs i.col) d n (record { a = Some by; b = link.b; up = None; tag = hash; height = 0 })) (next : SetsNext (untagged d) (untagged e) (Some by) (Some n)) (same_next : KeepsOtherNodes d e (Some by)) (prev : SetsPrev (untagged e) (untagged f) link.b (Some n)) (same_prev : KeepsOtherNodes e f link.b)
+    (began : get_or (heads_of i) b None ≡ Some first) (place : IsBehind (rest_of cs i (Some first)) by n up) (is : cs i.col by ≡ Some link) (put : IsPut (cs i.col) d n (record { a = Some by; b = link.b; up = None; tag = hash; height = 0 })) (next : SetsNext (untagged d) (untagged e) (Some by) (Some n)) (same_next : KeepsOtherNodes d e (Some by)) (prev : SetsPrev (untagged e) (untagged f) link.b (Some n)) (same_prev : KeepsOtherNodes e f link.b)
     (links : (m : Node) → untagged (ds i.col) m ≡ untagged f m) (same_up : KeepsOtherNodes f (ds i.col) (Some first)) (up_is : up_at (ds i.col) first ≡ up) (tags : KeepsTags d (ds i.col)) (oldest : 192 ≤ head.mark → IsOldestOf (cs i.col) (spelled cs i) first) (later : tag_at (cs i.col) first ≡ Some hash → number_of first < number_of n) where
   behind_both : IsSound ds j × IsPermutation (n ∷ spelled cs i) (spelled ds j)
   behind_both =
       let c = cs i.col in
       let at = focus_of cs i (spelled cs i) b within h in
       let rest = chain_rest cs i b first h within began in
-      let k = subst (λ z. Holds z by) rest stands in
-      let us = k.before ++ by ∷ [] in
-      let qs = k.after in
-      let split : at.chain ≡ us ++ qs = k.is ∙ sym (append_assoc k.before (by ∷ []) qs) in
-      let last : last_or us None ≡ Some by = last_or-append k.before (by ∷ []) None in
-      let start : first_or us None ≡ Some first = first_front k.before by qs ∙ (sym (ap (λ z. first_or z None) k.is) ∙ (sym at.here.first ∙ began)) in
-      let near = neighbours c k.before by qs link (subst (λ z. Runs (untagged c) None z None) k.is at.here.runs) is in
-      let members = All-split (IsIn c (leads_to i) b) k.before (by ∷ qs) (subst (AllByRecursion (IsIn c (leads_to i) b)) k.is at.here.members) in
+      let k = subst (λ z. IsBehind z by n up) rest place in
+      let us = k.front ++ by ∷ [] in
+      let qs = k.back in
+      let split : at.chain ≡ us ++ qs = k.is ∙ sym (append_assoc k.front (by ∷ []) qs) in
+      let last : last_or us None ≡ Some by = last_or-append k.front (by ∷ []) None in
+      let start : first_or us None ≡ Some first = first_front k.front by qs ∙ (sym (ap (λ z. first_or z None) k.is) ∙ (sym at.here.first ∙ began)) in
+      let near = neighbours c k.front by qs link (subst (λ z. Runs (untagged c) None z None) k.is at.here.runs) is in
+      let members = All-split (IsIn c (leads_to i) b) k.front (by ∷ qs) (subst (AllByRecursion (IsIn c (leads_to i) b)) k.is at.here.members) in
       let between : Link = record { a = Some by; b = link.b; up = None; tag = hash; height = 0 } in
       let front = at.front ++ us in
       let back = qs ++ at.back in
@@ -438,7 +460,7 @@ module _ (cs ds : ℕ → Column) (d e f : Column) (i j : HashIndex) (n first by
       let whole : spelled cs i ≡ front ++ back = at.whole ∙ (ap (λ z. at.front ++ (z ++ at.back)) split ∙ (ap (λ z. at.front ++ z) (append_assoc us qs at.back) ∙ sym (append_assoc at.front us back))) in
       let lacks = subst (λ z. Lacks z n) whole new in
       let hangs = hangs_kept ds i j b head ys puts (subst (λ o. Hangs (ds i.col) (leads_to i) 0 (set (heads_of i) b o) ys) (sym begin) (subst (λ z. Hangs (ds i.col) (leads_to i) 0 (set (heads_of i) b (Some first)) z) joins
-      (behind_hangs c d e f (ds i.col) (leads_to i) b (heads_of i) (spelled cs i) n first by hash link.b up us qs at h.distinct new (sym bucket) split last start near.b (subst (λ z. IsAbove z by n up) rest above) put next same_next prev same_prev links same_up up_is tags))) in
+      (behind_hangs c d e f (ds i.col) (leads_to i) b (heads_of i) (spelled cs i) n first by hash link.b up us qs at h.distinct new (sym bucket) split last start near.b (λ m e. subst (λ z. (last_or z None ≡ Some m) × Rises z) (sym (append_assoc k.front (by ∷ []) (n ∷ qs))) (k.rises m e)) put next same_next prev same_prev links same_up up_is tags))) in
       let are = right_put cs ds i j b head (λ m. m ≢ n) h puts (others_of (spelled cs i) n new)
       (λ q m ne other there.
       same_up m (λ z. ne (one_chain c (leads_to i) b q m (first_has (IsIn c (leads_to i) b) at.chain m at.here.members (sym at.here.first ∙ (began ∙ z))) there))

@@ -1,5 +1,5 @@
 -- Chains that rise: what they become, and what a walk along them finds.
-use Rattle.std.proofs.Common.{◌≡◌, ℕ, true, ◌<◌, List, [], ◌∷◌, ◌++◌, Option, Some, None, option_and_then, refl, sym, ap, ◌∙◌, subst, arith}
+use Rattle.std.proofs.Common.{◌≡◌, ℕ, true, ◌<◌, List, [], ◌∷◌, ◌++◌, Option, Some, None, option_and_then, refl, sym, ap, ◌∙◌, subst, arith, append_assoc}
 use Rattle.std.specs.Prelude.{nat_lt}
 use Rattle.std.specs.List.{AllByRecursion}
 use Rattle.std.specs.Option.{option_map_or}
@@ -8,13 +8,14 @@ use Rattle.std.proofs.lemmas.List.{append-nil}
 use Rattle.node_store.specs.declared.Node.{Node}
 use Rattle.node_store.specs.declared.Link.{Link}
 use Rattle.node_store.specs.Column.{Column}
-use Rattle.node_store.specs.Nodes.{IsDistinct, IsSameAt, first_or, last_or}
+use Rattle.node_store.specs.Nodes.{IsSameAt, first_or, last_or}
 use Rattle.node_store.specs.Store.{number_of}
-use Rattle.node_store.proofs.NodeLists.{IsDistinct-parts, last_or-append}
-use Rattle.list_model.proofs.Lists.{EachPair-push}
-use Rattle.list_model.proofs.Kept.{EachPair-without_middle}
-use Rattle.seq_index.proofs.Runs.{LacksEnd-last, Lacks-last}
-use Rattle.hash_index.specs.Rising.{Rises, up_at, top_of, IsRising, top_beside, IsAbove}
+use Rattle.node_store.proofs.NodeLists.{last_or-append}
+use Rattle.list_model.proofs.Lists.{EachPair-push, All-join}
+use Rattle.list_model.proofs.Kept.{EachPair-without_middle, All-split}
+use Rattle.list_model.proofs.InOrder.{All-map}
+use Rattle.seq_index.proofs.Runs.{EndsWith-last}
+use Rattle.hash_index.specs.Rising.{Rises, up_at, top_of, IsRising, top_beside, IsBefore, IsBehind}
 
 abbrev IsBelow : Node → Node → Type 0
 IsBelow x y = number_of x < number_of y
@@ -58,23 +59,78 @@ rises_appended (x ∷ xs) n e rises =
     let last = last_some xs x in
     rises_above (x ∷ xs) last.0 n last.1 rises (after_by (last_or xs (Some x)) last.0 n last.1 e)
 
--- a node of a chain of distinct nodes that is the last of the front is the last of all only where that is all
-nothing_behind : (us qs : List Node) (at : Node) → IsDistinct (us ++ qs) → last_or us None ≡ Some at → last_or (us ++ qs) None ≡ Some at → qs ≡ []
-nothing_behind us [] at dist front all = refl
-nothing_behind us (q ∷ qs) at dist front all =
-    let lacks = LacksEnd-last us (q ∷ qs) (IsDistinct-parts us (q ∷ qs) dist).apart at front in
-    absurd (Lacks-last (q ∷ qs) at lacks (sym (last_or-append us (q ∷ qs) None) ∙ all))
-
-above_by : (us qs : List Node) (at n m : Node) → qs ≡ [] → n ≡ m → last_or us None ≡ Some at → Rises (us ++ qs) → number_of at < number_of n → (last_or (us ++ n ∷ qs) None ≡ Some m) × Rises (us ++ n ∷ qs)
-above_by us [] at n m none same front rises lt =
-    (last_or-append us (n ∷ []) None ∙ ap Some same, rises_above us at n front (subst Rises (append-nil us) rises) lt)
-above_by us (q ∷ qs) at n m none same front rises lt = absurd (cc)
-
 -- a node comes behind another
-pub rising_behind : (g : Column) (us qs : List Node) (at n : Node) (up : Option Node) → IsDistinct (us ++ qs) → last_or us None ≡ Some at → IsAbove (us ++ qs) at n up → ((k : Node) → first_or (us ++ n ∷ qs) None ≡ Some k → up_at g k ≡ up) → IsRising g (us ++ n ∷ qs)
-rising_behind g us qs at n up dist front above is = λ m e.
-    let a = above m (top_at g (us ++ n ∷ qs) up is m e) in
-    above_by us qs at n m (nothing_behind us qs at dist front a.1) a.0 front a.2 a.3
+pub rising_behind : (g : Column) (zs : List Node) (up : Option Node) → ((m : Node) → up ≡ Some m → (last_or zs None ≡ Some m) × Rises zs) → ((k : Node) → first_or zs None ≡ Some k → up_at g k ≡ up) → IsRising g zs
+rising_behind g zs up rises is = λ m e. rises m (top_at g zs up is m e)
+
+pub rises_between : (front : List Node) (at n : Node) (back : List Node) → Rises (front ++ at ∷ back) → number_of at < number_of n → AllByRecursion (λ y. number_of n < number_of y) back → Rises (front ++ at ∷ n ∷ back)
+rises_between [] at n back rises lt above = ((lt, rises.0), (above, rises.1))
+rises_between (x ∷ front) at n back rises lt above =
+    let parts = All-split (λ y. number_of x < number_of y) front (at ∷ back) rises.0 in
+    (All-join (λ y. number_of x < number_of y) front (at ∷ n ∷ back) parts.0 (parts.1.0, (omega (arith, parts.1.0, lt), parts.1.1)), rises_between front at n back rises.1 lt above)
+
+-- ---- before all
+
+last_still : (xs : List Node) (n m : Node) → last_or xs None ≡ Some m → last_or xs (Some n) ≡ Some m
+last_still [] n m e = absurd (cc)
+last_still (x ∷ xs) n m e = e
+
+-- a node comes before all
+pub rising_before : (f : Column) (n : Node) (xs : List Node) (up : Option Node) → up_at f n ≡ up → IsBefore xs n up → IsRising f (n ∷ xs)
+rising_before f n xs up is before = λ m e. let rises = before m (sym is ∙ e) in (last_still xs n m rises.0, rises.1)
+
+pub rises_below : (x n : Node) (xs : List Node) → number_of n < number_of x → Rises (x ∷ xs) → Rises (n ∷ (x ∷ xs))
+rises_below x n xs lt rises = ((lt, All-map (λ y. number_of x < number_of y) (λ y. number_of n < number_of y) (λ y more. omega (arith, lt, more)) xs rises.0), rises)
+
+-- ---- a walk from the last node on, to the first one that was added before another
+
+-- what the walk has passed was added after `n`, and ends with `top`, or with `n` where there is none
+pub record Walked (xs : List Node) (at : Option Node) (top n : Node) : Type 0 where
+  pub front : List Node
+  pub back : List Node
+  pub is : xs ≡ front ++ back
+  pub ends : at ≡ last_or front None
+  pub above : AllByRecursion (λ y. number_of n < number_of y) back
+  pub last : last_or back (Some n) ≡ Some top
+
+pub walked_none : (xs : List Node) (end n : Node) → last_or xs None ≡ Some end → Walked xs (Some end) n n
+walked_none xs end n last = record { front = xs; back = []; is = sym (append-nil xs); ends = sym last; above = tt; last = refl }
+
+-- the next node
+pub record Meets (xs : List Node) (m top n : Node) : Type 0 where
+  pub front : List Node
+  pub back : List Node
+  pub is : xs ≡ front ++ m ∷ back
+  pub above : AllByRecursion (λ y. number_of n < number_of y) back
+  pub last : last_or back (Some n) ≡ Some top
+
+pub walked_meets : (xs : List Node) (at : Option Node) (m top n : Node) → at ≡ Some m → Walked xs at top n → Meets xs m top n
+walked_meets xs at m top n here w =
+    let r = EndsWith-last w.front m (sym w.ends ∙ here) in
+    record { front = r.front; back = w.back; is = w.is ∙ (ap (λ z. z ++ w.back) r.is ∙ append_assoc r.front (m ∷ []) w.back); above = w.above; last = w.last }
+
+pub walked_next : (xs : List Node) (m top end n : Node) (next : Option Node) (w : Meets xs m top n) → last_or xs None ≡ Some end → next ≡ last_or w.front None → number_of n < number_of m → Walked xs next end n
+walked_next xs m top end n next w last is lt = record {
+  front = w.front;
+  back = m ∷ w.back;
+  is = w.is;
+  ends = is;
+  above = (lt, w.above);
+  last = sym (last_or-append w.front (m ∷ w.back) None) ∙ (sym (ap (λ z. last_or z None) w.is) ∙ last);
+}
+
+-- a node that was added before `n`
+pub walked_there : (xs : List Node) (m top n : Node) → Meets xs m top n → Rises xs → number_of m < number_of n → IsBehind xs m n (Some top)
+walked_there xs m top n w rises lt = record {
+  front = w.front;
+  back = w.back;
+  is = w.is;
+  rises = λ k e. (last_or-append w.front (m ∷ n ∷ w.back) None ∙ (w.last ∙ e), rises_between w.front m n w.back (subst Rises w.is rises) lt w.above);
+}
+
+pub behind_first : (xs : List Node) (first n : Node) → first_or xs None ≡ Some first → IsBehind xs first n None
+behind_first [] first n e = absurd (cc)
+behind_first (x ∷ xs) first n e = let same : x ≡ first = cc in record { front = []; back = xs; is = ap (λ z. z ∷ xs) same; rises = λ m no. absurd (cc) }
 
 -- ---- a node less
 

@@ -1,5 +1,5 @@
 -- Chains whose nodes stand in the order in which they were added.
-use Rattle.std.specs.Prelude.{◌≡◌, ◌<◌, List, Option, Some, None, option_and_then}
+use Rattle.std.specs.Prelude.{◌≡◌, ◌<◌, List, ◌∷◌, ◌++◌, Option, Some, None, option_and_then}
 use Rattle.node_store.specs.declared.Node.{Node}
 use Rattle.node_store.specs.Column.{Column}
 use Rattle.node_store.specs.Nodes.{first_or, last_or}
@@ -38,6 +38,17 @@ top_beside (Some m) None up None = None
 top_beside (Some m) None up (Some top) = Some m
 top_beside (Some m) (Some n) up top = top
 
--- where `up` is a node, it is `n`, which was added after the last one of a list that rises and ends with `at`
-abbrev pub IsAbove : List Node → Node → Node → Option Node → Type 0
-IsAbove xs at n up = (m : Node) → up ≡ Some m → (n ≡ m) × (last_or xs None ≡ Some at) × Rises xs × number_of at < number_of n
+-- where `up` is a node, the list with `n` before all rises, and ends with it
+abbrev pub IsBefore : List Node → Node → Option Node → Type 0
+IsBefore xs n up = (m : Node) → up ≡ Some m → (last_or xs None ≡ Some m) × Rises (n ∷ xs)
+
+-- the node `at` stands in the list, and where `up` is a node, the list with `n` behind `at` rises, and ends with it
+pub record IsBehind (xs : List Node) (at n : Node) (up : Option Node) : Type 0 where
+  pub front : List Node
+  pub back : List Node
+  pub is : xs ≡ front ++ at ∷ back
+  pub rises : (m : Node) → up ≡ Some m → (last_or (front ++ at ∷ n ∷ back) None ≡ Some m) × Rises (front ++ at ∷ n ∷ back)
+
+-- `last` is the last node of a list that rises, where it is a node
+abbrev pub IsLast : List Node → Option Node → Type 0
+IsLast xs last = (m : Node) → last ≡ Some m → (last_or xs None ≡ Some m) × Rises xs

@@ -58,12 +58,7 @@ pub(crate) fn set_prev<R>(
 }
 
 // Makes the link of the node `at`, if there is one, lead up to `up`.
-pub(crate) fn set_up<R>(
-    store: &mut NodeStore<R>,
-    col: usize,
-    at: Option<Node>,
-    up: Option<Node>,
-)
+pub(crate) fn set_up<R>(store: &mut NodeStore<R>, col: usize, at: Option<Node>, up: Option<Node>)
     requires { AreNodes (column_of store.old col) at }
     ensures up { (m : Node) → at ≡ Some m → up_at (column_of store.new col) m ≡ up }
     ensures links { (m : Node) → untagged (column_of store.new col) m ≡ untagged (column_of store.old col) m }

@@ -22,8 +22,9 @@ fn earlier(first: Option<Node>, n: Node) -> Node
 }
 
 impl HashIndex {
-    /// The node that was added first of those whose records have the whole key. Expected O(1) while the first node that
-    /// went into the key's chain is still there, and else O(1 + those nodes).
+    /// The node that was added first of those whose records have the whole key. Expected O(1) where the key's chain is
+    /// known to rise, or its first node to be the oldest, and else O(1 + those nodes). A chain rises on whatever goes, and
+    /// until a node comes that was added before more than the last eight of it, but not before all.
     pub fn earliest_of<R, E: Extract<R>>(
         &self,
         store: &NodeStore<R>,

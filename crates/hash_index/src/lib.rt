@@ -4,8 +4,7 @@
 //! stand in one index of each column at once.
 #![tactic(auto)]
 
-ghost use Rattle.std.specs.Prelude.{◌≡◌, ◌≢◌, ℕ, ◌+◌, ◌*◌, ◌<◌, ◌≤◌, max, List, [], ◌∷◌, ◌++◌, length, get_or, slice_get, Option, Some, None, IsPermutation};
-ghost use Rattle.node_store.specs.Store.{number_of};
+ghost use Rattle.std.specs.Prelude.{◌≡◌, ℕ, ◌*◌, ◌<◌, ◌≤◌, max, List, [], ◌∷◌, get_or, slice_get, Option, Some, None, IsPermutation};
 ghost use Rattle.node_store.specs.declared.Node.{Node};
 ghost use Rattle.node_store.specs.Column.{Column, IsNode};
 ghost use Rattle.node_store.specs.Nodes.{Lacks};
@@ -15,13 +14,13 @@ ghost use Rattle.seq_index.specs.Links.{AreNodes, end_beside};
 ghost use Rattle.hash_index.specs.Mask.{HasMask, HasMask_prop};
 ghost use Rattle.hash_index.specs.Heads.{first_in, IsRight};
 
-mod behind;
 mod buckets;
 mod chain;
 mod column;
 mod earliest;
 mod grow;
 mod head;
+mod placing;
 mod search;
 mod segment;
 mod segments;
@@ -55,8 +54,7 @@ pub struct HashIndex {
 
 impl HashIndex {
     ghost use Rattle.hash_index.specs.Stored.{nodes_of, AreBucketsOf, HasNode, HasKey, HaveTheirHash, KeepsRest};
-    ghost use Rattle.hash_index.specs.Spelled.{Spells, col_of, index_of, all_of, heads_of, buckets_of, HasRoom, KeepsTags, leads_to, spelled};
-    ghost use Rattle.hash_index.specs.Chains.{tag_at};
+    ghost use Rattle.hash_index.specs.Spelled.{Spells, col_of, index_of, all_of, heads_of, buckets_of, HasRoom, KeepsTags, spelled};
 
     /// An index of no nodes in column `col`, for the keys of the container's index `index`. It has no buckets yet,
     /// and allocates nothing. O(1).
@@ -136,71 +134,6 @@ impl HashIndex {
         self.set_top(store, before, head.node(), after, up);
         self.buckets.set(bucket, head);
         self.len -= 1;
-    }
-
-    // Puts `n` into the chain of a hash: behind the last node where the chain is known to rise to it and `n` is younger,
-    // else behind the first, which so stays the oldest of its hash if it is, and before it only where it is older and has
-    // the same hash.
-    pub(crate) fn put<R>(&mut self, store: &mut NodeStore<R>, n: Node, hash: u64)
-        requires chain { AreBucketsOf self.old store.old }
-        requires node { IsNode (column_of store.old (col_of self.old)) n }
-        requires new { Lacks (nodes_of self.old store.old) n }
-        requires room { HasRoom self.old }
-        ensures chain { AreBucketsOf self.new store.new }
-        ensures list { IsPermutation (n ∷ nodes_of self.old store.old)
-            (nodes_of self.new store.new) }
-        ensures tag { tag_at (column_of store.new (col_of self.old)) n ≡ Some hash }
-        ensures tags { (m : Node) → m ≢ n → tag_at (column_of store.new (col_of self.old)) m ≡
-            tag_at (column_of store.old (col_of self.old)) m }
-        ensures same { (m : Node) → m ≢ n → Lacks (nodes_of self.old store.old) m →
-            column_of store.new (col_of self.old) m ≡ column_of store.old (col_of self.old) m }
-        ensures len { self.new.len ≡ self.old.len + 1 }
-        ensures buckets { buckets_of self.new ≡ buckets_of self.old }
-        ensures rest { KeepsRest self.old self.new store.old store.new }
-    {
-        let bucket = self.bucket(hash);
-        let head = self.buckets.head(bucket);
-        if let Some(first) = head.node() {
-            let link = store.link(first, self.col);
-            if link.tag != hash || first.number() < n.number() {
-                self.put_later(store, n, hash, head, first, link);
-                return;
-            }
-        }
-        self.put_first(store, n, hash);
-    }
-
-    // Puts `n` first into the chain of a hash.
-    fn put_first<R>(&mut self, store: &mut NodeStore<R>, n: Node, hash: u64)
-        requires chain { AreBucketsOf self.old store.old }
-        requires node { IsNode (column_of store.old (col_of self.old)) n }
-        requires new { Lacks (nodes_of self.old store.old) n }
-        requires room { HasRoom self.old }
-        ensures chain { AreBucketsOf self.new store.new }
-        ensures list { IsPermutation (n ∷ nodes_of self.old store.old)
-            (nodes_of self.new store.new) }
-        ensures tag { tag_at (column_of store.new (col_of self.old)) n ≡ Some hash }
-        ensures tags { (m : Node) → m ≢ n → tag_at (column_of store.new (col_of self.old)) m ≡
-            tag_at (column_of store.old (col_of self.old)) m }
-        ensures same { (m : Node) → m ≢ n → Lacks (nodes_of self.old store.old) m →
-            column_of store.new (col_of self.old) m ≡ column_of store.old (col_of self.old) m }
-        ensures len { self.new.len ≡ self.old.len + 1 }
-        ensures buckets { buckets_of self.new ≡ buckets_of self.old }
-        ensures rest { KeepsRest self.old self.new store.old store.new }
-    {
-        let bucket = self.bucket(hash);
-        let head = self.buckets.get(bucket);
-        let link = Link {
-            a: None,
-            b: head,
-            up: None,
-            tag: hash,
-            height: 0,
-        };
-        store.set_link(n, self.col, link);
-        set_prev(store, self.col, head, Some(n));
-        self.buckets.set(bucket, Head::of(n, hash, head.is_some()));
-        self.len += 1;
     }
 
     // The head of a chain once the node between two neighbours has gone.

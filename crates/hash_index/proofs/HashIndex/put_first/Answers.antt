@@ -1,6 +1,8 @@
-use Rattle.std.proofs.Common.{◌+◌, ◌*◌, ◌≤◌, refl, sym, ◌∙◌, arith}
+use Rattle.std.proofs.Common.{◌+◌, ◌*◌, ◌≤◌, get_or, None, subst, refl, sym, ◌∙◌, arith}
 use Rattle.node_store.specs.ByNode.{column_of}
-use Rattle.hash_index.specs.Spelled.{spelled}
+use Rattle.hash_index.specs.Spelled.{heads_of, spelled}
+use Rattle.hash_index.specs.Rising.{IsBefore}
+use Rattle.hash_index.specs.Walks.{rest_of}
 use Rattle.hash_index.proofs.Heads.{right_new}
 use Rattle.hash_index.proofs.Spelling.{focus_of}
 use Rattle.hash_index.proofs.Changes.{put_sound, put_moved, head_node, head_lacks}
@@ -19,10 +21,10 @@ returns-clause-chain g c =
     let first = c.get-head.ensures in
     let at = focus_of (column_of c.args.store.now) i (spelled (column_of c.args.store.now) i) c.bucket-bucket.result c.bucket-bucket.ensures.within c.requires.chain in
     let stays = c.set_prev.ensures.same c.args.n (λ e. head_lacks _ _ _ _ _ at c.args.n c.requires.new (sym first ∙ e)) ∙ c.set_link.ensures.put.at in
-    let right = right_new (column_of c.set_prev.new.store i.col) c.of.result c.args.n c.args.hash c.get-head.result c.is_some.result c.of.ensures.first c.of.ensures.mark c.is_some.ensures stays in
+    let right = right_new (column_of c.set_prev.new.store i.col) c.of.result c.args.n c.args.hash c.get-head.result c.args.up c.is_some.result c.of.ensures.first c.of.ensures.mark c.is_some.ensures stays in
     let load : (i.len + 1) * 4 ≤ c.set.new.self.len = omega (arith, c.requires.room, c.set.ensures.len) in
     put_sound (column_of c.args.store.now) (column_of c.set_prev.new.store) _ i _ c.args.n c.bucket-bucket.result c.requires.chain c.bucket-bucket.ensures.within
-    c.args.hash c.get-head.result c.of.result (record { col = refl; level = refl; count = c.set.ensures.len; heads = c.set.ensures.heads }) c.of.ensures.first right c.of.ensures.plain refl load c.requires.new c.bucket-bucket.ensures.is first
+    c.args.hash c.get-head.result c.args.up c.of.result (record { col = refl; level = refl; count = c.set.ensures.len; heads = c.set.ensures.heads }) c.of.ensures.first right c.of.ensures.plain refl load c.requires.new c.bucket-bucket.ensures.is first (subst (λ b. IsBefore (rest_of (column_of c.args.store.now) i (get_or (heads_of i) b None)) c.args.n c.args.up) (sym c.bucket-bucket.ensures.is) c.requires.up)
     c.set_link.ensures.put c.set_prev.ensures.ends c.set_prev.ensures.tags c.set_prev.ensures.same
 
 pub returns-clause-list : goal.returns-clause-list
@@ -31,10 +33,10 @@ returns-clause-list g c =
     let first = c.get-head.ensures in
     let at = focus_of (column_of c.args.store.now) i (spelled (column_of c.args.store.now) i) c.bucket-bucket.result c.bucket-bucket.ensures.within c.requires.chain in
     let stays = c.set_prev.ensures.same c.args.n (λ e. head_lacks _ _ _ _ _ at c.args.n c.requires.new (sym first ∙ e)) ∙ c.set_link.ensures.put.at in
-    let right = right_new (column_of c.set_prev.new.store i.col) c.of.result c.args.n c.args.hash c.get-head.result c.is_some.result c.of.ensures.first c.of.ensures.mark c.is_some.ensures stays in
+    let right = right_new (column_of c.set_prev.new.store i.col) c.of.result c.args.n c.args.hash c.get-head.result c.args.up c.is_some.result c.of.ensures.first c.of.ensures.mark c.is_some.ensures stays in
     let load : (i.len + 1) * 4 ≤ c.set.new.self.len = omega (arith, c.requires.room, c.set.ensures.len) in
     put_moved (column_of c.args.store.now) (column_of c.set_prev.new.store) _ i _ c.args.n c.bucket-bucket.result c.requires.chain c.bucket-bucket.ensures.within
-    c.args.hash c.get-head.result c.of.result (record { col = refl; level = refl; count = c.set.ensures.len; heads = c.set.ensures.heads }) c.of.ensures.first right c.of.ensures.plain refl load c.requires.new c.bucket-bucket.ensures.is first
+    c.args.hash c.get-head.result c.args.up c.of.result (record { col = refl; level = refl; count = c.set.ensures.len; heads = c.set.ensures.heads }) c.of.ensures.first right c.of.ensures.plain refl load c.requires.new c.bucket-bucket.ensures.is first (subst (λ b. IsBefore (rest_of (column_of c.args.store.now) i (get_or (heads_of i) b None)) c.args.n c.args.up) (sym c.bucket-bucket.ensures.is) c.requires.up)
     c.set_link.ensures.put c.set_prev.ensures.ends c.set_prev.ensures.tags c.set_prev.ensures.same
 
 pub returns-clause-same : goal.returns-clause-same

@@ -18,7 +18,7 @@ returns-clause-builds g c = λ xs dist h.
       last = last_appended xs c.args.n;
       runs = append_runs (column_of c.args.store.now c.args.col) _ (column_of c.set_next.new.store c.args.col) was.last c.args.n c.args.hash c.set_link.ensures.put c.set_next.ensures.ends xs h.last dist h.runs;
       rises = λ yes. elim c.if-self.branch [
-          then-self w ↦ rises_appended xs c.args.n (ap (λ o. option_map_or (λ k. nat_lt (number_of k) (number_of c.args.n)) o true) (sym h.last) ∙ (sym w.is_after-self.ensures ∙ (sym w.self-is ∙ yes))) (h.rises w.if-self.true)
+        | then-self w ↦ rises_appended xs c.args.n (ap (λ o. option_map_or (λ k. nat_lt (number_of k) (number_of c.args.n)) o true) (sym h.last) ∙ (sym w.is_after-self.ensures ∙ (sym w.self-is ∙ yes))) (h.rises w.if-self.true)
         | else-self w ↦ (let bad : false ≡ true = sym w.if-self.false ∙ (sym w.self-is ∙ yes) in absurd (cc))
       ];
     }
