@@ -21,8 +21,8 @@ impl AnyIndex {
     ghost use Rattle.any_index.specs.Stored.{nodes_of, side_in, record_side_in, IsFiledOnce, CanFind, CanSearch};
 
     /// The first node that has the key: of a hashed index, the one that was added first. O(log n) in a tree; in buckets
-    /// expected O(1) while the first node that went into the key's chain is there, and else O(1 + the nodes that have the
-    /// key). A sequence has no such call.
+    /// expected O(1), and O(1 + the nodes that have the key) once nodes came to it that were added long before others of
+    /// it. A sequence has no such call.
     pub fn find<R, E: Extract<R>>(
         &self,
         store: &NodeStore<R>,

@@ -15,7 +15,8 @@ use node_store::Node;
 
 impl<R, E: Extract<R>> IndexSet<R, E> {
     /// The first node of the index that has the key: of a hashed one, the one that was added first. O(log n) in an index
-    /// in order, expected O(1 + the nodes that have the key) in a hashed one. A sequence has no such call.
+    /// in order; in a hashed one expected O(1), and O(1 + the nodes that have the key) once nodes came to it that were added
+    /// long before others of it. A sequence has no such call.
     pub fn find(&self, index: usize, probe: &E::Probe) -> Option<Node>
         requires { CanFind E.Extract self.now index probe.now }
         ensures { result ≡ find_equal (probe_side E.probe_order_of self.now index probe.now)

@@ -175,8 +175,8 @@ impl<R: Drop, E: Extract<R> + Drop> MultiIndex<R, E> {
     }
 
     /// The first record of the index that has the key, if any does, and in a hashed index the one put in first of those that
-    /// have it; a sequence has none, and answers `Kind`. O(log n); expected O(1) in a unique hashed index, and O(1 + the
-    /// records that have the key) in another hashed one.
+    /// have it; a sequence has none, and answers `Kind`. O(log n); expected O(1) in a hashed index, and in one that is not
+    /// unique O(1 + the records that have the key) once changes brought records to it that are older than others of it.
     pub fn find(&self, index: usize, probe: &E::Probe) -> Result<Option<Handle>, Why>
         requires in_range { index < length self.now.specs }
         requires fits { IsTrue (has_key_kind (kind_at self.now index)) →
