@@ -1,0 +1,68 @@
+//! Items under three indices.
+ghost use Rattle.std.specs.Prelude.{◌≡◌, ◌<◌, length};
+
+use crate::item::{Item, KEYS};
+use container_model::{Handle, Kind, Refused, Spec, Why};
+use field_keys::{FieldKeys, Search, Value};
+use multi_index::MultiIndex;
+use std::alloc::{AllocError, Global};
+
+const SPECS: [Spec; 3] = [
+    Spec {
+        kind: Kind::Hashed,
+        unique: true,
+    },
+    Spec {
+        kind: Kind::Ordered,
+        unique: false,
+    },
+    Spec {
+        kind: Kind::Ranked,
+        unique: false,
+    },
+];
+
+/// Items, by number, by shelf and by day.
+#[derive(Drop)]
+pub struct Shelves {
+    items: MultiIndex<Item, FieldKeys>,
+    ghost indices: { length items.specs ≡ 3 },
+}
+
+impl Shelves {
+    /// Shelves for at most `max` items.
+    pub fn new(alloc: Global, max: u32) -> Result<Shelves, AllocError> {
+        let items = MultiIndex::new(alloc, SPECS.to_vec(alloc)?, FieldKeys::new(KEYS), max, 0)?;
+        Ok(Shelves { items })
+    }
+
+    /// Puts an item in, unless one has its number.
+    pub fn put(&mut self, item: Item) -> Result<Handle, Refused<Item>> {
+        self.items.insert(item)
+    }
+
+    /// The item of a number.
+    pub fn numbered(&self, sku: u64) -> Option<&Item> {
+        let search = Search::of(Value::Number(sku.into()));
+        let handle = self.items.find(0, &search).unwrap_or(None)?;
+        self.items.get(handle).ok()
+    }
+
+    /// How many items are on a shelf.
+    pub fn count_on(&self, shelf: u64) -> u64 {
+        let search = Search::of(Value::Number(shelf.into())).leading();
+        self.items.count(1, &search).unwrap_or(0)
+    }
+
+    /// The items, in the order of an index.
+    pub fn list(&self, index: usize) -> Result<Vec<Handle>, Why>
+        requires { index < 3 }
+    {
+        self.items.view(index)
+    }
+
+    /// The item of a handle.
+    pub fn get(&self, handle: Handle) -> Option<&Item> {
+        self.items.get(handle).ok()
+    }
+}
