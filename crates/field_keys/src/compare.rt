@@ -73,7 +73,10 @@ pub(crate) fn compare_records<R: Fields>(parts: &[KeyPart], a: &R, b: &R) -> Ord
 fn compare_value<R: Fields>(part: KeyPart, a: &R, value: Field<'_>) -> Ordering
     ensures { result ≡ value_side (part_of part) (R.row_of a.now) (cell_of value.entry) }
 {
-    directed_order(part, compare_optional(&a.field(part.column()), &Some(value)))
+    directed_order(
+        part,
+        compare_optional(&a.field(part.column()), &Some(value)),
+    )
 }
 
 // How the key of a stands to these values, one for each part.

@@ -1,6 +1,5 @@
 use Rattle.std.proofs.Common.{◌≡◌, get_or}
 use Rattle.key_extract.specs.Keys.{part_cmp}
-use Rattle.field_keys.specs.declared.part.KeyPart.{KeyPart}
 use Rattle.field_keys.specs.declared.part.KeyPart.TheVariants.{Rising}
 use Rattle.field_keys.specs.Fields.{part_of}
 use Rattle.field_keys.proofs.Steps.{records_differ, records_agree}
