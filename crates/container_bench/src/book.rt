@@ -5,7 +5,7 @@ ghost use Rattle.container_bench.specs.Keys.{has_key};
 
 use crate::keys::{Key, Keys};
 use crate::record::Record;
-use container_model::{Kind, Spec};
+use container_model::{Handle, Kind, Spec};
 use key_extract::Extract;
 use multi_index::MultiIndex;
 use std::alloc::{AllocError, Global};
@@ -176,6 +176,100 @@ impl Book {
             return 0;
         }
         self.records.erase_key(index, &probe).unwrap_or(0)
+    }
+
+    /// How many records have the key at an index.
+    pub(crate) fn count(&self, index: usize, probe: (u64, u64)) -> u64 {
+        if index >= self.specs.len() {
+            return 0;
+        }
+        self.records.count(index, &probe).unwrap_or(0)
+    }
+
+    /// The price of a record, or 0.
+    pub(crate) fn get(&self, handle: Handle) -> u64 {
+        match self.records.get(handle) {
+            Ok(record) => record.price,
+            Err(_) => 0,
+        }
+    }
+
+    /// The number of the write of the record at a place of an index, or 0.
+    pub(crate) fn nth(&self, index: usize, place: u64) -> u64 {
+        match self.handle_at(index, place) {
+            Some(handle) => handle.stamp,
+            None => 0,
+        }
+    }
+
+    /// The place of a record in a row, or 0.
+    pub(crate) fn place_of(&self, index: usize, handle: Handle) -> u64 {
+        if index >= self.specs.len() {
+            return 0;
+        }
+        self.records.place_of(index, handle).unwrap_or(0)
+    }
+
+    /// The rank of a record in an index, or 0.
+    pub(crate) fn rank(&self, index: usize, handle: Handle) -> u64 {
+        if index >= self.specs.len() {
+            return 0;
+        }
+        self.records.rank(index, Some(handle)).unwrap_or(0)
+    }
+
+    /// The number of the write of the record after one in an index, or 0.
+    pub(crate) fn next(&self, index: usize, handle: Handle) -> u64 {
+        if index >= self.specs.len() {
+            return 0;
+        }
+        match self.records.project_next(index, Some(handle)) {
+            Ok(Some(next)) => next.stamp,
+            _ => 0,
+        }
+    }
+
+    /// Moves the record at a place of a row one place on. Answers the number of its write, or 0 where it stays.
+    pub(crate) fn move_on(&mut self, index: usize, place: u64) -> u64 {
+        let Some(handle) = self.handle_at(index, place) else {
+            return 0;
+        };
+        match self.relocate(index, place.saturating_add(2), handle) {
+            true => handle.stamp,
+            false => 0,
+        }
+    }
+
+    /// Takes a record out. Answers its price, or 0.
+    pub(crate) fn erase(&mut self, handle: Handle) -> u64 {
+        match self.records.erase(handle, None) {
+            Ok(erased) => erased.row.price,
+            Err(_) => 0,
+        }
+    }
+
+    /// The records in the order of an index, as far as there is memory.
+    pub(crate) fn handles(&self, alloc: Global, index: usize) -> Vec<Handle> {
+        if index >= self.specs.len() {
+            return Vec::new(alloc);
+        }
+        match self.records.view(index) {
+            Ok(handles) => handles,
+            Err(_) => Vec::new(alloc),
+        }
+    }
+
+    // The record at a place of an index, if there is one.
+    fn handle_at(&self, index: usize, place: u64) -> Option<Handle> {
+        if index >= self.specs.len() {
+            return None;
+        }
+        self.records.nth(index, place).unwrap_or(None)
+    }
+
+    // Moves a record before a place of an index. Answers whether it may go there.
+    fn relocate(&mut self, index: usize, place: u64, handle: Handle) -> bool {
+        index < self.specs.len() && self.records.relocate(index, place, handle).is_ok()
     }
 
     /// The number of records in the list of an index.

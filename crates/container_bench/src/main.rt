@@ -1,9 +1,10 @@
 //! Prints what the container and std's collections kept by hand answer to some finds, which is the same, the sizes of nodes
 //! and links, and sums of what the calls of the indices answer. With the words `times`, `times sequences`, `times keys`,
-//! `times growth` or `times indices` it prints the nanoseconds that each call takes in their place: of the container and of the
-//! collections, with the bytes of a record; of the store, a sequence and a row; of the indices that have keys, beside std's
-//! maps; of the calls that must not take longer with every record that is there; of the calls that add and drop an index,
-//! beside insertions, with the bytes of a record by how many indices there may be.
+//! `times growth`, `times indices` or `times short` it prints the nanoseconds that each call takes in their place: of the
+//! container and of the collections, with the bytes of a record; of the store, a sequence and a row; of the indices that have
+//! keys, beside std's maps; of the calls that must not take longer with every record that is there; of the calls that add and
+//! drop an index, beside insertions, with the bytes of a record by how many indices there may be; of the container's calls by
+//! a handle or a place.
 //!
 //! A line has the call, the size, the least time of several rounds, and its growth since the size before. Where a line
 //! names several calls, the time is that of all; lines for the first ones alone stand beside it.
@@ -23,6 +24,7 @@ mod measured;
 mod memory;
 mod record;
 mod sequences;
+mod short_times;
 
 use bench_report::Report;
 use std::alloc::Global;
@@ -44,6 +46,7 @@ enum Part {
     Keys,
     Growth,
     Indices,
+    Short,
 }
 
 impl Part {
@@ -54,6 +57,7 @@ impl Part {
             Some("keys") => Part::Keys,
             Some("growth") => Part::Growth,
             Some("indices") => Part::Indices,
+            Some("short") => Part::Short,
             _ => Part::Container,
         }
     }
@@ -61,7 +65,7 @@ impl Part {
     // The sizes at which it is.
     fn sizes(self) -> &'static [(u64, u64)] {
         match self {
-            Part::Container | Part::Keys | Part::Indices => &UP_TO_A_MILLION,
+            Part::Container | Part::Keys | Part::Indices | Part::Short => &UP_TO_A_MILLION,
             Part::Sequences => &UP_TO_100_000,
             Part::Growth => &GROWING,
         }
@@ -85,6 +89,7 @@ fn times<R: Runtime>(
         Part::Keys => keyed::times(rt, alloc, report, count),
         Part::Growth => growth::times(rt, alloc, report, count),
         Part::Indices => indexing::times(rt, alloc, report, count),
+        Part::Short => short_times::times(rt, alloc, report, count),
     }
 }
 
@@ -109,7 +114,7 @@ fn print_bytes<R: Runtime>(rt: &R, alloc: Global, part: Part) -> io::Result<()> 
         Part::Container => memory::record_bytes(rt, alloc, 100_000),
         Part::Sequences => sequences::record_bytes(rt, alloc, 100_000),
         Part::Indices => memory::bytes_by_most(rt, alloc, 100_000),
-        Part::Keys | Part::Growth => Ok(()),
+        Part::Keys | Part::Growth | Part::Short => Ok(()),
     }
 }
 
@@ -146,7 +151,8 @@ fn print_answers<R: Runtime>(rt: &R, alloc: Global) -> io::Result<()> {
     print_sum(rt, alloc, Part::Sequences, "records")?;
     print_sum(rt, alloc, Part::Keys, "words")?;
     print_sum(rt, alloc, Part::Growth, "that grow")?;
-    print_sum(rt, alloc, Part::Indices, "that are indexed anew")
+    print_sum(rt, alloc, Part::Indices, "that are indexed anew")?;
+    print_sum(rt, alloc, Part::Short, "that are asked for")
 }
 
 fn main(rt: HostRuntime) -> io::Result<()> {

@@ -195,6 +195,7 @@ impl<R> NodeStore<R> {
     }
 
     /// The node's record.
+    #[inline(always)]
     pub fn get(&self, n: Node) -> &R
         requires { IsNodeOf self.now n }
         ensures { record_of self.now n ≡ Some result.now }
@@ -212,6 +213,7 @@ impl<R> NodeStore<R> {
     }
 
     /// The node's links in a column.
+    #[inline(always)]
     pub fn link(&self, n: Node, col: usize) -> Link
         requires { IsNode (column_of self.now col) n }
         ensures { column_of self.now col n ≡ Some result }
@@ -220,6 +222,7 @@ impl<R> NodeStore<R> {
     }
 
     /// Whether `o` is the node `n`. Their numbers decide, so both must be nodes of this store.
+    #[inline(always)]
     pub fn is_node(&self, o: Option<Node>, n: Node) -> bool
         requires other { (m : Node) → o ≡ Some m → IsNodeOf self.now m }
         requires node { IsNodeOf self.now n }
@@ -232,6 +235,7 @@ impl<R> NodeStore<R> {
     }
 
     /// Replaces the node's links in a column. Its record, its other columns and all other nodes stay as they were.
+    #[inline(always)]
     pub fn set_link(&mut self, n: Node, col: usize, link: Link)
         requires { IsNode (column_of self.old col) n }
         ensures put { IsPut (column_of self.old col) (column_of self.new col) n link }
@@ -243,6 +247,7 @@ impl<R> NodeStore<R> {
 
     /// Replaces the tag of the node's links in a column, which it does not read. The links themselves, the node's record,
     /// its other columns and all other nodes stay as they were.
+    #[inline(always)]
     pub fn set_tag(&mut self, n: Node, col: usize, tag: u64)
         requires { IsNode (column_of self.old col) n }
         ensures put { (link : Link) → column_of self.old col n ≡ Some link →

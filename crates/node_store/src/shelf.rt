@@ -126,6 +126,7 @@ impl<R, const N: usize> Shelf<R, N> {
     }
 
     // The node's record.
+    #[inline(always)]
     pub(crate) fn get(&self, n: Node) -> &R
         requires { IsNodeOf self.now n }
         ensures { record_of self.now n ≡ Some result.now }
@@ -144,6 +145,7 @@ impl<R, const N: usize> Shelf<R, N> {
     }
 
     // The node's links in a column.
+    #[inline(always)]
     pub(crate) fn link(&self, n: Node, col: usize) -> Link
         requires { IsNode (column_of self.now col) n }
         ensures { column_of self.now col n ≡ Some result }
@@ -152,6 +154,7 @@ impl<R, const N: usize> Shelf<R, N> {
     }
 
     // Replaces the node's links in a column. Its record, its other columns and all other nodes stay as they were.
+    #[inline(always)]
     pub(crate) fn set_link(&mut self, n: Node, col: usize, link: Link)
         requires { IsNode (column_of self.old col) n }
         ensures put { IsPut (column_of self.old col) (column_of self.new col) n link }
@@ -164,6 +167,7 @@ impl<R, const N: usize> Shelf<R, N> {
 
     // Replaces the tag of the node's links in a column, which it does not read. The links themselves, the node's record,
     // its other columns and all other nodes stay as they were.
+    #[inline(always)]
     pub(crate) fn set_tag(&mut self, n: Node, col: usize, tag: u64)
         requires { IsNode (column_of self.old col) n }
         ensures put { (link : Link) → column_of self.old col n ≡ Some link →

@@ -33,6 +33,7 @@ fn node_if(there: bool, node: Node) -> Option<Node>
 
 impl Stored {
     /// The links, with `filler` where there is no node.
+    #[inline(always)]
     pub(crate) fn of(link: Link, filler: Node) -> Stored
         ensures { link_of result ≡ link }
     {
@@ -49,6 +50,7 @@ impl Stored {
     }
 
     /// Keeps another tag, and the same links and height.
+    #[inline(always)]
     pub(crate) fn set_tag(&mut self, tag: u64)
         ensures { link_of self.new ≡ record (link_of self.old) { tag = tag } }
     {
@@ -56,6 +58,7 @@ impl Stored {
     }
 
     /// The links that were stored.
+    #[inline(always)]
     pub(crate) fn link(self) -> Link
         ensures { result ≡ link_of self }
     {
