@@ -8,3 +8,4 @@ pub mod First
 pub mod SomeNode
 pub mod Alike
 pub mod Renumbered
+pub mod Marking

@@ -3,3 +3,4 @@ pub mod Lists
 pub mod Side
 pub mod Keyed
 pub mod Stored
+pub mod Marks

@@ -4,7 +4,6 @@ use Rattle.std.specs.declared.cmp.Ordering.{Ordering}
 use Rattle.node_store.specs.declared.Node.{Node}
 use Rattle.node_store.specs.Store.{Store}
 use Rattle.node_store.specs.ByNode.{column_of, record_of, contents}
-use Rattle.container_model.specs.declared.handle.Kind.TheVariants.{Random}
 use Rattle.key_extract.specs.declared.extract.Extract.{Ghosts}
 use Rattle.any_index.specs.Side.{side_of, order_at}
 use Rattle.any_index.specs.declared.index.AnyIndex.{AnyIndex}
@@ -78,11 +77,3 @@ module _ {E R P : Type 0} (X : Ghosts E R P) where
     pub key : HasItsKey (X.has_key keys) i
     pub fits : IsTrue (X.does_fit keys (index_of i) probe)
     pub keyed : IsKeyed (X.order_of keys) (X.hash_of keys) s i
-
-  -- the index is a row whose nodes can be parted by the probe: it is a key of the index of that number, or a leading
-  -- part of one
-  pub record CanSink (i : AnyIndex) (s : Store R) (keys : E) (index : ℕ) (probe : P) : Type 0 where
-    pub sound : IsIn i s
-    pub kind : kind_of i ≡ Random
-    pub key : IsTrue (X.has_key keys index)
-    pub fits : IsTrue (X.does_fit keys index probe)

@@ -5,6 +5,7 @@
 #![tactic(auto)]
 
 mod index;
+mod marks;
 mod order;
 mod reads;
 mod seek;

@@ -1,19 +1,17 @@
 //! Changes of the order of a sequence.
 ghost use Rattle.std.specs.Prelude.{◌≡◌, ◌≤◌, IsTrue, length, reverse as reversed, IsPermutation};
-ghost use Rattle.std.specs.Ordering.{is_eq};
 ghost use Rattle.container_model.specs.State.{is_sequence_kind};
 ghost use Rattle.list_model.specs.Walk.{relocated};
-ghost use Rattle.node_store.specs.ByNode.{record_of, same_node};
+ghost use Rattle.node_store.specs.ByNode.{column_of, same_node};
 ghost use Rattle.any_index.specs.Lists.{IsSunk};
-ghost use Rattle.any_index.specs.Side.{side_of};
-ghost use Rattle.any_index.specs.Spelled.{HasRoom, kind_of};
+ghost use Rattle.any_index.specs.Marks.{HasMarks, is_marked};
+ghost use Rattle.any_index.specs.Spelled.{HasRoom, kind_of, col_of};
 
 use crate::AnyIndex;
-use key_extract::Extract;
 use node_store::{Node, NodeStore};
 
 impl AnyIndex {
-    ghost use Rattle.any_index.specs.Stored.{nodes_of, IsIn, HasNode, KeepsRest, CanSink};
+    ghost use Rattle.any_index.specs.Stored.{nodes_of, IsIn, HasNode, KeepsRest};
 
     /// Moves `n` before the node at the place, or last. The place counts with `n` still in. It takes no memory. In a
     /// chain O(the distance of the place from the nearer end), in a row O(the nodes between both places).
@@ -67,25 +65,19 @@ impl AnyIndex {
         }
     }
 
-    /// Puts the nodes of a row whose records have the key of index `index` behind all others, which keep their order.
-    /// It takes no memory. O(nodes + k log k) for k that have the key. Others have no such call.
-    pub fn sink<R, E: Extract<R>>(
-        &mut self,
-        store: &mut NodeStore<R>,
-        keys: &E,
-        index: usize,
-        probe: &E::Probe,
-    )
-        requires { CanSink E.Extract self.old store.old keys.now index probe.now }
+    /// Puts the nodes of a row that are marked, of which `low` is the lowest place, behind all others, which keep their
+    /// order, and takes the marks away. It reads no record and takes no memory. O(the nodes from the place on). Others have
+    /// no such call.
+    pub fn close_up<R>(&mut self, store: &mut NodeStore<R>, low: u64)
+        requires { HasMarks (column_of store.old) self.old low }
         ensures sound { IsIn self.new store.new }
-        ensures sunk { IsSunk (λ n. is_eq (side_of (record_of store.old)
-            (λ a. E.probe_order_of keys.now index a probe.now) n))
+        ensures sunk { IsSunk (is_marked (column_of store.old (col_of self.old)))
             (nodes_of self.old store.old) (nodes_of self.new store.new) }
         ensures room { HasRoom self.old → HasRoom self.new }
         ensures rest { KeepsRest self.old self.new store.old store.new }
     {
         match self {
-            AnyIndex::Random(row) => row.sink(store, keys, index, probe),
+            AnyIndex::Random(row) => row.close_up(store, low),
             AnyIndex::Sequenced(_)
             | AnyIndex::Ordered(_)
             | AnyIndex::Ranked(_)

@@ -21,11 +21,12 @@ use slot_table::SlotTable;
 use std::cmp::Ordering;
 
 // Up to this many records leave rows one by one.
-const FEW: u64 = 8;
+const FEW: u64 = 5;
 
 /// Takes out every record that has the key at the index, also a leading part of one, and answers how many there were. It
 /// takes no memory. For each record that goes, a look-up and O(log n) for each index; and where there are more than a few,
-/// O(n) for each index whose places can be counted, whose records of the key go behind all others first.
+/// O(the records from the first of them on) for each index whose places can be counted, in which they go behind all others
+/// first, and no record of another key is read.
 pub fn take_key<R: Drop, E: Extract<R>>(
     set: &mut IndexSet<Entry<R>, ByRow<E>>,
     slots: &mut SlotTable<Node>,

@@ -2,4 +2,4 @@ pub mod Places
 pub mod Shifted
 pub mod Edits
 pub mod Laws
-mod Sinking
+pub mod Closing

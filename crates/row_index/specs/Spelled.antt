@@ -1,5 +1,5 @@
 -- The list that a row spells.
-use Rattle.std.specs.Prelude.{◌≡◌, ℕ, ◌+◌, ◌<◌, List, [], ◌∷◌, take, Option, Some}
+use Rattle.std.specs.Prelude.{◌≡◌, ℕ, false, ◌+◌, ◌<◌, List, [], ◌∷◌, take, Option, Some}
 use Rattle.std.specs.Option.{option_map}
 use Rattle.std.specs.Vec.{vec_len, vec_capacity}
 use Rattle.node_store.specs.declared.Node.{Node}
@@ -8,6 +8,7 @@ pub use Rattle.node_store.specs.Column.{KeepsOthers}
 pub use Rattle.node_store.specs.Nodes.{Holds}
 use Rattle.node_store.specs.Nodes.{IsDistinct, AllNodes}
 use Rattle.row_index.specs.declared.RowIndex.{RowIndex}
+use Rattle.row_index.specs.Marked.{is_marked}
 
 -- the place that the column says of a node
 abbrev pub tag_at : Column → Node → Option ℕ
@@ -45,3 +46,13 @@ pub record IsNumberedTo (c : Column) (place : ℕ) (xs : List Node) : Type 0 whe
   pub nodes : AllNodes c xs
   pub distinct : IsDistinct xs
   pub front : AreNumbered c 0 (take place xs)
+
+-- each of the nodes that is not marked has its place, of which the first is this one
+abbrev pub KeepPlaces : Column → ℕ → List Node → Type 0
+KeepPlaces c place [] = Unit {0}
+KeepPlaces c place (x ∷ xs) = (is_marked c x ≡ false → tag_at c x ≡ Some place) × KeepPlaces c (place + 1) xs
+
+-- the vector has distinct nodes of the column with their places, but for those that are marked, none of them before a place
+pub record HasMarks (cs : ℕ → Column) (i : RowIndex) (low : ℕ) : Type 0 where
+  pub numbered : IsNumberedTo (cs i.col) low i.nodes.items
+  pub places : KeepPlaces (cs i.col) 0 i.nodes.items

@@ -1,11 +1,10 @@
 -- A row in a store: what its calls ask for, read and leave.
-use Rattle.std.specs.Prelude.{◌≡◌, ℕ, List, IsTrue}
+use Rattle.std.specs.Prelude.{◌≡◌, ℕ, List}
 use Rattle.node_store.specs.declared.Node.{Node}
 use Rattle.node_store.specs.Column.{KeepsOthers}
 use Rattle.node_store.specs.Nodes.{Holds}
 use Rattle.node_store.specs.Store.{Store}
 use Rattle.node_store.specs.ByNode.{column_of, contents}
-use Rattle.key_extract.specs.declared.extract.Extract.{Ghosts}
 use Rattle.row_index.specs.declared.RowIndex.{RowIndex}
 use Rattle.row_index.specs.Spelled.{Spells, IsSound, spelled, col_of, HasRoom}
 
@@ -35,10 +34,3 @@ module _ {R : Type 0} where
   pub record ReordersRow (old new : RowIndex) (before after : Store R) (xs : List Node) : Type 0 where
     pub row : BecomesRow old new before after xs
     pub room : HasRoom old → HasRoom new
-
-module _ {E R P : Type 0} (X : Ghosts E R P) where
-  -- the nodes of the row can be parted by the probe: it is a key of the index of that number, or a leading part of one
-  pub record CanSink (i : RowIndex) (s : Store R) (keys : E) (index : ℕ) (probe : P) : Type 0 where
-    pub chain : IsRowOf i s
-    pub key : IsTrue (X.has_key keys index)
-    pub fits : IsTrue (X.does_fit keys index probe)

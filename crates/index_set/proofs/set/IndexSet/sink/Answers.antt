@@ -1,58 +1,109 @@
-use Rattle.std.proofs.Common.{subst, sym, refl, ◌∙◌}
+use Rattle.std.proofs.Common.{◌≡◌, arith, subst, sym, refl, ap, ◌∙◌}
 use Rattle.std.specs.Prelude.{IsTrue}
+use Rattle.std.specs.Ordering.{is_eq}
+use Rattle.node_store.specs.Nodes.{Holds}
+use Rattle.node_store.specs.ByNode.{column_of, record_of}
+use Rattle.any_index.proofs.Marking.{row_list_same}
+use Rattle.index_set.specs.Lists.{IsSunk}
 use Rattle.container_model.specs.State.{is_sequence_kind}
-use Rattle.index_set.specs.Set.{kind_at}
+use Rattle.any_index.specs.Marks.{is_marked}
+use Rattle.any_index.specs.Side.{side_of}
+use Rattle.any_index.specs.Spelled as any
+use Rattle.index_set.specs.Set.{kind_at, probe_side}
 use Rattle.index_set.proofs.Frame.{steps_of}
-use Rattle.index_set.proofs.Reading.{sound_here, kind_here, has_its_key}
+use Rattle.index_set.proofs.Reading.{sound_here, kind_here, number_here, can_find}
 use Rattle.index_set.proofs.Moving.{placed_moved, within_moved, room_moved, keyed_moved}
 use Rattle.index_set.proofs.Stores.{IsStore_kept, columns_kept}
-use Rattle.index_set.proofs.Sinking.{by_key_kind, lists_sunk, list_sunk}
+use Rattle.index_set.proofs.Sinking.{same_index, two_steps, held_too, lists_sunk, list_sunk, sunk_alike}
 use Rattle.index_set.proofs.set.IndexSet.sink.Goals as goal
 
-pub sink-requires : goal.sink-requires
-sink-requires g c =
-    let set = c.args.self.now in
-    let sound = c.requires.at.sound in
-    let asked = c.requires.key in
-    let has = has_its_key set sound c.args.index asked.index asked.kind in
-    record {
-      sound = sound_here set sound c.args.row c.requires.at.index c.index_mut.result.now c.index_mut.ensures.value;
-      kind = kind_here set sound c.args.row c.requires.at.index c.index_mut.result.now c.index_mut.ensures.value ∙ c.requires.kind;
-      key = has;
-      fits = by_key_kind (kind_at set c.args.index) asked.kind asked.fits
-          (λ hashed. g.met.E.Extract.whole_fits set.keys c.args.index c.args.probe.now has (asked.whole hashed));
-    }
+pub mark_key-low-requires-clause-find : goal.mark_key-low-requires-clause-find
+mark_key-low-requires-clause-find g c =
+    let key = c.requires.key in
+    can_find g.E.Extract c.args.self.now key.sound c.args.index key.index c.index.result.now c.index.ensures c.args.probe.now key.kind key.fits key.whole key.keyed
+
+pub mark_key-low-requires-clause-index : goal.mark_key-low-requires-clause-index
+mark_key-low-requires-clause-index g c = sym (number_here c.args.self.now c.requires.key.sound c.args.index c.requires.key.index c.index.result.now c.index.ensures c.requires.key.kind)
+
+pub mark_key-low-requires-clause-row : goal.mark_key-low-requires-clause-row
+mark_key-low-requires-clause-row g c = sound_here c.args.self.now c.requires.at.sound c.args.row c.requires.at.index c.index-2.result.now c.index-2.ensures
+
+pub mark_key-low-requires-clause-kind : goal.mark_key-low-requires-clause-kind
+mark_key-low-requires-clause-kind g c = kind_here c.args.self.now c.requires.at.sound c.args.row c.requires.at.index c.index-2.result.now c.index-2.ensures ∙ c.requires.kind
+
+pub mark_key-low-requires-clause-there : goal.mark_key-low-requires-clause-there
+mark_key-low-requires-clause-there g c =
+    held_too c.args.self.now c.requires.at.sound c.requires.held c.args.index c.args.row c.requires.key.index c.requires.at.index c.index.result.now c.index-2.result.now c.index.ensures c.index-2.ensures
+
+pub mark_key-low-requires-clause-here : goal.mark_key-low-requires-clause-here
+mark_key-low-requires-clause-here g c =
+    held_too c.args.self.now c.requires.at.sound c.requires.held c.args.row c.args.index c.requires.at.index c.requires.key.index c.index-2.result.now c.index.result.now c.index-2.ensures c.index.ensures
 
 pub returns-clause-sound : goal.returns-clause-sound
 returns-clause-sound g c =
+    let set = c.args.self.now in
+    let mid = c.mark_key-low.new.store in
+    let step = two_steps set.store mid c.close_up.new.store c.index-2.result.now c.index_mut.result.now c.close_up.new.self (same_index set.indices.items c.args.row c.index-2.result.now c.index_mut.result.now c.index-2.ensures c.index_mut.ensures.value (omega (arith, c.requires.at.index, c.requires.at.sound.placed.one_each)))
+    c.mark_key-low.ensures.others (steps_of c.close_up.ensures.sound c.close_up.ensures.rest.kind c.close_up.ensures.rest.col c.close_up.ensures.rest.index c.close_up.ensures.rest.others) in
+    let kept = c.close_up.ensures.rest.contents ∙ c.mark_key-low.ensures.contents in
     let old = c.requires.at.sound in
     record {
       some = old.some;
       few = old.few;
       keys = old.keys;
-      placed = placed_moved c.args.self.now c.requires.at.sound c.args.row c.requires.at.index c.index_mut.result.now c.sink.new.self c.index_mut.ensures.value c.sink.new.store (steps_of c.sink.ensures.sound c.sink.ensures.rest.kind c.sink.ensures.rest.col c.sink.ensures.rest.index c.sink.ensures.rest.others);
-      nodes = IsStore_kept c.args.self.now.store c.sink.new.store c.sink.ensures.rest.contents old.nodes;
+      placed = placed_moved set c.requires.at.sound c.args.row c.requires.at.index c.index_mut.result.now c.close_up.new.self c.index_mut.ensures.value c.close_up.new.store step;
+      nodes = IsStore_kept set.store c.close_up.new.store kept old.nodes;
       columns = old.columns;
       most = old.most;
-      within = within_moved c.args.self.now c.requires.at.sound c.args.row c.requires.at.index c.index_mut.result.now c.sink.new.self c.index_mut.ensures.value c.sink.new.store (steps_of c.sink.ensures.sound c.sink.ensures.rest.kind c.sink.ensures.rest.col c.sink.ensures.rest.index c.sink.ensures.rest.others);
-      wide = columns_kept c.args.self.now.store c.sink.new.store c.sink.ensures.rest.contents old.wide;
+      within = within_moved set c.requires.at.sound c.args.row c.requires.at.index c.index_mut.result.now c.close_up.new.self c.index_mut.ensures.value c.close_up.new.store step;
+      wide = columns_kept set.store c.close_up.new.store kept old.wide;
     }
 
 pub returns-clause-room : goal.returns-clause-room
 returns-clause-room g c =
-    room_moved c.args.self.now c.requires.at.sound c.args.row c.requires.at.index c.index_mut.result.now c.sink.new.self c.index_mut.ensures.value c.sink.new.store (steps_of c.sink.ensures.sound c.sink.ensures.rest.kind c.sink.ensures.rest.col c.sink.ensures.rest.index c.sink.ensures.rest.others)
-    c.sink.ensures.room
+    let set = c.args.self.now in
+    let mid = c.mark_key-low.new.store in
+    let step = two_steps set.store mid c.close_up.new.store c.index-2.result.now c.index_mut.result.now c.close_up.new.self (same_index set.indices.items c.args.row c.index-2.result.now c.index_mut.result.now c.index-2.ensures c.index_mut.ensures.value (omega (arith, c.requires.at.index, c.requires.at.sound.placed.one_each)))
+    c.mark_key-low.ensures.others (steps_of c.close_up.ensures.sound c.close_up.ensures.rest.kind c.close_up.ensures.rest.col c.close_up.ensures.rest.index c.close_up.ensures.rest.others) in
+    let kept = c.close_up.ensures.rest.contents ∙ c.mark_key-low.ensures.contents in
+    room_moved set c.requires.at.sound c.args.row c.requires.at.index c.index_mut.result.now c.close_up.new.self c.index_mut.ensures.value c.close_up.new.store step c.close_up.ensures.room
 
 pub returns-clause-keyed : goal.returns-clause-keyed
 returns-clause-keyed g c =
-    keyed_moved c.args.self.now c.requires.at.sound c.args.row c.requires.at.index c.index_mut.result.now c.sink.new.self c.index_mut.ensures.value c.sink.new.store (steps_of c.sink.ensures.sound c.sink.ensures.rest.kind c.sink.ensures.rest.col c.sink.ensures.rest.index c.sink.ensures.rest.others)
-    (subst (λ kind. IsTrue (is_sequence_kind kind)) (sym c.requires.kind) refl) c.sink.ensures.rest.contents (g.E.Extract.order_of c.args.self.now.keys) (g.E.Extract.hash_of c.args.self.now.keys) c.requires.key.keyed
+    let set = c.args.self.now in
+    let mid = c.mark_key-low.new.store in
+    let step = two_steps set.store mid c.close_up.new.store c.index-2.result.now c.index_mut.result.now c.close_up.new.self (same_index set.indices.items c.args.row c.index-2.result.now c.index_mut.result.now c.index-2.ensures c.index_mut.ensures.value (omega (arith, c.requires.at.index, c.requires.at.sound.placed.one_each)))
+    c.mark_key-low.ensures.others (steps_of c.close_up.ensures.sound c.close_up.ensures.rest.kind c.close_up.ensures.rest.col c.close_up.ensures.rest.index c.close_up.ensures.rest.others) in
+    let kept = c.close_up.ensures.rest.contents ∙ c.mark_key-low.ensures.contents in
+    keyed_moved set c.requires.at.sound c.args.row c.requires.at.index c.index_mut.result.now c.close_up.new.self c.index_mut.ensures.value c.close_up.new.store step
+    (subst (λ kind. IsTrue (is_sequence_kind kind)) (sym c.requires.kind) refl) kept (g.E.Extract.order_of set.keys) (g.E.Extract.hash_of set.keys) c.requires.key.keyed
 
 pub returns-clause-lists : goal.returns-clause-lists
 returns-clause-lists g c =
-    lists_sunk c.args.self.now c.requires.at.sound c.args.row c.requires.at.index c.index_mut.result.now c.sink.new.self c.index_mut.ensures.value c.sink.new.store (steps_of c.sink.ensures.sound c.sink.ensures.rest.kind c.sink.ensures.rest.col c.sink.ensures.rest.index c.sink.ensures.rest.others)
+    let set = c.args.self.now in
+    let mid = c.mark_key-low.new.store in
+    let step = two_steps set.store mid c.close_up.new.store c.index-2.result.now c.index_mut.result.now c.close_up.new.self (same_index set.indices.items c.args.row c.index-2.result.now c.index_mut.result.now c.index-2.ensures c.index_mut.ensures.value (omega (arith, c.requires.at.index, c.requires.at.sound.placed.one_each)))
+    c.mark_key-low.ensures.others (steps_of c.close_up.ensures.sound c.close_up.ensures.rest.kind c.close_up.ensures.rest.col c.close_up.ensures.rest.index c.close_up.ensures.rest.others) in
+    let kept = c.close_up.ensures.rest.contents ∙ c.mark_key-low.ensures.contents in
+    lists_sunk set c.requires.at.sound c.args.row c.requires.at.index c.index_mut.result.now c.close_up.new.self c.index_mut.ensures.value c.close_up.new.store step
 
 pub returns-clause-sunk : goal.returns-clause-sunk
 returns-clause-sunk g c =
-    list_sunk c.args.self.now c.requires.at.sound c.args.row c.requires.at.index c.index_mut.result.now c.sink.new.self c.index_mut.ensures.value c.sink.new.store (steps_of c.sink.ensures.sound c.sink.ensures.rest.kind c.sink.ensures.rest.col c.sink.ensures.rest.index c.sink.ensures.rest.others)
-    _ c.sink.ensures.sunk
+    let set = c.args.self.now in
+    let mid = c.mark_key-low.new.store in
+    let step = two_steps set.store mid c.close_up.new.store c.index-2.result.now c.index_mut.result.now c.close_up.new.self (same_index set.indices.items c.args.row c.index-2.result.now c.index_mut.result.now c.index-2.ensures c.index_mut.ensures.value (omega (arith, c.requires.at.index, c.requires.at.sound.placed.one_each)))
+    c.mark_key-low.ensures.others (steps_of c.close_up.ensures.sound c.close_up.ensures.rest.kind c.close_up.ensures.rest.col c.close_up.ensures.rest.index c.close_up.ensures.rest.others) in
+    let kept = c.close_up.ensures.rest.contents ∙ c.mark_key-low.ensures.contents in
+    let row = c.index_mut.result.now in
+    let same = same_index set.indices.items c.args.row c.index-2.result.now row c.index-2.ensures c.index_mut.ensures.value (omega (arith, c.requires.at.index, c.requires.at.sound.placed.one_each)) in
+    let kind = kind_here set c.requires.at.sound c.args.row c.requires.at.index row c.index_mut.ensures.value ∙ c.requires.kind in
+    let number = number_here set c.requires.key.sound c.args.index c.requires.key.index c.index.result.now c.index.ensures c.requires.key.kind in
+    let first = any.list_of (column_of set.store) row in
+    let after = any.list_of (column_of c.close_up.new.store) c.close_up.new.self in
+    let sunk = subst (λ l. IsSunk (is_marked (column_of mid (any.col_of row))) l after) (row_list_same (column_of set.store) (column_of mid) row kind) c.close_up.ensures.sunk in
+    list_sunk set c.requires.at.sound c.args.row c.requires.at.index c.index_mut.result.now c.close_up.new.self c.index_mut.ensures.value c.close_up.new.store step (λ n. is_eq (probe_side g.E.Extract.probe_order_of set c.args.index c.args.probe.now n))
+    (sunk_alike (is_marked (column_of mid (any.col_of row))) (λ n. is_eq (probe_side g.E.Extract.probe_order_of set c.args.index c.args.probe.now n)) first after
+    (λ n held.
+    ap (λ i. is_marked (column_of mid (any.col_of i)) n) (sym same)
+    ∙ (c.mark_key-low.ensures.marked n (subst (λ i. Holds (any.list_of (column_of set.store) i) n) (sym same) held)
+    ∙ ap (λ k. is_eq (side_of (record_of set.store) (λ a. g.E.Extract.probe_order_of set.keys k a c.args.probe.now) n)) number)) sunk)

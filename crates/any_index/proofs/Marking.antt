@@ -1,0 +1,319 @@
+-- The nodes of a key, and marks on them.
+use Rattle.std.proofs.Common.{◌≡◌, ◌≢◌, ℕ, suc, ◌+◌, ◌-◌, ◌<◌, ◌≤◌, Bool, true, false, cond, List, [], ◌∷◌, ◌++◌, length, Option, Some, None, refl, sym, ap, ◌∙◌, subst, arith, slice_get}
+use Rattle.std.specs.Prelude.{filter, IsTrue}
+use Rattle.std.specs.List.{AllByRecursion}
+use Rattle.std.specs.Option.{option_map_or}
+use Rattle.std.specs.Ordering.{is_eq, ordering_index}
+use Rattle.std.specs.declared.cmp.Ordering.{Ordering}
+use Rattle.std.specs.declared.cmp.Ordering.TheVariants.{Less, Equal, Greater}
+use Rattle.std.proofs.lemmas.List.{append-nil, append_assoc, length-append}
+use Rattle.std.proofs.lemmas.List.Elements.{filter-append}
+use Rattle.container_model.specs.declared.handle.Kind.TheVariants as kinds
+use Rattle.container_model.specs.State.{is_sorted_kind}
+use Rattle.row_index.specs.Spelled.{spelled}
+use Rattle.key_extract.specs.declared.extract.Extract.{Ghosts}
+use Rattle.list_model.specs.Order.{EachPair, CutsInThreeRuns}
+use Rattle.list_model.specs.Walk.{next, place_of}
+use Rattle.list_model.proofs.Kept.{All-passed, All-filter, All-split, filter_none}
+use Rattle.list_model.proofs.Lists.{All-join}
+use Rattle.list_model.proofs.InOrder.{All-map}
+use Rattle.node_store.specs.declared.Node.{Node}
+use Rattle.node_store.specs.Column.{Column}
+use Rattle.node_store.specs.Nodes.{Lacks, Holds, IsDistinct}
+use Rattle.node_store.specs.Store.{Store}
+use Rattle.node_store.specs.ByNode.{column_of, record_of, same_node}
+use Rattle.node_store.proofs.Members.{each_held}
+use Rattle.node_store.proofs.NodeLists.{IsDistinct-parts, AreApart-head, Lacks-front, Lacks-back}
+use Rattle.seq_index.proofs.Walks.{place_at}
+use Rattle.ord_tree.proofs.KeySides.{Rises, Rises-from}
+use Rattle.hash_index.specs.declared.HashIndex.{HashIndex}
+use Rattle.hash_index.proofs.Laws as hash
+use Rattle.any_index.specs.declared.index.AnyIndex.{AnyIndex}
+use Rattle.any_index.specs.declared.index.AnyIndex.TheVariants.{Sequenced, Random, Ordered, Ranked, Hashed}
+use Rattle.any_index.specs.Keyed.{IsKeyed, AreKeyed, HasItsKey, Accepts}
+use Rattle.any_index.specs.Marks.{walk_of, matches_in, is_marked}
+use Rattle.any_index.specs.Side.{side_of}
+use Rattle.any_index.specs.Spelled.{IsSound, list_of, col_of, kind_of, index_of}
+use Rattle.any_index.specs.Stored.{CanFind}
+use Rattle.any_index.proofs.ByNumber.{Holds_moved, moved_by_number, moved_back}
+use Rattle.any_index.proofs.Laws.{list_of_kept, list_distinct, IsSound_kept, IsKeyed_restored}
+
+-- ---- members
+
+pub held_passes : (P : Node → Type 0) (xs : List Node) (n : Node) → AllByRecursion P xs → Holds xs n → P n
+held_passes P xs n all held = (All-split P held.before (n ∷ held.after) (subst (AllByRecursion P) held.is all)).1.0
+
+pub passed_held : (p : Node → Bool) (xs : List Node) (n : Node) → Holds (filter p xs) n → Holds xs n × (p n ≡ true)
+passed_held p xs n h = (held_passes (Holds xs) (filter p xs) n (All-filter (Holds xs) p xs (each_held xs)) h, held_passes (λ m. p m ≡ true) (filter p xs) n (All-passed p xs) h)
+
+lacks_by : (p : Node → Bool) (x n : Node) (l : List Node) (b : Bool) → p x ≡ b → (b ≡ true → n ≢ x) → Lacks l n → Lacks (cond b (x ∷ l) l) n
+lacks_by p x n l true e other h = (other refl, h)
+lacks_by p x n l false e other h = h
+
+pub lacks_filter : (p : Node → Bool) (xs : List Node) (n : Node) → p n ≡ false → Lacks (filter p xs) n
+lacks_filter p [] n e = tt
+lacks_filter p (x ∷ xs) n e = lacks_by p x n (filter p xs) (p x) refl (λ t same. let bad : true ≡ false = sym t ∙ (sym (ap p same) ∙ e) in cc) (lacks_filter p xs n e)
+
+lacks_kept : (p : Node → Bool) (xs : List Node) (n : Node) → Lacks xs n → Lacks (filter p xs) n
+lacks_kept p [] n h = tt
+lacks_kept p (x ∷ xs) n h = lacks_by p x n (filter p xs) (p x) refl (λ _. h.0) (lacks_kept p xs n h.1)
+
+distinct_by : (x : Node) (l : List Node) (b : Bool) → Lacks l x → IsDistinct l → IsDistinct (cond b (x ∷ l) l)
+distinct_by x l true lacks h = (lacks, h)
+distinct_by x l false lacks h = h
+
+pub distinct_filter : (p : Node → Bool) (xs : List Node) → IsDistinct xs → IsDistinct (filter p xs)
+distinct_filter p [] h = tt
+distinct_filter p (x ∷ xs) h = distinct_by x (filter p xs) (p x) (lacks_kept p xs x h.0) (distinct_filter p xs h.1)
+
+filter_middle : (p : Node → Bool) (before : List Node) (n : Node) (after : List Node) → p n ≡ true → filter p (before ++ n ∷ after) ≡ filter p before ++ n ∷ filter p after
+filter_middle p before n after e = filter-append p before (n ∷ after) ∙ ap (λ (b : Bool). filter p before ++ cond b (n ∷ filter p after) (filter p after)) e
+
+pub filter_held : (p : Node → Bool) (xs : List Node) (n : Node) → Holds xs n → p n ≡ true → Holds (filter p xs) n
+filter_held p xs n h e = record { before = filter p h.before; after = filter p h.after; is = ap (filter p) h.is ∙ filter_middle p h.before n h.after e }
+
+-- ---- the next one
+
+past : (before : List Node) (n : Node) (after : List Node) → slice_get (before ++ n ∷ after) (length before + 1) ≡ slice_get after 0
+past [] n after = refl
+past (x ∷ before) n after =
+    let e : length (x ∷ before) + 1 ≡ suc (length before + 1) = omega arith in
+    ap (slice_get (x ∷ (before ++ n ∷ after))) e ∙ past before n after
+
+pub next_at : (before : List Node) (n : Node) (after : List Node) → IsDistinct (before ++ n ∷ after) → next (same_node n) (before ++ n ∷ after) ≡ slice_get after 0
+next_at before n after h = ap (λ k. slice_get (before ++ n ∷ after) (k + 1)) (place_at before n after h) ∙ past before n after
+
+each_back : {X : Type 0} (P : X → X → Type 0) (before ys : List X) → EachPair P (before ++ ys) → EachPair P ys
+each_back P [] ys h = h
+each_back P (x ∷ before) ys h = each_back P before ys h.1
+
+falls : (o p q : Ordering) → is_eq o ≡ true → ordering_index o ≤ ordering_index p → is_eq p ≡ false → ordering_index p ≤ ordering_index q → is_eq q ≡ false
+falls o p Less eq le ne more = refl
+falls o p Greater eq le ne more = refl
+falls o Equal Equal eq le ne more = cc
+falls o Greater Equal eq le ne more = absurd (omega arith)
+falls Less Less Equal eq le ne more = cc
+falls Equal Less Equal eq le ne more = absurd (omega arith)
+falls Greater Less Equal eq le ne more = absurd (omega arith)
+
+module _ (side : Node → Ordering) (n : Node) where
+  abbrev p : Node → Bool
+  p m = is_eq (side m)
+
+  -- behind a node that has not the key, where one before it has, none has it
+  first_of : (after : List Node) (b : Bool) (m : Node) → EachPair (Rises side) (n ∷ after) → p n ≡ true → slice_get after 0 ≡ Some m → p m ≡ b → slice_get (filter p after) 0 ≡ cond b (Some m) None
+  first_of [] b m rises here is e = cc
+  first_of (x ∷ after) true m rises here is e =
+      let same : x ≡ m = cc in
+      ap (λ (b : Bool). slice_get (cond b (x ∷ filter p after) (filter p after)) 0) (ap p same ∙ e) ∙ ap Some same
+  first_of (x ∷ after) false m rises here is e =
+      let same : x ≡ m = cc in
+      let out : p x ≡ false = ap p same ∙ e in
+      let none : filter p after ≡ [] = filter_none p after (All-map (Rises side x) (λ y. p y ≡ false) (λ y more. falls (side n) (side x) (side y) here rises.0.0 out more) after rises.1.0) in
+      ap (λ (b : Bool). slice_get (cond b (x ∷ filter p after) (filter p after)) 0) out ∙ ap (λ l. slice_get l 0) none
+
+  none_first : (after : List Node) → slice_get after 0 ≡ None → slice_get (filter p after) 0 ≡ None
+  none_first [] e = refl
+  none_first (x ∷ after) e = cc
+
+  module _ (xs : List Node) (distinct : IsDistinct xs) (rises : EachPair (Rises side) xs) (held : Holds (filter p xs) n) where
+    at : Holds xs n × (p n ≡ true)
+    at = passed_held p xs n held
+
+    split_next : next (same_node n) xs ≡ slice_get at.0.after 0
+    split_next = ap (next (same_node n)) at.0.is ∙ next_at at.0.before n at.0.after (subst IsDistinct at.0.is distinct)
+
+    kept_next : next (same_node n) (filter p xs) ≡ slice_get (filter p at.0.after) 0
+    kept_next =
+        let is = ap (filter p) at.0.is ∙ filter_middle p at.0.before n at.0.after at.1 in
+        ap (next (same_node n)) is ∙ next_at (filter p at.0.before) n (filter p at.0.after) (subst IsDistinct is (distinct_filter p xs distinct))
+
+    pub next_by : (b : Bool) (m : Node) → next (same_node n) xs ≡ Some m → p m ≡ b → cond b (Some m) None ≡ next (same_node n) (filter p xs)
+    next_by b m is e = sym (kept_next ∙ first_of at.0.after b m (each_back (Rises side) at.0.before (n ∷ at.0.after) (subst (EachPair (Rises side)) at.0.is rises)) at.1 (sym split_next ∙ is) e)
+
+    pub next_none : next (same_node n) xs ≡ None → None ≡ next (same_node n) (filter p xs)
+    next_none is = sym (kept_next ∙ none_first at.0.after (sym split_next ∙ is))
+
+-- ---- the nodes of a walk
+
+pub walk_held : (cs : ℕ → Column) (i : AnyIndex) (n : Node) → Holds (list_of cs i) n → Holds (walk_of cs i) n
+walk_held cs (Sequenced i) n h = h
+walk_held cs (Random i) n h = h
+walk_held cs (Ordered i) n h = h
+walk_held cs (Ranked i) n h = h
+walk_held cs (Hashed i) n h = Holds_moved _ _ n (moved_back _) h
+
+pub list_held : (cs : ℕ → Column) (i : AnyIndex) (n : Node) → Holds (walk_of cs i) n → Holds (list_of cs i) n
+list_held cs (Sequenced i) n h = h
+list_held cs (Random i) n h = h
+list_held cs (Ordered i) n h = h
+list_held cs (Ranked i) n h = h
+list_held cs (Hashed i) n h = Holds_moved _ _ n (moved_by_number _) h
+
+pub walk_distinct : (cs : ℕ → Column) (i : AnyIndex) → IsSound cs i → IsDistinct (walk_of cs i)
+walk_distinct cs (Sequenced i) h = list_distinct cs (Sequenced i) h
+walk_distinct cs (Random i) h = list_distinct cs (Random i) h
+walk_distinct cs (Ordered i) h = list_distinct cs (Ordered i) h
+walk_distinct cs (Ranked i) h = list_distinct cs (Ranked i) h
+walk_distinct cs (Hashed i) h = hash.Spells_distinct cs i _ h
+
+walk_kept : (cs ds : ℕ → Column) (i : AnyIndex) → ds (col_of i) ≡ cs (col_of i) → walk_of ds i ≡ walk_of cs i
+walk_kept cs ds (Sequenced i) e = list_of_kept cs ds (Sequenced i) e
+walk_kept cs ds (Random i) e = list_of_kept cs ds (Random i) e
+walk_kept cs ds (Ordered i) e = list_of_kept cs ds (Ordered i) e
+walk_kept cs ds (Ranked i) e = list_of_kept cs ds (Ranked i) e
+walk_kept cs ds (Hashed i) e = hash.spelled_kept cs ds i e
+
+pub walk_sorted : (cs : ℕ → Column) (i : AnyIndex) → IsTrue (is_sorted_kind (kind_of i)) → walk_of cs i ≡ list_of cs i
+walk_sorted cs (Sequenced i) h = refl
+walk_sorted cs (Random i) h = refl
+walk_sorted cs (Ordered i) h = refl
+walk_sorted cs (Ranked i) h = refl
+walk_sorted cs (Hashed i) h = cc
+
+-- so is that of an index that is not hashed
+pub walk_listed : (cs : ℕ → Column) (i : AnyIndex) → ((x : HashIndex) → i ≡ Hashed x → ⊥) → walk_of cs i ≡ list_of cs i
+walk_listed cs (Sequenced i) h = refl
+walk_listed cs (Random i) h = refl
+walk_listed cs (Ordered i) h = refl
+walk_listed cs (Ranked i) h = refl
+walk_listed cs (Hashed i) h = absurd (h i refl)
+
+-- a tree has its key, and its nodes stand to a probe in order
+pub sorted_key : (has_key : ℕ → Bool) (i : AnyIndex) → IsTrue (is_sorted_kind (kind_of i)) → HasItsKey has_key i → IsTrue (has_key (index_of i))
+sorted_key has_key (Sequenced i) k h = cc
+sorted_key has_key (Random i) k h = cc
+sorted_key has_key (Ordered i) k h = h
+sorted_key has_key (Ranked i) k h = h
+sorted_key has_key (Hashed i) k h = cc
+
+pub sorted_fits : (fits whole : ℕ → Bool) (i : AnyIndex) → IsTrue (is_sorted_kind (kind_of i)) → Accepts fits whole i → IsTrue (fits (index_of i))
+sorted_fits fits whole (Sequenced i) k h = cc
+sorted_fits fits whole (Random i) k h = cc
+sorted_fits fits whole (Ordered i) k h = h
+sorted_fits fits whole (Ranked i) k h = h
+sorted_fits fits whole (Hashed i) k h = cc
+
+pub sorted_rises : {R : Type 0} (order : ℕ → R → R → Ordering) (hash_of : ℕ → R → ℕ) (s : Store R) (i : AnyIndex) (xs : List Node) (side : R → Ordering) → IsTrue (is_sorted_kind (kind_of i)) → CutsInThreeRuns (order (index_of i)) side → AreKeyed order hash_of s i xs → EachPair (Rises (side_of (record_of s) side)) xs
+sorted_rises order hash_of s (Sequenced i) xs side k cuts h = cc
+sorted_rises order hash_of s (Random i) xs side k cuts h = cc
+sorted_rises order hash_of s (Ordered i) xs side k cuts h = Rises-from (record_of s) (order (index_of (Ordered i))) side xs cuts h
+sorted_rises order hash_of s (Ranked i) xs side k cuts h = Rises-from (record_of s) (order (index_of (Ranked i))) side xs cuts h
+sorted_rises order hash_of s (Hashed i) xs side k cuts h = cc
+
+module _ {E R P : Type 0} (X : Ghosts E R P) (i : AnyIndex) (s t : Store R) (keys : E) (probe : P) (links : column_of t (col_of i) ≡ column_of s (col_of i)) (records : record_of t ≡ record_of s) where
+  pub matches_kept : matches_in X i t keys probe ≡ matches_in X i s keys probe
+  matches_kept = λ z. filter (λ n. is_eq (side_of (records z) (λ a. X.probe_order_of keys (index_of i) a probe) n)) (walk_kept (column_of s) (column_of t) i links z)
+
+  pub find_kept : CanFind X i s keys probe → CanFind X i t keys probe
+  find_kept h = record {
+    sound = IsSound_kept (column_of s) (column_of t) i links h.sound;
+    key = h.key;
+    fits = h.fits;
+    keyed = IsKeyed_restored (X.order_of keys) (X.hash_of keys) s t i links records h.keyed;
+  }
+
+-- ---- the loop
+
+-- The walk has come to a node of the list: those before it are marked, and no others of the row are.
+pub record Walked (ms xs : List Node) (c : Column) (at : Option Node) : Type 0 where
+  pub done : List Node
+  pub rest : List Node
+  pub is : ms ≡ done ++ rest
+  pub at_is : at ≡ slice_get rest 0
+  pub marked : AllByRecursion (λ m. is_marked c m ≡ true) done
+  pub unmarked : (m : Node) → Holds xs m → Lacks done m → is_marked c m ≡ false
+
+-- how many are left
+abbrev pub left_of : List Node → Option Node → ℕ
+left_of ms at = option_map_or (λ n. length ms - place_of (same_node n) ms) at 0
+
+record HeadOf (xs : List Node) (n : Node) : Type 0 where
+  pub tail : List Node
+  pub is : xs ≡ n ∷ tail
+
+head_of : (xs : List Node) (n : Node) → slice_get xs 0 ≡ Some n → HeadOf xs n
+head_of [] n e = cc
+head_of (x ∷ xs) n e = let s : x ≡ n = cc in record { tail = xs; is = ap (λ z. z ∷ xs) s }
+
+none_of : (xs : List Node) → slice_get xs 0 ≡ None → xs ≡ []
+none_of [] e = refl
+none_of (x ∷ xs) e = cc
+
+left_at : (ms before : List Node) (n : Node) (after : List Node) → IsDistinct ms → ms ≡ before ++ n ∷ after → left_of ms (Some n) ≡ suc (length after)
+left_at ms before n after h is =
+    let place : place_of (same_node n) ms ≡ length before = ap (place_of (same_node n)) is ∙ place_at before n after (subst IsDistinct is h) in
+    let size : length ms ≡ length before + suc (length after) = ap length is ∙ length-append before (n ∷ after) in
+    omega (arith, place, size)
+
+still_marked : (c d : Column) (n : Node) (xs : List Node) → Lacks xs n → ((m : Node) → m ≢ n → is_marked d m ≡ is_marked c m) → AllByRecursion (λ m. is_marked c m ≡ true) xs → AllByRecursion (λ m. is_marked d m ≡ true) xs
+still_marked c d n [] lacks others h = tt
+still_marked c d n (x ∷ xs) lacks others h = (others x (λ same. lacks.0 (sym same)) ∙ h.0, still_marked c d n xs lacks.1 others h.1)
+
+module _ (ms xs : List Node) (c : Column) (at : Option Node) (n : Node) (w : Walked ms xs c at) (is : at ≡ Some n) (distinct : IsDistinct ms) where
+  head : HeadOf w.rest n
+  head = head_of w.rest n (sym w.at_is ∙ is)
+
+  split : ms ≡ w.done ++ n ∷ head.tail
+  split = w.is ∙ ap (λ l. w.done ++ l) head.is
+
+  -- the node is one of the list, and has no mark yet
+  pub walk_at : Holds ms n
+  walk_at = record { before = w.done; after = head.tail; is = split }
+
+  apart : Lacks w.done n
+  apart = AreApart-head w.done head.tail n (IsDistinct-parts w.done (n ∷ head.tail) (subst IsDistinct split distinct)).apart
+
+  pub new_mark : Holds xs n → is_marked c n ≡ false
+  new_mark held = w.unmarked n held apart
+
+  -- once it is marked, the walk goes on
+  module _ (after : Option Node) (to : after ≡ next (same_node n) ms) where
+    first_left : after ≡ slice_get head.tail 0
+    first_left = to ∙ (ap (next (same_node n)) split ∙ next_at w.done n head.tail (subst IsDistinct split distinct))
+
+    more_done : ms ≡ (w.done ++ n ∷ []) ++ head.tail
+    more_done = split ∙ sym (append_assoc w.done (n ∷ []) head.tail)
+
+    pub walked_on : (d : Column) → is_marked d n ≡ true → ((m : Node) → m ≢ n → is_marked d m ≡ is_marked c m) → Walked ms xs d after
+    walked_on d here others = record {
+      done = w.done ++ n ∷ [];
+      rest = head.tail;
+      is = more_done;
+      at_is = first_left;
+      marked = All-join (λ m. is_marked d m ≡ true) w.done (n ∷ []) (still_marked c d n w.done apart others w.marked) (here, tt);
+      unmarked = λ m held lacks. others m (Lacks-back w.done (n ∷ []) m lacks).0 ∙ w.unmarked m held (Lacks-front w.done (n ∷ []) m lacks);
+    }
+
+    left_by : (o : Option Node) → o ≡ slice_get head.tail 0 → left_of ms o < suc (length head.tail)
+    left_by None e = omega arith
+    left_by (Some m) e =
+        let h = head_of head.tail m (sym e) in
+        let left = left_at ms (w.done ++ n ∷ []) m h.tail distinct (more_done ∙ ap (λ l. (w.done ++ n ∷ []) ++ l) h.is) in
+        omega (arith, left, ap length h.is)
+
+    pub fewer_left : left_of ms after < left_of ms at
+    fewer_left =
+        let left : left_of ms at ≡ suc (length head.tail) = ap (left_of ms) is ∙ left_at ms w.done n head.tail distinct split in
+        subst (λ k. left_of ms after < k) (sym left) (left_by after first_left)
+
+-- at the end those that pass are marked, and no others are
+module _ (p : Node → Bool) (walk xs : List Node) (c : Column) (at : Option Node) (w : Walked (filter p walk) xs c at) (is : at ≡ None) where
+  all_done : filter p walk ≡ w.done
+  all_done = w.is ∙ (ap (λ l. w.done ++ l) (none_of w.rest (sym w.at_is ∙ is)) ∙ append-nil w.done)
+
+  marked_if : (b : Bool) (n : Node) → p n ≡ b → Holds xs n → Holds walk n → is_marked c n ≡ b
+  marked_if true n e held there = held_passes (λ m. is_marked c m ≡ true) w.done n w.marked (subst (λ l. Holds l n) all_done (filter_held p walk n there e))
+  marked_if false n e held there = w.unmarked n held (subst (λ l. Lacks l n) all_done (lacks_filter p walk n e))
+
+  pub all_marked : (n : Node) → Holds xs n → Holds walk n → is_marked c n ≡ p n
+  all_marked n held there = marked_if (p n) n refl held there
+
+-- the list of a row is that of its vector, whatever its column says
+pub row_list_same : (cs ds : ℕ → Column) (i : AnyIndex) → kind_of i ≡ kinds.Random → list_of ds i ≡ list_of cs i
+unfolding spelled
+row_list_same cs ds (Sequenced i) e = cc
+row_list_same cs ds (Random i) e = refl
+row_list_same cs ds (Ordered i) e = cc
+row_list_same cs ds (Ranked i) e = cc
+row_list_same cs ds (Hashed i) e = cc

@@ -1,0 +1,9 @@
+-- Nodes that are marked to leave the row.
+use Rattle.std.specs.Prelude.{◌-◌, ◌^◌, ◌==◌, Bool, false}
+use Rattle.std.specs.Option.{option_map_or}
+use Rattle.node_store.specs.declared.Node.{Node}
+use Rattle.node_store.specs.Column.{Column}
+
+-- the column has the greatest tag for the node, which is no place
+abbrev pub is_marked : Column → Node → Bool
+is_marked c n = option_map_or (λ l. l.tag == 2 ^ 64 - 1) (c n) false
