@@ -248,6 +248,14 @@ impl Book {
         }
     }
 
+    /// Takes the first record of an index out. Answers its price, or 0.
+    pub(crate) fn erase_first(&mut self, index: usize) -> u64 {
+        match self.handle_at(index, 0) {
+            Some(handle) => self.erase(handle),
+            None => 0,
+        }
+    }
+
     /// The records in the order of an index, as far as there is memory.
     pub(crate) fn handles(&self, alloc: Global, index: usize) -> Vec<Handle> {
         if index >= self.specs.len() {

@@ -4,7 +4,7 @@
 //! container and of the collections, with the bytes of a record; of the store, a sequence and a row; of the indices that have
 //! keys, beside std's maps; of the calls that must not take longer with every record that is there; of the calls that add and
 //! drop an index, beside insertions, with the bytes of a record by how many indices there may be; of the container's calls by
-//! a handle or a place.
+//! a handle or a place, and on groups of equal keys.
 //!
 //! A line has the call, the size, the least time of several rounds, and its growth since the size before. Where a line
 //! names several calls, the time is that of all; lines for the first ones alone stand beside it.
@@ -16,6 +16,7 @@ mod by_hand;
 mod by_hand_times;
 mod container_times;
 mod erasures;
+mod group_times;
 mod growth;
 mod indexing;
 mod keyed;
@@ -89,7 +90,10 @@ fn times<R: Runtime>(
         Part::Keys => keyed::times(rt, alloc, report, count),
         Part::Growth => growth::times(rt, alloc, report, count),
         Part::Indices => indexing::times(rt, alloc, report, count),
-        Part::Short => short_times::times(rt, alloc, report, count),
+        Part::Short => {
+            short_times::times(rt, alloc, report, count)?;
+            group_times::times(rt, alloc, report, count)
+        }
     }
 }
 
