@@ -32,11 +32,7 @@ const OF_TENS: [(&str, Call, Span); 1] = [(
 )];
 
 const OF_ALL: [(&str, Call, Span); 3] = [
-    (
-        "find: hashed, all of one key",
-        Call::Find,
-        Span::First(100),
-    ),
+    ("find: hashed, all of one key", Call::Find, Span::First(100)),
     (
         "erase of the first record of a row",
         Call::EraseFirst,

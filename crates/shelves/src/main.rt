@@ -25,7 +25,10 @@ fn put_all<R: Runtime>(rt: &R, shelves: &mut Shelves) -> io::Result<()> {
 
 fn line<R: Runtime>(rt: &R, shelves: &Shelves, handle: Handle) -> io::Result<()> {
     match shelves.get(handle) {
-        Some(item) => println!(rt; "  item {} on shelf {}, day {}", item.sku, item.shelf, item.due),
+        Some(item) => println!(rt;
+            "  item {} on shelf {}, day {}",
+            item.sku, item.shelf, item.due
+        ),
         None => Ok(()),
     }
 }
@@ -41,9 +44,17 @@ fn main(rt: HostRuntime) -> io::Result<()> {
     let mut shelves = Shelves::new(rt.alloc(), 1000)?;
     put_all(&rt, &mut shelves)?;
     println!(&rt; "by shelf, the latest first:")?;
-    list(&rt, &shelves, &shelves.list(1).unwrap_or(Vec::new(rt.alloc())))?;
+    list(
+        &rt,
+        &shelves,
+        &shelves.list(1).unwrap_or(Vec::new(rt.alloc())),
+    )?;
     println!(&rt; "by day:")?;
-    list(&rt, &shelves, &shelves.list(2).unwrap_or(Vec::new(rt.alloc())))?;
+    list(
+        &rt,
+        &shelves,
+        &shelves.list(2).unwrap_or(Vec::new(rt.alloc())),
+    )?;
     println!(&rt; "on shelf 1: {}", shelves.count_on(1))?;
     println!(&rt; "item 5: {:?}", shelves.numbered(5))
 }

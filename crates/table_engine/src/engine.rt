@@ -79,7 +79,12 @@ impl Engine {
 
     // Takes the next piece of a session's stream up to its first newline, with it, or all of it where there is none, and says
     // how many bytes it took.
-    pub(crate) fn feed_first(&mut self, session: usize, piece: &[u8], out: &mut Out) -> Result<usize, usize>
+    pub(crate) fn feed_first(
+        &mut self,
+        session: usize,
+        piece: &[u8],
+        out: &mut Out,
+    ) -> Result<usize, usize>
         requires session { session < length self.old.unfinished }
         requires some { 0 < length piece.now }
         ensures fed { IfOk result (λ n. (0 < n) × (n ≤ length piece.now) × (told : List (List ℕ))
