@@ -1,5 +1,7 @@
 //! Items under three indices.
 ghost use Rattle.std.specs.Prelude.{◌≡◌, ◌<◌, length};
+ghost use Rattle.container_model.specs.Find.{kind_at};
+ghost use Rattle.container_model.specs.declared.handle.Kind.TheVariants.{Ordered};
 
 use crate::item::{Item, KEYS};
 use container_model::{Handle, Kind, Refused, Spec, Why};
@@ -27,6 +29,7 @@ const SPECS: [Spec; 3] = [
 pub struct Shelves {
     items: MultiIndex<Item, FieldKeys>,
     ghost indices: { length items.specs ≡ 3 },
+    ghost by_shelf: { kind_at items 1 ≡ Ordered },
 }
 
 impl Shelves {
