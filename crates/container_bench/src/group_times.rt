@@ -87,8 +87,9 @@ fn times_of<R: Runtime>(
 impl Groups {
     fn fill(&mut self, count: u64) {
         for number in 0..count {
+            let owner = self.owner(number);
             self.book.insert(Record {
-                owner: self.owner(number),
+                owner,
                 ..nth_record(number, count)
             });
         }
