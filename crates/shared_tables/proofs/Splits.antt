@@ -1,5 +1,5 @@
 -- The parts of a list between separators, as the list grows.
-use Rattle.std.proofs.Common.{◌≡◌, ◌<◌, Bool, true, false, cond, List, [], ◌∷◌, ◌++◌, length, refl, sym, ap, ◌∙◌, append-nil, append_assoc, arith}
+use Rattle.std.proofs.Common.{◌≡◌, ◌<◌, ℕ, zero, suc, Bool, true, false, cond, List, [], ◌∷◌, ◌++◌, length, take, drop, get_or, refl, sym, ap, ◌∙◌, append-nil, append_assoc, arith}
 use Rattle.std.specs.List.{slice_split, onto_first}
 use Rattle.std.proofs.lemmas.List.Splits.{slice_split-cons_yes, slice_split-cons_no, length-slice_split}
 
@@ -65,3 +65,9 @@ module _ {X : Type 0} (p : X → Bool) where
       → (later : List (List X)) × (slice_split p (xs ++ ys) ≡ front ++ later)
   stays [] xs front last is = (last ∷ [], ap (slice_split p) (append-nil xs) ∙ is)
   stays (y ∷ ys) xs front last is = stays_next xs ys y front last (p y) refl is (λ zs before part h. stays ys zs before part h)
+
+-- a line with its newline and what stands behind both are the whole
+pub line_of_rest : (n : ℕ) (rest behind : List ℕ) → n < length rest → get_or rest n 0 ≡ 10 → behind ≡ drop 1 (drop n rest) → take n rest ++ 10 ∷ behind ≡ rest
+line_of_rest n [] behind within is e = absurd (omega (arith, within))
+line_of_rest zero (b ∷ bs) behind within is e = ap (λ x. x ∷ behind) (sym is) ∙ ap (λ xs. b ∷ xs) e
+line_of_rest (suc n) (b ∷ bs) behind within is e = ap (λ xs. b ∷ xs) (line_of_rest n bs behind (omega (arith, within)) is e)

@@ -3,9 +3,10 @@ use Rattle.std.specs.Prelude.{⊤}
 use Rattle.std.proofs.lemmas.Result.{err_from_is_err_and}
 use Rattle.table_engine.specs.Devices.{AppendsFront}
 use Rattle.table_engine.specs.Lines.{added}
-use Rattle.table_engine.proofs.Quiet.{IsQuiet, is_newline, line_of_rest, quiet_front, quiet_whole}
+use Rattle.table_engine.proofs.Quiet.{IsQuiet, is_newline, quiet_front, quiet_whole}
 use Rattle.shared_tables.specs.declared.fault.CallFault.{CallFault}
 use Rattle.shared_tables.specs.Serving.{MeetsRefusal, Passes, RefusesWhole, TakesBytes, TakesFront, failures_after_serve}
+use Rattle.shared_tables.proofs.Splits.{line_of_rest}
 use Rattle.shared_tables.proofs.Serving.{Stops-map, front_of, meets, passes_front, passes_nothing, passes_then, passes_written, takes_line, takes_nothing, takes_quiet, takes_then}
 use Rattle.shared_tables.proofs.shared.Shared.serve_piece.Goals as goal
 
