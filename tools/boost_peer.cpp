@@ -1,7 +1,9 @@
-// The calls of `container_bench times` on a container of Boost.MultiIndex, with lines of the same form; tools/bench_peer builds it.
+// The calls of `container_bench times` and `times short` on a container of Boost.MultiIndex, with lines of the same form; tools/bench_peer
+// builds it.
 //
-// boost_peer answers [KEY ..]    sums of what insert and find answer at 100 records
+// boost_peer answers [KEY ..]    sums of what insert, find and the short calls answer at 100 records
 // boost_peer times [KEY ..]      the bytes of a record, and the nanoseconds of processor time that each call takes
+// boost_peer short [KEY ..]      the same times of calls by an iterator or a place, and on groups of equal keys
 //
 // With five KEYs (price id owner id owner-price) each index has an extractor that reads at run time which key it takes, as the keys of
 // container_bench do. Without them the indices have members of the record as keys, fixed at compile time, as Boost.MultiIndex is mostly used.
@@ -123,7 +125,7 @@ struct AtCompileTime {
     }
 };
 
-// Containers of one, three and seven indices.
+// Containers of one, three and seven indices, and a row whose records have owners.
 
 template <class Keys>
 using One = mi::multi_index_container<Record, mi::indexed_by<mi::ordered_unique<typename Keys::Id>>>;
@@ -139,6 +141,10 @@ using Seven = mi::multi_index_container<
                            mi::ordered_unique<typename Keys::Id>, mi::hashed_non_unique<typename Keys::Owner, typename Keys::Hash>,
                            mi::hashed_unique<typename Keys::HashedId, typename Keys::Hash>,
                            mi::ordered_non_unique<typename Keys::OwnerAndPrice, typename Keys::Order>>>;
+
+template <class Keys>
+using Owned = mi::multi_index_container<
+    Record, mi::indexed_by<mi::random_access<>, mi::hashed_non_unique<typename Keys::Owner, typename Keys::Hash>>>;
 
 // Calls. Each answers the sum of its answers, so that none is left out.
 
@@ -261,6 +267,137 @@ static void time_all(Report& report, uint64_t count)
     time_seven<Keys>(report, count);
 }
 
+// Short calls. An iterator of the first index stands for a handle.
+
+// The number of the record after this one in an index, or 0.
+template <int index, class Kept>
+static uint64_t next_of(Kept& kept, typename Kept::iterator handle)
+{
+    auto at = kept.template project<index>(handle);
+    return ++at == kept.template get<index>().end() ? 0 : at->number;
+}
+
+// Moves the record at a place of a row one place on, and answers its number, or 0 where it stays.
+template <class Row>
+static uint64_t move_on(Row& row, uint64_t place)
+{
+    if (place + 2 > row.size())
+        return 0;
+    auto moved = row.begin() + place;
+    row.relocate(moved + 2, moved);
+    return moved->number;
+}
+
+template <class Kept>
+static uint64_t erase(Kept& kept, typename Kept::iterator handle)
+{
+    uint64_t price = handle->price;
+    kept.erase(handle);
+    return price;
+}
+
+template <class Keys>
+static void time_marked(Report& report, uint64_t count)
+{
+    Seven<Keys> kept;
+    insert_each(kept, count);
+    auto& row = kept.template get<1>();
+    auto& ranked = kept.template get<2>();
+    auto& by_id = kept.template get<3>();
+    auto& by_owner = kept.template get<4>();
+    using At = typename Seven<Keys>::iterator;
+    std::vector<At> handles;
+    for (auto at = by_id.begin(); at != by_id.end(); ++at)
+        handles.push_back(kept.template project<0>(at));
+    auto time = [&](const char* name, uint64_t calls, auto call) {
+        report.time(name, calls, [&] {
+            uint64_t met = 0;
+            for (uint64_t place = 0; place < calls; place++)
+                met += call(handles[place], place);
+            return met;
+        });
+    };
+    time("get", count, [&](At handle, uint64_t) { return handle->price; });
+    time("nth: random access", count, [&](At, uint64_t place) { return row[place].number; });
+    time("place_of: random access", count, [&](At handle, uint64_t) { return kept.template project<1>(handle) - row.begin(); });
+    time("nth: ranked", count, [&](At, uint64_t place) { return ranked.nth(place)->number; });
+    time("rank: ranked", count, [&](At handle, uint64_t) { return ranked.rank(kept.template project<2>(handle)); });
+    time("next: sequenced", count, [&](At handle, uint64_t) { return next_of<0>(kept, handle); });
+    time("next: random access", count, [&](At handle, uint64_t) { return next_of<1>(kept, handle); });
+    time("next: ordered, unique", count, [&](At handle, uint64_t) { return next_of<3>(kept, handle); });
+    time("next: ranked", count, [&](At handle, uint64_t) { return next_of<2>(kept, handle); });
+    time("count: hashed, four records a key", count,
+         [&](At, uint64_t place) { return by_owner.count(Keys::template probe<2>(looked_for(place, count))); });
+    time("nth and a move one place on: random access", count, [&](At, uint64_t place) { return move_on(row, place); });
+    time("erase: 7 indices", std::min<uint64_t>(count, 100), [&](At handle, uint64_t) { return erase(kept, handle); });
+}
+
+// Records of so many owners.
+template <class Keys>
+struct Groups {
+    Owned<Keys> kept;
+    uint64_t owners;
+
+    Groups(uint64_t owners, uint64_t count) : owners(std::max<uint64_t>(owners, 1))
+    {
+        for (uint64_t number = 0; number < count; number++) {
+            Record record = nth_record(number, count);
+            record.owner = number % this->owners;
+            kept.push_back(record);
+        }
+    }
+
+    // The sum of what a call answers for the owners of the first numbers.
+    template <class Call>
+    void time(Report& report, const char* name, uint64_t calls, Call call)
+    {
+        report.time(name, calls, [&] {
+            uint64_t met = 0;
+            for (uint64_t number = 0; number < calls; number++)
+                met += call(Keys::template probe<2>({0, 0, number % owners, 0}));
+            return met;
+        });
+    }
+};
+
+// Of equal records Boost finds the newest. The oldest, which the container finds, is the last of their range.
+template <bool oldest, class Index, class Probe>
+static uint64_t found_in(const Index& index, const Probe& probe)
+{
+    if constexpr (!oldest) {
+        auto found = index.find(probe);
+        return found == index.end() ? 0 : found->number;
+    }
+    uint64_t number = 0;
+    for (auto [at, end] = index.equal_range(probe); at != end; ++at)
+        number = at->number;
+    return number;
+}
+
+template <class Keys, bool oldest>
+static void time_groups(Report& report, uint64_t count)
+{
+    using Probe = decltype(Keys::template probe<2>(Record()));
+    {
+        Groups<Keys> tens(count / 32, count);
+        auto& by_owner = tens.kept.template get<1>();
+        tens.time(report, "erase_key of 32 records, beside a row", std::min<uint64_t>(count, 20), [&](Probe owner) { return by_owner.erase(owner); });
+    }
+    Groups<Keys> all(1, count);
+    auto& kept = all.kept;
+    auto find = [&](Probe owner) { return found_in<oldest>(kept.template get<1>(), owner); };
+    all.time(report, "find: hashed, all of one key", std::min<uint64_t>(count, 100), find);
+    all.time(report, "erase of the first record of a row", std::min<uint64_t>(count, 20), [&](Probe) { return erase(kept, kept.begin()); });
+    all.time(report, "find: hashed, one key, the oldest erased", std::min<uint64_t>(count, 100), find);
+}
+
+template <class Keys, bool oldest = false>
+static void time_short(Report& report, uint64_t count)
+{
+    time_marked<Keys>(report, count);
+    time_groups<Keys, oldest>(report, count);
+}
+
 static uint64_t resident()
 {
     unsigned long all = 0, pages = 0;
@@ -281,15 +418,13 @@ static void print_bytes(uint64_t count)
     std::printf("container, 7 indices: %lu bytes a record, of %lu\n", (unsigned long)((resident() - before) / count), (unsigned long)count);
 }
 
-template <class Keys>
-static void print_times()
+static void print_times(void (*time)(Report&, uint64_t))
 {
-    print_bytes<Keys>(100000);
     Report report;
     const Pair sizes[] = {{1000, 9}, {100000, 3}, {1000000, 1}};
     for (auto [count, rounds] : sizes) {
         for (uint64_t round = 0; round < rounds; round++)
-            time_all<Keys>(report, count);
+            time(report, count);
         report.print(count);
     }
     std::printf("sum of the answers: %lu\n", (unsigned long)report.met);
@@ -305,13 +440,19 @@ static void print_answers(uint64_t count)
     std::printf("hashed, by owner: %lu\n", (unsigned long)find_each<Keys, 4, 2>(kept, count));
     std::printf("hashed and unique, by id: %lu\n", (unsigned long)find_each<Keys, 5, 3>(kept, count));
     std::printf("ordered, by owner and price: %lu\n", (unsigned long)find_each<Keys, 6, 4>(kept, count));
+    Report report;
+    time_short<Keys, true>(report, count);
+    std::printf("sum of the answers at %lu that are asked for: %lu\n", (unsigned long)count, (unsigned long)report.met);
 }
 
 template <class Keys>
 static int run(const std::string& word)
 {
-    if (word == "times")
-        print_times<Keys>();
+    if (word == "times") {
+        print_bytes<Keys>(100000);
+        print_times(time_all<Keys>);
+    } else if (word == "short")
+        print_times(time_short<Keys>);
     else if (word == "answers")
         print_answers<Keys>(100);
     else
