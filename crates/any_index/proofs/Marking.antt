@@ -1,7 +1,8 @@
 -- The nodes of a key, and marks on them.
 use Rattle.std.proofs.Common.{◌≡◌, ◌≢◌, ℕ, suc, ◌+◌, ◌-◌, ◌<◌, ◌≤◌, Bool, true, false, cond, List, [], ◌∷◌, ◌++◌, length, Option, Some, None, refl, sym, ap, ◌∙◌, subst, arith, slice_get}
-use Rattle.std.specs.Prelude.{filter, IsTrue}
-use Rattle.std.specs.List.{AllByRecursion}
+use Rattle.std.specs.Prelude.{filter, IsTrue, IsPermutation, ◌&&◌, ◌||◌}
+use Rattle.std.specs.List.{AllByRecursion, list_any}
+use Rattle.std.proofs.lemmas.List.Sorted.{IsPermutation-refl, list_any-IsPermutation}
 use Rattle.std.specs.Option.{option_map_or}
 use Rattle.std.specs.Ordering.{is_eq, ordering_index}
 use Rattle.std.specs.declared.cmp.Ordering.{Ordering}
@@ -22,6 +23,7 @@ use Rattle.node_store.specs.Column.{Column}
 use Rattle.node_store.specs.Nodes.{Lacks, Holds, IsDistinct}
 use Rattle.node_store.specs.Store.{Store}
 use Rattle.node_store.specs.ByNode.{column_of, record_of, same_node}
+use Rattle.node_store.proofs.ByNode.{same_node-refl, same_node-true}
 use Rattle.node_store.proofs.Members.{each_held}
 use Rattle.node_store.proofs.NodeLists.{IsDistinct-parts, AreApart-head, Lacks-front, Lacks-back}
 use Rattle.seq_index.proofs.Walks.{place_at}
@@ -31,7 +33,7 @@ use Rattle.hash_index.proofs.Laws as hash
 use Rattle.any_index.specs.declared.index.AnyIndex.{AnyIndex}
 use Rattle.any_index.specs.declared.index.AnyIndex.TheVariants.{Sequenced, Random, Ordered, Ranked, Hashed}
 use Rattle.any_index.specs.Keyed.{IsKeyed, AreKeyed, HasItsKey, Accepts}
-use Rattle.any_index.specs.Marks.{walk_of, matches_in, is_marked}
+use Rattle.any_index.specs.Marks.{walk_of, matches_in, is_marked, is_match}
 use Rattle.any_index.specs.Side.{side_of}
 use Rattle.any_index.specs.Spelled.{IsSound, list_of, col_of, kind_of, index_of}
 use Rattle.any_index.specs.Stored.{CanFind}
@@ -215,13 +217,13 @@ module _ {E R P : Type 0} (X : Ghosts E R P) (i : AnyIndex) (s t : Store R) (key
 
 -- ---- the loop
 
--- The walk has come to a node of the list: those before it are marked, and no others of the row are.
+-- The walk has come to a node of the list: those of the row before it are marked, and no others are.
 pub record Walked (ms xs : List Node) (c : Column) (at : Option Node) : Type 0 where
   pub done : List Node
   pub rest : List Node
   pub is : ms ≡ done ++ rest
   pub at_is : at ≡ slice_get rest 0
-  pub marked : AllByRecursion (λ m. is_marked c m ≡ true) done
+  pub marked : AllByRecursion (λ m. Holds xs m → is_marked c m ≡ true) done
   pub unmarked : (m : Node) → Holds xs m → Lacks done m → is_marked c m ≡ false
 
 -- how many are left
@@ -246,9 +248,9 @@ left_at ms before n after h is =
     let size : length ms ≡ length before + suc (length after) = ap length is ∙ length-append before (n ∷ after) in
     omega (arith, place, size)
 
-still_marked : (c d : Column) (n : Node) (xs : List Node) → Lacks xs n → ((m : Node) → m ≢ n → is_marked d m ≡ is_marked c m) → AllByRecursion (λ m. is_marked c m ≡ true) xs → AllByRecursion (λ m. is_marked d m ≡ true) xs
-still_marked c d n [] lacks others h = tt
-still_marked c d n (x ∷ xs) lacks others h = (others x (λ same. lacks.0 (sym same)) ∙ h.0, still_marked c d n xs lacks.1 others h.1)
+still_marked : (c d : Column) (rs : List Node) (n : Node) (xs : List Node) → Lacks xs n → ((m : Node) → m ≢ n → is_marked d m ≡ is_marked c m) → AllByRecursion (λ m. Holds rs m → is_marked c m ≡ true) xs → AllByRecursion (λ m. Holds rs m → is_marked d m ≡ true) xs
+still_marked c d rs n [] lacks others h = tt
+still_marked c d rs n (x ∷ xs) lacks others h = (λ held. others x (λ same. lacks.0 (sym same)) ∙ h.0 held, still_marked c d rs n xs lacks.1 others h.1)
 
 module _ (ms xs : List Node) (c : Column) (at : Option Node) (n : Node) (w : Walked ms xs c at) (is : at ≡ Some n) (distinct : IsDistinct ms) where
   head : HeadOf w.rest n
@@ -257,15 +259,12 @@ module _ (ms xs : List Node) (c : Column) (at : Option Node) (n : Node) (w : Wal
   split : ms ≡ w.done ++ n ∷ head.tail
   split = w.is ∙ ap (λ l. w.done ++ l) head.is
 
-  -- the node is one of the list, and has no mark yet
+  -- the node is one of the list
   pub walk_at : Holds ms n
   walk_at = record { before = w.done; after = head.tail; is = split }
 
   apart : Lacks w.done n
   apart = AreApart-head w.done head.tail n (IsDistinct-parts w.done (n ∷ head.tail) (subst IsDistinct split distinct)).apart
-
-  pub new_mark : Holds xs n → is_marked c n ≡ false
-  new_mark held = w.unmarked n held apart
 
   -- once it is marked, the walk goes on
   module _ (after : Option Node) (to : after ≡ next (same_node n) ms) where
@@ -275,13 +274,13 @@ module _ (ms xs : List Node) (c : Column) (at : Option Node) (n : Node) (w : Wal
     more_done : ms ≡ (w.done ++ n ∷ []) ++ head.tail
     more_done = split ∙ sym (append_assoc w.done (n ∷ []) head.tail)
 
-    pub walked_on : (d : Column) → is_marked d n ≡ true → ((m : Node) → m ≢ n → is_marked d m ≡ is_marked c m) → Walked ms xs d after
+    pub walked_on : (d : Column) → (Holds xs n → is_marked d n ≡ true) → ((m : Node) → m ≢ n → is_marked d m ≡ is_marked c m) → Walked ms xs d after
     walked_on d here others = record {
       done = w.done ++ n ∷ [];
       rest = head.tail;
       is = more_done;
       at_is = first_left;
-      marked = All-join (λ m. is_marked d m ≡ true) w.done (n ∷ []) (still_marked c d n w.done apart others w.marked) (here, tt);
+      marked = All-join (λ m. Holds xs m → is_marked d m ≡ true) w.done (n ∷ []) (still_marked c d xs n w.done apart others w.marked) (here, tt);
       unmarked = λ m held lacks. others m (Lacks-back w.done (n ∷ []) m lacks).0 ∙ w.unmarked m held (Lacks-front w.done (n ∷ []) m lacks);
     }
 
@@ -297,17 +296,67 @@ module _ (ms xs : List Node) (c : Column) (at : Option Node) (n : Node) (w : Wal
         let left : left_of ms at ≡ suc (length head.tail) = ap (left_of ms) is ∙ left_at ms w.done n head.tail distinct split in
         subst (λ k. left_of ms after < k) (sym left) (left_by after first_left)
 
--- at the end those that pass are marked, and no others are
-module _ (p : Node → Bool) (walk xs : List Node) (c : Column) (at : Option Node) (w : Walked (filter p walk) xs c at) (is : at ≡ None) where
-  all_done : filter p walk ≡ w.done
+-- ---- whether a list has a node
+
+any_by : (n x : Node) (xs : List Node) (b : Bool) → same_node n x ≡ b → (list_any (same_node n) xs ≡ true → Holds xs n) → list_any (same_node n) (x ∷ xs) ≡ true → Holds (x ∷ xs) n
+any_by n x xs true is rest e = record { before = []; after = xs; is = ap (λ z. z ∷ xs) (sym (same_node-true n x is)) }
+any_by n x xs false is rest e =
+    let held = rest (ap (λ b. b || list_any (same_node n) xs) (sym is) ∙ e) in
+    record { before = x ∷ held.before; after = held.after; is = ap (λ l. x ∷ l) held.is }
+
+pub any_held : (n : Node) (xs : List Node) → list_any (same_node n) xs ≡ true → Holds xs n
+any_held n [] e = cc
+any_held n (x ∷ xs) e = any_by n x xs (same_node n x) refl (any_held n xs) e
+
+none_by : (n x : Node) (xs : List Node) (b : Bool) → same_node n x ≡ b → (list_any (same_node n) xs ≡ false → Lacks xs n) → list_any (same_node n) (x ∷ xs) ≡ false → Lacks (x ∷ xs) n
+none_by n x xs true is rest e = let bad : true ≡ false = ap (λ b. b || list_any (same_node n) xs) (sym is) ∙ e in cc
+none_by n x xs false is rest e = (
+  λ same. let bad : true ≡ false = sym (same_node-refl n) ∙ (ap (same_node n) same ∙ is) in cc,
+  rest (ap (λ b. b || list_any (same_node n) xs) (sym is) ∙ e),
+)
+
+none_held : (n : Node) (xs : List Node) → list_any (same_node n) xs ≡ false → Lacks xs n
+none_held n [] e = tt
+none_held n (x ∷ xs) e = none_by n x xs (same_node n x) refl (none_held n xs) e
+
+held_middle : (n : Node) (before after : List Node) → list_any (same_node n) (before ++ n ∷ after) ≡ true
+held_middle n [] after = ap (λ b. b || list_any (same_node n) after) (same_node-refl n)
+held_middle n (x ∷ before) after = or_true (same_node n x) (list_any (same_node n) (before ++ n ∷ after)) (held_middle n before after)
+  where
+    or_true : (b c : Bool) → c ≡ true → (b || c) ≡ true
+    or_true true c e = refl
+    or_true false c e = e
+
+held_any : (n : Node) (xs : List Node) → Holds xs n → list_any (same_node n) xs ≡ true
+held_any n xs held = ap (list_any (same_node n)) held.is ∙ held_middle n held.before held.after
+
+-- one that a list has is a match where its record has the key
+pub match_held : (side : Node → Ordering) (xs : List Node) (n : Node) → Holds xs n → is_match side xs n ≡ is_eq (side n)
+match_held side xs n held = ap (λ b. b && is_eq (side n)) (held_any n xs held)
+
+-- lists of the same nodes have the same matches
+match_moved : (side : Node → Ordering) (xs ys : List Node) (n : Node) → IsPermutation xs ys → is_match side xs n ≡ is_match side ys n
+match_moved side xs ys n moved = ap (λ b. b && is_eq (side n)) (list_any-IsPermutation (same_node n) xs ys moved)
+
+pub walk_moved : (cs : ℕ → Column) (i : AnyIndex) → IsPermutation (walk_of cs i) (list_of cs i)
+walk_moved cs (Sequenced i) = IsPermutation-refl _
+walk_moved cs (Random i) = IsPermutation-refl _
+walk_moved cs (Ordered i) = IsPermutation-refl _
+walk_moved cs (Ranked i) = IsPermutation-refl _
+walk_moved cs (Hashed i) = moved_by_number _
+
+-- at the end the matches are marked, and no others are
+module _ (side : Node → Ordering) (walk xs : List Node) (c : Column) (at : Option Node) (w : Walked (filter (λ m. is_eq (side m)) walk) xs c at) (is : at ≡ None) where
+  all_done : filter (λ m. is_eq (side m)) walk ≡ w.done
   all_done = w.is ∙ (ap (λ l. w.done ++ l) (none_of w.rest (sym w.at_is ∙ is)) ∙ append-nil w.done)
 
-  marked_if : (b : Bool) (n : Node) → p n ≡ b → Holds xs n → Holds walk n → is_marked c n ≡ b
-  marked_if true n e held there = held_passes (λ m. is_marked c m ≡ true) w.done n w.marked (subst (λ l. Holds l n) all_done (filter_held p walk n there e))
-  marked_if false n e held there = w.unmarked n held (subst (λ l. Lacks l n) all_done (lacks_filter p walk n e))
+  marked_if : (b d : Bool) (n : Node) → list_any (same_node n) walk ≡ b → is_eq (side n) ≡ d → Holds xs n → is_marked c n ≡ (b && d)
+  marked_if true true n there e held = held_passes (λ m. Holds xs m → is_marked c m ≡ true) w.done n w.marked (subst (λ l. Holds l n) all_done (filter_held (λ m. is_eq (side m)) walk n (any_held n walk there) e)) held
+  marked_if true false n there e held = w.unmarked n held (subst (λ l. Lacks l n) all_done (lacks_filter (λ m. is_eq (side m)) walk n e))
+  marked_if false d n none e held = w.unmarked n held (subst (λ l. Lacks l n) all_done (lacks_kept (λ m. is_eq (side m)) walk n (none_held n walk none)))
 
-  pub all_marked : (n : Node) → Holds xs n → Holds walk n → is_marked c n ≡ p n
-  all_marked n held there = marked_if (p n) n refl held there
+  pub all_marked : (list : List Node) → IsPermutation walk list → (n : Node) → Holds xs n → is_marked c n ≡ is_match side list n
+  all_marked list moved n held = marked_if (list_any (same_node n) walk) (is_eq (side n)) n refl refl held ∙ match_moved side walk list n moved
 
 -- the list of a row is that of its vector, whatever its column says
 pub row_list_same : (cs ds : ℕ → Column) (i : AnyIndex) → kind_of i ≡ kinds.Random → list_of ds i ≡ list_of cs i

@@ -1,18 +1,24 @@
 -- Nodes of a key, and marks in a row.
-use Rattle.std.specs.Prelude.{ℕ, List, filter}
+use Rattle.std.specs.Prelude.{ℕ, Bool, ◌&&◌, List, filter}
+use Rattle.std.specs.List.{list_any}
 use Rattle.std.specs.Ordering.{is_eq}
+use Rattle.std.specs.declared.cmp.Ordering.{Ordering}
 use Rattle.node_store.specs.declared.Node.{Node}
 use Rattle.node_store.specs.Column.{Column}
 use Rattle.node_store.specs.Store.{Store}
-use Rattle.node_store.specs.ByNode.{column_of}
+use Rattle.node_store.specs.ByNode.{column_of, same_node}
 use Rattle.key_extract.specs.declared.extract.Extract.{Ghosts}
 use Rattle.hash_index.specs.Spelled as hash
 use Rattle.row_index.specs.Spelled as row
-pub use Rattle.row_index.specs.Marked.{is_marked}
+pub use Rattle.row_index.specs.Marked.{is_marked, lowest_mark}
 use Rattle.any_index.specs.declared.index.AnyIndex.{AnyIndex}
 use Rattle.any_index.specs.declared.index.AnyIndex.TheVariants.{Sequenced, Random, Ordered, Ranked, Hashed}
 use Rattle.any_index.specs.Spelled.{list_of}
 use Rattle.any_index.specs.Stored.{side_in}
+
+-- whether the list has the node, and its record has the key
+abbrev pub is_match : (side : Node → Ordering) → List Node → Node → Bool
+is_match side xs n = list_any (same_node n) xs && is_eq (side n)
 
 -- the nodes of the index in the order of a walk, which in a hashed one goes along the chains
 abbrev pub walk_of : (ℕ → Column) → AnyIndex → List Node

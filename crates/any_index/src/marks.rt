@@ -7,7 +7,7 @@ ghost use Rattle.list_model.specs.Walk.{next as the_next};
 ghost use Rattle.node_store.specs.declared.Node.{Node};
 ghost use Rattle.node_store.specs.ByNode.{column_of, contents, same_node};
 ghost use Rattle.row_index.specs.Spelled as rows;
-ghost use Rattle.any_index.specs.Marks.{HasMarks, is_marked, walk_of, matches_in};
+ghost use Rattle.any_index.specs.Marks.{HasMarks, is_marked, lowest_mark, is_match, walk_of, matches_in};
 ghost use Rattle.any_index.specs.Spelled.{KeepsOthers, Holds, kind_of, col_of, index_of};
 ghost use Rattle.any_index.specs.Stored.{nodes_of, side_in, IsIn, CanFind};
 
@@ -18,9 +18,10 @@ use row_index::RowIndex;
 use std::cmp::Ordering;
 
 impl AnyIndex {
-    /// Marks in a row, which has the same nodes, those whose records have the key, and answers the lowest place of them.
-    /// Until the row's `close_up` it has no other calls. In O(log n) comparisons and a step for each that has the key in a
-    /// tree, in expected O(1 + those nodes) in buckets. A sequence has no key.
+    /// Marks in a row those of its nodes that this index has too and whose records have the key, and answers the lowest place
+    /// of them, or the greatest `u64` where there is none. Until the row's `close_up` it has no other calls. In O(log n)
+    /// comparisons and a step for each that has the key in a tree, in expected O(1 + those nodes) in buckets. A sequence has
+    /// no key.
     pub fn mark_key<R, E: Extract<R>>(
         &self,
         store: &mut NodeStore<R>,
@@ -34,14 +35,13 @@ impl AnyIndex {
         requires row { IsIn row.now store.old }
         requires kind { kind_of row.now ≡ Random }
         requires apart { col_of self.now ≢ col_of row.now }
-        requires there { (n : Node) → Holds (nodes_of self.now store.old) n →
-            Holds (nodes_of row.now store.old) n }
-        requires here { (n : Node) → Holds (nodes_of row.now store.old) n →
-            Holds (nodes_of self.now store.old) n }
         ensures marks { HasMarks (column_of store.new) row.now result }
+        ensures low { result ≡
+            lowest_mark (column_of store.new (col_of row.now)) (nodes_of row.now store.old) }
         ensures marked { (n : Node) → Holds (nodes_of row.now store.old) n →
             is_marked (column_of store.new (col_of row.now)) n ≡
-            is_eq (side_in E.Extract self.now store.old keys.now probe.now n) }
+            is_match (side_in E.Extract self.now store.old keys.now probe.now)
+            (nodes_of self.now store.old) n }
         ensures others { KeepsOthers (column_of store.old) (column_of store.new)
             (col_of row.now) }
         ensures contents { contents store.new ≡ contents store.old }
@@ -56,7 +56,7 @@ impl AnyIndex {
     }
 }
 
-// Marks in the row each node whose record has the key.
+// Marks in the row each of its nodes that the index has too and whose record has the key.
 fn mark_each<R, E: Extract<R>>(
     by: &AnyIndex,
     row: &RowIndex,
@@ -69,14 +69,13 @@ fn mark_each<R, E: Extract<R>>(
     requires index { index ≡ index_of by.now }
     requires row { rows.IsSound (column_of store.old) row.now }
     requires apart { col_of by.now ≢ rows.col_of row.now }
-    requires there { (n : Node) → Holds (nodes_of by.now store.old) n →
-        Holds (rows.spelled (column_of store.old) row.now) n }
-    requires here { (n : Node) → Holds (rows.spelled (column_of store.old) row.now) n →
-        Holds (nodes_of by.now store.old) n }
     ensures marks { rows.HasMarks (column_of store.new) row.now result }
+    ensures low { result ≡ lowest_mark (column_of store.new (rows.col_of row.now))
+        (rows.spelled (column_of store.old) row.now) }
     ensures marked { (n : Node) → Holds (rows.spelled (column_of store.old) row.now) n →
         is_marked (column_of store.new (rows.col_of row.now)) n ≡
-        is_eq (side_in E.Extract by.now store.old keys.now probe.now n) }
+        is_match (side_in E.Extract by.now store.old keys.now probe.now)
+        (nodes_of by.now store.old) n }
     ensures others { KeepsOthers (column_of store.old) (column_of store.new)
         (rows.col_of row.now) }
     ensures contents { contents store.new ≡ contents store.old }

@@ -89,10 +89,3 @@ module _ {R E : Type 0} {has_key : E → ℕ → Bool} (s : IndexSet R E) (sound
   columns_apart j k lt_j lt_k i r e f key row =
       let apart : j ≢ k = λ same. let bad : IsTrue (has_key_kind Random) = subst (λ kind. IsTrue (has_key_kind kind)) (ap (kind_at s) same ∙ row) key in cc in
       λ same. sound.placed.apart j k i r lt_j lt_k apart (sym (ap any.col_of e) ∙ (same ∙ ap any.col_of f))
-
-  -- where each list has each node, one index has the nodes of another
-  pub held_too : ((n : Node) → IsNodeOf s.store n → HoldIt (lists_of s) n) → (j k : ℕ) → j < length s.specs.items → k < length s.specs.items → (i r : AnyIndex) → i ≡ get_or s.indices.items j i → r ≡ get_or s.indices.items k r
-      → (n : Node) → Holds (any.list_of (column_of s.store) i) n → Holds (any.list_of (column_of s.store) r) n
-  held_too held j k lt_j lt_k i r e f n there =
-      let is = node_held s.store i n (sound_here s sound j lt_j i e) there in
-      subst (λ l. Holds l n) (sym (list_here s sound k lt_k r f)) (All-at (λ xs. Holds xs n) (lists_of s) k [] (omega (arith, lt_k, one_list_each s sound)) (held n is))

@@ -10,6 +10,7 @@ use Rattle.container_model.specs.Insert.{At, place_in}
 use Rattle.any_index.specs.Side.{side_of, order_at, without_excepted, equal_but}
 use Rattle.any_index.specs.Lists.{entered, settled_in}
 pub use Rattle.any_index.specs.Lists.{IsSunk}
+pub use Rattle.any_index.specs.Marks.{is_match}
 
 module _ {R : Type 0} (order : ℕ → R → R → Ordering) (records : Node → Option R) where
   -- the list of one index with a new node at its place

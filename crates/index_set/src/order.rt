@@ -1,14 +1,10 @@
 //! Changes of the order of one sequence.
 ghost use Rattle.std.specs.Prelude.{◌≡◌, ◌≤◌, ◌<◌, length, IsTrue, IsPermutation, slice_set, reverse as reversed};
-ghost use Rattle.std.specs.Ordering.{is_eq};
 ghost use Rattle.container_model.specs.declared.handle.Kind.TheVariants.{Random};
 ghost use Rattle.container_model.specs.State.{is_sequence_kind};
 ghost use Rattle.list_model.specs.Walk.{relocated};
 ghost use Rattle.node_store.specs.Nodes.{Holds};
-ghost use Rattle.node_store.specs.declared.Node.{Node};
-ghost use Rattle.node_store.specs.Store.{IsNodeOf};
 ghost use Rattle.node_store.specs.ByNode.{same_node};
-ghost use Rattle.index_set.specs.Indices.{HoldIt};
 
 use crate::set::IndexSet;
 use key_extract::Extract;
@@ -16,8 +12,8 @@ use node_store::Node;
 
 impl<R, E: Extract<R>> IndexSet<R, E> {
     ghost use Rattle.index_set.specs.Asked.{HasIndex, CanFind};
-    ghost use Rattle.index_set.specs.Lists.{IsSunk};
-    ghost use Rattle.index_set.specs.Set.{store_of, contents, lists_of, list_of, kind_at, probe_side, HasRoom, IsSound, IsKeyed, IsOfSame};
+    ghost use Rattle.index_set.specs.Lists.{IsSunk, is_match};
+    ghost use Rattle.index_set.specs.Set.{contents, lists_of, list_of, kind_at, probe_side, HasRoom, IsSound, IsKeyed, IsOfSame};
 
     /// Moves `n` before the node at the place of a sequence, or last. The place counts with `n` still in. It takes no
     /// memory. O(the distance of the place from the nearer end), in one with places O(the nodes between both
@@ -71,22 +67,20 @@ impl<R, E: Extract<R>> IndexSet<R, E> {
         self.indices[index].reverse(&mut self.store);
     }
 
-    /// Puts the nodes of a row whose records have the key of index `index` behind all others, which keep their order.
-    /// Each index has each node. It reads the records of the key alone, and takes no memory. A look-up in index `index`,
-    /// a step for each node that has the key, and O(the nodes of the row from the first of them on). A row is a sequence
-    /// with places, and others have no such call.
+    /// Puts those nodes of a row that index `index` has too and whose records have the key behind all others, which keep
+    /// their order. It reads the records of the key alone, and takes no memory. A look-up in index `index`, a step for each
+    /// node that has the key, and O(the nodes of the row from the first of them on). A row is a sequence with places, and
+    /// others have no such call.
     pub fn sink(&mut self, row: usize, index: usize, probe: &E::Probe)
         requires at { HasIndex E.Extract self.old row }
         requires kind { kind_at self.old row ≡ Random }
         requires key { CanFind E.Extract self.old index probe.now }
-        requires held { (n : Node) → IsNodeOf (store_of self.old) n →
-            HoldIt (lists_of self.old) n }
         ensures sound { IsSound E.has_key self.new }
         ensures same { IsOfSame self.old self.new }
         ensures lists { lists_of self.new ≡ slice_set (lists_of self.old) row
             (list_of self.new row) }
-        ensures sunk { IsSunk (λ n. is_eq (probe_side E.probe_order_of self.old index probe.now n))
-            (list_of self.old row) (list_of self.new row) }
+        ensures sunk { IsSunk (is_match (probe_side E.probe_order_of self.old index probe.now)
+            (list_of self.old index)) (list_of self.old row) (list_of self.new row) }
         ensures room { HasRoom self.old → HasRoom self.new }
         ensures keyed { IsKeyed E.order_of E.hash_of self.new }
         ensures contents { contents self.new ≡ contents self.old }

@@ -28,12 +28,14 @@ use Rattle.container_model.specs.State.{is_sequence_kind, side_of as handle_side
 use Rattle.any_index.specs.Side.{side_of}
 use Rattle.any_index.proofs.ByNumber.{Holds_moved}
 use Rattle.any_index.proofs.Laws.{Holds_last}
+use Rattle.any_index.proofs.Marking.{held_passes, match_held}
 use Rattle.index_set.specs.declared.set.IndexSet.{IndexSet}
 use Rattle.index_set.specs.Indices.{HoldIt}
-use Rattle.index_set.specs.Lists.{IsSunk}
+use Rattle.index_set.specs.Lists.{IsSunk, is_match}
 use Rattle.index_set.specs.Set as set
 use Rattle.index_set.specs.Set.{store_of, keys_of, specs_of, contents, record_of, list_of, lists_of, kind_at, IsSound, IsKeyed, IsOfSame}
 use Rattle.index_set.proofs.Members.{nodes_held_at, one_list_each}
+use Rattle.index_set.proofs.Sinking.{sunk_alike}
 use Rattle.index_set.proofs.StaysUnique.{unique_after_move}
 use Rattle.linked_set.specs.ByRow.{has_by_row, order_by_row, hash_by_row, probe_by_row}
 use Rattle.linked_set.specs.declared.by_row.ByRow.{ByRow}
@@ -41,7 +43,7 @@ use Rattle.linked_set.specs.Held.{AreHeld, has_other_key}
 use Rattle.linked_set.specs.Linked.{handle_of, entries_in, handles_in}
 use Rattle.linked_set.proofs.Contents.{entries_kept, handles_kept}
 use Rattle.linked_set.proofs.LeadsTo.{leads_kept}
-use Rattle.linked_set.proofs.Thinned.{Thinned, filter_all, other_key}
+use Rattle.linked_set.proofs.Thinned.{Thinned, filter_all, here, other_key}
 
 -- ---- lists
 
@@ -102,10 +104,19 @@ module _ {E R P : Type 0} {has_key : E → ℕ → Bool} {order : E → ℕ → 
   has n = is_eq (set.probe_side (probe_by_row probe_order) now index probe n)
 
   module _ (row : ℕ) (lt : row < length (specs_of now)) (kind : kind_at now row ≡ Random) (sound : IsSound (has_by_row has_key) new) (same : IsOfSame now new)
-      (lists : lists_of new ≡ set (lists_of now) row (list_of new row)) (sunk : IsSunk has (list_of now row) (list_of new row))
+      (lists : lists_of new ≡ set (lists_of now) row (list_of new row)) (sunk : IsSunk (is_match (set.probe_side (probe_by_row probe_order) now index probe) (list_of now index)) (list_of now row) (list_of new row))
       (keyed : IsKeyed (order_by_row order) (hash_by_row hash) new) (kept : contents new ≡ contents now) where
     still : (n : Node) → IsNodeOf (store_of new) n → IsNodeOf (store_of now) n
     still n is = IsNodeOf_kept (store_of new) (store_of now) n (sym kept) is
+
+    -- each index has each node, so all that have the key have gone behind
+    key_sunk : IsSunk has (list_of now row) (list_of new row)
+    key_sunk =
+        let side = set.probe_side (probe_by_row probe_order) now index probe in
+        sunk_alike (is_match side (list_of now index)) has (list_of now row) (list_of new row)
+        (λ n held. match_held side (list_of now index) n
+        (each_held now was.linked.sound was.held n (held_passes (IsNodeOf (store_of now)) (list_of now row) n (nodes_held_at now was.linked.sound row lt) held) index (here probe_order index probe old now slots was within)))
+        sunk
 
     -- the handles of the others are as before in the list
     handles_left : filter keep (map (handle_of (record_of now)) (list_of new row)) ≡ filter keep (map (handle_of (record_of now)) (list_of now row))
@@ -113,7 +124,7 @@ module _ {E R P : Type 0} {has_key : E → ℕ → Bool} {order : E → ℕ → 
         let there : row < length (specs_of new) = subst (λ specs. row < length specs) (sym same.specs) lt in
         filter_mapped (handle_of (record_of now)) keep (λ n. not (has n)) (list_of new row)
         (All-map _ _ (λ n is. other_key probe_order index probe old now slots was within n (still n is)) (list_of new row) (nodes_held_at new sound row there))
-        ∙ (ap (map (handle_of (record_of now))) (others_kept has (list_of now row) (list_of new row) sunk)
+        ∙ (ap (map (handle_of (record_of now))) (others_kept has (list_of now row) (list_of new row) key_sunk)
         ∙ sym (filter_mapped (handle_of (record_of now)) keep (λ n. not (has n)) (list_of now row)
         (All-map _ _ (λ n is. other_key probe_order index probe old now slots was within n is) (list_of now row) (nodes_held_at now was.linked.sound row lt))))
 

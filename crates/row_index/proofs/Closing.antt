@@ -130,7 +130,7 @@ sound_marks cs i low h = (
 
 -- ---- one more mark
 
-place_said : (c : Column) (p : ℕ) (front : List Node) (n : Node) (back : List Node) → KeepPlaces c p (front ++ n ∷ back) → is_marked c n ≡ false → tag_at c n ≡ Some (p + length front)
+pub place_said : (c : Column) (p : ℕ) (front : List Node) (n : Node) (back : List Node) → KeepPlaces c p (front ++ n ∷ back) → is_marked c n ≡ false → tag_at c n ≡ Some (p + length front)
 place_said c p [] n back h new = h.0 new ∙ ap Some (omega arith)
 place_said c p (x ∷ front) n back h new = place_said c (p + 1) front n back h.1 new ∙ ap Some (omega arith)
 

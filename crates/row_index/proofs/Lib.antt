@@ -3,3 +3,4 @@ pub mod Shifted
 pub mod Edits
 pub mod Laws
 pub mod Closing
+pub mod Lowest

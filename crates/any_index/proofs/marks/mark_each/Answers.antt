@@ -2,14 +2,16 @@ use Rattle.std.proofs.Common.{◌≡◌, false, [], refl, sym, ap, subst, ◌∙
 use Rattle.std.specs.Ordering.{is_eq}
 use Rattle.node_store.specs.Nodes.{Holds, IsDistinct}
 use Rattle.node_store.specs.ByNode.{column_of, record_of, same_node}
-use Rattle.node_store.proofs.ByNode.{records_kept}
+use Rattle.node_store.proofs.ByNode.{records_kept, IsNodeOf_kept}
 use Rattle.list_model.specs.Walk.{next}
 use Rattle.row_index.specs.Spelled as rows
 use Rattle.row_index.proofs.Closing.{sound_marks, row_same}
+use Rattle.row_index.proofs.Lowest.{low_sound, low_goes_on}
+use Rattle.any_index.proofs.Laws.{node_held}
 use Rattle.any_index.specs.Marks.{walk_of, matches_in, is_marked}
 use Rattle.any_index.specs.Side.{side_of}
 use Rattle.any_index.specs.Spelled.{list_of, index_of, col_of}
-use Rattle.any_index.proofs.Marking.{held_passes, passed_held, list_held, walk_held, walk_distinct, distinct_filter, matches_kept, find_kept, walk_at, new_mark, walked_on, fewer_left, all_marked}
+use Rattle.any_index.proofs.Marking.{held_passes, passed_held, list_held, walk_distinct, distinct_filter, matches_kept, find_kept, walk_at, walked_on, fewer_left, walk_moved, all_marked}
 use Rattle.any_index.proofs.marks.mark_each.Goals as goal
 
 pub loop-at-init : goal.loop-at-init
@@ -27,29 +29,20 @@ loop-at-init g c =
         unmarked = λ m held lacks. held_passes (λ n. is_marked (columns (rows.col_of row)) n ≡ false) (rows.spelled columns row) m clean.1 held;
       };
       marks = clean.0;
+      low = low_sound columns row c.requires.row;
       others = λ j ne. refl;
       contents = refl;
     }
 
-pub mark-low-requires-clause-held : goal.mark-low-requires-clause-held
-mark-low-requires-clause-held g c =
+pub mark-low-requires-clause-node : goal.mark-low-requires-clause-node
+mark-low-requires-clause-node g c =
     let first = column_of c.args.store.now in
     let side = side_of (record_of c.args.store.now) (λ a. g.E.Extract.probe_order_of c.args.keys.now (index_of c.args.by.now) a c.args.probe.now) in
     let walk = walk_of first c.args.by.now in
     let distinct = distinct_filter (λ m. is_eq (side m)) walk (walk_distinct first c.args.by.now c.requires.find.sound) in
     let at = walk_at _ _ _ _ c.in-Some.n c.loop-at.invariant.walked c.in-Some.is distinct in
-    row_same first (column_of c.loop-at.store) c.args.row.now c.in-Some.n
-    (c.requires.there c.in-Some.n (list_held first c.args.by.now c.in-Some.n (passed_held (λ m. is_eq (side m)) walk c.in-Some.n at).0))
-
-pub mark-low-requires-clause-new : goal.mark-low-requires-clause-new
-mark-low-requires-clause-new g c =
-    let first = column_of c.args.store.now in
-    let side = side_of (record_of c.args.store.now) (λ a. g.E.Extract.probe_order_of c.args.keys.now (index_of c.args.by.now) a c.args.probe.now) in
-    let walk = walk_of first c.args.by.now in
-    let distinct = distinct_filter (λ m. is_eq (side m)) walk (walk_distinct first c.args.by.now c.requires.find.sound) in
-    let at = walk_at _ _ _ _ c.in-Some.n c.loop-at.invariant.walked c.in-Some.is distinct in
-    new_mark _ _ _ _ c.in-Some.n c.loop-at.invariant.walked c.in-Some.is distinct
-    (c.requires.there c.in-Some.n (list_held first c.args.by.now c.in-Some.n (passed_held (λ m. is_eq (side m)) walk c.in-Some.n at).0))
+    IsNodeOf_kept c.args.store.now c.loop-at.store c.in-Some.n c.loop-at.invariant.contents
+    (node_held c.args.store.now c.args.by.now c.in-Some.n c.requires.find.sound (list_held first c.args.by.now c.in-Some.n (passed_held (λ m. is_eq (side m)) walk c.in-Some.n at).0))
 
 pub next_match-at-requires-clause-find : goal.next_match-at-requires-clause-find
 next_match-at-requires-clause-find g c =
@@ -87,8 +80,9 @@ loop-at-preserved g c =
     (records_kept c.args.store.now c.mark-low.new.store (c.mark-low.ensures.contents ∙ c.loop-at.invariant.contents)) in
     record {
       walked = walked_on _ _ _ _ c.in-Some.n c.loop-at.invariant.walked c.in-Some.is distinct c.next_match-at.result (c.next_match-at.ensures ∙ ap (next (same_node c.in-Some.n)) same)
-          (column_of c.mark-low.new.store (rows.col_of c.args.row.now)) c.mark-low.ensures.marked c.mark-low.ensures.unmarked;
+          (column_of c.mark-low.new.store (rows.col_of c.args.row.now)) (λ held. c.mark-low.ensures.marked (row_same first (column_of c.loop-at.store) c.args.row.now c.in-Some.n held)) c.mark-low.ensures.unmarked;
       marks = c.mark-low.ensures.marks;
+      low = low_goes_on first (column_of c.loop-at.store) (column_of c.mark-low.new.store) c.args.row.now c.in-Some.n c.loop-at.low c.mark-low.result c.loop-at.invariant.low c.mark-low.ensures.low c.mark-low.ensures.marked c.mark-low.ensures.unmarked;
       others = λ j ne. c.mark-low.ensures.others j ne ∙ c.loop-at.invariant.others j ne;
       contents = c.mark-low.ensures.contents ∙ c.loop-at.invariant.contents;
     }
@@ -97,4 +91,4 @@ pub returns-clause-marked : goal.returns-clause-marked
 returns-clause-marked g c = λ n held.
     let first = column_of c.args.store.now in
     let side = side_of (record_of c.args.store.now) (λ a. g.E.Extract.probe_order_of c.args.keys.now (index_of c.args.by.now) a c.args.probe.now) in
-    all_marked (λ m. is_eq (side m)) (walk_of first c.args.by.now) _ _ _ c.loop-at.invariant.walked c.in_default.is n held (walk_held first c.args.by.now n (c.requires.here n held))
+    all_marked side (walk_of first c.args.by.now) _ _ _ c.loop-at.invariant.walked c.in_default.is (list_of first c.args.by.now) (walk_moved first c.args.by.now) n held

@@ -27,6 +27,3 @@ loop-row-preserved g c = elim c.match-specs-row.branch [
       })
   | goal.in_default w ↦ rw w.set-is c.loop-row.invariant
 ]
-
-pub sink-requires-clause-held : goal.sink-requires-clause-held
-sink-requires-clause-held g c = c.loop-row.invariant.thinned.held.each

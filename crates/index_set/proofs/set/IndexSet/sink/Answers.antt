@@ -1,20 +1,19 @@
 use Rattle.std.proofs.Common.{◌≡◌, arith, subst, sym, refl, ap, ◌∙◌}
 use Rattle.std.specs.Prelude.{IsTrue}
-use Rattle.std.specs.Ordering.{is_eq}
 use Rattle.node_store.specs.Nodes.{Holds}
 use Rattle.node_store.specs.ByNode.{column_of, record_of}
 use Rattle.any_index.proofs.Marking.{row_list_same}
-use Rattle.index_set.specs.Lists.{IsSunk}
+use Rattle.index_set.specs.Lists.{IsSunk, is_match}
 use Rattle.container_model.specs.State.{is_sequence_kind}
 use Rattle.any_index.specs.Marks.{is_marked}
 use Rattle.any_index.specs.Side.{side_of}
 use Rattle.any_index.specs.Spelled as any
-use Rattle.index_set.specs.Set.{kind_at, probe_side}
+use Rattle.index_set.specs.Set.{kind_at, list_of, probe_side}
 use Rattle.index_set.proofs.Frame.{steps_of}
-use Rattle.index_set.proofs.Reading.{sound_here, kind_here, number_here, can_find}
+use Rattle.index_set.proofs.Reading.{sound_here, kind_here, number_here, can_find, list_here}
 use Rattle.index_set.proofs.Moving.{placed_moved, within_moved, room_moved, keyed_moved}
 use Rattle.index_set.proofs.Stores.{IsStore_kept, columns_kept}
-use Rattle.index_set.proofs.Sinking.{same_index, two_steps, held_too, lists_sunk, list_sunk, sunk_alike}
+use Rattle.index_set.proofs.Sinking.{same_index, two_steps, lists_sunk, list_sunk, sunk_alike}
 use Rattle.index_set.proofs.set.IndexSet.sink.Goals as goal
 
 pub mark_key-low-requires-clause-find : goal.mark_key-low-requires-clause-find
@@ -30,14 +29,6 @@ mark_key-low-requires-clause-row g c = sound_here c.args.self.now c.requires.at.
 
 pub mark_key-low-requires-clause-kind : goal.mark_key-low-requires-clause-kind
 mark_key-low-requires-clause-kind g c = kind_here c.args.self.now c.requires.at.sound c.args.row c.requires.at.index c.index-2.result.now c.index-2.ensures ∙ c.requires.kind
-
-pub mark_key-low-requires-clause-there : goal.mark_key-low-requires-clause-there
-mark_key-low-requires-clause-there g c =
-    held_too c.args.self.now c.requires.at.sound c.requires.held c.args.index c.args.row c.requires.key.index c.requires.at.index c.index.result.now c.index-2.result.now c.index.ensures c.index-2.ensures
-
-pub mark_key-low-requires-clause-here : goal.mark_key-low-requires-clause-here
-mark_key-low-requires-clause-here g c =
-    held_too c.args.self.now c.requires.at.sound c.requires.held c.args.row c.args.index c.requires.at.index c.requires.key.index c.index-2.result.now c.index.result.now c.index-2.ensures c.index.ensures
 
 pub returns-clause-sound : goal.returns-clause-sound
 returns-clause-sound g c =
@@ -101,9 +92,12 @@ returns-clause-sunk g c =
     let first = any.list_of (column_of set.store) row in
     let after = any.list_of (column_of c.close_up.new.store) c.close_up.new.self in
     let sunk = subst (λ l. IsSunk (is_marked (column_of mid (any.col_of row))) l after) (row_list_same (column_of set.store) (column_of mid) row kind) c.close_up.ensures.sunk in
-    list_sunk set c.requires.at.sound c.args.row c.requires.at.index c.index_mut.result.now c.close_up.new.self c.index_mut.ensures.value c.close_up.new.store step (λ n. is_eq (probe_side g.E.Extract.probe_order_of set c.args.index c.args.probe.now n))
-    (sunk_alike (is_marked (column_of mid (any.col_of row))) (λ n. is_eq (probe_side g.E.Extract.probe_order_of set c.args.index c.args.probe.now n)) first after
+    let by = c.index.result.now in
+    let has = is_match (probe_side g.E.Extract.probe_order_of set c.args.index c.args.probe.now) (list_of set c.args.index) in
+    list_sunk set c.requires.at.sound c.args.row c.requires.at.index row c.close_up.new.self c.index_mut.ensures.value c.close_up.new.store step has
+    (sunk_alike (is_marked (column_of mid (any.col_of row))) has first after
     (λ n held.
     ap (λ i. is_marked (column_of mid (any.col_of i)) n) (sym same)
     ∙ (c.mark_key-low.ensures.marked n (subst (λ i. Holds (any.list_of (column_of set.store) i) n) (sym same) held)
-    ∙ ap (λ k. is_eq (side_of (record_of set.store) (λ a. g.E.Extract.probe_order_of set.keys k a c.args.probe.now) n)) number)) sunk)
+    ∙ (ap (λ k. is_match (side_of (record_of set.store) (λ a. g.E.Extract.probe_order_of set.keys k a c.args.probe.now)) (any.list_of (column_of set.store) by) n) number
+    ∙ ap (λ l. is_match (probe_side g.E.Extract.probe_order_of set c.args.index c.args.probe.now) l n) (list_here set c.requires.key.sound c.args.index c.requires.key.index by c.index.ensures)))) sunk)
