@@ -32,12 +32,12 @@ use Rattle.hash_index.specs.declared.HashIndex.{HashIndex}
 use Rattle.hash_index.proofs.Laws as hash
 use Rattle.any_index.specs.declared.index.AnyIndex.{AnyIndex}
 use Rattle.any_index.specs.declared.index.AnyIndex.TheVariants.{Sequenced, Random, Ordered, Ranked, Hashed}
-use Rattle.any_index.specs.Keyed.{IsKeyed, AreKeyed, HasItsKey, Accepts}
+use Rattle.any_index.specs.Keyed.{AreKeyed, HasItsKey, Accepts}
 use Rattle.any_index.specs.Marks.{walk_of, matches_in, is_marked, is_match}
 use Rattle.any_index.specs.Side.{side_of}
 use Rattle.any_index.specs.Spelled.{IsSound, list_of, col_of, kind_of, index_of}
 use Rattle.any_index.specs.Stored.{CanFind}
-use Rattle.any_index.proofs.ByNumber.{Holds_moved, moved_by_number, moved_back}
+use Rattle.any_index.proofs.ByNumber.{Holds_moved, moved_by_number}
 use Rattle.any_index.proofs.Laws.{list_of_kept, list_distinct, IsSound_kept, IsKeyed_restored}
 
 -- ---- members
@@ -137,13 +137,6 @@ module _ (side : Node → Ordering) (n : Node) where
     next_none is = sym (kept_next ∙ none_first at.0.after (sym split_next ∙ is))
 
 -- ---- the nodes of a walk
-
-pub walk_held : (cs : ℕ → Column) (i : AnyIndex) (n : Node) → Holds (list_of cs i) n → Holds (walk_of cs i) n
-walk_held cs (Sequenced i) n h = h
-walk_held cs (Random i) n h = h
-walk_held cs (Ordered i) n h = h
-walk_held cs (Ranked i) n h = h
-walk_held cs (Hashed i) n h = Holds_moved _ _ n (moved_back _) h
 
 pub list_held : (cs : ℕ → Column) (i : AnyIndex) (n : Node) → Holds (walk_of cs i) n → Holds (list_of cs i) n
 list_held cs (Sequenced i) n h = h

@@ -1,5 +1,5 @@
 -- An index in a store: what its calls ask for, read and keep.
-use Rattle.std.specs.Prelude.{◌≡◌, ℕ, List, Option, IsTrue}
+use Rattle.std.specs.Prelude.{◌≡◌, List, Option, IsTrue}
 use Rattle.std.specs.declared.cmp.Ordering.{Ordering}
 use Rattle.node_store.specs.declared.Node.{Node}
 use Rattle.node_store.specs.Store.{Store}

@@ -3,28 +3,26 @@ use Rattle.std.proofs.Common.{◌≡◌, ◌≢◌, ℕ, ◌<◌, Bool, cond, Li
 use Rattle.std.specs.Prelude.{IsTrue, filter, not}
 use Rattle.std.specs.List.{AllByRecursion}
 use Rattle.list_model.proofs.InOrder.{All-map}
-use Rattle.list_model.proofs.Lists.{All-at}
 use Rattle.node_store.specs.Nodes.{Holds}
 use Rattle.node_store.proofs.Members.{each_held}
-use Rattle.node_store.specs.Column.{Column, KeepsOthers}
-use Rattle.any_index.proofs.Laws.{node_held}
+use Rattle.node_store.specs.Column.{KeepsOthers}
 use Rattle.std.proofs.lemmas.List.{get_or-set_same, get_or_default}
 use Rattle.node_store.specs.declared.Node.{Node}
 use Rattle.node_store.specs.ByNode.{column_of}
-use Rattle.node_store.specs.Store.{Store, IsNodeOf}
+use Rattle.node_store.specs.Store.{Store}
 use Rattle.container_model.specs.declared.handle.Kind.{Kind}
 use Rattle.container_model.specs.declared.handle.Kind.TheVariants.{Sequenced, Random, Ordered, Ranked, Hashed}
 use Rattle.container_model.specs.State.{has_key_kind, is_hashed_kind, is_sorted_kind}
 use Rattle.any_index.specs.declared.index.AnyIndex.{AnyIndex}
 use Rattle.any_index.specs.Spelled as any
 use Rattle.index_set.specs.declared.set.IndexSet.{IndexSet}
-use Rattle.index_set.specs.Indices.{lists_in, HoldIt}
+use Rattle.index_set.specs.Indices.{lists_in}
 use Rattle.index_set.specs.Lists.{IsSunk}
 use Rattle.index_set.specs.Set.{IsSound, list_of, lists_of, kind_at}
 use Rattle.index_set.proofs.Frame.{Steps}
 use Rattle.index_set.proofs.Members.{one_list_each}
 use Rattle.index_set.proofs.Moving.{lists_moved}
-use Rattle.index_set.proofs.Reading.{list_here, sound_here}
+use Rattle.index_set.proofs.Reading.{list_here}
 
 -- an index of a kind that has a key is in order or hashed
 pub by_key_kind : {A : Type 0} (kind : Kind) → IsTrue (has_key_kind kind) → (IsTrue (is_sorted_kind kind) → A) → (IsTrue (is_hashed_kind kind) → A) → A

@@ -8,7 +8,7 @@ use Rattle.std.proofs.lemmas.List.Sorted.{IsPermutation-trans, IsPermutation-app
 use Rattle.std.proofs.lemmas.Bool.Decides.{nat_tests}
 use Rattle.node_store.specs.declared.Node.{Node}
 use Rattle.node_store.specs.declared.Link.{Link}
-use Rattle.node_store.specs.Column.{Column, IsNode, IsPut}
+use Rattle.node_store.specs.Column.{Column, IsNode}
 use Rattle.node_store.specs.Nodes.{Lacks, Holds, IsDistinct, AllNodes}
 use Rattle.node_store.proofs.Members.{IsDistinct_moved, AllNodes_moved, AllNodes_kept}
 use Rattle.row_index.specs.declared.RowIndex.{RowIndex}
@@ -96,14 +96,10 @@ pub sunk_row : (sinks : Node → Bool) (cs ds : ℕ → Column) (i j : RowIndex)
 unfolding spelled
 sunk_row sinks cs ds i j h = h
 
-node_of_list : (c : Column) (front : List Node) (n : Node) (back : List Node) → AllNodes c (front ++ n ∷ back) → IsNode c n
+-- a column of all nodes of a list has each
+pub node_of_list : (c : Column) (front : List Node) (n : Node) (back : List Node) → AllNodes c (front ++ n ∷ back) → IsNode c n
 node_of_list c [] n back h = h.0
 node_of_list c (x ∷ front) n back h = node_of_list c front n back h.1
-
--- a node of a row with marks is one of its column
-pub node_held : (cs : ℕ → Column) (i : RowIndex) (low : ℕ) (n : Node) → HasMarks cs i low → Holds (spelled cs i) n → IsNode (cs i.col) n
-unfolding spelled
-node_held cs i low n h held = node_of_list (cs i.col) held.before n held.after (subst (AllNodes (cs i.col)) held.is h.numbered.nodes)
 
 pub unmarked_from : (c : Column) (p : ℕ) (xs : List Node) → p + length xs < 2 ^ 64 → AreNumbered c p xs → AllByRecursion (λ m. is_marked c m ≡ false) xs
 unmarked_from c p [] few h = tt
@@ -194,16 +190,7 @@ swapped_front xs ys k i n le s = ap (take k) (s.3 n) ∙ (take-set-le k _ i _ le
 pub swapped_back : (xs ys : List Node) (k i : ℕ) (n : Node) → k ≤ i → SwappedAt xs ys k i → drop (i + 1) ys ≡ drop (i + 1) xs
 swapped_back xs ys k i n le s = ap (drop (i + 1)) (s.3 n) ∙ (drop-set-lt (i + 1) _ i _ (omega arith) ∙ drop-set-lt (i + 1) xs k _ (omega arith))
 
--- the nodes of a row are those of its vector
-pub held_in : (cs : ℕ → Column) (i : RowIndex) (n : Node) → Holds (spelled cs i) n → Holds i.nodes.items n
-unfolding spelled
-held_in cs i n h = h
-
--- which no column changes
+-- no column changes which nodes a row has
 pub row_same : (cs ds : ℕ → Column) (i : RowIndex) (n : Node) → Holds (spelled cs i) n → Holds (spelled ds i) n
 unfolding spelled
 row_same cs ds i n h = h
-
-pub sunk_same : (sinks : Node → Bool) (cs bs : ℕ → Column) (i : RowIndex) (new : List Node) → IsSunk sinks (spelled bs i) new → IsSunk sinks (spelled cs i) new
-unfolding spelled
-sunk_same sinks cs bs i new h = h

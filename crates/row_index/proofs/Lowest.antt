@@ -1,6 +1,6 @@
 -- The lowest place of the marked nodes of a row.
 use Rattle.std.proofs.Common.{◌≡◌, ◌≢◌, ℕ, zero, suc, ⊎_elim, ◌+◌, ◌<◌, ◌≤◌, Bool, true, false, cond, List, [], ◌∷◌, ◌++◌, length, take, Some, None, refl, sym, ap, ◌∙◌, subst, arith, slice_get}
-use Rattle.std.specs.Prelude.{◌-◌, ◌^◌, min, nat_lt, not}
+use Rattle.std.specs.Prelude.{◌-◌, ◌^◌, min, not}
 use Rattle.std.specs.List.{AllByRecursion, position_or_len}
 use Rattle.std.specs.Option.{option_map, unwrap_or}
 use Rattle.std.proofs.lemmas.Bool.{lt-ltb, le-ltb, cases_lt}
@@ -18,7 +18,7 @@ use Rattle.list_model.proofs.InOrder.{All-map}
 use Rattle.row_index.specs.Marked.{is_marked, lowest_mark}
 use Rattle.row_index.specs.declared.RowIndex.{RowIndex}
 use Rattle.row_index.specs.Spelled.{HasMarks, KeepPlaces, Spells, spelled, tag_at}
-use Rattle.row_index.proofs.Closing.{unmarked_from, place_said, marked_by, sound_marks}
+use Rattle.row_index.proofs.Closing.{node_of_list, unmarked_from, place_said, marked_by, sound_marks}
 
 -- ---- the first of a list that passes
 
@@ -133,15 +133,11 @@ lacks_held xs n lacks held = by held.before (subst (λ l. Lacks l n) held.is lac
     by [] h = h.0 refl
     by (x ∷ before) h = by before h.1
 
-all_of_list : (c : Column) (before : List Node) (n : Node) (after : List Node) → AllNodes c (before ++ n ∷ after) → IsNode c n
-all_of_list c [] n after h = h.0
-all_of_list c (x ∷ before) n after h = all_of_list c before n after h.1
-
 -- a node that its vector has is one of the store
 pub node_there : {R : Type 0} (s : Store R) (i : RowIndex) (low : ℕ) (place : ℕ) (n : Node) → HasMarks (column_of s) i low → slice_get i.nodes.items place ≡ Some n → IsNodeOf s n
 node_there s i low place n h e =
     let held = (stands_at i.nodes.items place n e).held in
-    node_of_column s i.col n (all_of_list (column_of s i.col) held.before n held.after (subst (AllNodes (column_of s i.col)) held.is h.numbered.nodes))
+    node_of_column s i.col n (node_of_list (column_of s i.col) held.before n held.after (subst (AllNodes (column_of s i.col)) held.is h.numbered.nodes))
 
 -- and each node of the store is one of its column, where it has a node
 pub node_linked : {R : Type 0} (s : Store R) (i : RowIndex) (low : ℕ) (n : Node) → HasMarks (column_of s) i low → 0 < length i.nodes.items → IsNodeOf s n → IsNode (column_of s i.col) n

@@ -1,4 +1,4 @@
-use Rattle.std.proofs.Common.{sym, ◌∙◌, ap, ◌≡◌}
+use Rattle.std.proofs.Common.{sym, ◌∙◌, ap}
 use Rattle.std.specs.Prelude.{filter, slice_get}
 use Rattle.std.specs.Ordering.{is_eq}
 use Rattle.node_store.specs.ByNode.{column_of, record_of}

@@ -1,6 +1,6 @@
 use Rattle.std.proofs.Common.{◌≡◌, false, [], refl, sym, ap, subst, ◌∙◌}
 use Rattle.std.specs.Ordering.{is_eq}
-use Rattle.node_store.specs.Nodes.{Holds, IsDistinct}
+use Rattle.node_store.specs.Nodes.{Holds}
 use Rattle.node_store.specs.ByNode.{column_of, record_of, same_node}
 use Rattle.node_store.proofs.ByNode.{records_kept, IsNodeOf_kept}
 use Rattle.list_model.specs.Walk.{next}
@@ -10,7 +10,7 @@ use Rattle.row_index.proofs.Lowest.{low_sound, low_goes_on}
 use Rattle.any_index.proofs.Laws.{node_held}
 use Rattle.any_index.specs.Marks.{walk_of, matches_in, is_marked}
 use Rattle.any_index.specs.Side.{side_of}
-use Rattle.any_index.specs.Spelled.{list_of, index_of, col_of}
+use Rattle.any_index.specs.Spelled.{list_of, index_of}
 use Rattle.any_index.proofs.Marking.{held_passes, passed_held, list_held, walk_distinct, distinct_filter, matches_kept, find_kept, walk_at, walked_on, fewer_left, walk_moved, all_marked}
 use Rattle.any_index.proofs.marks.mark_each.Goals as goal
 

@@ -1,4 +1,4 @@
-use Rattle.std.proofs.Common.{◌≡◌, arith, subst, sym, refl, ap, ◌∙◌}
+use Rattle.std.proofs.Common.{arith, subst, sym, refl, ap, ◌∙◌}
 use Rattle.std.specs.Prelude.{IsTrue}
 use Rattle.node_store.specs.Nodes.{Holds}
 use Rattle.node_store.specs.ByNode.{column_of, record_of}
@@ -8,7 +8,7 @@ use Rattle.container_model.specs.State.{is_sequence_kind}
 use Rattle.any_index.specs.Marks.{is_marked}
 use Rattle.any_index.specs.Side.{side_of}
 use Rattle.any_index.specs.Spelled as any
-use Rattle.index_set.specs.Set.{kind_at, list_of, probe_side}
+use Rattle.index_set.specs.Set.{list_of, probe_side}
 use Rattle.index_set.proofs.Frame.{steps_of}
 use Rattle.index_set.proofs.Reading.{sound_here, kind_here, number_here, can_find, list_here}
 use Rattle.index_set.proofs.Moving.{placed_moved, within_moved, room_moved, keyed_moved}
