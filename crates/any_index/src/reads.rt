@@ -43,14 +43,15 @@ impl AnyIndex {
 
     /// The node after `n`, or `None` at the end. O(log n) in a tree, and O(1) on average over a whole walk; O(1) in a
     /// sequence. A hashed index has no such call.
+    #[inline(always)]
     pub fn next<R>(&self, store: &NodeStore<R>, n: Node) -> Option<Node>
         requires node { HasNode self.now store.now n }
         requires kind { IsTrue (not (is_hashed_kind (kind_of self.now))) }
         ensures { result ≡ the_next (same_node n) (nodes_of self.now store.now) }
     {
         match self {
-            AnyIndex::Sequenced(sequence) => sequence.next(store, n),
-            AnyIndex::Random(row) => row.next(store, n),
+            AnyIndex::Sequenced(sequence) => return sequence.next(store, n),
+            AnyIndex::Random(row) => return row.next(store, n),
             AnyIndex::Ordered(tree) => tree.next(store, n),
             AnyIndex::Ranked(tree) => tree.next(store, n),
             AnyIndex::Hashed(_) => unreachable!(),
@@ -58,14 +59,15 @@ impl AnyIndex {
     }
 
     /// The node before `n`, or `None` at the front. The costs are those of `next`. A hashed index has no such call.
+    #[inline(always)]
     pub fn prev<R>(&self, store: &NodeStore<R>, n: Node) -> Option<Node>
         requires node { HasNode self.now store.now n }
         requires kind { IsTrue (not (is_hashed_kind (kind_of self.now))) }
         ensures { result ≡ the_prev (same_node n) (nodes_of self.now store.now) }
     {
         match self {
-            AnyIndex::Sequenced(sequence) => sequence.prev(store, n),
-            AnyIndex::Random(row) => row.prev(store, n),
+            AnyIndex::Sequenced(sequence) => return sequence.prev(store, n),
+            AnyIndex::Random(row) => return row.prev(store, n),
             AnyIndex::Ordered(tree) => tree.prev(store, n),
             AnyIndex::Ranked(tree) => tree.prev(store, n),
             AnyIndex::Hashed(_) => unreachable!(),
@@ -73,6 +75,7 @@ impl AnyIndex {
     }
 
     /// The node at a place, counted from 0, or `None` past the end: of a row in O(1), of a ranked tree in O(log n).
+    #[inline(always)]
     pub fn nth<R>(&self, store: &NodeStore<R>, place: u64) -> Option<Node>
         requires sound { IsIn self.now store.now }
         requires kind { IsTrue (has_places_kind (kind_of self.now)) }
@@ -86,6 +89,7 @@ impl AnyIndex {
     }
 
     /// The place of `n`, counted from 0: in a row in O(1), in a ranked tree in O(log n). It reads no record.
+    #[inline(always)]
     pub fn place_of<R>(&self, store: &NodeStore<R>, n: Node) -> u64
         requires node { HasNode self.now store.now n }
         requires kind { IsTrue (has_places_kind (kind_of self.now)) }

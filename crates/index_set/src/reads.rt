@@ -117,6 +117,7 @@ impl<R, E: Extract<R>> IndexSet<R, E> {
 
     /// The node of the index after `n`, or `None` at the end. O(log n) in an index in order, and O(1) on average over a
     /// whole walk; O(1) in a sequence. A hashed one has no such call.
+    #[inline(always)]
     pub fn next(&self, index: usize, n: Node) -> Option<Node>
         requires at { HasIndex E.Extract self.now index }
         requires kind { IsTrue (not (is_hashed_kind (kind_at self.now index))) }
@@ -128,6 +129,7 @@ impl<R, E: Extract<R>> IndexSet<R, E> {
 
     /// The node of the index before `n`, or `None` at the front. The costs are those of `next`. A hashed one has no such
     /// call.
+    #[inline(always)]
     pub fn prev(&self, index: usize, n: Node) -> Option<Node>
         requires at { HasIndex E.Extract self.now index }
         requires kind { IsTrue (not (is_hashed_kind (kind_at self.now index))) }
@@ -139,6 +141,7 @@ impl<R, E: Extract<R>> IndexSet<R, E> {
 
     /// The node at a place of the index, counted from 0, or `None` past the end: O(log n) in a ranked index, O(1) in a
     /// sequence with places. Others have no such call.
+    #[inline(always)]
     pub fn nth(&self, index: usize, place: u64) -> Option<Node>
         requires at { HasIndex E.Extract self.now index }
         requires kind { IsTrue (has_places_kind (kind_at self.now index)) }
@@ -149,6 +152,7 @@ impl<R, E: Extract<R>> IndexSet<R, E> {
 
     /// The place of `n` in the index, counted from 0: O(log n) in a ranked index, O(1) in a sequence with places. It reads
     /// no record. Others have no such call.
+    #[inline(always)]
     pub fn place_of(&self, index: usize, n: Node) -> u64
         requires at { HasIndex E.Extract self.now index }
         requires kind { IsTrue (has_places_kind (kind_at self.now index)) }

@@ -12,6 +12,7 @@ use linked_set::{node_at, position_at};
 impl<R: Drop, E: Extract<R> + Drop> MultiIndex<R, E> {
     /// The record at a place of the index, counted from 0, or the end; an index whose places cannot be counted answers
     /// `Kind`. O(log n) in a ranked index, O(1) in a random one.
+    #[inline(always)]
     pub fn nth(&self, index: usize, n: u64) -> Result<Option<Handle>, Why>
         requires { index < length self.now.specs }
         ensures { result ≡ the_nth self.now index n }
@@ -25,6 +26,7 @@ impl<R: Drop, E: Extract<R> + Drop> MultiIndex<R, E> {
 
     /// The rank of a position, counted from 0: that of the end is the number of records. An index without ranks answers
     /// `Kind`, and only then a handle that names no record is `Stale`. O(log n).
+    #[inline(always)]
     pub fn rank(&self, index: usize, position: Option<Handle>) -> Result<u64, Why>
         requires { index < length self.now.specs }
         ensures { result ≡ the_rank self.now index position }
@@ -40,6 +42,7 @@ impl<R: Drop, E: Extract<R> + Drop> MultiIndex<R, E> {
 
     /// The place, counted from 0, of a record in a random index; another index answers `Kind`, and only then a handle that
     /// names no record is `Stale`. O(1).
+    #[inline(always)]
     pub fn place_of(&self, index: usize, handle: Handle) -> Result<u64, Why>
         requires { index < length self.now.specs }
         ensures { result ≡ the_place self.now index handle }
@@ -54,6 +57,7 @@ impl<R: Drop, E: Extract<R> + Drop> MultiIndex<R, E> {
     /// The position after one in the index; after the last record, and after the end, stands the end. A hashed index
     /// answers `Kind`, and only then a handle that names no record is `Stale`. O(1) in a sequence, O(log n) in an index in
     /// order.
+    #[inline(always)]
     pub fn project_next(
         &self,
         index: usize,
@@ -74,6 +78,7 @@ impl<R: Drop, E: Extract<R> + Drop> MultiIndex<R, E> {
     /// The position before one in the index; before the end stands the last record, and before the first record the end. A
     /// hashed index answers `Kind`, and only then a handle that names no record is `Stale`. O(1) in a sequence, O(log n) in
     /// an index in order.
+    #[inline(always)]
     pub fn project_prev(
         &self,
         index: usize,
@@ -92,6 +97,7 @@ impl<R: Drop, E: Extract<R> + Drop> MultiIndex<R, E> {
     }
 
     // The place of a record in an index whose places can be counted.
+    #[inline(always)]
     fn place_at(&self, index: usize, handle: Handle) -> Result<u64, Why>
         requires in_range { index < length self.now.specs }
         requires kind { IsTrue (has_places_kind (kind_at self.now index)) }
@@ -105,6 +111,7 @@ impl<R: Drop, E: Extract<R> + Drop> MultiIndex<R, E> {
     }
 
     // The position after a record in an index that is not hashed.
+    #[inline(always)]
     fn next_at(&self, index: usize, handle: Handle) -> Result<Option<Handle>, Why>
         requires in_range { index < length self.now.specs }
         requires kind { IsTrue (not (is_hashed_kind (kind_at self.now index))) }
@@ -118,6 +125,7 @@ impl<R: Drop, E: Extract<R> + Drop> MultiIndex<R, E> {
     }
 
     // The position before a record in an index that is not hashed.
+    #[inline(always)]
     fn prev_at(&self, index: usize, handle: Handle) -> Result<Option<Handle>, Why>
         requires in_range { index < length self.now.specs }
         requires kind { IsTrue (not (is_hashed_kind (kind_at self.now index))) }
