@@ -2,6 +2,8 @@ pub mod TreeLinks
 pub mod Rotations
 pub mod Heights
 pub mod Rising
+pub mod Hanging
+pub mod Lifting
 pub mod Resting
 pub mod Descent
 pub mod Seeking

@@ -45,7 +45,7 @@ module _ {T : Type 0} {G : Ghosts T} where
       }
 
   pub grafted_side : (q : Node → Bool) (cs : ℕ → Column) (i : OrdTree T G) (t : Tree) (d : Column) (parent : Option Node) (on_right : Bool) (n : Node) → SpellsTree cs i t → Place q t parent on_right → Lacks (nodes t) n → Joins G.of (cs i.col) d None n None → GraftedSide G.of d parent on_right (Some n)
-  grafted_side q cs i t d parent on_right n s p new j = record { path = p.path; was = Leaf; now = Fork Leaf n Leaf; is = grafted_leaf q cs i t d parent on_right n s p new j; turned = p.turned }
+  grafted_side q cs i t d parent on_right n s p new j = record { path = p.path; now = Fork Leaf n Leaf; is = grafted_leaf q cs i t d parent on_right n s p new j; turned = p.turned }
 
 module _ {T : Type 0} {G : Ghosts T} where
   pub Spells-leaf : (q : Node → Bool) (cs : ℕ → Column) (i : OrdTree T G) (t : Tree) (c : Column) (ds : ℕ → Column) (j : OrdTree T G) (parent : Option Node) (on_right : Bool) (n : Node) → SpellsTree cs i t → (p : Place q t parent on_right) → Lacks (nodes t) n → j.len ≡ i.len + 1 → j.len < 2 ^ 64 → Rises G.of c (ds j.col) p.path (Fork Leaf n Leaf) j.root → Spells ds j (insert (nodes t) (count_by q (nodes t)) n)

@@ -1,17 +1,13 @@
 -- A way up that ends below the root, since nothing above changes.
 use Rattle.std.proofs.Common.{◌≡◌, ℕ, ◌+◌, ◌≤◌, max, Option, Some, None, refl, sym, ap, ◌∙◌, subst, arith}
-use Rattle.std.proofs.lemmas.Option.{same_Some}
 use Rattle.node_store.specs.declared.Node.{Node}
 use Rattle.node_store.specs.declared.Link.{Link}
 use Rattle.node_store.specs.Column.{Column}
-use Rattle.node_store.specs.Nodes.{Lacks}
-use Rattle.node_store.proofs.NodeLists.{Lacks-front, IsDistinct-parts}
 use Rattle.ord_tree.specs.Tree.{Tree, Fork, nodes, root, height, tag_of, tree_link, Hangs, IsAt, IsBalanced, stored_tag}
-use Rattle.ord_tree.specs.Steps.{SetsUp}
-use Rattle.ord_tree.specs.Path.{Path, Top, LeftOf, RightOf, plug, bottom, outside, Leads, rebuilt, IsLike, Rises}
-use Rattle.ord_tree.proofs.TreeLinks.{IsSameAt-root, absent, stored_tag-is}
+use Rattle.ord_tree.specs.Path.{Path, Top, LeftOf, RightOf, plug, bottom, Leads, rebuilt, IsLike, Rises}
+use Rattle.ord_tree.proofs.TreeLinks.{stored_tag-is}
 use Rattle.ord_tree.proofs.Rotations.{IsAt-height, rebalanced-fork}
-use Rattle.ord_tree.proofs.Rising.{Carried, Leads-same, Inner-plug}
+use Rattle.ord_tree.proofs.Rising.{Carried, Inner-plug}
 
 -- what the links above a subtree say of it is the same of both
 pub record Alike (tally : ℕ → ℕ → ℕ) (t u : Tree) : Type 0 where
@@ -76,33 +72,26 @@ rests (RightOf z l n) t u e b h =
     let k = rests z (Fork l n t) (Fork l n u) (ap (λ (x : ℕ). max (height l) x + 1) e) (low, high, i.balanced.2, b) h in
     record { balanced = k.balanced; same = ap (λ (x : Tree). rebuilt z x) (rebalanced-fork l n u (height l) (height u) refl refl low high) ∙ k.same }
 
-IsAt-tag : (tally : ℕ → ℕ → ℕ) (c : Column) (o : Option Node) (t : Tree) → IsAt tally c o t → stored_tag c o ≡ tag_of tally t
+pub IsAt-tag : (tally : ℕ → ℕ → ℕ) (c : Column) (o : Option Node) (t : Tree) → IsAt tally c o t → stored_tag c o ≡ tag_of tally t
 IsAt-tag tally c o t h = ap (λ (z : Option Node). stored_tag c z) h.root ∙ stored_tag-is tally c h.parent t h.hangs
 
 -- the way ends where the subtree is like the one that was there
-pub rest : (tally : ℕ → ℕ → ℕ) (c0 c d : Column) (from : Path) (start whole : Tree) (old : Node) (own : Link) (new top : Option Node) → Carried tally c0 c from start whole old own new → IsLike c new old own → SetsUp tally c d new own.up → top ≡ root whole → Rises tally c0 d from start top
-rest tally c0 c d from start whole old own new top k like up e =
+pub rest : (tally : ℕ → ℕ → ℕ) (c0 c : Column) (from : Path) (start whole : Tree) (old : Node) (own : Link) (new top : Option Node) → Carried tally c0 c from start whole old own new → IsLike c new old own → top ≡ root whole → Rises tally c0 c from start top
+rest tally c0 c from start whole old own new top k like e =
     let g = k.is.grafted in
-    let alike : Alike tally k.now k.was = record {
-      root_is = sym g.new_is.root ∙ like.root_is ∙ sym k.is.old_is;
-      height_is = sym (IsAt-height tally c new k.now g.new_is) ∙ like.height_is ∙ k.is.height_was;
-      tag_is = sym (IsAt-tag tally c new k.now g.new_is) ∙ like.tag_is ∙ k.is.tag_was;
+    let alike : Alike tally k.was k.now = record {
+      root_is = k.is.old_is ∙ sym like.root_is ∙ g.new_is.root;
+      height_is = sym (sym (IsAt-height tally c new k.now g.new_is) ∙ like.height_is ∙ k.is.height_was);
+      tag_is = sym (sym (IsAt-tag tally c new k.now g.new_is) ∙ like.tag_is ∙ k.is.tag_was);
     } in
-    let rests_now = rests k.path k.was k.now (sym alike.height_is) g.now_balanced g.was_balanced in
+    let rests_now = rests k.path k.was k.now alike.height_is g.now_balanced g.was_balanced in
     let is : plug k.path k.now ≡ rebuilt from start = sym rests_now.same ∙ k.same in
-    let dist = (IsDistinct-parts (nodes k.now) (outside k.path) g.distinct).front in
-    let hangs_now = up.tree k.now g.new_is.parent g.new_is.hangs g.new_is.root dist in
-    let lacks_root = λ (m : Node) (f : new ≡ Some m). subst (λ (x : Node). Lacks (outside k.path) x) (same_Some old m (sym like.root_is ∙ f)) k.is.old_gone in
-    let leads = Leads-same tally c d k.path k.was (IsSameAt-root c d new up.others (outside k.path) lacks_root) g.leads in
-    let leads_now = Leads-alike tally d k.path k.was k.now (flipped alike) leads in
-    let whole_now = plugged tally d k.path k.now leads_now (subst (λ (x : Option Node). Hangs tally d x k.now) g.at_is hangs_now) in
+    let leads_now = Leads-alike tally c k.path k.was k.now alike g.leads in
+    let whole_now = plugged tally c k.path k.now leads_now (subst (λ (x : Option Node). Hangs tally c x k.now) g.at_is k.hangs) in
     record {
-      hangs = subst (λ (t : Tree). Hangs tally d None t) is whole_now;
-      root_is = e ∙ ap root (sym k.whole_is) ∙ root-plug k.path k.was k.now (sym alike.root_is) ∙ ap root is;
+      hangs = subst (λ (t : Tree). Hangs tally c None t) is whole_now;
+      root_is = e ∙ ap root (sym k.whole_is) ∙ root-plug k.path k.was k.now alike.root_is ∙ ap root is;
       balanced = subst IsBalanced is rests_now.balanced;
       nodes_are = ap nodes (sym is) ∙ k.same_nodes;
-      changes = λ m lacks. up.others m (λ f. absent k.now m (Lacks-front (nodes k.now) (outside k.path) m (k.within m lacks)) (sym g.new_is.root ∙ f)) ∙ k.changes m lacks;
+      changes = k.changes;
     }
-  where
-    flipped : {t u : Tree} → Alike tally t u → Alike tally u t
-    flipped a = record { root_is = sym a.root_is; height_is = sym a.height_is; tag_is = sym a.tag_is }

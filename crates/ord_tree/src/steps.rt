@@ -1,9 +1,9 @@
 //! The steps of a change of a tree.
-ghost use Rattle.std.specs.Prelude.{◌≡◌, ◌+◌, ◌<◌, Option, Some, None, IsTrue, ◌↔◌};
+ghost use Rattle.std.specs.Prelude.{◌≡◌, ◌+◌, ◌<◌, ◌≤◌, Option, Some, None, IfSome, IsTrue, ◌↔◌};
 ghost use Rattle.node_store.specs.Column.{IsNode};
-ghost use Rattle.ord_tree.specs.Tree.{Tree, Fork, root, nodes, stored_height, stored_tag, AreNodes};
-ghost use Rattle.ord_tree.specs.Path.{Path, plug, IsLike, Replaced, ReplacedAt, Rises, Grafted, GraftedSide, Turned};
-ghost use Rattle.ord_tree.specs.Steps.{CanHang, KeepsOthers, KeepsNodes, SetsUp, Joins, Sides, Becomes, rotated_right, rotated_left, rebalanced};
+ghost use Rattle.ord_tree.specs.Tree.{Tree, Leaf, Fork, root, nodes, Hangs, stored_height, stored_tag, AreNodes};
+ghost use Rattle.ord_tree.specs.Path.{Path, plug, IsLike, Replaced, ReplacedAt, Hung, Rises, Grafted, GraftedSide, Turned, Lifts, HasLift, Lifted};
+ghost use Rattle.ord_tree.specs.Steps.{CanHang, KeepsOthers, KeepsNodes, SetsUp, Joins, Sides, Becomes, rotated_right, rotated_left, rebalanced, IsHeightOver, child_at, with_child};
 ghost use Rattle.node_store.specs.ByNode.{column_of, contents};
 
 use crate::tally::Tally;
@@ -88,7 +88,7 @@ fn rotate_right<T: Tally, R>(
     requires node { IsNode (column_of store.old col) n }
     requires sides { Sides T.of (column_of store.old col) (Some left) n right }
     ensures tree { (s : Sides T.of (column_of store.old col) (Some left) n right) →
-        Becomes T.of (column_of store.old col) (column_of store.new col) (nodes (Fork s.l n s.r))
+        Becomes T.of (column_of store.old col) (column_of store.new col) None (nodes (Fork s.l n s.r))
         (rotated_right s.l n s.r) result }
     ensures nodes { KeepsNodes (column_of store.old col) (column_of store.new col) }
     ensures others { KeepsOthers (column_of store.old) (column_of store.new) col }
@@ -127,7 +127,7 @@ fn rotate_left<T: Tally, R>(
     requires node { IsNode (column_of store.old col) n }
     requires sides { Sides T.of (column_of store.old col) left n (Some right) }
     ensures tree { (s : Sides T.of (column_of store.old col) left n (Some right)) →
-        Becomes T.of (column_of store.old col) (column_of store.new col) (nodes (Fork s.l n s.r))
+        Becomes T.of (column_of store.old col) (column_of store.new col) None (nodes (Fork s.l n s.r))
         (rotated_left s.l n s.r) result }
     ensures nodes { KeepsNodes (column_of store.old col) (column_of store.new col) }
     ensures others { KeepsOthers (column_of store.old) (column_of store.new) col }
@@ -166,7 +166,7 @@ fn balance<T: Tally, R>(
     requires node { IsNode (column_of store.old col) n }
     requires sides { Sides T.of (column_of store.old col) left n right }
     ensures tree { (s : Sides T.of (column_of store.old col) left n right) →
-        Becomes T.of (column_of store.old col) (column_of store.new col) (nodes (Fork s.l n s.r))
+        Becomes T.of (column_of store.old col) (column_of store.new col) None (nodes (Fork s.l n s.r))
         (rebalanced s.l n s.r) result }
     ensures nodes { KeepsNodes (column_of store.old col) (column_of store.new col) }
     ensures others { KeepsOthers (column_of store.old) (column_of store.new) col }
@@ -199,6 +199,90 @@ fn is_like<R>(store: &NodeStore<R>, col: usize, new: Option<Node>, old: Node, li
     now.height == link.height && now.tag == link.tag
 }
 
+/// The child on the right, or that on the left.
+fn child(link: Link, on_right: bool) -> Option<Node>
+    ensures { result ≡ child_at on_right link }
+{
+    if on_right { link.b } else { link.a }
+}
+
+/// The links with another child there.
+fn changed(link: Link, on_right: bool, child: Option<Node>) -> Link
+    ensures { result ≡ with_child on_right link child }
+{
+    if on_right {
+        Link { b: child, ..link }
+    } else {
+        Link { a: child, ..link }
+    }
+}
+
+/// The height of a node of height `own`, once that of one of its sides, which was `was`, is `now`; `None` where its sides
+/// differ by more than one then. It reads the other side only where that decides.
+fn height_over<R>(
+    store: &NodeStore<R>,
+    col: usize,
+    own: u8,
+    was: u8,
+    now: u8,
+    other: Option<Node>,
+) -> Option<u8>
+    requires other { AreNodes (column_of store.now col) other }
+    requires own { IsHeightOver own was (stored_height (column_of store.now col) other) }
+    requires near { (now ≤ was + 1) × (was ≤ now + 1) }
+    requires low { own < 200 }
+    ensures { IfSome result (λ height. IsHeightOver height now (stored_height (column_of store.now col) other)) }
+{
+    if was <= now && now < own {
+        return Some(own);
+    }
+    let other_height = height_of(store, col, other);
+    if now > other_height + 1 || other_height > now + 1 {
+        return None;
+    }
+    Some(now.max(other_height) + 1)
+}
+
+/// Makes the subtree below `new`, which hangs under `n`, its child on this side, where that was of another height and
+/// tally, and balances `n`. Answers the root of the subtree that `n` was the root of, under the same parent.
+fn lift<T: Tally, R>(
+    store: &mut NodeStore<R>,
+    col: usize,
+    n: Node,
+    on_right: bool,
+    height_was: u8,
+    tag_was: u64,
+    new: Option<Node>,
+) -> Node
+    requires { HasLift T.of (column_of store.old col) n on_right height_was tag_was new }
+    ensures tree { (path : Path) (was now : Tree) →
+        Lifts T.of (column_of store.old col) n on_right height_was tag_was new path was now →
+        Lifted T.of (column_of store.old col) (column_of store.new col) n path now result }
+    ensures nodes { KeepsNodes (column_of store.old col) (column_of store.new col) }
+    ensures others { KeepsOthers (column_of store.old) (column_of store.new) col }
+    ensures contents { contents store.new ≡ contents store.old }
+{
+    let link = changed(store.link(n, col), on_right, new);
+    let tag = T::moved(link.tag, tag_was, tally_of(store, col, new));
+    let now = height_of(store, col, new);
+    let other = child(link, !on_right);
+    if let Some(height) = height_over(store, col, link.height, height_was, now, other) {
+        store.set_link(
+            n,
+            col,
+            Link {
+                tag,
+                height,
+                ..link
+            },
+        );
+        return n;
+    }
+    let top = balance::<T, R>(store, col, link.a, n, link.b);
+    set_up::<T, R>(store, col, Some(top), link.up);
+    top
+}
+
 /// Puts the subtree below `new` in the place of the one that had the root `old` with the links `link`,
 /// and balances the nodes from there up, as long as a subtree is not like the one that it replaces. Answers
 /// the root of the whole tree; `tree_root` is the root before.
@@ -206,9 +290,9 @@ pub(crate) fn rise<T: Tally, R>(
     store: &mut NodeStore<R>,
     col: usize,
     tree_root: Option<Node>,
-    mut old: Node,
-    mut link: Link,
-    mut new: Option<Node>,
+    old: Node,
+    link: Link,
+    new: Option<Node>,
 ) -> Option<Node>
     requires replaced { Replaced T.of (column_of store.old col) old link new }
     requires old { IsNode (column_of store.old col) old }
@@ -220,26 +304,44 @@ pub(crate) fn rise<T: Tally, R>(
     ensures others { KeepsOthers (column_of store.old) (column_of store.new) col }
     ensures contents { contents store.new ≡ contents store.old }
 {
+    set_up::<T, R>(store, col, new, link.up);
+    climb::<T, R>(store, col, tree_root, old, link, new)
+}
+
+/// The same, where the subtree below `new` hangs there. A level changes its own links alone where it stays in balance.
+fn climb<T: Tally, R>(
+    store: &mut NodeStore<R>,
+    col: usize,
+    tree_root: Option<Node>,
+    mut old: Node,
+    mut link: Link,
+    mut new: Option<Node>,
+) -> Option<Node>
+    requires hung { Hung T.of (column_of store.old col) old link new }
+    requires old { IsNode (column_of store.old col) old }
+    ensures tree { (path : Path) (was now : Tree) →
+        ReplacedAt T.of (column_of store.old col) old link new path was now →
+        Hangs T.of (column_of store.old col) link.up now → tree_root ≡ root (plug path was) →
+        Rises T.of (column_of store.old col) (column_of store.new col) path now result }
+    ensures nodes { KeepsNodes (column_of store.old col) (column_of store.new col) }
+    ensures others { KeepsOthers (column_of store.old) (column_of store.new) col }
+    ensures contents { contents store.new ≡ contents store.old }
+{
     while let Some(n) = link.up {
         if is_like(store, col, new, old, link) {
-            set_up::<T, R>(store, col, new, link.up);
             return tree_root;
         }
         let above = store.link(n, col);
-        let top = if store.is_node(above.a, old) {
-            balance::<T, R>(store, col, new, n, above.b)
-        } else {
-            balance::<T, R>(store, col, above.a, n, new)
-        };
+        let on_right = !store.is_node(above.a, old);
+        let top = lift::<T, R>(store, col, n, on_right, link.height, link.tag, new);
         old = n;
         link = above;
         new = Some(top);
     }
-    set_up::<T, R>(store, col, new, None);
     new
 }
 
-/// Makes the subtree below `new` a child of `at`, on the right or on the left, and balances the nodes
+/// Makes the subtree below `new` a child of `at`, on the right or on the left, where there is none, and balances the nodes
 /// from there up. Answers the root of the whole tree; `tree_root` is the root before.
 pub(crate) fn graft<T: Tally, R>(
     store: &mut NodeStore<R>,
@@ -250,24 +352,19 @@ pub(crate) fn graft<T: Tally, R>(
     new: Option<Node>,
 ) -> Option<Node>
     requires { GraftedSide T.of (column_of store.old col) at on_right new }
-    ensures tree { (path : Path) (was now : Tree) →
-        Grafted T.of (column_of store.old col) at new path was now → Turned path on_right →
-        tree_root ≡ root (plug path was) →
+    ensures tree { (path : Path) (now : Tree) →
+        Grafted T.of (column_of store.old col) at new path Leaf now → Turned path on_right →
+        tree_root ≡ root (plug path Leaf) →
         Rises T.of (column_of store.old col) (column_of store.new col) path now result }
     ensures nodes { KeepsNodes (column_of store.old col) (column_of store.new col) }
     ensures others { KeepsOthers (column_of store.old) (column_of store.new) col }
     ensures contents { contents store.new ≡ contents store.old }
 {
+    set_up::<T, R>(store, col, new, at);
     let Some(n) = at else {
-        set_up::<T, R>(store, col, new, None);
         return new;
     };
     let link = store.link(n, col);
-    if on_right {
-        let top = balance::<T, R>(store, col, link.a, n, new);
-        rise::<T, R>(store, col, tree_root, n, link, Some(top))
-    } else {
-        let top = balance::<T, R>(store, col, new, n, link.b);
-        rise::<T, R>(store, col, tree_root, n, link, Some(top))
-    }
+    let top = lift::<T, R>(store, col, n, on_right, 0, 0, new);
+    climb::<T, R>(store, col, tree_root, n, link, Some(top))
 }

@@ -10,6 +10,10 @@ impl Tally for Sizes {
     ghost of = { size_tally };
 
     fn of(left: u64, right: u64) -> u64 {
-        left.saturating_add(right).saturating_add(1)
+        left.wrapping_add(right).wrapping_add(1)
+    }
+
+    fn moved(tally: u64, before: u64, now: u64) -> u64 {
+        tally.wrapping_add(now).wrapping_sub(before)
     }
 }

@@ -18,7 +18,7 @@ returns g c =
     let sound = the_tree _ _ c.requires.ordered.tree in
     let grafted = grafted_leaf _ _ _ _ _ _ _ c.args.n sound p c.requires.new c.join.ensures.joined in
     record {
-      list = Spells-leaf _ _ _ _ _ _ _ _ _ c.args.n sound p c.requires.new refl c.requires.room (c.graft-self.ensures.tree p.path Leaf (Fork Leaf c.args.n Leaf) grafted p.turned (sound.root_is ∙ ap root (sym p.whole_is)));
+      list = Spells-leaf _ _ _ _ _ _ _ _ _ c.args.n sound p c.requires.new refl c.requires.room (c.graft-self.ensures.tree p.path (Fork Leaf c.args.n Leaf) grafted p.turned (sound.root_is ∙ ap root (sym p.whole_is)));
       col = search rules;
       index = search rules;
       others = search rules;
