@@ -9,6 +9,7 @@ mod part;
 mod search;
 
 pub use field::{Field, Fields};
+pub use key_extract::Text;
 pub use keys::FieldKeys;
 pub use part::KeyPart;
 pub use search::{Search, Value};

@@ -19,7 +19,7 @@ use Rattle.linked_set.proofs.Walks.{HasMet, one_met}
 
 -- ---- lists
 
-EachPair-drop : {X : Type 0} (P : X → X → Type 0) (i : ℕ) (xs : List X) → EachPair P xs → EachPair P (drop i xs)
+pub EachPair-drop : {X : Type 0} (P : X → X → Type 0) (i : ℕ) (xs : List X) → EachPair P xs → EachPair P (drop i xs)
 EachPair-drop P zero xs each = each
 EachPair-drop P (suc i) [] each = tt
 EachPair-drop P (suc i) (x ∷ xs) each = EachPair-drop P i xs each.1
@@ -105,12 +105,12 @@ each_unit {X} P f (x ∷ xs) = (all_of xs, each_unit P f xs)
     all_of [] = tt
     all_of (y ∷ ys) = (f x y, all_of ys)
 
-from_rises : {X : Type 0} (low : Edge X) (xs : List X) → Rises low xs → EachPair (λ x y. is_from low x ≡ true → is_from low y ≡ true) xs
+pub from_rises : {X : Type 0} (low : Edge X) (xs : List X) → Rises low xs → EachPair (λ x y. is_from low x ≡ true → is_from low y ≡ true) xs
 from_rises (Inclusive side) xs h = EachPair-map (λ x. Unit {0}) _ _ (λ x y _ _ le e. ge_rises (side x) (side y) le e) xs (all_units xs) h
 from_rises (Exclusive side) xs h = EachPair-map (λ x. Unit {0}) _ _ (λ x y _ _ le e. gt_rises (side x) (side y) le e) xs (all_units xs) h
 from_rises Open xs h = each_unit _ (λ x y e. refl) xs
 
-to_falls : {X : Type 0} (high : Edge X) (xs : List X) → Rises high xs → EachPair (λ x y. is_to high x ≡ false → is_to high y ≡ false) xs
+pub to_falls : {X : Type 0} (high : Edge X) (xs : List X) → Rises high xs → EachPair (λ x y. is_to high x ≡ false → is_to high y ≡ false) xs
 to_falls (Inclusive side) xs h = EachPair-map (λ x. Unit {0}) _ _ (λ x y _ _ le e. le_falls (side x) (side y) le e) xs (all_units xs) h
 to_falls (Exclusive side) xs h = EachPair-map (λ x. Unit {0}) _ _ (λ x y _ _ le e. lt_falls (side x) (side y) le e) xs (all_units xs) h
 to_falls Open xs h = each_unit _ (λ x y e. e) xs

@@ -24,7 +24,7 @@ pub use index_changes::{add_index, check_index, drop_index};
 pub use linked::{first_ban, handle_at, node_at, position_at, put_in};
 pub use modify::{Modified, change};
 pub use modify_or_undo::change_or_undo;
-pub use range::between;
+pub use range::{between, first_from, up_to};
 pub use rearrange::{all_live, has_each_once, nodes_of};
 pub use replace::rewrite;
 pub use sort::sorted_nodes;

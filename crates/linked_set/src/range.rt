@@ -56,8 +56,8 @@ pub fn between<R, E: Extract<R>>(
     Ok(handles)
 }
 
-// The first node of an index in order that stands within the low bound.
-fn first_from<R, E: Extract<R>>(
+/// The first node of an index in order that stands within the low bound. O(log n).
+pub fn first_from<R, E: Extract<R>>(
     set: &IndexSet<Entry<R>, ByRow<E>>,
     index: usize,
     low: Bound<&E::Probe>,
@@ -80,8 +80,8 @@ fn first_from<R, E: Extract<R>>(
     }
 }
 
-// The node, if it stands within the high bound.
-fn up_to<R, E: Extract<R>>(
+/// The node, if it stands within the high bound.
+pub fn up_to<R, E: Extract<R>>(
     set: &IndexSet<Entry<R>, ByRow<E>>,
     index: usize,
     node: Option<Node>,

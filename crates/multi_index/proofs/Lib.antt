@@ -12,4 +12,6 @@ pub mod Refusing
 pub mod Reindexed
 pub mod Replaced
 pub mod Rising
+pub mod Rows
 pub mod Shrunk
+pub mod Walks

@@ -1,4 +1,4 @@
-//! A container of records under several indices.
+//! A container of records under several indices, with all that a program of its own records names.
 #![tactic(auto)]
 
 mod add_index;
@@ -8,6 +8,8 @@ mod container;
 mod drop_index;
 mod erase;
 mod erase_key;
+mod iter;
+mod iterate;
 mod modify;
 mod modify_or_undo;
 mod order;
@@ -20,4 +22,7 @@ mod sort;
 pub use container::MultiIndex;
 pub use container_model::{Entry, Handle, Kind, Refused, Spec, Why};
 pub use erase::Erased;
+pub use iter::Iter;
+pub use key_extract::Extract;
 pub use linked_set::Modified;
+pub use modify_ops::{Edit, RowEdit};

@@ -4,8 +4,9 @@
 mod item;
 mod shelves;
 
-use container_model::Handle;
+use field_keys::FieldKeys;
 use item::Item;
+use multi_index::Iter;
 use shelves::Shelves;
 use std::io;
 use std::rt::Runtime;
@@ -23,19 +24,12 @@ fn put_all<R: Runtime>(rt: &R, shelves: &mut Shelves) -> io::Result<()> {
     Ok(())
 }
 
-fn line<R: Runtime>(rt: &R, shelves: &Shelves, handle: Handle) -> io::Result<()> {
-    match shelves.get(handle) {
-        Some(item) => println!(rt;
+fn list<R: Runtime>(rt: &R, items: Iter<'_, Item, FieldKeys>) -> io::Result<()> {
+    for (_, item) in items {
+        println!(rt;
             "  item {} on shelf {}, day {}",
             item.sku, item.shelf, item.due
-        ),
-        None => Ok(()),
-    }
-}
-
-fn list<R: Runtime>(rt: &R, shelves: &Shelves, handles: &[Handle]) -> io::Result<()> {
-    for handle in handles {
-        line(rt, shelves, *handle)?;
+        )?;
     }
     Ok(())
 }
@@ -44,17 +38,10 @@ fn main(rt: HostRuntime) -> io::Result<()> {
     let mut shelves = Shelves::new(rt.alloc(), 1000)?;
     put_all(&rt, &mut shelves)?;
     println!(&rt; "by shelf, the latest first:")?;
-    list(
-        &rt,
-        &shelves,
-        &shelves.list(1).unwrap_or(Vec::new(rt.alloc())),
-    )?;
+    list(&rt, shelves.by_shelf())?;
     println!(&rt; "by day:")?;
-    list(
-        &rt,
-        &shelves,
-        &shelves.list(2).unwrap_or(Vec::new(rt.alloc())),
-    )?;
+    list(&rt, shelves.by_day())?;
     println!(&rt; "on shelf 1: {}", shelves.count_on(1))?;
+    list(&rt, shelves.on(1))?;
     println!(&rt; "item 5: {:?}", shelves.numbered(5))
 }

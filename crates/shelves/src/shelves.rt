@@ -1,12 +1,13 @@
 //! Items under three indices.
-ghost use Rattle.std.specs.Prelude.{◌≡◌, ◌<◌, length};
-ghost use Rattle.container_model.specs.Find.{kind_at};
-ghost use Rattle.container_model.specs.declared.handle.Kind.TheVariants.{Ordered};
+ghost use Rattle.std.specs.Prelude.{◌≡◌, length};
+ghost use Rattle.multi_index.specs.Find.{kind_at};
+ghost use Rattle.multi_index.specs.Iteration.{with_rows};
+ghost use Rattle.multi_index.specs.Kinds.{Ordered, Ranked};
+ghost use Rattle.multi_index.specs.State.{list_at};
 
 use crate::item::{Item, KEYS};
-use container_model::{Handle, Kind, Refused, Spec, Why};
 use field_keys::{FieldKeys, Search, Value};
-use multi_index::MultiIndex;
+use multi_index::{Handle, Iter, Kind, MultiIndex, Refused, Spec};
 use std::alloc::{AllocError, Global};
 
 const SPECS: [Spec; 3] = [
@@ -30,6 +31,7 @@ pub struct Shelves {
     items: MultiIndex<Item, FieldKeys>,
     ghost indices: { length items.specs ≡ 3 },
     ghost by_shelf: { kind_at items 1 ≡ Ordered },
+    ghost by_day: { kind_at items 2 ≡ Ranked },
 }
 
 impl Shelves {
@@ -57,15 +59,19 @@ impl Shelves {
         self.items.count(1, &search).unwrap_or(0)
     }
 
-    /// The items, in the order of an index.
-    pub fn list(&self, index: usize) -> Result<Vec<Handle>, Why>
-        requires { index < 3 }
-    {
-        self.items.view(index)
+    /// The items by shelf, and on each the latest day first.
+    pub fn by_shelf(&self) -> Iter<'_, Item, FieldKeys> {
+        self.items.iter(1)
     }
 
-    /// The item of a handle.
-    pub fn get(&self, handle: Handle) -> Option<&Item> {
-        self.items.get(handle).ok()
+    /// The items by day.
+    pub fn by_day(&self) -> Iter<'_, Item, FieldKeys> {
+        self.items.iter(2)
+    }
+
+    /// The items on a shelf, the latest day first.
+    pub fn on(&self, shelf: u64) -> Iter<'_, Item, FieldKeys> {
+        let search = Search::of(Value::Number(shelf.into())).leading();
+        self.items.iter_equal(1, &search)
     }
 }

@@ -1,0 +1,50 @@
+-- What a walk along an index has left.
+use Rattle.std.specs.Prelude.{◌≡◌, ℕ, ◌<◌, ◌==◌, Bool, false, not, List, drop, take, length, slice_get, map, Option, Some, None, option_map, IsTrue}
+use Rattle.std.specs.List.{filter_map}
+use Rattle.std.specs.Option.{option_map_or}
+use Rattle.list_model.specs.Walk.{place_of}
+use Rattle.container_model.specs.declared.handle.Entry.{Entry}
+use Rattle.container_model.specs.declared.handle.Handle.{Handle}
+use Rattle.container_model.specs.State.{State, is_hashed_kind, row_of}
+use Rattle.node_store.specs.declared.Node.{Node}
+use Rattle.node_store.specs.Store.{number_of}
+use Rattle.node_store.specs.ByNode.{same_node}
+use Rattle.index_set.specs.declared.set.IndexSet.{IndexSet}
+use Rattle.index_set.specs.Set.{specs_of, list_of, kind_at, IsSound}
+use Rattle.linked_set.specs.ByRow.{has_by_row}
+use Rattle.linked_set.specs.declared.by_row.ByRow.{ByRow}
+
+-- the records of these handles, with the handles
+abbrev pub with_rows : {E R : Type 0} → State E R → List Handle → List (Handle × R)
+with_rows s handles = filter_map (λ h. option_map (λ r. (h, r)) (row_of s.entries h)) handles
+
+-- whether the node is this one, if there is one
+abbrev pub is_one : Option Node → Node → Bool
+is_one o n = option_map_or (λ m. same_node m n) o false
+
+-- and whether it has its number
+abbrev pub is_numbered : Option Node → Node → Bool
+is_numbered o n = option_map_or (λ m. number_of m == number_of n) o false
+
+-- the nodes from the next one up to the one that ends the walk
+abbrev pub nodes_left : (next end : Option Node) → List Node → List Node
+nodes_left next end nodes =
+    let from = drop (place_of (is_one next) nodes) nodes in
+    take (place_of (is_one end) from) from
+
+-- the nodes' handles and records
+abbrev pub rows_of_nodes : {R : Type 0} → (Node → Option (Entry R)) → List Node → List (Handle × R)
+rows_of_nodes records nodes = filter_map (λ n. option_map (λ e. (e.handle, e.row)) (records n)) nodes
+
+-- the position is that of a node of the list, or the end
+pub record StandsIn (nodes : List Node) (position : Option Node) : Type 0 where
+  pub place : ℕ
+  pub is : position ≡ slice_get nodes place
+
+-- what holds of every walk
+pub record IsWalk {E R : Type 0} (has_key : E → ℕ → Bool) (set : IndexSet (Entry R) (ByRow E)) (index : ℕ) (next end : Option Node) : Type 0 where
+  pub sound : IsSound (has_by_row has_key) set
+  pub within : index < length (specs_of set)
+  pub kind : IsTrue (not (is_hashed_kind (kind_at set index)))
+  pub begins : StandsIn (list_of set index) next
+  pub ends : StandsIn (list_of set index) end
