@@ -9,3 +9,4 @@ pub mod SomeNode
 pub mod Alike
 pub mod Renumbered
 pub mod Marking
+pub mod Staying

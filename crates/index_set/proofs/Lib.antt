@@ -23,3 +23,6 @@ pub mod Rekeyed
 pub mod FreeColumn
 pub mod Joining
 pub mod Dropping
+mod Beside
+pub mod Kept
+pub mod Clashless

@@ -1,5 +1,5 @@
 -- A set of records as the lists of its indices.
-use Rattle.std.specs.Prelude.{◌≡◌, ℕ, ◌≤◌, ◌<◌, Bool, List, length, slice_get, Option, Some, IsTrue}
+use Rattle.std.specs.Prelude.{◌≡◌, ℕ, ◌≤◌, ◌<◌, Bool, false, List, length, slice_get, Option, Some, IsTrue}
 use Rattle.std.specs.Option.{option_map_or}
 use Rattle.std.specs.declared.cmp.Ordering.{Ordering}
 use Rattle.std.specs.declared.cmp.Ordering.TheVariants.{Equal}
@@ -13,6 +13,8 @@ use Rattle.container_model.specs.declared.handle.Kind.TheVariants.{Sequenced}
 use Rattle.container_model.specs.State.{KeysMatch, has_key_kind}
 use Rattle.any_index.specs.Side.{side_of}
 use Rattle.index_set.specs.declared.set.IndexSet.{IndexSet}
+use Rattle.index_set.specs.declared.changed.Changed.{Changed}
+use Rattle.index_set.specs.Changed as beside
 use Rattle.index_set.specs.Each as each
 use Rattle.index_set.specs.Indices as every
 use Rattle.index_set.specs.Lists.{AreUniqueFrom}
@@ -105,6 +107,18 @@ module _ {R E : Type 0} where
     pub before : R
     pub keyed : IsKeyed order hash_of (with_record s n before)
     pub keys : HasKeysOf order s n before
+
+  -- at each index but the changed ones the key of a record is that of another
+  pub record AgreesBeside (order : E → ℕ → R → R → Ordering) (s : IndexSet R E) (changed : Changed) (row before : R) : Type 0 where
+    pub equal : (index : ℕ) → index < length (specs_of s) → beside.may_differ changed index ≡ false → IsTrue (has_key_kind (kind_at s index)) → order s.keys index row before ≡ Equal
+
+  -- each index at which the key has not changed has its nodes where their records' keys put them
+  abbrev pub IsKeyedBeside : (E → ℕ → R → R → Ordering) → (E → ℕ → R → ℕ) → IndexSet R E → Changed → Type 0
+  IsKeyedBeside order hash_of s changed = beside.AreKeyedBeside (order s.keys) changed (hash_of s.keys) s.store s.specs.items s.indices.items
+
+  -- no unique index at which the key has not changed has another node with the record's key
+  abbrev pub IsFreeBeside : (E → ℕ → R → R → Ordering) → IndexSet R E → Changed → Option Node → R → Type 0
+  IsFreeBeside order s changed except row = beside.AreFreeBeside (order s.keys) changed (record_of s) (specs_of s) (lists_of s) except row
 
   -- nothing but the nodes, their records and the indices may have changed
   pub record IsOfSame (old new : IndexSet R E) : Type 0 where

@@ -3,15 +3,18 @@ ghost use Rattle.std.specs.Prelude.{◌≡◌, Option};
 ghost use Rattle.node_store.specs.ByNode.{column_of, record_of};
 ghost use Rattle.container_model.specs.State.{KeysMatch};
 ghost use Rattle.any_index.specs.Side.{AreNodesOf};
+ghost use Rattle.index_set.specs.Changed.{AreFreeBeside};
 ghost use Rattle.index_set.specs.Indices.{ArePlaced, lists_in, AreKeyedExcept};
 ghost use Rattle.index_set.specs.Lists.{ban_from, AreUniqueFrom};
 
+use crate::changed::Changed;
 use any_index::AnyIndex;
 use container_model::Spec;
 use key_extract::Extract;
 use node_store::{Node, NodeStore};
 
-// The first unique index in which a node other than the excepted one has the record's key, with that node.
+// The first unique index in which a node other than the excepted one has the record's key, with that node. Indices at which
+// the key has not changed are not asked.
 pub(crate) fn first_ban<R, E: Extract<R>>(
     store: &NodeStore<R>,
     keys: &E,
@@ -19,6 +22,7 @@ pub(crate) fn first_ban<R, E: Extract<R>>(
     indices: &[AnyIndex],
     r: &R,
     except: Option<Node>,
+    changed: Changed,
 ) -> Option<(usize, Node)>
     requires placed { ArePlaced (column_of store.now) specs.now indices.now }
     requires keys { KeysMatch (E.has_key keys.now) specs.now }
@@ -27,11 +31,13 @@ pub(crate) fn first_ban<R, E: Extract<R>>(
         (E.hash_of keys.now) store.now specs.now indices.now except }
     requires unique { AreUniqueFrom (E.order_of keys.now) (record_of store.now) except 0 specs.now
         (lists_in (column_of store.now) indices.now) }
+    requires free { AreFreeBeside (E.order_of keys.now) changed (record_of store.now) specs.now
+        (lists_in (column_of store.now) indices.now) except r.now }
     ensures { result ≡ ban_from (E.order_of keys.now) (record_of store.now)
         (lists_in (column_of store.now) indices.now) except r.now 0 specs.now }
 {
     for index in 0..specs.len() {
-        if specs[index].unique {
+        if specs[index].unique && changed.has(index) {
             if let Some(by) = indices[index].same_as(store, keys, r, except) {
                 return Some((index, by));
             }

@@ -1,5 +1,5 @@
 //! Changes of all indices, one after the other.
-ghost use Rattle.std.specs.Prelude.{◌≡◌, ℕ, ◌≤◌, ◌<◌, Some, OnOk, OnErr, IfOk, [], map, length};
+ghost use Rattle.std.specs.Prelude.{◌≡◌, false, ℕ, ◌≤◌, ◌<◌, Some, OnOk, OnErr, IfOk, [], map, length};
 ghost use Rattle.std.specs.declared.cmp.Ordering.{Ordering};
 ghost use Rattle.list_model.specs.Walk.{without};
 ghost use Rattle.node_store.specs.Column.{Column};
@@ -7,10 +7,16 @@ ghost use Rattle.node_store.specs.Store.{IsNodeOf, width_of};
 ghost use Rattle.node_store.specs.ByNode.{column_of, record_of, contents, same_node};
 ghost use Rattle.container_model.specs.State.{KeysMatch};
 ghost use Rattle.container_model.specs.Insert.{place_in};
+ghost use Rattle.any_index.specs.Keyed.{IsKeyed};
+ghost use Rattle.any_index.specs.Lists.{settled_in};
+ghost use Rattle.any_index.specs.Spelled.{kind_of};
+ghost use Rattle.any_index.specs.Stored.{HasNode, IsFiledBut, IsIn, KeepsRest, nodes_of, order_in};
+ghost use Rattle.index_set.specs.Changed.{AreKeyedBeside};
 ghost use Rattle.index_set.specs.Each.{changed_from, list_at};
 ghost use Rattle.index_set.specs.Indices.{ArePlaced, AreWithin, lists_in, HaveRoom, LackIt, HoldIt, AreKeyed, AreKeyedBut};
 ghost use Rattle.index_set.specs.Lists.{entered_at, settled_at};
 
+use crate::changed::Changed;
 use any_index::AnyIndex;
 use container_model::Spec;
 use key_extract::Extract;
@@ -139,19 +145,45 @@ pub(crate) fn leave_each<R>(
     }
 }
 
-// Puts a node in order in each index, whose record may have changed.
+// Puts a node in order in an index, where its record's key may have changed.
+fn settle_where<R, E: Extract<R>>(
+    index: &mut AnyIndex,
+    store: &mut NodeStore<R>,
+    keys: &E,
+    n: Node,
+    changed: bool,
+)
+    requires node { HasNode index.old store.old n }
+    requires others { IsFiledBut E.Extract n index.old store.old keys.now }
+    requires kept { changed ≡ false →
+        IsKeyed (E.order_of keys.now) (E.hash_of keys.now) store.old index.old }
+    ensures sound { IsIn index.new store.new }
+    ensures list { nodes_of index.new store.new ≡ settled_in (kind_of index.old)
+        (order_in E.Extract index.old store.old keys.now) n (nodes_of index.old store.old) }
+    ensures keyed { IsKeyed (E.order_of keys.now) (E.hash_of keys.now) store.new index.new }
+    ensures rest { KeepsRest index.old index.new store.old store.new }
+{
+    if changed {
+        index.settle(store, keys, n);
+    }
+}
+
+// Puts a node in order in each index at which its record's key may have changed.
 pub(crate) fn settle_each<R, E: Extract<R>>(
     store: &mut NodeStore<R>,
     keys: &E,
     specs: &[Spec],
     indices: &mut [AnyIndex],
     n: Node,
+    changed: Changed,
 )
     requires placed { ArePlaced (column_of store.old) specs.now indices.old }
     requires keys { KeysMatch (E.has_key keys.now) specs.now }
     requires held { HoldIt (lists_in (column_of store.old) indices.old) n }
     requires keyed { AreKeyedBut (E.order_of keys.now)
         (E.hash_of keys.now) store.old specs.now indices.old n }
+    requires beside { AreKeyedBeside (E.order_of keys.now) changed
+        (E.hash_of keys.now) store.old specs.now indices.old }
     ensures placed { ArePlaced (column_of store.new) specs.now indices.new }
     ensures within { (columns : ℕ) → AreWithin columns specs.now indices.old →
         AreWithin columns specs.now indices.new }
@@ -163,6 +195,6 @@ pub(crate) fn settle_each<R, E: Extract<R>>(
     ensures contents { contents store.new ≡ contents store.old }
 {
     for index in 0..specs.len() {
-        indices[index].settle(store, keys, n);
+        settle_where(&mut indices[index], store, keys, n, changed.has(index));
     }
 }

@@ -7,6 +7,7 @@
 mod add_index;
 mod bans;
 mod build;
+mod changed;
 mod clear;
 mod drop_index;
 mod every;
@@ -16,4 +17,5 @@ mod set;
 
 pub use add_index::NotAdded;
 pub use build::NoIndex;
+pub use changed::Changed;
 pub use set::IndexSet;

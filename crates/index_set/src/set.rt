@@ -7,11 +7,13 @@ ghost use Rattle.node_store.specs.Age.{last_below};
 ghost use Rattle.node_store.specs.ByNode.{AddsNode, RemovesNode, same_node};
 ghost use Rattle.container_model.specs.State.{KeysMatch};
 ghost use Rattle.any_index.specs.Side.{AreNodesOf};
+ghost use Rattle.index_set.specs.Changed.{may_differ, differs};
 ghost use Rattle.index_set.specs.Each.{changed_from};
 ghost use Rattle.index_set.specs.Indices.{LackIt, HoldIt};
 ghost use Rattle.index_set.specs.Lists.{entered_at, settled_at, ban_from};
 
 use crate::bans::first_ban;
+use crate::changed::Changed;
 use crate::every::{empty_indices, enter_each, leave_each, reserve_each, settle_each};
 use any_index::AnyIndex;
 use container_model::Spec;
@@ -114,7 +116,7 @@ impl<R: Drop, E: Extract<R>> IndexSet<R, E> {
 
 impl<R, E: Extract<R>> IndexSet<R, E> {
     ghost use Rattle.index_set.specs.Lends.{lends_record};
-    ghost use Rattle.index_set.specs.Set.{store_of, keys_of, specs_of, columns_of, contents, record_of, lists_of, list_of, HasRoom, IsSound, IsKeyed, IsKeyedBut, IsKeyedExcept, IsUniqueExcept, HasKeysOf, IsRestored, IsOfSame, with_record};
+    ghost use Rattle.index_set.specs.Set.{store_of, keys_of, specs_of, columns_of, contents, record_of, lists_of, list_of, HasRoom, IsSound, IsKeyed, IsKeyedBut, IsKeyedExcept, IsUniqueExcept, HasKeysOf, IsRestored, IsKeyedBeside, IsFreeBeside, IsOfSame, with_record};
 
     /// How many records there are, in indices or not. O(1).
     pub fn len(&self) -> usize
@@ -257,12 +259,31 @@ impl<R, E: Extract<R>> IndexSet<R, E> {
         ensures keyed { IsKeyed E.order_of E.hash_of self.new }
         ensures contents { contents self.new ≡ contents self.old }
     {
+        self.settle_changed(n, Changed::all());
+    }
+
+    /// As `settle`, where the record has kept its key at all indices but the changed ones, which alone are settled. It takes
+    /// no memory. O(log n) for each of these.
+    pub fn settle_changed(&mut self, n: Node, changed: Changed)
+        requires sound { IsSound E.has_key self.old }
+        requires held { HoldIt (lists_of self.old) n }
+        requires keyed { IsKeyedBut E.order_of E.hash_of self.old n }
+        requires beside { IsKeyedBeside E.order_of E.hash_of self.old changed }
+        ensures sound { IsSound E.has_key self.new }
+        ensures same { IsOfSame self.old self.new }
+        ensures lists { lists_of self.new ≡ changed_from
+            (settled_at (E.order_of (keys_of self.old)) (record_of self.old) n) 0
+            (specs_of self.old) (lists_of self.old) }
+        ensures keyed { IsKeyed E.order_of E.hash_of self.new }
+        ensures contents { contents self.new ≡ contents self.old }
+    {
         settle_each(
             &mut self.store,
             &self.keys,
             &self.specs,
             &mut self.indices,
             n,
+            changed,
         );
     }
 
@@ -292,6 +313,36 @@ impl<R, E: Extract<R>> IndexSet<R, E> {
         ensures { result ≡ ban_from (E.order_of (keys_of self.now)) (record_of self.now)
             (lists_of self.now) except r.now 0 (specs_of self.now) }
     {
+        self.bans_changed(r, except, Changed::all())
+    }
+
+    /// The indices at which a record has another key than that of `n`. A comparison for each index that has a key.
+    pub fn changed_by(&self, n: Node, r: &R) -> Changed
+        requires sound { IsSound E.has_key self.now }
+        requires node { IsNodeOf (store_of self.now) n }
+        ensures { (before : R) (index : ℕ) → record_of self.now n ≡ Some before →
+            may_differ result index ≡
+            differs (E.order_of (keys_of self.now)) (specs_of self.now) r.now before index }
+    {
+        Changed::between(&self.keys, &self.specs, self.get(n), r)
+    }
+
+    /// As `bans`, where the record has the excepted node's key at all indices but the changed ones, which alone are asked. It
+    /// takes no memory. O(log n) for each of these.
+    pub fn bans_changed(
+        &self,
+        r: &R,
+        except: Option<Node>,
+        changed: Changed,
+    ) -> Option<(usize, Node)>
+        requires sound { IsSound E.has_key self.now }
+        requires except { AreNodesOf (store_of self.now) except }
+        requires keyed { IsKeyedExcept E.order_of E.hash_of self.now except }
+        requires unique { IsUniqueExcept E.order_of self.now except }
+        requires free { IsFreeBeside E.order_of self.now changed except r.now }
+        ensures { result ≡ ban_from (E.order_of (keys_of self.now)) (record_of self.now)
+            (lists_of self.now) except r.now 0 (specs_of self.now) }
+    {
         first_ban(
             &self.store,
             &self.keys,
@@ -299,6 +350,7 @@ impl<R, E: Extract<R>> IndexSet<R, E> {
             &self.indices,
             r,
             except,
+            changed,
         )
     }
 }

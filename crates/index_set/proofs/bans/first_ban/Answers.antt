@@ -10,7 +10,7 @@ use Rattle.index_set.proofs.Reading.{some_spec}
 use Rattle.index_set.proofs.Uniques.{unique_here}
 use Rattle.index_set.proofs.Banning.{same_at, ban_here, ban_later, ban_not_here}
 use Rattle.index_set.proofs.bans.first_ban.Goals as goal
-use Rattle.index_set.proofs.bans.first_ban.Goals.{then-specs-index+in_default, else-specs-index}
+use Rattle.index_set.proofs.bans.first_ban.Goals.{then-specs-index+then-has+in_default, else-specs-index, else-specs-index-via-then-specs-index+else-has, else-specs-index-via-else-specs-index}
 
 pub same_as-requires-clause-kind : goal.same_as-requires-clause-kind
 same_as-requires-clause-kind g c =
@@ -39,11 +39,17 @@ returns-in-Some g c =
 
 pub loop-index-preserved : goal.loop-index-preserved
 loop-index-preserved g c = elim c.if-specs-index.branch [
-  | then-specs-index+in_default w ↦
+  | then-specs-index+then-has+in_default w ↦
       let answer = same_at (g.E.Extract.order_of c.args.keys.now) (record_of c.args.store.now) (column_of c.args.store.now) c.args.specs.now c.args.indices.now c.args.except c.args.r.now c.requires.placed c.loop-index.index some_spec w.index-indices-index.result c.loop-index-test.true (c.requires.keys.unique c.loop-index.index some_spec c.loop-index-test.true w.if-specs-index.true) w.index-indices-index.is w.same_as.result w.same_as.ensures in
       sym (ban_later (g.E.Extract.order_of c.args.keys.now) (record_of c.args.store.now) (column_of c.args.store.now) c.args.specs.now c.args.indices.now c.args.except c.args.r.now c.loop-index.index some_spec c.loop-index-test.true (sym answer ∙ w.in_default.is))
       ∙ c.loop-index.invariant
-  | else-specs-index w ↦
-      sym (ban_not_here (g.E.Extract.order_of c.args.keys.now) (record_of c.args.store.now) (column_of c.args.store.now) c.args.specs.now c.args.indices.now c.args.except c.args.r.now c.loop-index.index some_spec c.loop-index-test.true w.if-specs-index.false)
-      ∙ c.loop-index.invariant
+  | else-specs-index o ↦ elim o.else-specs-index.branch [
+    | else-specs-index-via-then-specs-index+else-has w ↦
+        sym (ban_later (g.E.Extract.order_of c.args.keys.now) (record_of c.args.store.now) (column_of c.args.store.now) c.args.specs.now c.args.indices.now c.args.except c.args.r.now c.loop-index.index some_spec c.loop-index-test.true
+        (c.requires.free.each c.loop-index.index some_spec c.loop-index-test.true (sym w.has.ensures ∙ w.if-has.false) w.if-specs-index.true))
+        ∙ c.loop-index.invariant
+    | else-specs-index-via-else-specs-index w ↦
+        sym (ban_not_here (g.E.Extract.order_of c.args.keys.now) (record_of c.args.store.now) (column_of c.args.store.now) c.args.specs.now c.args.indices.now c.args.except c.args.r.now c.loop-index.index some_spec c.loop-index-test.true w.if-specs-index.false)
+        ∙ c.loop-index.invariant
+  ]
 ]

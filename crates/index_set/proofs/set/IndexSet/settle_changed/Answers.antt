@@ -3,7 +3,7 @@ use Rattle.node_store.specs.ByNode.{column_of}
 use Rattle.index_set.specs.Indices.{ArePlaced, AreWithin}
 use Rattle.index_set.proofs.Refilled.{refilled}
 use Rattle.index_set.proofs.Stores.{IsStore_kept, columns_kept}
-use Rattle.index_set.proofs.set.IndexSet.settle.Goals as goal
+use Rattle.index_set.proofs.set.IndexSet.settle_changed.Goals as goal
 
 pub returns-clause-sound : goal.returns-clause-sound
 returns-clause-sound g c =
