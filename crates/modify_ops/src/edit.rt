@@ -1,5 +1,6 @@
 //! Changes of a record in place, and how they are undone.
-ghost use Rattle.std.specs.Prelude.{◌≡◌};
+ghost use Rattle.std.specs.Prelude.{◌≡◌, Some};
+ghost use Rattle.std.specs.Option.{option_copied};
 
 use std::marker::Model;
 use std::mem::swap;
@@ -22,6 +23,15 @@ pub trait Edit<R> {
     fn apply(&mut self, row: &mut R)
         ensures row { row.new ≡ applied self.old row.old }
         ensures edit { self.new ≡ after_apply self.old row.old };
+
+    /// The record as it was before the change, where an applied edit has kept it. Where it has not, nobody knows which of the
+    /// record's keys have changed.
+    fn replaced(&self) -> Option<&R>
+        ensures was { (old : Self) (r row : R) → self.now ≡ after_apply old r →
+            option_copied result ≡ Some row → row ≡ r }
+    {
+        None
+    }
 
     /// Undoes the change.
     fn undo(&mut self, row: &mut R)
@@ -61,6 +71,13 @@ impl<R> Edit<R> for RowEdit<R> {
 
     fn apply(&mut self, row: &mut R) {
         swap(&mut self.row, row);
+    }
+
+    fn replaced(&self) -> Option<&R>
+        ensures was { (old r row : R) → self.now ≡ r → option_copied result ≡ Some row → row ≡ r }
+        ensures kept { option_copied result ≡ Some self.now }
+    {
+        Some(&self.row)
     }
 
     fn undo(&mut self, row: &mut R) {

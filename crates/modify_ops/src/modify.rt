@@ -7,10 +7,10 @@ ghost use Rattle.index_set.specs.Each.{changed_from};
 ghost use Rattle.index_set.specs.Indices.{HoldIt};
 ghost use Rattle.index_set.specs.Lists.{ban_from, settled_at};
 ghost use Rattle.index_set.specs.Asked.{IsFiled, IsFiledBut};
-ghost use Rattle.index_set.specs.Set.{keys_of, specs_of, contents, record_of, lists_of, with_record, IsSound, IsKeyed, IsUniqueExcept, IsOfSame};
+ghost use Rattle.index_set.specs.Set.{keys_of, specs_of, contents, record_of, lists_of, with_record, IsSound, IsKeyed, IsUniqueExcept, IsKeyedBeside, IsFreeBeside, IsOfSame};
 
 use crate::edit::Edit;
-use index_set::IndexSet;
+use index_set::{Changed, IndexSet};
 use key_extract::Extract;
 use node_store::Node;
 
@@ -36,11 +36,39 @@ pub fn settle_or_leave<R, E: Extract<R>>(
     ensures keyed { IsKeyed E.order_of E.hash_of set.new }
     ensures unique { IsUniqueExcept E.order_of set.new None }
 {
-    let banned = set.bans(set.get(node), Some(node));
+    settle_or_leave_changed(set, node, Changed::all())
+}
+
+/// As `settle_or_leave`, where the record has kept its key at all indices but the changed ones: there alone the node is settled,
+/// and a ban is looked for. It takes no memory. O(log n) for each of these, but O(the nodes behind it) to leave one with places.
+pub fn settle_or_leave_changed<R, E: Extract<R>>(
+    set: &mut IndexSet<R, E>,
+    node: Node,
+    changed: Changed,
+) -> Option<(usize, Node)>
+    requires filed { IsFiledBut E.Extract set.old node }
+    requires held { HoldIt (lists_of set.old) node }
+    requires beside { IsKeyedBeside E.order_of E.hash_of set.old changed }
+    requires free { (r : R) → record_of set.old node ≡ Some r →
+        IsFreeBeside E.order_of set.old changed (Some node) r }
+    ensures ban { (r : R) → record_of set.old node ≡ Some r →
+        result ≡ ban_from (E.order_of (keys_of set.old)) (record_of set.old) (lists_of set.old)
+        (Some node) r 0 (specs_of set.old) }
+    ensures lists { lists_of set.new ≡ option_map_or
+        (λ by. map (without (same_node node)) (lists_of set.old)) result
+        (changed_from (settled_at (E.order_of (keys_of set.old)) (record_of set.old) node) 0
+        (specs_of set.old) (lists_of set.old)) }
+    ensures sound { IsSound E.has_key set.new }
+    ensures same { IsOfSame set.old set.new }
+    ensures contents { contents set.new ≡ contents set.old }
+    ensures keyed { IsKeyed E.order_of E.hash_of set.new }
+    ensures unique { IsUniqueExcept E.order_of set.new None }
+{
+    let banned = set.bans_changed(set.get(node), Some(node), changed);
     if banned.is_some() {
         set.leave(node);
     } else {
-        set.settle(node);
+        set.settle_changed(node, changed);
     }
     banned
 }

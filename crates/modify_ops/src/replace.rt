@@ -12,7 +12,7 @@ use node_store::Node;
 use std::mem::replace;
 
 /// Gives a node that stands in every index another record, which nothing else bans, and settles it in each; the old record
-/// is handed out. In a sequence the node keeps its place. It takes no memory. O(log n) for each index.
+/// is handed out. In a sequence the node keeps its place. It takes no memory. O(log n) for each index at which the key differs.
 pub fn replace_node<R, E: Extract<R>>(set: &mut IndexSet<R, E>, node: Node, value: R) -> R
     requires filed { IsFiled E.Extract set.old }
     requires held { HoldIt (lists_of set.old) node }
@@ -28,7 +28,8 @@ pub fn replace_node<R, E: Extract<R>>(set: &mut IndexSet<R, E>, node: Node, valu
     ensures keyed { IsKeyed E.order_of E.hash_of set.new }
     ensures unique { IsUniqueExcept E.order_of set.new None }
 {
+    let changed = set.changed_by(node, &value);
     let old = replace(set.get_mut(node), value);
-    set.settle(node);
+    set.settle_changed(node, changed);
     old
 }
