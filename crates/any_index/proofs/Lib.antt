@@ -9,4 +9,5 @@ pub mod SomeNode
 pub mod Alike
 pub mod Renumbered
 pub mod Marking
+pub mod InOrder
 pub mod Staying

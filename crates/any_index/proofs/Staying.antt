@@ -5,7 +5,7 @@ use Rattle.std.specs.Cmp.{IsTotalOrder}
 use Rattle.std.specs.declared.cmp.Ordering.{Ordering}
 use Rattle.list_model.specs.Order.{IsInOrder}
 use Rattle.list_model.specs.Walk.{settled}
-use Rattle.list_model.proofs.Settled.{settled_in_order}
+use Rattle.any_index.proofs.InOrder.{settled_in_order}
 use Rattle.node_store.specs.declared.Node.{Node}
 use Rattle.node_store.specs.Nodes.{IsDistinct, Holds}
 use Rattle.node_store.specs.Store.{Store}
