@@ -34,7 +34,7 @@ pub fn answers_of(alloc: Global, journals: &Journals) -> Result<Vec<u8>, AllocEr
     let mut answers = Vec::new(alloc);
     for journal in journals.tables() {
         for entry in journal {
-            answers.extend_from_slice(entry.answer.as_slice())?;
+            answers.extend_from_slice(entry.answer())?;
         }
     }
     Ok(answers)

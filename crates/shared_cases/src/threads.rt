@@ -92,9 +92,9 @@ fn tell_sessions(journals: &Journals, table: usize, report: &mut Report) -> Resu
     let mut counts = [0u64, 0];
     let mut in_order = true;
     for entry in journals.tables().get(table).into_iter().flatten() {
-        if let Some(count) = counts.get_mut(entry.session as usize) {
-            in_order = in_order && entry.serial.checked_sub(*count) == Some(1);
-            *count = entry.serial;
+        if let Some(count) = counts.get_mut(entry.session() as usize) {
+            in_order = in_order && entry.serial().checked_sub(*count) == Some(1);
+            *count = entry.serial();
         }
     }
     report.text("  table ")?;

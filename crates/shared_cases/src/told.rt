@@ -48,11 +48,11 @@ pub fn tell_why(why: GatherWhy, report: &mut Report) -> Result<(), AllocError> {
 
 fn tell_entry(entry: &Entry, report: &mut Report) -> Result<(), AllocError> {
     report.text("    session ")?;
-    report.number(entry.session)?;
+    report.number(entry.session())?;
     report.text(", write ")?;
-    report.number(entry.serial)?;
+    report.number(entry.serial())?;
     report.text(": ")?;
-    report.push(entry.answer.as_slice())
+    report.push(entry.answer())
 }
 
 fn tell_journal(

@@ -16,7 +16,7 @@ answer_same bytes more w within =
     let whole : w.length ≤ length (drop w.start bytes) = omega (arith, length-drop w.start bytes) in
     let same : take w.length (drop w.start (bytes ++ more)) ≡ take w.length (drop w.start bytes) =
     ap (take w.length) (drop-append-le w.start bytes more before) ∙ take-append-le w.length (drop w.start bytes) more whole in
-    ap (λ (answer : List ℕ). record { number = w.number; command = w.command; answer = answer }) same
+    ap (λ (answer : List ℕ). record { number = w.number; command = w.command.value; answer = answer }) same
 
 all_same : (bytes more : List ℕ) (rows : List Written) → AllByRecursion (IsWithin (length bytes)) rows → answered_in (bytes ++ more) rows ≡ answered_in bytes rows
 all_same bytes more [] within = refl
@@ -29,10 +29,10 @@ last_answer bytes line w start size =
 
 -- one write more, with its answer behind the others
 pub pushed : (bytes line : List ℕ) (rows : List Written) (w : Written) → AllByRecursion (IsWithin (length bytes)) rows → w.start ≡ length bytes → w.length ≡ length line
-    → answered_in (bytes ++ line) (rows ++ w ∷ []) ≡ answered_in bytes rows ++ record { number = w.number; command = w.command; answer = line } ∷ []
+    → answered_in (bytes ++ line) (rows ++ w ∷ []) ≡ answered_in bytes rows ++ record { number = w.number; command = w.command.value; answer = line } ∷ []
 pushed bytes line rows w within start size =
     map-append (answered_of (bytes ++ line)) rows (w ∷ [])
-    ∙ (λ i. all_same bytes line rows within i ++ record { number = w.number; command = w.command; answer = last_answer bytes line w start size i } ∷ [])
+    ∙ (λ i. all_same bytes line rows within i ++ record { number = w.number; command = w.command.value; answer = last_answer bytes line w start size i } ∷ [])
 
 -- the number of the last one
 pub last_row : (bytes : List ℕ) (n : ℕ) (rows : List Written) (w : Written) → slice_get rows (length rows - 1) ≡ Some w → last_from n (answered_in bytes rows) ≡ w.number

@@ -11,3 +11,4 @@ pub mod Holders
 pub mod Text
 pub mod Again
 pub mod Serving
+pub mod Stored

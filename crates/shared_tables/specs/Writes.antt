@@ -15,7 +15,7 @@ IsWithin count w = w.start + w.length ≤ count
 
 -- a write, and all, with their answers among these bytes
 abbrev pub answered_of : List ℕ → Written → AnsweredData
-answered_of bytes w = record { number = w.number; command = w.command; answer = take w.length (drop w.start bytes) }
+answered_of bytes w = record { number = w.number; command = w.command.value; answer = take w.length (drop w.start bytes) }
 
 abbrev pub answered_in : List ℕ → List Written → List AnsweredData
 answered_in bytes rows = map (answered_of bytes) rows

@@ -8,13 +8,15 @@ ghost use Rattle.shared_tables.specs.Call.{Told, TrackTold, fault_of, fault_in};
 
 use crate::entry::Entry;
 use crate::fault::CallFault;
-use crate::line::{first_bytes, kept};
+use crate::line::{KEPT, first_bytes};
 use crate::pass::{Pass, Track};
 use crate::same::is_same_table;
+use crate::stored::{Asked, Line};
 use crate::tally::Tally;
 use crate::writes::Writes;
 use std::alloc::{AllocError, Global};
 use std::marker::Model;
+use std::sync::Arc;
 use table_cmd::Command;
 use table_reply::{Out, READY_ROOM};
 use table_schema::TableSpec;
@@ -28,6 +30,8 @@ pub struct TableCell {
     pub(crate) table: Table,
     pub(crate) journal: Vec<Entry>,
     pub(crate) tallies: Vec<Tally>,
+    /// Room for the next answer that is long.
+    pub(crate) room: Vec<u8>,
 }
 
 impl Model for TableCell {
@@ -42,19 +46,37 @@ impl Model for TableCell {
     ghost invariant = { λ c. IsKept c.spec c.table c.journal.items c.tallies.items };
 }
 
-// Makes room for one more write in a journal and in what a session knows of it, and copies the command.
-fn prepare(journal: &mut Vec<Entry>, writes: &mut Writes, command: &Command) -> Option<Command>
-    ensures copy { IfSome result (λ copied. copied ≡ command.now) }
+// A command that may become a write: once for the journal, and once for the pass.
+struct Twins {
+    journal: Arc<Command>,
+    pass: Arc<Command>,
+}
+
+// Makes room for one more write in a journal and in what a session knows of it, and for its answer.
+fn prepare(
+    journal: &mut Vec<Entry>,
+    room: &mut Vec<u8>,
+    writes: &mut Writes,
+    command: Command,
+) -> Option<Twins>
+    ensures command { IfSome result (λ twins. twins.journal.value ≡ command) }
+    ensures twin { IfSome result (λ twins. twins.pass.value ≡ command) }
+    ensures room { IfSome result (λ _. 256 ≤ vec_capacity room.new) }
     ensures journal { journal.new.items ≡ journal.old.items }
     ensures writes { writes.new.items ≡ writes.old.items }
     ensures entry { IfSome result (λ _. vec_len journal.new < vec_capacity journal.new) }
     ensures write { IfSome result (λ _. 0 < writes.new.rows) }
     ensures answer { IfSome result (λ _. 256 ≤ writes.new.bytes) }
 {
-    if journal.reserve(1).is_err() || writes.reserve().is_err() {
+    if journal.reserve(1).is_err() || writes.reserve().is_err() || room.reserve(KEPT).is_err() {
         return None;
     }
-    command.copy().ok()
+    let command = Arc::new(*room.allocator(), command).ok()?;
+    let twin = Arc::try_clone(&command).ok()?;
+    Some(Twins {
+        journal: command,
+        pass: twin,
+    })
 }
 
 // Puts an accepted write at the end of a journal, for which there is room, and counts it.
@@ -62,13 +84,14 @@ fn append(
     journal: &mut Vec<Entry>,
     tally: &mut Tally,
     session: u32,
-    command: Command,
+    command: Arc<Command>,
+    room: &mut Vec<u8>,
     answer: &[u8],
 )
     requires room { vec_len journal.old < vec_capacity journal.old }
     requires count { tally.old.count ≤ vec_len journal.old }
-    requires answer { length answer.now ≤ 256 }
-    ensures entry { journal.new.items ≡ journal.old.items ++ record { session = session; serial = tally.old.count + 1; command = command; answer = answer.now } ∷ [] }
+    requires answer { length answer.now ≤ vec_capacity room.old }
+    ensures entry { journal.new.items ≡ journal.old.items ++ record { session = session; serial = tally.old.count + 1; command = command.value; answer = answer.now } ∷ [] }
     ensures tally { tally.new ≡ record { count = tally.old.count + 1; last = vec_len journal.old + 1 } }
 {
     let serial = tally.count + 1;
@@ -80,7 +103,7 @@ fn append(
         session,
         serial,
         command,
-        answer: kept(answer),
+        answer: Line::new(answer, room),
     });
 }
 
@@ -97,6 +120,7 @@ impl TableCell {
             table,
             journal: Vec::new(alloc),
             tallies,
+            room: Vec::new(alloc),
         })
     }
 
@@ -190,7 +214,8 @@ impl TableCell {
             drop(command);
             return;
         }
-        track.set_look(self.journal.len() as u64, command, first_bytes(out, start));
+        let line = first_bytes(out, start);
+        track.set_look(self.journal.len() as u64, Asked::Own(command), line);
     }
 
     // The same of a command that may change a table.
@@ -200,29 +225,41 @@ impl TableCell {
         ensures answered { TrackTold self.old session track.old command out.old.bytes out.new.bytes self.new track.new }
         ensures kept { Keeps out.old out.new }
     {
-        let Some(copied) = prepare(&mut self.journal, &mut track.writes, &command) else {
+        let Some(twins) = prepare(
+            &mut self.journal,
+            &mut self.room,
+            &mut track.writes,
+            command,
+        ) else {
             refuse_memory(out);
-            drop(command);
             return;
         };
+        let Twins {
+            journal: command,
+            pass: twin,
+        } = twins;
         let start = out.bytes().len();
         let outcome = self.table.step(&command, out);
         if let Outcome::Memory = outcome {
-            drop(command);
-            drop(copied);
             return;
         }
         let number = self.journal.len() as u64;
+        let line = first_bytes(out, start);
         if let Outcome::Write = outcome {
-            let line = first_bytes(out, start);
             let tally = &mut self.tallies[session as usize];
-            append(&mut self.journal, tally, session, command, line);
-            track.writes.push(number + 1, copied, line);
+            append(
+                &mut self.journal,
+                tally,
+                session,
+                command,
+                &mut self.room,
+                line,
+            );
+            track.writes.push(number + 1, twin, line);
             track.seen = number + 1;
             return;
         }
-        drop(copied);
-        track.set_look(number, command, first_bytes(out, start));
+        track.set_look(number, Asked::Shared(twin), line);
     }
 
     /// How many entries a session has.
@@ -244,6 +281,7 @@ impl TableCell {
             table: _,
             journal,
             tallies: _,
+            room: _,
         } = self;
         journal
     }

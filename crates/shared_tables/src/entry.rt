@@ -1,26 +1,57 @@
 //! Accepted writes.
 
-use arrayvec::ArrayVec;
+ghost use Rattle.std.specs.Prelude.{◌≡◌};
+ghost use Rattle.shared_tables.specs.Stored.{line_bytes};
+
+use crate::stored::Line;
 use std::marker::Model;
+use std::sync::Arc;
 use table_cmd::Command;
 
-/// An accepted write in the journal of a table.
+/// An accepted write in the journal of a table. Its command stands once in memory, with that of its session's pass.
 #[derive(Drop)]
 pub struct Entry {
-    /// The session that it came from.
-    pub session: u32,
-    /// Its number among the session's writes of the table, from 1.
-    pub serial: u64,
-    /// The write.
-    pub command: Command,
-    /// The line that was answered, with its newline.
-    pub answer: ArrayVec<u8, 256>,
+    pub(crate) session: u32,
+    pub(crate) serial: u64,
+    pub(crate) command: Arc<Command>,
+    pub(crate) answer: Line,
 }
 
 impl Model for Entry {
     ghost use Rattle.shared_tables.specs.Journal.{EntryData};
+    ghost use Rattle.shared_tables.specs.Stored.{line_bytes};
 
     ghost Value = { EntryData };
 
-    ghost view = { λ e. record { session = e.session; serial = e.serial; command = e.command; answer = e.answer.items } };
+    ghost view = { λ e. record { session = e.session; serial = e.serial; command = e.command.value; answer = line_bytes e.answer } };
+}
+
+impl Entry {
+    /// The session that it came from. O(1).
+    pub fn session(&self) -> u32
+        ensures { result ≡ self.now.session }
+    {
+        self.session
+    }
+
+    /// Its number among the session's writes of the table, from 1. O(1).
+    pub fn serial(&self) -> u64
+        ensures { result ≡ self.now.serial }
+    {
+        self.serial
+    }
+
+    /// The write. O(1).
+    pub fn command(&self) -> &Command
+        ensures { result.now ≡ self.now.command }
+    {
+        &self.command
+    }
+
+    /// The line that was answered, with its newline. O(1).
+    pub fn answer(&self) -> &[u8]
+        ensures { result.now ≡ self.now.answer }
+    {
+        self.answer.bytes()
+    }
 }

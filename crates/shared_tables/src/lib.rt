@@ -2,6 +2,7 @@
 //! writes, and for each session a pass that keeps what the session was told.
 #![tactic(auto)]
 
+mod ahead;
 mod cell;
 mod compare;
 mod entry;
@@ -17,6 +18,7 @@ mod pass;
 mod same;
 mod serve;
 mod shared;
+mod stored;
 mod tally;
 mod unlocked;
 mod write;

@@ -99,7 +99,7 @@ impl TableCell {
     {
         for index in from..to {
             make_ready(out)?;
-            if let Outcome::Memory = table.step(&self.journal[index].command, out) {
+            if let Outcome::Memory = table.step(self.journal[index].command(), out) {
                 return Err(AllocError);
             }
         }
@@ -133,7 +133,7 @@ impl TableCell {
         ensures { IfOk result (λ fits. IsTrue fits ↔ LookFits self.now.shape self.now.journal look.now) }
     {
         make_ready(out)?;
-        if let Outcome::Memory = self.table.read(&look.command, out) {
+        if let Outcome::Memory = self.table.read(look.command(), out) {
             return Err(AllocError);
         }
         Ok(begins(out, &look.answer))
@@ -155,7 +155,7 @@ impl TableCell {
         let count = look.number as usize;
         let mut table = self.replay_to(alloc, replay.take(), count, out)?;
         make_ready(out)?;
-        match table.step(&look.command, out) {
+        match table.step(look.command(), out) {
             Outcome::Memory => return Err(AllocError),
             // The table has gone on: what comes next begins anew.
             Outcome::Write => {}
@@ -180,7 +180,7 @@ impl TableCell {
         if look.number > entries {
             return Ok(false);
         }
-        if look.number == entries && !is_change(&look.command) {
+        if look.number == entries && !is_change(look.command()) {
             return self.has_last_read(look, out);
         }
         self.has_replayed(alloc, look, replay, out)

@@ -6,8 +6,10 @@ ghost use Rattle.shared_tables.specs.Journal.{last_number};
 ghost use Rattle.shared_tables.specs.Pass.{fresh, fresh_pass};
 ghost use Rattle.shared_tables.specs.Call.{is_known};
 ghost use Rattle.shared_tables.specs.Looks.{look_of};
+ghost use Rattle.shared_tables.specs.Stored.{asked_command};
 
 use crate::line::kept;
+use crate::stored::Asked;
 use crate::writes::Writes;
 use arrayvec::ArrayVec;
 use std::alloc::{AllocError, Global};
@@ -18,29 +20,53 @@ use table_cmd::Command;
 #[derive(Drop)]
 pub(crate) struct Answered {
     pub(crate) number: u64,
-    pub(crate) command: Command,
+    pub(crate) command: Asked,
     pub(crate) answer: ArrayVec<u8, 256>,
 }
 
 impl Model for Answered {
     ghost use Rattle.shared_tables.specs.Journal.{AnsweredData};
+    ghost use Rattle.shared_tables.specs.Stored.{asked_command};
 
     ghost Value = { AnsweredData };
 
-    ghost view = { λ a. record { number = a.number; command = a.command; answer = a.answer.items } };
+    ghost view = { λ a. record { number = a.number; command = asked_command a.command; answer = a.answer.items } };
 }
 
 impl Answered {
+    /// The command.
+    pub(crate) fn command(&self) -> &Command
+        ensures { result.now ≡ self.now.command }
+    {
+        self.command.command()
+    }
+
     // What was answered to a command at this number of writes, in place of what this is.
-    fn set(&mut self, number: u64, command: Command, answer: &[u8])
+    fn set(&mut self, number: u64, command: Asked, answer: &[u8])
         requires { length answer.now ≤ 256 }
-        ensures { self.new ≡ record { number = number; command = command; answer = answer.now } }
+        ensures { self.new ≡ record { number = number; command = asked_command command; answer = answer.now } }
     {
         self.number = number;
         self.command = command;
         self.answer.clear();
         self.answer.try_extend_from_slice(answer).unwrap();
     }
+}
+
+// Keeps the last look, in place of the one before.
+fn keep_look(look: &mut Option<Answered>, number: u64, command: Asked, answer: &[u8])
+    requires { length answer.now ≤ 256 }
+    ensures { look.new ≡ Some (record { number = number; command = asked_command command; answer = answer.now }) }
+{
+    if let Some(look) = look {
+        look.set(number, command, answer);
+        return;
+    }
+    *look = Some(Answered {
+        number,
+        command,
+        answer: kept(answer),
+    });
 }
 
 /// What a session knows of one table.
@@ -72,20 +98,12 @@ impl Track {
     }
 
     /// Keeps what was answered to a command that was no accepted write.
-    pub(crate) fn set_look(&mut self, number: u64, command: Command, answer: &[u8])
+    pub(crate) fn set_look(&mut self, number: u64, command: Asked, answer: &[u8])
         requires { length answer.now ≤ 256 }
-        ensures { self.new ≡ record { writes = self.old.writes; seen = number; look = Some (record { number = number; command = command; answer = answer.now }) } }
+        ensures { self.new ≡ record { writes = self.old.writes; seen = number; look = Some (record { number = number; command = asked_command command; answer = answer.now }) } }
     {
         self.seen = number;
-        if let Some(look) = &mut self.look {
-            look.set(number, command, answer);
-            return;
-        }
-        self.look = Some(Answered {
-            number,
-            command,
-            answer: kept(answer),
-        });
+        keep_look(&mut self.look, number, command, answer);
     }
 
     /// The last look at the table.

@@ -9,6 +9,7 @@ ghost use Rattle.table_engine.specs.Whole.{lines_of};
 ghost use Rattle.table_reply.specs.Buffer.{Keeps};
 ghost use Rattle.shared_tables.specs.Serving.{HearsEnded, HearsFront, HearsLines, HearsWhole, MayHear, MeetsRefusal, Passes, RefusesMeaning, RefusesNext, RefusesWhole, Stops, TakesBytes, TakesFront, failures_after_serve};
 
+use crate::ahead::grow_ahead;
 use crate::fault::{CallFault, ServeFault};
 use crate::pass::Pass;
 use crate::shared::{Gate, Shared};
@@ -107,6 +108,7 @@ impl<G: Gate> Shared<G> {
             if n == 0 {
                 return self.serve_end(rt, pass, cutter, sink, out);
             }
+            grow_ahead(self.alloc, n);
             match self.serve_piece(rt, pass, cutter, &piece[..n], sink, out) {
                 Ok(()) => {}
                 Err(fault) => return Err(fault),

@@ -19,7 +19,7 @@ fn set_line(entry: &Entry, line: &mut Out) -> Result<(), OutOfRoom>
     ensures kept { Keeps line.old line.new }
 {
     line.clear();
-    write_command(&entry.command, line)?;
+    write_command(entry.command(), line)?;
     line.try_push(b"\n")
 }
 

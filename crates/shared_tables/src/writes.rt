@@ -7,13 +7,14 @@ ghost use Rattle.shared_tables.specs.Writes.{IsWithin, answered_of};
 use crate::entry::Entry;
 use std::alloc::{AllocError, Global};
 use std::marker::Model;
+use std::sync::Arc;
 use table_cmd::Command;
 
 /// An accepted write: its number, the write, and where its answer stands among the bytes of all answers.
 #[derive(Drop)]
 pub(crate) struct Written {
     pub(crate) number: u64,
-    pub(crate) command: Command,
+    pub(crate) command: Arc<Command>,
     pub(crate) start: usize,
     pub(crate) length: usize,
 }
@@ -48,8 +49,8 @@ impl Written {
         let (answer, _) = later.split_at(self.length);
         self.number > 0
             && self.number - 1 == before as u64
-            && answer == entry.answer.as_slice()
-            && self.command.is_same(&entry.command)
+            && answer == entry.answer()
+            && self.command.is_same(entry.command())
     }
 }
 
@@ -75,10 +76,10 @@ impl Writes {
     }
 
     /// Puts a write at the end, for which there is room.
-    pub(crate) fn push(&mut self, number: u64, command: Command, answer: &[u8])
+    pub(crate) fn push(&mut self, number: u64, command: Arc<Command>, answer: &[u8])
         requires row { 0 < self.old.rows }
         requires bytes { length answer.now ≤ self.old.bytes }
-        ensures { self.new.items ≡ self.old.items ++ record { number = number; command = command; answer = answer.now } ∷ [] }
+        ensures { self.new.items ≡ self.old.items ++ record { number = number; command = command.value; answer = answer.now } ∷ [] }
     {
         let start = self.answers.len();
         self.answers.extend_from_slice(answer).unwrap();

@@ -36,11 +36,11 @@ pub fn text_of(alloc: Global, journals: &Journals) -> Result<Vec<u8>, AllocError
 fn entries_of(alloc: Global, journals: &Journals) -> Result<Vec<u8>, AllocError> {
     let mut entries = text_of(alloc, journals)?;
     for entry in journals.tables().iter().flatten() {
-        entries.extend_from_slice(Buffer::new().format(entry.session).as_bytes())?;
+        entries.extend_from_slice(Buffer::new().format(entry.session()).as_bytes())?;
         entries.push(b' ')?;
-        entries.extend_from_slice(Buffer::new().format(entry.serial).as_bytes())?;
+        entries.extend_from_slice(Buffer::new().format(entry.serial()).as_bytes())?;
         entries.push(b' ')?;
-        entries.extend_from_slice(entry.answer.as_slice())?;
+        entries.extend_from_slice(entry.answer())?;
     }
     Ok(entries)
 }

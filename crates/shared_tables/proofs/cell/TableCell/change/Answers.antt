@@ -2,8 +2,9 @@ use Rattle.std.proofs.Common.{◌≡◌, ◌+◌, ◌<◌, [], ◌∷◌, ◌++�
 use Rattle.std.specs.Prelude.{slice_index_or, slice_set}
 use Rattle.std.proofs.lemmas.List.{length-set}
 use Rattle.table_cmd.specs.declared.command.Command.{Command}
-use Rattle.table_step.specs.Step.{step_of}
-use Rattle.shared_tables.specs.Journal.{AnsweredData, line_of}
+use Rattle.table_step.specs.Step.{Steps, Took, step_of}
+use Rattle.table_terms.specs.declared.outcome.Outcome.TheVariants as outcomes
+use Rattle.shared_tables.specs.Journal.{AnsweredData, EntryData, line_of}
 use Rattle.shared_tables.specs.Kept.{idle}
 use Rattle.shared_tables.specs.Call.{CellData}
 use Rattle.shared_tables.proofs.Kept.{count_fits}
@@ -12,6 +13,9 @@ use Rattle.shared_tables.proofs.cell.TableCell.change.Goals as goal
 
 abbrev answered : ℕ → Command → List ℕ → AnsweredData
 answered number command answer = record { number = number; command = command; answer = answer }
+
+abbrev entry_of : ℕ → ℕ → Command → List ℕ → EntryData
+entry_of session serial command answer = record { session = session; serial = serial; command = command; answer = answer }
 
 pub append-requires-clause-count : goal.append-requires-clause-count
 append-requires-clause-count c =
@@ -26,28 +30,34 @@ append-requires-clause-count c =
 pub invariant_of-self-in-Write : goal.invariant_of-self-in-Write
 invariant_of-self-in-Write c =
     let within : c.args.session < length c.self.inside.tallies.items = subst (λ (d : CellData). c.args.session < d.workers) (sym c.self.view_is) c.requires.session in
-    let took = c.in-Write.ensures.answer in
+    let asked : c.deref.result.now ≡ c.args.command = c.deref.ensures ∙ c.in-Some.ensures.command in
+    let took = subst (λ (k : Command). Took outcomes.Write c.args.out.now.bytes c.step-outcome.new.out.bytes c.step-outcome.new.self (step_of c.self.inside.table k)) asked c.in-Write.ensures.answer in
+    let entry : c.append.new.journal.items ≡ c.prepare.new.journal.items ++ entry_of c.args.session (c.index_mut-tally.result.now.count + 1) c.args.command c.first_bytes-line.result.now ∷ [] =
+    c.append.ensures.entry ∙ (λ i. c.prepare.new.journal.items ++ entry_of c.args.session (c.index_mut-tally.result.now.count + 1) (c.in-Some.ensures.command i) c.first_bytes-line.result.now ∷ []) in
     let kept = kept_after c.self.inside.spec c.self.inside.table c.step-outcome.new.self c.self.inside.journal.items c.append.new.journal.items c.prepare.new.journal.items
     c.self.inside.tallies.items c.args.session c.args.command c.index_mut-tally.result.now c.prepare.new.journal.len c.args.out.now.bytes c.step-outcome.new.out.bytes c.first_bytes-line.result.now
     c.self.invariant within c.index_mut-tally.ensures.value took c.in-Write.ensures.short
     (line_kept c.args.out.now.bytes c.step-outcome.new.out.bytes (line_of (step_of c.self.inside.table c.args.command)) c.first_bytes-line.result.now _ (ap length c.bytes-start.ensures) took.line c.first_bytes-line.ensures.bytes)
-    c.prepare.ensures.journal c.prepare.new.journal.ok.0 c.append.ensures.entry in
+    c.prepare.ensures.journal c.prepare.new.journal.ok.0 entry in
     rw c.append.ensures.tally kept
 
 pub returns-in-Write-clause-answered : goal.returns-in-Write-clause-answered
 returns-in-Write-clause-answered c =
     let within : c.args.session < length c.self.inside.tallies.items = subst (λ (d : CellData). c.args.session < d.workers) (sym c.self.view_is) c.requires.session in
-    let took = c.in-Write.ensures.answer in
+    let asked : c.deref.result.now ≡ c.args.command = c.deref.ensures ∙ c.in-Some.ensures.command in
+    let took = subst (λ (k : Command). Took outcomes.Write c.args.out.now.bytes c.step-outcome.new.out.bytes c.step-outcome.new.self (step_of c.self.inside.table k)) asked c.in-Write.ensures.answer in
+    let entry : c.append.new.journal.items ≡ c.prepare.new.journal.items ++ entry_of c.args.session (c.index_mut-tally.result.now.count + 1) c.args.command c.first_bytes-line.result.now ∷ [] =
+    c.append.ensures.entry ∙ (λ i. c.prepare.new.journal.items ++ entry_of c.args.session (c.index_mut-tally.result.now.count + 1) (c.in-Some.ensures.command i) c.first_bytes-line.result.now ∷ []) in
     let number : c.len-number.result ≡ length c.prepare.new.journal.items = c.len-number.ensures ∙ c.prepare.new.journal.ok.0 in
-    let copied : c.prepare.new.writes.items ++ answered (c.len-number.result + 1) c.in-Some.copied c.first_bytes-line.result.now ∷ [] ≡ c.prepare.new.writes.items ++ answered (c.len-number.result + 1) c.args.command c.first_bytes-line.result.now ∷ [] =
-    (λ i. c.prepare.new.writes.items ++ answered (c.len-number.result + 1) (c.in-Some.ensures.copy i) c.first_bytes-line.result.now ∷ []) in
+    let copied : c.prepare.new.writes.items ++ answered (c.len-number.result + 1) c.in-Some.twins.pass.value c.first_bytes-line.result.now ∷ [] ≡ c.prepare.new.writes.items ++ answered (c.len-number.result + 1) c.args.command c.first_bytes-line.result.now ∷ [] =
+    (λ i. c.prepare.new.writes.items ++ answered (c.len-number.result + 1) (c.in-Some.ensures.twin i) c.first_bytes-line.result.now ∷ []) in
     let told = told_write c.self.inside.spec (length c.self.inside.tallies.items) c.self.inside.table c.step-outcome.new.self c.self.inside.journal.items c.append.new.journal.items c.prepare.new.journal.items
     c.self.inside.tallies.items c.args.session c.args.command c.track.inside.writes.items c.push.new.self.items c.prepare.new.writes.items c.track.inside.seen c.track.inside.look
     c.index_mut-tally.result.now c.len-number.result c.args.out.now.bytes c.step-outcome.new.out.bytes c.first_bytes-line.result.now c.first_bytes-line.result.now
     c.self.invariant within c.index_mut-tally.ensures.value took c.in-Write.ensures.short
     (line_kept c.args.out.now.bytes c.step-outcome.new.out.bytes (line_of (step_of c.self.inside.table c.args.command)) c.first_bytes-line.result.now _ (ap length c.bytes-start.ensures) took.line c.first_bytes-line.ensures.bytes)
     (line_kept c.args.out.now.bytes c.step-outcome.new.out.bytes (line_of (step_of c.self.inside.table c.args.command)) c.first_bytes-line.result.now _ (ap length c.bytes-start.ensures) took.line c.first_bytes-line.ensures.bytes)
-    c.prepare.ensures.journal number c.append.ensures.entry c.prepare.ensures.writes (c.push.ensures ∙ copied) in
+    c.prepare.ensures.journal number entry c.prepare.ensures.writes (c.push.ensures ∙ copied) in
     let width : length c.self.inside.tallies.items ≡ length (slice_set c.self.inside.tallies.items c.args.session c.append.new.tally) = sym (length-set c.self.inside.tallies.items c.args.session c.append.new.tally) in
     rw (← c.self.view_is, ← c.track.view_is, ← width) told
 
@@ -59,13 +69,15 @@ invariant_of-self-in_default-outcome-2 c =
 pub returns-clause-answered : goal.returns-clause-answered
 returns-clause-answered c =
     let step = step_of c.self.inside.table c.args.command in
+    let asked : c.deref.result.now ≡ c.args.command = c.deref.ensures ∙ c.in-Some.ensures.command in
+    let steps = subst (λ (k : Command). Steps c.step-outcome.result c.args.out.now.bytes c.step-outcome.new.out.bytes c.self.inside.table c.step-outcome.new.self (step_of c.self.inside.table k)) asked c.step-outcome.ensures.answer in
     let read = was_read c.step-outcome.result c.args.out.now.bytes c.step-outcome.new.out.bytes c.self.inside.table c.step-outcome.new.self step
-    c.step-outcome.ensures.answer c.in_default-outcome.not-Memory c.in_default-outcome-2.not-Write in
+    steps c.in_default-outcome.not-Memory c.in_default-outcome-2.not-Write in
     let number : c.len-number.result ≡ length c.prepare.new.journal.items = c.len-number.ensures ∙ c.prepare.new.journal.ok.0 in
     let told = told_read c.self.inside.spec (length c.self.inside.tallies.items) c.self.inside.table c.self.inside.journal.items c.prepare.new.journal.items
     c.self.inside.tallies.items c.args.session c.args.command c.track.inside.writes.items c.prepare.new.writes.items c.track.inside.seen c.track.inside.look
-    c.len-number.result c.args.out.now.bytes c.step-outcome.new.out.bytes c.first_bytes.result.now
+    c.len-number.result c.args.out.now.bytes c.step-outcome.new.out.bytes c.first_bytes-line.result.now
     c.self.invariant read.0 read.1
-    (line_kept c.args.out.now.bytes c.step-outcome.new.out.bytes (line_of step) c.first_bytes.result.now _ (ap length c.bytes-start.ensures) read.1 c.first_bytes.ensures.bytes)
+    (line_kept c.args.out.now.bytes c.step-outcome.new.out.bytes (line_of step) c.first_bytes-line.result.now _ (ap length c.bytes-start.ensures) read.1 c.first_bytes-line.ensures.bytes)
     c.prepare.ensures.journal number c.prepare.ensures.writes in
-    rw (c.set_look.ensures, ← c.self.view_is, ← c.track.view_is) told
+    rw (c.set_look.ensures, c.in-Some.ensures.twin, ← c.self.view_is, ← c.track.view_is) told

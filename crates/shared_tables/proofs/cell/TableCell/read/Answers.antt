@@ -12,8 +12,8 @@ returns-clause-answered c = λ session.
     let number : c.len.result ≡ length c.self.inside.journal.items = c.len.ensures ∙ c.self.inside.journal.ok.0 in
     let read = told_read c.self.inside.spec (length c.self.inside.tallies.items) c.self.inside.table c.self.inside.journal.items c.self.inside.journal.items
     c.self.inside.tallies.items session c.args.command c.args.track.now.writes c.args.track.now.writes c.args.track.now.seen c.args.track.now.look
-    c.len.result c.args.out.now.bytes c.read.new.out.bytes c.first_bytes.result.now
+    c.len.result c.args.out.now.bytes c.read.new.out.bytes c.first_bytes-line.result.now
     c.self.invariant (only_reads c.self.inside.table c.args.command c.requires.reads) told
-    (line_kept c.args.out.now.bytes c.read.new.out.bytes (line_of step) c.first_bytes.result.now _ (ap length c.bytes-start.ensures) told c.first_bytes.ensures.bytes)
+    (line_kept c.args.out.now.bytes c.read.new.out.bytes (line_of step) c.first_bytes-line.result.now _ (ap length c.bytes-start.ensures) told c.first_bytes-line.ensures.bytes)
     refl number refl in
     rw (c.set_look.ensures, ← c.self.view_is) read

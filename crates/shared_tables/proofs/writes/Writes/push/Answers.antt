@@ -14,4 +14,4 @@ returns c =
     let longer : c.extend_from_slice.new.self.items ≡ bytes ++ line = c.extend_from_slice.ensures.items ∙ ap (λ r. if is_ok r then bytes ++ line else bytes) c.unwrap.ensures in
     (λ i. answered_in (longer i) (c.push_reserved.ensures.items i))
     ∙ pushed bytes line c.self.inside.rows.items w c.self.invariant start refl
-    ∙ ap (λ (d : WritesData). d.items ++ record { number = c.args.number; command = c.args.command; answer = line } ∷ []) c.self.view_is
+    ∙ ap (λ (d : WritesData). d.items ++ record { number = c.args.number; command = c.args.command.value; answer = line } ∷ []) c.self.view_is
