@@ -1,5 +1,5 @@
 -- Walks along the list of an index, from one node up to another.
-use Rattle.std.proofs.Common.{◌≡◌, ℕ, zero, suc, ◌+◌, ◌<◌, ◌≤◌, ◌==◌, Bool, true, false, cond, not, ◌&&◌, List, [], ◌∷◌, length, map, take, drop, slice_get, Option, Some, None, refl, sym, ap, ◌∙◌, subst, arith}
+use Rattle.std.proofs.Common.{◌≡◌, ℕ, zero, suc, ◌+◌, Bool, true, false, cond, not, ◌&&◌, List, [], ◌∷◌, length, map, take, drop, slice_get, Option, Some, None, refl, sym, ap, ◌∙◌, arith}
 use Rattle.std.specs.Prelude.{count_by, filter, option_and_then}
 use Rattle.std.specs.List.{AllByRecursion}
 use Rattle.std.proofs.lemmas.Bool.{true_from_ne_false}
@@ -17,7 +17,6 @@ use Rattle.list_model.proofs.Kept.{filter_none}
 use Rattle.list_model.proofs.Lists.{some_at}
 use Rattle.node_store.specs.declared.Node.{Node}
 use Rattle.node_store.specs.Nodes.{IsDistinct}
-use Rattle.node_store.specs.ByNode.{same_node}
 use Rattle.any_index.proofs.Runs.{place_is}
 use Rattle.linked_set.specs.Edges.{Rises, edge_of}
 use Rattle.linked_set.proofs.Ranges.{EachPair-drop, from_rises, to_falls, slice_get-drop, passed_is, skipped, before, walk_ended}

@@ -1,5 +1,5 @@
 -- What a walk along an index has left.
-use Rattle.std.specs.Prelude.{◌≡◌, ℕ, ◌<◌, ◌==◌, Bool, false, not, List, drop, take, length, slice_get, map, Option, Some, None, option_map, IsTrue}
+use Rattle.std.specs.Prelude.{◌≡◌, ℕ, ◌<◌, ◌==◌, Bool, false, not, List, drop, take, length, slice_get, Option, option_map, IsTrue}
 use Rattle.std.specs.List.{filter_map}
 use Rattle.std.specs.Option.{option_map_or}
 use Rattle.list_model.specs.Walk.{place_of}

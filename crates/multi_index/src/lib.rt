@@ -12,6 +12,7 @@ mod iter;
 mod iterate;
 mod modify;
 mod modify_or_undo;
+mod modify_with;
 mod order;
 mod positions;
 mod range;

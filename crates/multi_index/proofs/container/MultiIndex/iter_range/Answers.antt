@@ -1,5 +1,5 @@
-use Rattle.std.proofs.Common.{◌≡◌, ◌<◌, ◌∙◌, true, cond, length, Some, None, Option, ap, sym, subst}
-use Rattle.std.specs.Prelude.{count_by, option_and_then, not, slice_get}
+use Rattle.std.proofs.Common.{◌≡◌, ◌<◌, ◌∙◌, true, cond, length, Some, None, ap, sym, subst}
+use Rattle.std.specs.Prelude.{count_by, option_and_then}
 use Rattle.std.specs.Range.Bound.{bound_map}
 use Rattle.list_model.specs.Place.{is_to, range}
 use Rattle.list_model.proofs.Lists.{some_at}
