@@ -44,8 +44,8 @@ hang_replaced tally c d old link new path was now h up = record {
 }
 
 -- the way up from there is the whole way
-pub Rises-hung : (tally : ℕ → ℕ → ℕ) (c d e : Column) (at new top : Option Node) (path : Path) (was now : Tree) → Grafted tally c at new path was now → SetsUp tally c d new at → Rises tally d e path now top → Rises tally c e path now top
-Rises-hung tally c d e at new top path was now h up r = record {
+pub Rises-hung : (tally : ℕ → ℕ → ℕ) (c d e : Column) (at parent new top : Option Node) (path : Path) (was now : Tree) → Grafted tally c at new path was now → SetsUp tally c d new parent → Rises tally d e path now top → Rises tally c e path now top
+Rises-hung tally c d e at parent new top path was now h up r = record {
   hangs = r.hangs;
   root_is = r.root_is;
   balanced = r.balanced;
@@ -53,13 +53,13 @@ Rises-hung tally c d e at new top path was now h up r = record {
   changes = λ m lacks. r.changes m lacks ∙ up.others m (λ f. absent now m (Lacks-front (nodes now) (outside path) m lacks) (sym h.new_is.root ∙ f));
 }
 
-pub graft_lifts : (tally : ℕ → ℕ → ℕ) (c d : Column) (at : Option Node) (n : Node) (new : Option Node) (on_right : Bool) (path : Path) (now : Tree) → Grafted tally c at new path Leaf now → SetsUp tally c d new at → at ≡ Some n → Turned path on_right → Lifts tally d n on_right 0 0 new path Leaf now
+pub graft_lifts : (tally : ℕ → ℕ → ℕ) (c d : Column) (at : Option Node) (n : Node) (new : Option Node) (on_right : Bool) (path : Path) (now : Tree) → Grafted tally c at new path Leaf now → SetsUp tally c d new (Some n) → at ≡ Some n → Turned path on_right → Lifts tally d n on_right 0 0 new path Leaf now
 graft_lifts tally c d at n new on_right path now h up e t =
-    let u = hang tally c d at new path Leaf now h up in
+    let u = hang tally c d (Some n) new path Leaf now (subst (λ (z : Option Node). Grafted tally c z new path Leaf now) e h) up in
     record {
-      grafted = subst (λ (z : Option Node). Grafted tally d z new path Leaf now) e u.grafted;
+      grafted = u.grafted;
       turned = t;
-      hangs = subst (λ (z : Option Node). Hangs tally d z now) e u.hangs;
+      hangs = u.hangs;
       height_is = refl;
       tag_is = refl;
     }

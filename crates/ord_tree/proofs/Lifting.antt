@@ -6,18 +6,18 @@ use Rattle.node_store.specs.Column.{Column, IsPut}
 use Rattle.node_store.specs.Nodes.{Lacks, IsDistinct}
 use Rattle.node_store.proofs.NodeLists.{Lacks-back, IsDistinct-parts}
 use Rattle.ord_tree.specs.Tree.{Tree, Fork, nodes, root, height, tag_of, tree_link, Hangs, IsBalanced, stored_height, AreNodes}
-use Rattle.ord_tree.specs.Steps.{Sides, Becomes, SetsUp, rebalanced, IsHeightOver, child_at, with_child}
+use Rattle.ord_tree.specs.Steps.{Sides, Becomes, SetsUp, rebalanced, IsHeightOver, child_at, pair_at}
 use Rattle.ord_tree.specs.Path.{Path, LeftOf, RightOf, bottom, above, left_with, right_with, outside, Grafted, Turned, Lifts, Lifted}
 use Rattle.ord_tree.proofs.TreeLinks.{Split-from, Hangs-same, IsSameAt-put, AreNodes-root, stored_height-is, absent}
 use Rattle.ord_tree.proofs.Rotations.{rebalanced-fork}
 use Rattle.ord_tree.proofs.Heights.{Settles-rebalanced}
 use Rattle.ord_tree.proofs.Rising.{Inner-plug, IsDistinct-left, IsDistinct-right, side_of}
 
--- what the links `link` of a node with a new child, and `other` beside it, say of its two sides
-pub record Sided (tally : ℕ → ℕ → ℕ) (c : Column) (n : Node) (link : Link) (other : Option Node) (path : Path) (was now : Tree) : Type 0 where
-  pub a_is : link.a ≡ root (left_with path now)
-  pub b_is : link.b ≡ root (right_with path now)
-  pub up_is : link.up ≡ bottom (above path)
+-- what the links of a node say of its two sides, which are now `ab`, where `other` is the one that stays
+pub record Sided (tally : ℕ → ℕ → ℕ) (c : Column) (n : Node) (own : Link) (ab : Option Node × Option Node) (other : Option Node) (path : Path) (was now : Tree) : Type 0 where
+  pub a_is : ab.0 ≡ root (left_with path now)
+  pub b_is : ab.1 ≡ root (right_with path now)
+  pub up_is : own.up ≡ bottom (above path)
   pub left : Hangs tally c (Some n) (left_with path now)
   pub right : Hangs tally c (Some n) (right_with path now)
   pub distinct : IsDistinct (nodes (left_with path now) ++ n ∷ nodes (right_with path now))
@@ -27,21 +27,21 @@ pub record Sided (tally : ℕ → ℕ → ℕ) (c : Column) (n : Node) (link : L
   pub right_near : height (right_with path now) ≤ height (left_with path now) + 2
   pub left_low : height (left_with path now) < 200
   pub right_low : height (right_with path now) < 200
-  pub low : link.height < 200
+  pub low : own.height < 200
   pub other_there : AreNodes c other
-  pub own : IsHeightOver link.height (height was) (stored_height c other)
+  pub height_is : IsHeightOver own.height (height was) (stored_height c other)
   pub over : (h : ℕ) → IsHeightOver h (height now) (stored_height c other) → IsHeightOver h (height (left_with path now)) (height (right_with path now))
-  pub tag : (v : ℕ) → ((o : ℕ) → link.tag ≡ tally (tag_of tally was) o → v ≡ tally (tag_of tally now) o) → ((o : ℕ) → link.tag ≡ tally o (tag_of tally was) → v ≡ tally o (tag_of tally now)) → v ≡ tally (tag_of tally (left_with path now)) (tag_of tally (right_with path now))
+  pub tag : (v : ℕ) → ((o : ℕ) → own.tag ≡ tally (tag_of tally was) o → v ≡ tally (tag_of tally now) o) → ((o : ℕ) → own.tag ≡ tally o (tag_of tally was) → v ≡ tally o (tag_of tally now)) → v ≡ tally (tag_of tally (left_with path now)) (tag_of tally (right_with path now))
 
-sided_left : (tally : ℕ → ℕ → ℕ) (c : Column) (n : Node) (new : Option Node) (link : Link) (other : Option Node) (z : Path) (r was now : Tree) → Grafted tally c (Some n) new (LeftOf z n r) was now → Hangs tally c (Some n) now → link ≡ with_child false (tree_link tally (bottom z) was r) new → other ≡ link.b → Sided tally c n link other (LeftOf z n r) was now
-sided_left tally c n new link other z r was now h hangs e f =
+sided_left : (tally : ℕ → ℕ → ℕ) (c : Column) (n : Node) (new : Option Node) (own : Link) (ab : Option Node × Option Node) (other : Option Node) (z : Path) (r was now : Tree) → Grafted tally c (Some n) new (LeftOf z n r) was now → Hangs tally c (Some n) now → own ≡ tree_link tally (bottom z) was r → other ≡ own.b → ab ≡ (new, other) → Sided tally c n own ab other (LeftOf z n r) was now
+sided_left tally c n new own ab other z r was now h hangs e f g =
     let inner = Inner-plug z (Fork was n r) h.was_balanced in
-    let b : link.b ≡ root r = ap (λ (x : Link). x.b) e in
-    let own : link.height ≡ max (height was) (height r) + 1 = ap (λ (x : Link). x.height) e in
-    let stored : stored_height c other ≡ height r = ap (λ (x : Option Node). stored_height c x) (f ∙ b) ∙ stored_height-is tally c (Some n) r h.leads.1 in
+    let b : other ≡ root r = f ∙ ap (λ (x : Link). x.b) e in
+    let high : own.height ≡ max (height was) (height r) + 1 = ap (λ (x : Link). x.height) e in
+    let stored : stored_height c other ≡ height r = ap (λ (x : Option Node). stored_height c x) b ∙ stored_height-is tally c (Some n) r h.leads.1 in
     record {
-      a_is = ap (λ (x : Link). x.a) e ∙ h.new_is.root;
-      b_is = b;
+      a_is = ap (λ (x : Option Node × Option Node). x.0) g ∙ h.new_is.root;
+      b_is = ap (λ (x : Option Node × Option Node). x.1) g ∙ b;
       up_is = ap (λ (x : Link). x.up) e;
       left = hangs;
       right = h.leads.1;
@@ -52,22 +52,22 @@ sided_left tally c n new link other z r was now h hangs e f =
       right_near = omega (arith, inner.balanced.1, h.not_lower);
       left_low = omega (arith, inner.low, h.low, h.not_higher);
       right_low = omega (arith, inner.low, h.low);
-      low = omega (arith, inner.low, h.low, own);
-      other_there = λ m k. AreNodes-root tally c (Some n) r h.leads.1 m (sym (f ∙ b) ∙ k);
-      own = record { is = omega (arith, own, stored); left_low = omega (arith, inner.balanced.0, stored); right_low = omega (arith, inner.balanced.1, stored) };
+      low = omega (arith, inner.low, h.low, high);
+      other_there = λ m k. AreNodes-root tally c (Some n) r h.leads.1 m (sym b ∙ k);
+      height_is = record { is = omega (arith, high, stored); left_low = omega (arith, inner.balanced.0, stored); right_low = omega (arith, inner.balanced.1, stored) };
       over = λ x k. record { is = omega (arith, k.is, stored); left_low = omega (arith, k.left_low, stored); right_low = omega (arith, k.right_low, stored) };
       tag = λ v on_left on_right. on_left (tag_of tally r) (ap (λ (x : Link). x.tag) e);
     }
 
-sided_right : (tally : ℕ → ℕ → ℕ) (c : Column) (n : Node) (new : Option Node) (link : Link) (other : Option Node) (z : Path) (l was now : Tree) → Grafted tally c (Some n) new (RightOf z l n) was now → Hangs tally c (Some n) now → link ≡ with_child true (tree_link tally (bottom z) l was) new → other ≡ link.a → Sided tally c n link other (RightOf z l n) was now
-sided_right tally c n new link other z l was now h hangs e f =
+sided_right : (tally : ℕ → ℕ → ℕ) (c : Column) (n : Node) (new : Option Node) (own : Link) (ab : Option Node × Option Node) (other : Option Node) (z : Path) (l was now : Tree) → Grafted tally c (Some n) new (RightOf z l n) was now → Hangs tally c (Some n) now → own ≡ tree_link tally (bottom z) l was → other ≡ own.a → ab ≡ (other, new) → Sided tally c n own ab other (RightOf z l n) was now
+sided_right tally c n new own ab other z l was now h hangs e f g =
     let inner = Inner-plug z (Fork l n was) h.was_balanced in
-    let a : link.a ≡ root l = ap (λ (x : Link). x.a) e in
-    let own : link.height ≡ max (height l) (height was) + 1 = ap (λ (x : Link). x.height) e in
-    let stored : stored_height c other ≡ height l = ap (λ (x : Option Node). stored_height c x) (f ∙ a) ∙ stored_height-is tally c (Some n) l h.leads.1 in
+    let a : other ≡ root l = f ∙ ap (λ (x : Link). x.a) e in
+    let high : own.height ≡ max (height l) (height was) + 1 = ap (λ (x : Link). x.height) e in
+    let stored : stored_height c other ≡ height l = ap (λ (x : Option Node). stored_height c x) a ∙ stored_height-is tally c (Some n) l h.leads.1 in
     record {
-      a_is = a;
-      b_is = ap (λ (x : Link). x.b) e ∙ h.new_is.root;
+      a_is = ap (λ (x : Option Node × Option Node). x.0) g ∙ a;
+      b_is = ap (λ (x : Option Node × Option Node). x.1) g ∙ h.new_is.root;
       up_is = ap (λ (x : Link). x.up) e;
       left = h.leads.1;
       right = hangs;
@@ -78,36 +78,36 @@ sided_right tally c n new link other z l was now h hangs e f =
       right_near = omega (arith, inner.balanced.1, h.not_higher);
       left_low = omega (arith, inner.low, h.low);
       right_low = omega (arith, inner.low, h.low, h.not_higher);
-      low = omega (arith, inner.low, h.low, own);
-      other_there = λ m k. AreNodes-root tally c (Some n) l h.leads.1 m (sym (f ∙ a) ∙ k);
-      own = record { is = omega (arith, own, stored); left_low = omega (arith, inner.balanced.1, stored); right_low = omega (arith, inner.balanced.0, stored) };
+      low = omega (arith, inner.low, h.low, high);
+      other_there = λ m k. AreNodes-root tally c (Some n) l h.leads.1 m (sym a ∙ k);
+      height_is = record { is = omega (arith, high, stored); left_low = omega (arith, inner.balanced.1, stored); right_low = omega (arith, inner.balanced.0, stored) };
       over = λ x k. record { is = omega (arith, k.is, stored); left_low = omega (arith, k.right_low, stored); right_low = omega (arith, k.left_low, stored) };
       tag = λ v on_left on_right. on_right (tag_of tally l) (ap (λ (x : Link). x.tag) e);
     }
 
-pub sided : (tally : ℕ → ℕ → ℕ) (c : Column) (n : Node) (on_right : Bool) (height_was tag_was : ℕ) (new : Option Node) (own link : Link) (other : Option Node) (path : Path) (was now : Tree) → Lifts tally c n on_right height_was tag_was new path was now → c n ≡ Some own → link ≡ with_child on_right own new → other ≡ child_at (not on_right) link → Sided tally c n link other path was now
-sided tally c n on_right height_was tag_was new own link other path was now s l e f =
+pub sided : (tally : ℕ → ℕ → ℕ) (c : Column) (n : Node) (on_right : Bool) (height_was tag_was : ℕ) (new : Option Node) (own : Link) (ab : Option Node × Option Node) (other : Option Node) (path : Path) (was now : Tree) → Lifts tally c n on_right height_was tag_was new path was now → c n ≡ Some own → other ≡ child_at (not on_right) own → ab ≡ pair_at on_right new other → Sided tally c n own ab other path was now
+sided tally c n on_right height_was tag_was new own ab other path was now s l f g =
     elim (side_of tally c n new own path was now s.grafted l) [
       | inl o ↦
           let turn : on_right ≡ false = subst (λ (p : Path). Turned p on_right) o.is s.turned in
-          let is = e ∙ ap (λ (b : Bool). with_child b own new) turn ∙ ap (λ (x : Link). with_child false x new) o.link_is in
-          let beside = f ∙ ap (λ (b : Bool). child_at (not b) link) turn in
-          subst (λ (p : Path). Sided tally c n link other p was now) (sym o.is) (sided_left tally c n new link other o.z o.r was now o.here s.hangs is beside)
+          let beside = f ∙ ap (λ (b : Bool). child_at (not b) own) turn in
+          let both = g ∙ ap (λ (b : Bool). pair_at b new other) turn in
+          subst (λ (p : Path). Sided tally c n own ab other p was now) (sym o.is) (sided_left tally c n new own ab other o.z o.r was now o.here s.hangs o.link_is beside both)
       | inr o ↦
           let turn : on_right ≡ true = subst (λ (p : Path). Turned p on_right) o.is s.turned in
-          let is = e ∙ ap (λ (b : Bool). with_child b own new) turn ∙ ap (λ (x : Link). with_child true x new) o.link_is in
-          let beside = f ∙ ap (λ (b : Bool). child_at (not b) link) turn in
-          subst (λ (p : Path). Sided tally c n link other p was now) (sym o.is) (sided_right tally c n new link other o.z o.l was now o.here s.hangs is beside)
+          let beside = f ∙ ap (λ (b : Bool). child_at (not b) own) turn in
+          let both = g ∙ ap (λ (b : Bool). pair_at b new other) turn in
+          subst (λ (p : Path). Sided tally c n own ab other p was now) (sym o.is) (sided_right tally c n new own ab other o.z o.l was now o.here s.hangs o.link_is beside both)
     ]
 
-pub moved_tag : (tally : ℕ → ℕ → ℕ) (c : Column) (n : Node) (link : Link) (other : Option Node) (path : Path) (was now : Tree) (tag_was tag_now v : ℕ) → Sided tally c n link other path was now → tag_was ≡ tag_of tally was → tag_now ≡ tag_of tally now → ((o : ℕ) → link.tag ≡ tally tag_was o → v ≡ tally tag_now o) → ((o : ℕ) → link.tag ≡ tally o tag_was → v ≡ tally o tag_now) → v ≡ tally (tag_of tally (left_with path now)) (tag_of tally (right_with path now))
-moved_tag tally c n link other path was now tag_was tag_now v s e f left right =
-    let on_left = λ (o : ℕ) (k : link.tag ≡ tally (tag_of tally was) o). left o (k ∙ ap (λ (z : ℕ). tally z o) (sym e)) ∙ ap (λ (z : ℕ). tally z o) f in
-    let on_right = λ (o : ℕ) (k : link.tag ≡ tally o (tag_of tally was)). right o (k ∙ ap (λ (z : ℕ). tally o z) (sym e)) ∙ ap (λ (z : ℕ). tally o z) f in
+pub moved_tag : (tally : ℕ → ℕ → ℕ) (c : Column) (n : Node) (own : Link) (ab : Option Node × Option Node) (other : Option Node) (path : Path) (was now : Tree) (tag_was tag_now v : ℕ) → Sided tally c n own ab other path was now → tag_was ≡ tag_of tally was → tag_now ≡ tag_of tally now → ((o : ℕ) → own.tag ≡ tally tag_was o → v ≡ tally tag_now o) → ((o : ℕ) → own.tag ≡ tally o tag_was → v ≡ tally o tag_now) → v ≡ tally (tag_of tally (left_with path now)) (tag_of tally (right_with path now))
+moved_tag tally c n own ab other path was now tag_was tag_now v s e f left right =
+    let on_left = λ (o : ℕ) (k : own.tag ≡ tally (tag_of tally was) o). left o (k ∙ ap (λ (z : ℕ). tally z o) (sym e)) ∙ ap (λ (z : ℕ). tally z o) f in
+    let on_right = λ (o : ℕ) (k : own.tag ≡ tally o (tag_of tally was)). right o (k ∙ ap (λ (z : ℕ). tally o z) (sym e)) ∙ ap (λ (z : ℕ). tally o z) f in
     s.tag v on_left on_right
 
-abbrev pub Sides-of : (tally : ℕ → ℕ → ℕ) (c : Column) (n : Node) (link : Link) (other : Option Node) (path : Path) (was now : Tree) → Sided tally c n link other path was now → Sides tally c link.a n link.b
-Sides-of tally c n link other path was now s = record {
+abbrev pub Sides-of : (tally : ℕ → ℕ → ℕ) (c : Column) (n : Node) (own : Link) (ab : Option Node × Option Node) (other : Option Node) (path : Path) (was now : Tree) → Sided tally c n own ab other path was now → Sides tally c ab.0 n ab.1
+Sides-of tally c n own ab other path was now s = record {
   l = left_with path now;
   r = right_with path now;
   at_left = record { parent = Some n; hangs = s.left; root = s.a_is };
@@ -117,20 +117,20 @@ Sides-of tally c n link other path was now s = record {
   right_low = s.right_low;
 }
 
-some_link : Link → Option Link
-some_link x = Some x
+abbrev a_link : Option Node × Option Node → Option Node → ℕ → ℕ → Link
+a_link ab up tag height = record { a = ab.0; b = ab.1; up = up; tag = tag; height = height }
 
 -- the links of a node that stays in balance
-kept_link : (tally : ℕ → ℕ → ℕ) (link : Link) (p : Option Node) (l r : Tree) (v h : ℕ) → link.a ≡ root l → link.b ≡ root r → link.up ≡ p → v ≡ tally (tag_of tally l) (tag_of tally r) → h ≡ max (height l) (height r) + 1 → Some (record link { tag = v; height = h }) ≡ Some (tree_link tally p l r)
-kept_link tally link p l r v h a b up t k = rw (a, b, up, t, k) refl
+kept_link : (tally : ℕ → ℕ → ℕ) (ab : Option Node × Option Node) (up p : Option Node) (l r : Tree) (v h : ℕ) → ab.0 ≡ root l → ab.1 ≡ root r → up ≡ p → v ≡ tally (tag_of tally l) (tag_of tally r) → h ≡ max (height l) (height r) + 1 → Some (a_link ab up v h) ≡ Some (tree_link tally p l r)
+kept_link tally ab up p l r v h e f g t k = rw (e, f, g, t, k) refl
 
-pub lifted_kept : (tally : ℕ → ℕ → ℕ) (c d : Column) (n : Node) (link : Link) (other : Option Node) (path : Path) (was now : Tree) (v h : ℕ) → Sided tally c n link other path was now → IsPut c d n (record link { tag = v; height = h }) → v ≡ tally (tag_of tally (left_with path now)) (tag_of tally (right_with path now)) → IsHeightOver h (height (left_with path now)) (height (right_with path now)) → Lifted tally c d n path now n
-lifted_kept tally c d n link other path was now v h s put t k =
+pub lifted_kept : (tally : ℕ → ℕ → ℕ) (c d : Column) (n : Node) (own : Link) (ab : Option Node × Option Node) (other : Option Node) (path : Path) (was now : Tree) (v h : ℕ) → Sided tally c n own ab other path was now → IsPut c d n (a_link ab own.up v h) → v ≡ tally (tag_of tally (left_with path now)) (tag_of tally (right_with path now)) → IsHeightOver h (height (left_with path now)) (height (right_with path now)) → Lifted tally c d n path now n
+lifted_kept tally c d n own ab other path was now v h s put t k =
     let l = left_with path now in
     let r = right_with path now in
     let split = Split-from (nodes l) n (nodes r) s.distinct in
     let is = rebalanced-fork l n r (height l) (height r) refl refl k.left_low k.right_low in
-    let here = put.at ∙ kept_link tally link (bottom (above path)) l r v h s.a_is s.b_is s.up_is t k.is in
+    let here = put.at ∙ kept_link tally ab own.up (bottom (above path)) l r v h s.a_is s.b_is s.up_is t k.is in
     let left = Hangs-same tally c d (Some n) l (IsSameAt-put c d n _ put (nodes l) split.left_lacks) s.left in
     let right = Hangs-same tally c d (Some n) r (IsSameAt-put c d n _ put (nodes r) split.right_lacks) s.right in
     record {
@@ -139,11 +139,11 @@ lifted_kept tally c d n link other path was now v h s put t k =
       changes = λ m lacks. put.others m (Lacks-back (nodes l) (n ∷ nodes r) m lacks).0;
     }
 
-pub lifted_turned : (tally : ℕ → ℕ → ℕ) (c d e : Column) (n : Node) (link : Link) (other : Option Node) (path : Path) (was now : Tree) (top : Node) → Sided tally c n link other path was now → ((s : Sides tally c link.a n link.b) → Becomes tally c d None (nodes (Fork s.l n s.r)) (rebalanced s.l n s.r) top) → SetsUp tally d e (Some top) link.up → Lifted tally c e n path now top
-lifted_turned tally c d e n link other path was now top s becomes up =
+pub lifted_turned : (tally : ℕ → ℕ → ℕ) (c d e : Column) (n : Node) (own : Link) (ab : Option Node × Option Node) (other : Option Node) (path : Path) (was now : Tree) (top : Node) → Sided tally c n own ab other path was now → ((s : Sides tally c ab.0 n ab.1) → Becomes tally c d None (nodes (Fork s.l n s.r)) (rebalanced s.l n s.r) top) → SetsUp tally d e (Some top) own.up → Lifted tally c e n path now top
+lifted_turned tally c d e n own ab other path was now top s becomes up =
     let l = left_with path now in
     let r = right_with path now in
-    let b = becomes (Sides-of tally c n link other path was now s) in
+    let b = becomes (Sides-of tally c n own ab other path was now s) in
     let settles = Settles-rebalanced l n r s.left_balanced s.right_balanced s.left_near s.right_near in
     let dist = subst IsDistinct (sym settles.nodes) s.distinct in
     record {

@@ -1,9 +1,10 @@
 //! The steps of a change of a tree.
 ghost use Rattle.std.specs.Prelude.{◌≡◌, ◌+◌, ◌<◌, ◌≤◌, Option, Some, None, IfSome, IsTrue, ◌↔◌};
 ghost use Rattle.node_store.specs.Column.{IsNode};
+ghost use Rattle.node_store.specs.declared.Link.{Link};
 ghost use Rattle.ord_tree.specs.Tree.{Tree, Leaf, Fork, root, nodes, Hangs, stored_height, stored_tag, AreNodes};
 ghost use Rattle.ord_tree.specs.Path.{Path, plug, IsLike, Replaced, ReplacedAt, Hung, Rises, Grafted, GraftedSide, Turned, Lifts, HasLift, Lifted};
-ghost use Rattle.ord_tree.specs.Steps.{CanHang, KeepsOthers, KeepsNodes, SetsUp, Joins, Sides, Becomes, rotated_right, rotated_left, rebalanced, IsHeightOver, child_at, with_child};
+ghost use Rattle.ord_tree.specs.Steps.{CanHang, KeepsOthers, KeepsNodes, SetsUp, Joins, Sides, Becomes, rotated_right, rotated_left, rebalanced, IsHeightOver, child_at, pair_at};
 ghost use Rattle.node_store.specs.ByNode.{column_of, contents};
 
 use crate::tally::Tally;
@@ -199,21 +200,28 @@ fn is_like<R>(store: &NodeStore<R>, col: usize, new: Option<Node>, old: Node, li
     now.height == link.height && now.tag == link.tag
 }
 
-/// The child on the right, or that on the left.
-fn child(link: Link, on_right: bool) -> Option<Node>
-    ensures { result ≡ child_at on_right link }
+/// The child of `n` on the right, or that on the left.
+fn child<R>(store: &NodeStore<R>, col: usize, n: Node, on_right: bool) -> Option<Node>
+    requires { IsNode (column_of store.now col) n }
+    ensures { (link : Link) → column_of store.now col n ≡ Some link →
+        result ≡ child_at on_right link }
 {
+    let link = store.link(n, col);
     if on_right { link.b } else { link.a }
 }
 
-/// The links with another child there.
-fn changed(link: Link, on_right: bool, child: Option<Node>) -> Link
-    ensures { result ≡ with_child on_right link child }
+/// The child on the right, or that on the left, and the other one, from left to right.
+fn in_order(
+    on_right: bool,
+    child: Option<Node>,
+    other: Option<Node>,
+) -> (Option<Node>, Option<Node>)
+    ensures { result ≡ pair_at on_right child other }
 {
     if on_right {
-        Link { b: child, ..link }
+        (other, child)
     } else {
-        Link { a: child, ..link }
+        (child, other)
     }
 }
 
@@ -262,23 +270,24 @@ fn lift<T: Tally, R>(
     ensures others { KeepsOthers (column_of store.old) (column_of store.new) col }
     ensures contents { contents store.new ≡ contents store.old }
 {
-    let link = changed(store.link(n, col), on_right, new);
+    let link = store.link(n, col);
     let tag = T::moved(link.tag, tag_was, tally_of(store, col, new));
     let now = height_of(store, col, new);
-    let other = child(link, !on_right);
+    let other = child(store, col, n, !on_right);
+    let (a, b) = in_order(on_right, new, other);
     if let Some(height) = height_over(store, col, link.height, height_was, now, other) {
-        store.set_link(
-            n,
-            col,
-            Link {
-                tag,
-                height,
-                ..link
-            },
-        );
+        let up = link.up;
+        let lifted = Link {
+            a,
+            b,
+            up,
+            tag,
+            height,
+        };
+        store.set_link(n, col, lifted);
         return n;
     }
-    let top = balance::<T, R>(store, col, link.a, n, link.b);
+    let top = balance::<T, R>(store, col, a, n, b);
     set_up::<T, R>(store, col, Some(top), link.up);
     top
 }
@@ -360,10 +369,11 @@ pub(crate) fn graft<T: Tally, R>(
     ensures others { KeepsOthers (column_of store.old) (column_of store.new) col }
     ensures contents { contents store.new ≡ contents store.old }
 {
-    set_up::<T, R>(store, col, new, at);
     let Some(n) = at else {
+        set_up::<T, R>(store, col, new, None);
         return new;
     };
+    set_up::<T, R>(store, col, new, Some(n));
     let link = store.link(n, col);
     let top = lift::<T, R>(store, col, n, on_right, 0, 0, new);
     climb::<T, R>(store, col, tree_root, n, link, Some(top))

@@ -22,4 +22,4 @@ pub returns-clause-tree : goal.returns-clause-tree
 returns-clause-tree g c = λ path was now h e.
     let up = c.set_up.ensures.up in
     let hangs = (hang g.T.Tally.of _ _ _ _ path was now h.grafted up).hangs in
-    Rises-hung g.T.Tally.of _ _ _ _ _ _ path was now h.grafted up (c.climb.ensures.tree path was now (hang_replaced g.T.Tally.of _ _ _ _ _ path was now h up) hangs e)
+    Rises-hung g.T.Tally.of _ _ _ _ _ _ _ path was now h.grafted up (c.climb.ensures.tree path was now (hang_replaced g.T.Tally.of _ _ _ _ _ path was now h up) hangs e)
