@@ -18,7 +18,6 @@ use slot_table::SlotTable;
 use std::alloc::AllocError;
 
 /// The handle of a node's record. O(1).
-#[inline(always)]
 pub fn handle_at<R, E: Extract<R>>(set: &IndexSet<Entry<R>, ByRow<E>>, node: Node) -> Handle
     requires { IsNodeOf (store_of set.now) node }
     ensures { result ≡ handle_of (record_of set.now) node }
@@ -27,7 +26,6 @@ pub fn handle_at<R, E: Extract<R>>(set: &IndexSet<Entry<R>, ByRow<E>>, node: Nod
 }
 
 /// The position of a node's record, or the end. O(1).
-#[inline(always)]
 pub fn position_at<R, E: Extract<R>>(
     set: &IndexSet<Entry<R>, ByRow<E>>,
     node: Option<Node>,
@@ -42,7 +40,6 @@ pub fn position_at<R, E: Extract<R>>(
 }
 
 /// The node whose record has the handle, or none where that record has gone. O(1).
-#[inline(always)]
 pub fn node_at<R, E: Extract<R>>(
     set: &IndexSet<Entry<R>, ByRow<E>>,
     slots: &SlotTable<Node>,
