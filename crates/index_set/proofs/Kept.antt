@@ -7,6 +7,7 @@ use Rattle.std.specs.Cmp.{IsTotalOrder}
 use Rattle.std.specs.declared.cmp.Ordering.{Ordering}
 use Rattle.std.specs.declared.cmp.Ordering.TheVariants.{Less, Equal, Greater}
 use Rattle.std.proofs.lemmas.List.{get_or_default}
+use Rattle.std.proofs.lemmas.Option.{same_Some}
 use Rattle.list_model.proofs.Lists.{slice_get_at}
 use Rattle.node_store.specs.declared.Node.{Node}
 use Rattle.node_store.specs.Nodes.{Holds}
@@ -26,13 +27,13 @@ use Rattle.index_set.specs.declared.set.IndexSet.{IndexSet}
 use Rattle.index_set.specs.Changed.{may_differ, differs, AreFreeBeside}
 use Rattle.index_set.specs.Each.{list_at}
 use Rattle.index_set.specs.Indices.{HoldIt}
-use Rattle.index_set.specs.Set.{IsSound, IsKeyed, IsUniqueExcept, IsKeyedBeside, AgreesBeside, lists_of, kind_at, with_record}
+use Rattle.index_set.specs.Set.{IsSound, IsKeyed, IsUniqueExcept, IsKeyedBeside, IsFreeBeside, AgreesBeside, lists_of, kind_at, with_record}
 use Rattle.index_set.proofs.Clashless.{none_clashes}
 use Rattle.index_set.proofs.Each.{all_listed}
 use Rattle.index_set.proofs.Members.{one_list_each}
 use Rattle.index_set.proofs.Reading.{has_its_key, kind_here, number_here}
 use Rattle.index_set.proofs.Uniques.{unique_at}
-use Rattle.index_set.proofs.Written.{columns_written, record_written, others_written}
+use Rattle.index_set.proofs.Written.{columns_written, lists_written, record_written, others_written}
 
 equal_of : (b : Bool) (o : Ordering) → IsTrue b → (b && not (is_eq o)) ≡ false → o ≡ Equal
 equal_of b Equal t e = refl
@@ -86,3 +87,11 @@ module _ {R E : Type 0} {has_key : E → ℕ → Bool} (order : E → ℕ → R 
         (all_listed (λ xs. Holds xs n) s.specs.items (lists_of s) (one_list_each s sound) held j lt)
         (unique_at (order s.keys) (record_of s.store) None s.specs.items (lists_of s) (one_list_each s sound) h j d lt unique);
   }
+
+  -- so it is once the record is written
+  pub free_written : IsNodeOf s.store n → HoldIt (lists_of s) n → IsUniqueExcept order s None → (r : R) → record_of (with_record s n row).store n ≡ Some r → IsFreeBeside order (with_record s n row) changed (Some n) r
+  free_written is held h r has =
+      let records = record_of (with_record s n row).store in
+      let free = free_beside records (others_written s.store n row is) held h in
+      subst (λ ls. AreFreeBeside (order s.keys) changed records s.specs.items ls (Some n) r) (sym (lists_written s n row))
+      (subst (λ z. AreFreeBeside (order s.keys) changed records s.specs.items (lists_of s) (Some n) z) (same_Some row r (sym (record_written s.store n row is) ∙ has)) free)

@@ -5,6 +5,7 @@ ghost use Rattle.any_index.specs.Side.{AreNodesOf};
 ghost use Rattle.container_model.specs.State.{is_handle};
 ghost use Rattle.container_model.specs.Insert.{ban_from, entered_from};
 ghost use Rattle.slot_table.specs.Slots.{first_free, item_at};
+ghost use Rattle.index_set.specs.Indices.{HoldIt};
 ghost use Rattle.index_set.specs.Set.{store_of, keys_of, specs_of, contents, record_of, list_of, lists_of, HasRoom, IsOfSame};
 ghost use Rattle.linked_set.specs.Linked.{handle_of, entries_in, handles_in};
 ghost use Rattle.linked_set.specs.Seen.{IsLinked};
@@ -75,6 +76,25 @@ pub fn first_ban<R, E: Extract<R>>(
 {
     let (index, node) = set.bans(entry, except)?;
     Some((index, handle_at(set, node)))
+}
+
+/// As `first_ban` for a row that is to take the place of a node's: only the indices at which its key is another than that of the
+/// node's row are asked. O(log n) for each of these that is unique.
+pub fn replacement_ban<R, E: Extract<R>>(
+    set: &IndexSet<Entry<R>, ByRow<E>>,
+    slots: &SlotTable<Node>,
+    entry: &Entry<R>,
+    node: Node,
+) -> Option<(usize, Handle)>
+    requires linked { IsLinked E.has_key E.order_of E.hash_of set.now slots.now.items }
+    requires held { HoldIt (lists_of set.now) node }
+    ensures { result ≡ ban_from (E.order_of (keys_of set.now).keys) (entries_in (contents set.now))
+        (handles_in (record_of set.now) (lists_of set.now))
+        (Some (handle_of (record_of set.now) node)) entry.now.row 0 (specs_of set.now) }
+{
+    let changed = set.changed_by(node, entry);
+    let (index, by) = set.bans_changed(entry, Some(node), changed)?;
+    Some((index, handle_at(set, by)))
 }
 
 // Makes room for one more record. Where memory is refused, nothing is changed.

@@ -10,10 +10,11 @@ ghost use Rattle.linked_set.specs.Seen.{seen, IsLinked};
 
 use crate::by_row::ByRow;
 use crate::linked::handle_at;
+use crate::row_changes::changed_rows;
 use container_model::{Entry, Handle};
 use index_set::IndexSet;
 use key_extract::Extract;
-use modify_ops::{Edit, settle_or_leave};
+use modify_ops::{Edit, settle_or_leave_changed};
 use node_store::Node;
 use slot_table::SlotTable;
 
@@ -50,7 +51,8 @@ pub fn change<R: Drop, E: Extract<R>, T: Edit<R>>(
         T.after_apply edit.old r }
 {
     edit.apply(&mut set.get_mut(node).row);
-    let Some((index, by)) = settle_or_leave(set, node) else {
+    let changed = changed_rows(set, node, edit.replaced());
+    let Some((index, by)) = settle_or_leave_changed(set, node, changed) else {
         return Modified::Kept;
     };
     let by = handle_at(set, by);

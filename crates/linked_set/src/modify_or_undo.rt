@@ -9,15 +9,16 @@ ghost use Rattle.container_model.specs.Insert.{ban};
 ghost use Rattle.container_model.specs.Change.{spent, with_replaced, with_row};
 ghost use Rattle.index_set.specs.Indices.{HoldIt};
 ghost use Rattle.index_set.specs.Lists.{ban_from};
-ghost use Rattle.index_set.specs.Set.{store_of, keys_of, specs_of, kind_at, contents, record_of, lists_of, IsSound, IsKeyedBut, IsUniqueExcept};
+ghost use Rattle.index_set.specs.Set.{store_of, keys_of, specs_of, kind_at, contents, record_of, lists_of, IsSound, IsKeyedBut, IsUniqueExcept, IsFreeBeside};
 ghost use Rattle.linked_set.specs.ByRow.{has_by_row, order_by_row, hash_by_row};
 ghost use Rattle.linked_set.specs.Linked.{entries_in, handle_of};
 ghost use Rattle.linked_set.specs.Seen.{seen, IsLinked};
 
 use crate::by_row::ByRow;
 use crate::linked::handle_at;
+use crate::row_changes::changed_rows;
 use container_model::{Entry, Why};
-use index_set::IndexSet;
+use index_set::{Changed, IndexSet};
 use key_extract::Extract;
 use modify_ops::Edit;
 use node_store::Node;
@@ -61,8 +62,9 @@ pub fn change_or_undo<R, E: Extract<R>, T: Edit<R>>(
         (T.after_apply edit.old r) }
 {
     edit.apply(&mut set.get_mut(node).row);
-    let Some(why) = changed_refusal(set, writes, node) else {
-        set.settle(node);
+    let changed = changed_rows(set, node, edit.replaced());
+    let Some(why) = changed_refusal(set, writes, node, changed) else {
+        set.settle_changed(node, changed);
         return None;
     };
     edit.undo(&mut set.get_mut(node).row);
@@ -70,22 +72,26 @@ pub fn change_or_undo<R, E: Extract<R>, T: Edit<R>>(
     Some(why)
 }
 
-// Why a node's record, which was changed, may not stay so after so many writes.
+// Why a node's record, which was changed, may not stay so after so many writes. It has kept its key at all indices but the
+// changed ones.
 fn changed_refusal<R, E: Extract<R>>(
     set: &IndexSet<Entry<R>, ByRow<E>>,
     writes: u64,
     node: Node,
+    changed: Changed,
 ) -> Option<Why>
     requires sound { IsSound (has_by_row E.has_key) set.now }
     requires node { IsNodeOf (store_of set.now) node }
     requires keyed { IsKeyedBut (order_by_row E.order_of) (hash_by_row E.hash_of) set.now node }
     requires unique { IsUniqueExcept (order_by_row E.order_of) set.now (Some node) }
+    requires free { (e : Entry R) → record_of set.now node ≡ Some e →
+        IsFreeBeside (order_by_row E.order_of) set.now changed (Some node) e }
     ensures { (e : Entry R) → record_of set.now node ≡ Some e → result ≡
         option_map_or (λ at. Some (Why.Banned at.0 (handle_of (record_of set.now) at.1)))
         (ban_from (order_by_row E.order_of (keys_of set.now)) (record_of set.now) (lists_of set.now)
         (Some node) e 0 (specs_of set.now)) (cond (writes == 2 ^ 64 - 1) (Some Why.Spent) None) }
 {
-    if let Some((index, by)) = set.bans(set.get(node), Some(node)) {
+    if let Some((index, by)) = set.bans_changed(set.get(node), Some(node), changed) {
         return Some(Why::Banned {
             index,
             by: handle_at(set, by),

@@ -1,11 +1,11 @@
 //! Giving a record another row.
 ghost use Rattle.std.specs.Prelude.{◌≡◌, ◌-◌, ◌^◌, ◌==◌, cond, None, Some, IfOk, IfErr, OnOk, OnErr};
 ghost use Rattle.std.specs.Option.{option_map_or};
-ghost use Rattle.node_store.specs.Store.{IsNodeOf};
 ghost use Rattle.container_model.specs.State.{row_of};
 ghost use Rattle.container_model.specs.Insert.{ban_from};
 ghost use Rattle.container_model.specs.Change.{replace_refusal, with_replaced};
-ghost use Rattle.index_set.specs.Set.{store_of, keys_of, specs_of, contents, record_of, lists_of};
+ghost use Rattle.index_set.specs.Indices.{HoldIt};
+ghost use Rattle.index_set.specs.Set.{keys_of, specs_of, contents, record_of, lists_of};
 ghost use Rattle.linked_set.specs.Linked.{handle_of, entries_in, handles_in};
 ghost use Rattle.linked_set.specs.Seen.{IsLinked};
 
@@ -13,7 +13,7 @@ use crate::container::MultiIndex;
 use container_model::{Entry, Handle, Refused, Why};
 use index_set::IndexSet;
 use key_extract::Extract;
-use linked_set::{ByRow, first_ban, node_at, rewrite};
+use linked_set::{ByRow, node_at, replacement_ban, rewrite};
 use node_store::Node;
 use slot_table::SlotTable;
 
@@ -59,14 +59,14 @@ fn keeps_out<R, E: Extract<R>>(
     entry: &Entry<R>,
 ) -> Option<Why>
     requires linked { IsLinked E.has_key E.order_of E.hash_of set.now slots.now.items }
-    requires node { IsNodeOf (store_of set.now) node }
+    requires held { HoldIt (lists_of set.now) node }
     requires handle { handle_of (record_of set.now) node ≡ entry.now.handle }
     ensures { result ≡ option_map_or (λ at. Some (Why.Banned at.0 at.1))
         (ban_from (E.order_of (keys_of set.now).keys) (entries_in (contents set.now))
         (handles_in (record_of set.now) (lists_of set.now)) (Some entry.now.handle) entry.now.row 0
         (specs_of set.now)) (cond (writes == 2 ^ 64 - 1) (Some Why.Spent) None) }
 {
-    if let Some((index, by)) = first_ban(set, slots, entry, Some(node)) {
+    if let Some((index, by)) = replacement_ban(set, slots, entry, node) {
         return Some(Why::Banned { index, by });
     }
     if writes == u64::MAX {

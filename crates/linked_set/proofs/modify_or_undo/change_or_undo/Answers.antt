@@ -12,7 +12,8 @@ use Rattle.container_model.specs.Insert.{ban}
 use Rattle.container_model.specs.Change.{spent, with_replaced, with_row}
 use Rattle.index_set.specs.Indices.{HoldIt}
 use Rattle.index_set.specs.declared.set.IndexSet.{IndexSet}
-use Rattle.index_set.specs.Set.{IsSound, keys_of, kind_at, specs_of, contents, lists_of, with_record}
+use Rattle.index_set.specs.Set.{IsSound, keys_of, kind_at, specs_of, contents, lists_of, with_record, AgreesBeside}
+use Rattle.index_set.proofs.Kept.{keyed_beside, free_written}
 use Rattle.index_set.proofs.Keys.{but_from}
 use Rattle.index_set.proofs.StaysUnique.{unique_after_write, unique_after_settle}
 use Rattle.index_set.proofs.Written.{lists_written, sound_written, keyed_but_written, record_written, node_written}
@@ -49,39 +50,63 @@ changed_refusal-requires-clause-unique g c =
     unique_after_write (order_by_row g.E.Extract.order_of) set c.requires.linked.sound c.args.node (record { handle = c.get_mut.result.now.handle; row = c.apply.new.row })
     (node_of_all set c.args.node c.requires.linked.sound c.requires.held) c.requires.linked.unique
 
-pub settle-requires-clause-sound : goal.settle-requires-clause-sound
-settle-requires-clause-sound g c = sound_written c.args.set.now c.args.node (record { handle = c.get_mut.result.now.handle; row = c.apply.new.row }) (has_by_row g.E.Extract.has_key) c.requires.linked.sound
+pub settle_changed-requires-clause-sound : goal.settle_changed-requires-clause-sound
+settle_changed-requires-clause-sound g c = sound_written c.args.set.now c.args.node (record { handle = c.get_mut.result.now.handle; row = c.apply.new.row }) (has_by_row g.E.Extract.has_key) c.requires.linked.sound
 
-pub settle-requires-clause-held : goal.settle-requires-clause-held
-settle-requires-clause-held g c = subst (λ ls. HoldIt ls c.args.node) (sym (lists_written c.args.set.now c.args.node (record { handle = c.get_mut.result.now.handle; row = c.apply.new.row }))) c.requires.held
+pub settle_changed-requires-clause-held : goal.settle_changed-requires-clause-held
+settle_changed-requires-clause-held g c = subst (λ ls. HoldIt ls c.args.node) (sym (lists_written c.args.set.now c.args.node (record { handle = c.get_mut.result.now.handle; row = c.apply.new.row }))) c.requires.held
 
-pub settle-requires-clause-keyed : goal.settle-requires-clause-keyed
-settle-requires-clause-keyed g c =
+pub settle_changed-requires-clause-keyed : goal.settle_changed-requires-clause-keyed
+settle_changed-requires-clause-keyed g c =
     let set = c.args.set.now in
     keyed_but_written set c.args.node (record { handle = c.get_mut.result.now.handle; row = c.apply.new.row }) (node_of_all set c.args.node c.requires.linked.sound c.requires.held)
     (order_by_row g.E.Extract.order_of) (hash_by_row g.E.Extract.hash_of)
     (but_from (order_by_row g.E.Extract.order_of) (hash_by_row g.E.Extract.hash_of) set c.args.node c.requires.linked.keyed)
 
+pub changed_rows-changed-requires-clause-sound : goal.changed_rows-changed-requires-clause-sound
+changed_rows-changed-requires-clause-sound g c =
+    sound_written c.args.set.now c.args.node (record { handle = c.get_mut.result.now.handle; row = c.apply.new.row }) (has_by_row g.E.Extract.has_key) c.requires.linked.sound
+
+pub changed_rows-changed-requires-clause-node : goal.changed_rows-changed-requires-clause-node
+changed_rows-changed-requires-clause-node g c =
+    node_written c.args.set.now.store c.args.node (record { handle = c.get_mut.result.now.handle; row = c.apply.new.row }) (node_of_all c.args.set.now c.args.node c.requires.linked.sound c.requires.held)
+
+pub changed_refusal-requires-clause-free : goal.changed_refusal-requires-clause-free
+changed_refusal-requires-clause-free g c =
+    let set = c.args.set.now in
+    let is = node_of_all set c.args.node c.requires.linked.sound c.requires.held in
+    let agrees : AgreesBeside (order_by_row g.E.Extract.order_of) set c.changed_rows-changed.result (record { handle = c.get_mut.result.now.handle; row = c.apply.new.row }) c.get_mut.result.now =
+    record { equal = (c.changed_rows-changed.ensures c.get_mut.result.now (record { handle = c.get_mut.result.now.handle; row = c.apply.new.row }) (λ before kept. c.replaced.ensures.was c.args.edit.now c.get_mut.result.now.row before c.apply.ensures.edit kept) (record_written set.store c.args.node (record { handle = c.get_mut.result.now.handle; row = c.apply.new.row }) is)).equal } in
+    free_written (order_by_row g.E.Extract.order_of) (λ keys index has. on_total (λ (x : Entry _). x.row) (g.met.E.Extract.order_total keys.keys index has)) set c.requires.linked.sound c.args.node c.get_mut.result.now (record { handle = c.get_mut.result.now.handle; row = c.apply.new.row }) c.get_mut.ensures.value c.changed_rows-changed.result agrees is c.requires.held c.requires.linked.unique
+
+pub settle_changed-requires-clause-beside : goal.settle_changed-requires-clause-beside
+settle_changed-requires-clause-beside g c =
+    let set = c.args.set.now in
+    let is = node_of_all set c.args.node c.requires.linked.sound c.requires.held in
+    let agrees : AgreesBeside (order_by_row g.E.Extract.order_of) set c.changed_rows-changed.result (record { handle = c.get_mut.result.now.handle; row = c.apply.new.row }) c.get_mut.result.now =
+    record { equal = (c.changed_rows-changed.ensures c.get_mut.result.now (record { handle = c.get_mut.result.now.handle; row = c.apply.new.row }) (λ before kept. c.replaced.ensures.was c.args.edit.now c.get_mut.result.now.row before c.apply.ensures.edit kept) (record_written set.store c.args.node (record { handle = c.get_mut.result.now.handle; row = c.apply.new.row }) is)).equal } in
+    keyed_beside (order_by_row g.E.Extract.order_of) (λ keys index has. on_total (λ (x : Entry _). x.row) (g.met.E.Extract.order_total keys.keys index has)) set c.requires.linked.sound c.args.node c.get_mut.result.now (record { handle = c.get_mut.result.now.handle; row = c.apply.new.row }) c.get_mut.ensures.value c.changed_rows-changed.result agrees is (hash_by_row g.E.Extract.hash_of) (λ keys index a b. g.met.E.Extract.same_hash keys.keys index a.row b.row) c.requires.linked.keyed
+
 pub returns-in_default-clause-linked : goal.returns-in_default-clause-linked
 returns-in_default-clause-linked g c =
     let set = c.args.set.now in
     let node = c.args.node in
-    let made = c.settle.ensures in
+    let made = c.settle_changed.ensures in
     let is = node_of_all set node c.requires.linked.sound c.requires.held in
     let there = record_written set.store node (record { handle = c.get_mut.result.now.handle; row = c.apply.new.row }) is in
-    let w = changed_set set c.settle.new.self c.args.slots.now.items node c.get_mut.result.now c.apply.new.row c.requires.linked c.requires.held c.get_mut.ensures.value made.contents made.same in
+    let w = changed_set set c.settle_changed.new.self c.args.slots.now.items node c.get_mut.result.now c.apply.new.row c.requires.linked c.requires.held c.get_mut.ensures.value made.contents made.same in
     IsLinked_changed w made.sound made.keyed
     (unique_after_settle (order_by_row g.E.Extract.order_of) (λ keys index has. on_total (λ (x : Entry _). x.row) (g.met.E.Extract.order_total keys.keys index has))
-    (with_record set node (record { handle = c.get_mut.result.now.handle; row = c.apply.new.row })) c.settle.new.self (sound_written set node (record { handle = c.get_mut.result.now.handle; row = c.apply.new.row }) (has_by_row g.E.Extract.has_key) c.requires.linked.sound) made.same node (record { handle = c.get_mut.result.now.handle; row = c.apply.new.row }) there
+    (with_record set node (record { handle = c.get_mut.result.now.handle; row = c.apply.new.row })) c.settle_changed.new.self (sound_written set node (record { handle = c.get_mut.result.now.handle; row = c.apply.new.row }) (has_by_row g.E.Extract.has_key) c.requires.linked.sound) made.same node (record { handle = c.get_mut.result.now.handle; row = c.apply.new.row }) there
     (subst (λ ls. HoldIt ls node) (sym (lists_written set node (record { handle = c.get_mut.result.now.handle; row = c.apply.new.row }))) c.requires.held) made.lists made.contents
     (none_bans _ _ _ (sym (c.changed_refusal.ensures (record { handle = c.get_mut.result.now.handle; row = c.apply.new.row }) there) ∙ c.in_default.is))
     (unique_after_write (order_by_row g.E.Extract.order_of) set c.requires.linked.sound node (record { handle = c.get_mut.result.now.handle; row = c.apply.new.row }) is c.requires.linked.unique))
 
 pub returns-in_default-clause-count : goal.returns-in_default-clause-count
 returns-in_default-clause-count g c =
-    let made = c.settle.ensures in
+    let made = c.settle_changed.ensures in
     count_changed
-    (changed_set c.args.set.now c.settle.new.self c.args.slots.now.items c.args.node c.get_mut.result.now c.apply.new.row c.requires.linked c.requires.held c.get_mut.ensures.value made.contents made.same)
+    (changed_set c.args.set.now c.settle_changed.new.self c.args.slots.now.items c.args.node c.get_mut.result.now c.apply.new.row c.requires.linked c.requires.held c.get_mut.ensures.value made.contents made.same)
 
 pub returns-in_default-clause-why : goal.returns-in_default-clause-why
 returns-in_default-clause-why g c r max had =
@@ -98,8 +123,8 @@ returns-in_default-clause-why g c r max had =
 pub returns-in_default-clause-left : goal.returns-in_default-clause-left
 returns-in_default-clause-left g c r max had =
     let set = c.args.set.now in
-    let made = c.settle.ensures in
-    let w = changed_set set c.settle.new.self c.args.slots.now.items c.args.node c.get_mut.result.now c.apply.new.row c.requires.linked c.requires.held c.get_mut.ensures.value made.contents made.same in
+    let made = c.settle_changed.ensures in
+    let w = changed_set set c.settle_changed.new.self c.args.slots.now.items c.args.node c.get_mut.result.now c.apply.new.row c.requires.linked c.requires.held c.get_mut.ensures.value made.contents made.same in
     let row = c.apply.ensures.row ∙ ap (g.T.Edit.applied c.args.edit.now) (same_Some _ _ (sym (ap (option_map (λ (e : Entry _). e.row)) c.get_mut.ensures.value) ∙ had)) in
     seen_settled w made.lists max c.args.writes ∙ (λ i. with_replaced g.E.Extract.order_of (seen set max c.args.writes) (sym w.own i) (row i))
 

@@ -16,9 +16,10 @@ returns-in_default-clause-why g c =
     let none = none_seen c.self.inside.set c.self.inside.slots.items c.self.invariant.linked c.args.handle (λ n at. c.node_at.ensures.none n c.in_default.is at) in
     sym (ap (λ s. replace_refusal order s c.args.handle c.args.row) (sym c.self.view_is) ∙ refused_stale order (seen c.self.inside.set c.self.inside.max c.self.inside.writes) c.args.handle c.args.row none)
 
-pub keeps_out-requires-clause-node : goal.keeps_out-requires-clause-node
-keeps_out-requires-clause-node g c =
-    (named c.self.inside.set c.self.inside.slots.items c.self.invariant.linked c.args.handle c.in-Some.node (c.node_at.ensures.found c.in-Some.node c.in-Some.is)).node
+pub keeps_out-requires-clause-held : goal.keeps_out-requires-clause-held
+keeps_out-requires-clause-held g c =
+    let name = named c.self.inside.set c.self.inside.slots.items c.self.invariant.linked c.args.handle c.in-Some.node (c.node_at.ensures.found c.in-Some.node c.in-Some.is) in
+    held_by_all c.self.inside.set c.self.inside.slots.items c.self.inside.max c.self.inside.writes c.self.invariant c.in-Some.node name.node
 
 pub keeps_out-requires-clause-handle : goal.keeps_out-requires-clause-handle
 keeps_out-requires-clause-handle g c =
