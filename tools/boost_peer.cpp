@@ -1,9 +1,10 @@
-// The calls of `container_bench times` and `times short` on a container of Boost.MultiIndex, with lines of the same form; tools/bench_peer
-// builds it.
+// The calls of `container_bench times`, `times short` and `times indices` on a container of Boost.MultiIndex, with lines of the same form;
+// tools/bench_peer builds it.
 //
 // boost_peer answers [KEY ..]    sums of what insert, find and the short calls answer at 100 records
 // boost_peer times [KEY ..]      the bytes of a record, and the nanoseconds of processor time that each call takes
 // boost_peer short [KEY ..]      the same times of calls by an iterator or a place, and on groups of equal keys
+// boost_peer indices [KEY ..]    the same times of an insertion into a container of one index, by its kind
 //
 // With five KEYs (price id owner id owner-price) each index has an extractor that reads at run time which key it takes, as the keys of
 // container_bench do. Without them the indices have members of the record as keys, fixed at compile time, as Boost.MultiIndex is mostly used.
@@ -267,6 +268,40 @@ static void time_all(Report& report, uint64_t count)
     time_seven<Keys>(report, count);
 }
 
+// A container of one index, by its kind.
+
+template <class Index>
+using Alone = mi::multi_index_container<Record, mi::indexed_by<Index>>;
+
+template <class Kept>
+static bool put_alone(Kept& kept, const Record& record) { return kept.insert(record).second; }
+static bool put_alone(Alone<mi::sequenced<>>& kept, const Record& record) { return kept.push_back(record).second; }
+static bool put_alone(Alone<mi::random_access<>>& kept, const Record& record) { return kept.push_back(record).second; }
+
+template <class Index>
+static void time_alone(Report& report, const char* name, uint64_t count)
+{
+    Alone<Index> kept;
+    report.time(name, count, [&] {
+        uint64_t met = 0;
+        for (uint64_t number = 0; number < count; number++)
+            met += put_alone(kept, nth_record(number, count));
+        return met;
+    });
+}
+
+template <class Keys>
+static void time_indices(Report& report, uint64_t count)
+{
+    time_alone<mi::sequenced<>>(report, "insert, alone: sequenced", count);
+    time_alone<mi::random_access<>>(report, "insert, alone: random access", count);
+    time_alone<mi::ordered_unique<typename Keys::Id>>(report, "insert, alone: ordered, unique", count);
+    time_alone<mi::ordered_non_unique<typename Keys::OwnerAndPrice, typename Keys::Order>>(report, "insert, alone: ordered, two parts", count);
+    time_alone<mi::ranked_non_unique<typename Keys::Price>>(report, "insert, alone: ranked", count);
+    time_alone<mi::hashed_unique<typename Keys::HashedId, typename Keys::Hash>>(report, "insert, alone: hashed, unique", count);
+    time_alone<mi::hashed_non_unique<typename Keys::Owner, typename Keys::Hash>>(report, "insert, alone: hashed", count);
+}
+
 // Short calls. An iterator of the first index stands for a handle.
 
 // The number of the record after this one in an index, or 0.
@@ -453,6 +488,8 @@ static int run(const std::string& word)
         print_times(time_all<Keys>);
     } else if (word == "short")
         print_times(time_short<Keys>);
+    else if (word == "indices")
+        print_times(time_indices<Keys>);
     else if (word == "answers")
         print_answers<Keys>(100);
     else
