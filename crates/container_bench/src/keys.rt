@@ -120,6 +120,7 @@ impl Extract<Record> for Keys {
     ghost use Rattle.ord_tree.specs.Laws.{cuts_at};
     ghost use Rattle.container_bench.specs.Keys.{has_key, key_at, numbers, pair_cmp};
     ghost use Rattle.container_bench.specs.Pairs.{pairs_total, same_first};
+    ghost use Rattle.key_extract.specs.Digests.{one_orders, one_cuts};
 
     type Probe = (u64, u64);
 
@@ -136,6 +137,10 @@ impl Extract<Record> for Keys {
     ghost hash_of = { λ keys index a. (numbers (key_at keys index) a).0 };
 
     ghost probe_hash_of = { λ keys index probe. probe.0 };
+
+    ghost digest_of = { λ keys index a. 0 };
+
+    ghost probe_digest_of = { λ keys index probe. 0 };
 
     fn has(&self, index: usize) -> bool {
         self.has_key(index)
@@ -169,6 +174,14 @@ impl Extract<Record> for Keys {
         probe.0
     }
 
+    fn digest(&self, _index: usize, _a: &Record) -> u64 {
+        0
+    }
+
+    fn digest_probe(&self, _index: usize, _probe: &(u64, u64)) -> u64 {
+        0
+    }
+
     ghost order_total = { λ keys index has. on_total (numbers (key_at keys index)) pairs_total };
 
     ghost probe_cuts = { λ keys index probe has fits a b. cuts_at pairs_total probe (numbers (key_at keys index) a) (numbers (key_at keys index) b) };
@@ -180,4 +193,8 @@ impl Extract<Record> for Keys {
     ghost same_hash = { λ keys index a b has e. same_first (numbers (key_at keys index) a) (numbers (key_at keys index) b) e };
 
     ghost whole_hash = { λ keys index a probe has whole e. same_first (numbers (key_at keys index) a) probe e };
+
+    ghost digest_order = { λ keys index has. one_orders (λ a b. pair_cmp (numbers (key_at keys index) a) (numbers (key_at keys index) b)) 0 };
+
+    ghost probe_digest_order = { λ keys index probe has fits. one_cuts (λ a. pair_cmp (numbers (key_at keys index) a) probe) 0 };
 }

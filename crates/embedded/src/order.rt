@@ -39,6 +39,7 @@ impl Extract<Order> for Fields {
     ghost use Rattle.std.proofs.lemmas.Map.Lookups.{exact_unsigned};
     ghost use Rattle.key_extract.specs.Laws.{cuts_at};
     ghost use Rattle.embedded.specs.Fields.{field_of, by_field, to_field};
+    ghost use Rattle.key_extract.specs.Digests.{one_orders, one_cuts};
 
     type Probe = u64;
 
@@ -55,6 +56,10 @@ impl Extract<Order> for Fields {
     ghost hash_of = { λ keys. field_of };
 
     ghost probe_hash_of = { λ keys index probe. probe };
+
+    ghost digest_of = { λ keys index a. 0 };
+
+    ghost probe_digest_of = { λ keys index probe. 0 };
 
     fn has(&self, _index: usize) -> bool {
         true
@@ -88,6 +93,14 @@ impl Extract<Order> for Fields {
         *probe
     }
 
+    fn digest(&self, _index: usize, _a: &Order) -> u64 {
+        0
+    }
+
+    fn digest_probe(&self, _index: usize, _probe: &u64) -> u64 {
+        0
+    }
+
     ghost order_total = { λ keys index has. on_total (field_of index) nat_cmp_total };
 
     ghost probe_cuts = { λ keys index probe has fits a b. cuts_at nat_cmp_total probe (field_of index a) (field_of index b) };
@@ -99,4 +112,8 @@ impl Extract<Order> for Fields {
     ghost same_hash = { λ keys index a b has e. exact_unsigned (field_of index a) (field_of index b) e };
 
     ghost whole_hash = { λ keys index a probe has whole e. exact_unsigned (field_of index a) probe e };
+
+    ghost digest_order = { λ keys index has. one_orders (by_field keys index) 0 };
+
+    ghost probe_digest_order = { λ keys index probe has fits. one_cuts (λ a. to_field keys index a probe) 0 };
 }

@@ -57,6 +57,7 @@ impl<R: Fields> Extract<R> for FieldKeys {
     ghost use Rattle.key_extract.specs.Hashes.{row_hash, probe_hash};
     ghost use Rattle.field_keys.specs.Values.{key_at};
     ghost use Rattle.field_keys.specs.Sought.{sought, whole_length};
+    ghost use Rattle.key_extract.specs.Digests.{one_orders, one_cuts};
 
     type Probe = Search;
 
@@ -73,6 +74,10 @@ impl<R: Fields> Extract<R> for FieldKeys {
     ghost hash_of = { λ keys index a. row_hash (key_at keys index) (R.row_of a) };
 
     ghost probe_hash_of = { λ keys index probe. probe_hash (sought (key_at keys index) probe) };
+
+    ghost digest_of = { λ keys index a. 0 };
+
+    ghost probe_digest_of = { λ keys index probe. 0 };
 
     fn has(&self, index: usize) -> bool {
         1 <= self.parts(index).len()
@@ -106,6 +111,14 @@ impl<R: Fields> Extract<R> for FieldKeys {
         hash_values(self.parts(index), probe.values())
     }
 
+    fn digest(&self, _index: usize, _a: &R) -> u64 {
+        0
+    }
+
+    fn digest_probe(&self, _index: usize, _probe: &Search) -> u64 {
+        0
+    }
+
     ghost order_total = { λ keys index has. on_total R.row_of (keys_total (key_at keys index)) };
 
     ghost probe_cuts = { λ keys index probe has fits a b. probe_cuts_rows (key_at keys index) (sought (key_at keys index) probe) (R.row_of a) (R.row_of b) };
@@ -117,4 +130,8 @@ impl<R: Fields> Extract<R> for FieldKeys {
     ghost same_hash = { λ keys index a b has same. same_rows_hash (key_at keys index) (R.row_of a) (R.row_of b) same };
 
     ghost whole_hash = { λ keys index a probe has whole same. whole_rows_hash (key_at keys index) (R.row_of a) (sought (key_at keys index) probe) (whole_length (key_at keys index) probe whole) same };
+
+    ghost digest_order = { λ keys index has. one_orders (λ a b. key_cmp (key_at keys index) (R.row_of a) (R.row_of b)) 0 };
+
+    ghost probe_digest_order = { λ keys index probe has fits. one_cuts (λ a. probe_cmp (key_at keys index) (R.row_of a) (sought (key_at keys index) probe)) 0 };
 }

@@ -6,6 +6,7 @@ use Rattle.std.specs.List.{AllByRecursion, slice_get}
 use Rattle.std.proofs.lemmas.List.{map-set}
 use Rattle.std.specs.Option.{option_map, is_some}
 use Rattle.std.proofs.lemmas.Option.{slice_get_within}
+use Rattle.node_store.specs.Digest.{no_digest}
 use Rattle.node_store.specs.declared.Node.{Node}
 use Rattle.node_store.specs.declared.Link.{Link}
 use Rattle.node_store.specs.Column.{Column, IsPut, IsNode}
@@ -59,10 +60,10 @@ apart_of front chain back dist =
     record { chain_distinct = q.front; before = (AreApart-append chain back front (AreApart-sym front (chain ++ back) p.apart)).0; after = q.apart }
 
 pub put_hangs : (c d f : Column) (to : ℕ → ℕ) (b : ℕ) (heads : List (Option Node)) (xs : List Node) (n : Node) (hash : ℕ) (head up : Option Node) (at : Focus c to 0 b b heads xs) → IsDistinct xs → Lacks xs n → to hash ≡ b → head ≡ get_or heads b None → IsBefore at.chain n up
-    → IsPut c d n (record { a = None; b = head; up = up; tag = hash; height = 0 }) → SetsPrev (untagged d) (untagged f) head (Some n) → KeepsTags d f → KeepsOtherNodes d f head → Hangs f to 0 (set heads b (Some n)) (at.front ++ (n ∷ at.chain ++ at.back))
+    → IsPut c d n (record { a = None; b = head; up = up; tag = hash; height = 0; digest = no_digest }) → SetsPrev (untagged d) (untagged f) head (Some n) → KeepsTags d f → KeepsOtherNodes d f head → Hangs f to 0 (set heads b (Some n)) (at.front ++ (n ∷ at.chain ++ at.back))
 put_hangs c d f to b heads xs n hash head up at dist new bucket first before put prev tags same =
     let e : head ≡ first_or at.chain None = first ∙ at.here.first in
-    let put2 : IsPut (untagged c) (untagged d) n (chain_link None (first_or at.chain None)) = subst (λ o. IsPut (untagged c) (untagged d) n (chain_link None o)) e (put_untagged c d n (record { a = None; b = head; up = up; tag = hash; height = 0 }) put) in
+    let put2 : IsPut (untagged c) (untagged d) n (chain_link None (first_or at.chain None)) = subst (λ o. IsPut (untagged c) (untagged d) n (chain_link None o)) e (put_untagged c d n (record { a = None; b = head; up = up; tag = hash; height = 0; digest = no_digest }) put) in
     let prev2 = subst (λ o. SetsPrev (untagged d) (untagged f) o (Some n)) e prev in
     let same2 = subst (λ o. KeepsOtherNodes d f o) e same in
     let lacks = subst (λ z. Lacks z n) at.whole new in
@@ -78,8 +79,8 @@ put_hangs c d f to b heads xs n hash head up at dist new bucket first before put
       first = refl;
       runs = Runs-insert (untagged c) (untagged d) (untagged d) (untagged f) [] n at.chain p.chain_distinct lacks_chain put2 (SetsNext-none (untagged d) (Some n)) prev2 at.here.runs;
       members = (
-        ap (option_map to) (tags n ∙ tag_put c d n (record { a = None; b = head; up = up; tag = hash; height = 0 }) put) ∙ ap Some bucket,
-        in_tags c f to b n at.chain (λ m ne. tags m ∙ tag_other c d n m (record { a = None; b = head; up = up; tag = hash; height = 0 }) put ne) lacks_chain at.here.members,
+        ap (option_map to) (tags n ∙ tag_put c d n (record { a = None; b = head; up = up; tag = hash; height = 0; digest = no_digest }) put) ∙ ap Some bucket,
+        in_tags c f to b n at.chain (λ m ne. tags m ∙ tag_other c d n m (record { a = None; b = head; up = up; tag = hash; height = 0; digest = no_digest }) put ne) lacks_chain at.here.members,
       );
       rising = rising_before f n at.chain up (ap (option_and_then (λ (l : Link). l.up)) (same2 n (Lacks-first at.chain n lacks_chain) ∙ put.at)) before;
     })
@@ -193,7 +194,7 @@ old_put cs ds i j b head n hash front back h puts whole new bucket tag kept is =
 
 module _ (cs ds : ℕ → Column) (d : Column) (i j : HashIndex) (n : Node) (b : ℕ) (h : IsSound cs i) (within : b < i.buckets.len) where
   module _ (hash : ℕ) (head up : Option Node) (begins : Head) (puts : PutsHead i j b begins) (begin : first_in begins ≡ Some n) (right : IsRight (ds i.col) begins) (plain : begins.mark < 192) (len : j.len ≡ i.len + 1) (load : j.len * 4 ≤ j.buckets.len) (new : Lacks (spelled cs i) n) (bucket : b ≡ leads_to i hash) (first : head ≡ get_or (heads_of i) b None) (before : IsBefore (rest_of cs i (get_or (heads_of i) b None)) n up)
-      (put : IsPut (cs i.col) d n (record { a = None; b = head; up = up; tag = hash; height = 0 })) (prev : SetsPrev (untagged d) (untagged (ds i.col)) head (Some n)) (tags : KeepsTags d (ds i.col)) (same : KeepsOtherNodes d (ds i.col) head) where
+      (put : IsPut (cs i.col) d n (record { a = None; b = head; up = up; tag = hash; height = 0; digest = no_digest })) (prev : SetsPrev (untagged d) (untagged (ds i.col)) head (Some n)) (tags : KeepsTags d (ds i.col)) (same : KeepsOtherNodes d (ds i.col) head) where
     put_both : IsSound ds j × IsPermutation (n ∷ spelled cs i) (spelled ds j)
     put_both =
         let f = focus_of cs i (spelled cs i) b within h in
@@ -202,7 +203,7 @@ module _ (cs ds : ℕ → Column) (d : Column) (i j : HashIndex) (n : Node) (b :
         let here : (m : Node) → head ≡ Some m → IsIn (cs i.col) (leads_to i) b m = λ m e. first_has (IsIn (cs i.col) (leads_to i) b) f.chain m f.here.members (sym f.here.first ∙ (sym first ∙ e)) in
         let are = right_put cs ds i j b begins (λ m. m ≢ n) h puts (others_of (spelled cs i) n new)
         (λ k m ne other is. same m (λ e. ne (one_chain (cs i.col) (leads_to i) b k m (here m e) is)) ∙ put.others m other) right in
-        let link : Link = record { a = None; b = head; up = up; tag = hash; height = 0 } in
+        let link : Link = record { a = None; b = head; up = up; tag = hash; height = 0; digest = no_digest } in
         let old = old_put cs ds i j b begins n hash f.front (f.chain ++ f.back) h puts f.whole new (sym bucket) (tags n ∙ tag_put (cs i.col) d n link put) (λ m ne. tags m ∙ tag_other (cs i.col) d n m link put ne) (λ says m begin. absurd (omega (arith, says, plain))) in
         let dist = Distinct-insert f.front n (f.chain ++ f.back) (subst IsDistinct f.whole h.distinct) (subst (λ z. Lacks z n) f.whole new) in
         let s = Spells_from ds j ys hangs dist (len ∙ (ap (λ k. k + 1) (h.len ∙ ap length f.whole) ∙ length-insert f.front n (f.chain ++ f.back))) load are old in
@@ -402,10 +403,10 @@ behind_same cs i b first by link h within began stands is m lacks g f e d same_u
     ∙ (same_prev m (λ e. Lacks-first k.after m l.1 (sym near.b ∙ e)) ∙ same_next m (λ e. let same : by ≡ m = cc in l.0 (sym same)))
 
 behind_hangs : (c d e f g : Column) (to : ℕ → ℕ) (b : ℕ) (heads : List (Option Node)) (xs : List Node) (n first by : Node) (hash : ℕ) (after up : Option Node) (us qs : List Node) (at : Focus c to 0 b b heads xs) → IsDistinct xs → Lacks xs n → to hash ≡ b → at.chain ≡ us ++ qs → last_or us None ≡ Some by → first_or us None ≡ Some first → after ≡ first_or qs None → ((m : Node) → up ≡ Some m → (last_or (us ++ n ∷ qs) None ≡ Some m) × Rises (us ++ n ∷ qs))
-    → IsPut c d n (record { a = Some by; b = after; up = None; tag = hash; height = 0 }) → SetsNext (untagged d) (untagged e) (Some by) (Some n) → KeepsOtherNodes d e (Some by) → SetsPrev (untagged e) (untagged f) after (Some n) → KeepsOtherNodes e f after
+    → IsPut c d n (record { a = Some by; b = after; up = None; tag = hash; height = 0; digest = no_digest }) → SetsNext (untagged d) (untagged e) (Some by) (Some n) → KeepsOtherNodes d e (Some by) → SetsPrev (untagged e) (untagged f) after (Some n) → KeepsOtherNodes e f after
     → ((m : Node) → untagged g m ≡ untagged f m) → KeepsOtherNodes f g (Some first) → up_at g first ≡ up → KeepsTags d g → Hangs g to 0 (set heads b (Some first)) (at.front ++ ((us ++ n ∷ qs) ++ at.back))
 behind_hangs c d e f g to b heads xs n first by hash after up us qs at dist new bucket is last start near rises put next same_next prev same_prev links same_up up_is tags =
-    let link : Link = record { a = Some by; b = after; up = None; tag = hash; height = 0 } in
+    let link : Link = record { a = Some by; b = after; up = None; tag = hash; height = 0; digest = no_digest } in
     let put2 : IsPut (untagged c) (untagged d) n (chain_link (last_or us None) (first_or qs None)) = subst (λ o. IsPut (untagged c) (untagged d) n (chain_link o (first_or qs None))) (sym last) (subst (λ o. IsPut (untagged c) (untagged d) n (chain_link (Some by) o)) near (put_untagged c d n link put)) in
     let next2 = subst (λ o. SetsNext (untagged d) (untagged e) o (Some n)) (sym last) next in
     let prev2 = subst (λ o. SetsPrev (untagged e) (untagged f) o (Some n)) near prev in
@@ -437,7 +438,7 @@ behind_hangs c d e f g to b heads xs n first by hash after up us qs at dist new 
     })
 
 module _ (cs ds : ℕ → Column) (d e f : Column) (i j : HashIndex) (n first by : Node) (b hash : ℕ) (link : Link) (up : Option Node) (head : Head) (h : IsSound cs i) (within : b < i.buckets.len) (puts : PutsHead i j b head) (begin : first_in head ≡ Some first) (followed : 128 ≤ head.mark) (len : j.len ≡ i.len + 1) (load : j.len * 4 ≤ j.buckets.len) (new : Lacks (spelled cs i) n) (bucket : b ≡ leads_to i hash)
-    (began : get_or (heads_of i) b None ≡ Some first) (place : IsBehind (rest_of cs i (Some first)) by n up) (is : cs i.col by ≡ Some link) (put : IsPut (cs i.col) d n (record { a = Some by; b = link.b; up = None; tag = hash; height = 0 })) (next : SetsNext (untagged d) (untagged e) (Some by) (Some n)) (same_next : KeepsOtherNodes d e (Some by)) (prev : SetsPrev (untagged e) (untagged f) link.b (Some n)) (same_prev : KeepsOtherNodes e f link.b)
+    (began : get_or (heads_of i) b None ≡ Some first) (place : IsBehind (rest_of cs i (Some first)) by n up) (is : cs i.col by ≡ Some link) (put : IsPut (cs i.col) d n (record { a = Some by; b = link.b; up = None; tag = hash; height = 0; digest = no_digest })) (next : SetsNext (untagged d) (untagged e) (Some by) (Some n)) (same_next : KeepsOtherNodes d e (Some by)) (prev : SetsPrev (untagged e) (untagged f) link.b (Some n)) (same_prev : KeepsOtherNodes e f link.b)
     (links : (m : Node) → untagged (ds i.col) m ≡ untagged f m) (same_up : KeepsOtherNodes f (ds i.col) (Some first)) (up_is : up_at (ds i.col) first ≡ up) (tags : KeepsTags d (ds i.col)) (oldest : 192 ≤ head.mark → IsOldestOf (cs i.col) (spelled cs i) first) (later : tag_at (cs i.col) first ≡ Some hash → number_of first < number_of n) where
   behind_both : IsSound ds j × IsPermutation (n ∷ spelled cs i) (spelled ds j)
   behind_both =
@@ -452,7 +453,7 @@ module _ (cs ds : ℕ → Column) (d e f : Column) (i j : HashIndex) (n first by
       let start : first_or us None ≡ Some first = first_front k.front by qs ∙ (sym (ap (λ z. first_or z None) k.is) ∙ (sym at.here.first ∙ began)) in
       let near = neighbours c k.front by qs link (subst (λ z. Runs (untagged c) None z None) k.is at.here.runs) is in
       let members = All-split (IsIn c (leads_to i) b) k.front (by ∷ qs) (subst (AllByRecursion (IsIn c (leads_to i) b)) k.is at.here.members) in
-      let between : Link = record { a = Some by; b = link.b; up = None; tag = hash; height = 0 } in
+      let between : Link = record { a = Some by; b = link.b; up = None; tag = hash; height = 0; digest = no_digest } in
       let front = at.front ++ us in
       let back = qs ++ at.back in
       let ys : List Node = front ++ n ∷ back in

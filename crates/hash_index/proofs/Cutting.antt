@@ -4,6 +4,7 @@ use Rattle.std.specs.Prelude.{filter}
 use Rattle.std.specs.List.{AllByRecursion}
 use Rattle.std.proofs.lemmas.List.{append-nil}
 use Rattle.std.proofs.lemmas.List.Elements.{filter-append}
+use Rattle.node_store.specs.Digest.{no_digest}
 use Rattle.node_store.specs.declared.Node.{Node}
 use Rattle.node_store.specs.declared.Link.{Link}
 use Rattle.node_store.specs.Column.{Column, IsPut, KeepsNodes}
@@ -35,11 +36,11 @@ last_node c chain xs h = λ m e.
     let r = EndsWith-last xs m (sym h.last ∙ e) in
     tagged_node c m (Runs-node (untagged c) None r.front m [] None (subst (λ z. Runs (untagged c) None z None) r.is h.runs))
 
-module _ (c d f : Column) (last : Option Node) (n : Node) (hash : ℕ) (put : IsPut c d n (record { a = last; b = None; up = None; tag = hash; height = 0 })) (next : SetsNext (untagged d) (untagged f) last (Some n)) where
+module _ (c d f : Column) (last : Option Node) (n : Node) (hash : ℕ) (put : IsPut c d n (record { a = last; b = None; up = None; tag = hash; height = 0; digest = no_digest })) (next : SetsNext (untagged d) (untagged f) last (Some n)) where
   pub append_runs : (xs : List Node) → last ≡ last_or xs None → IsDistinct (xs ++ n ∷ []) → Runs (untagged c) None xs None → Runs (untagged f) None (xs ++ n ∷ []) None
   append_runs xs is dist runs =
       let lacks = EndsWith-lacks xs n dist in
-      let put2 = put_untagged c d n (record { a = last; b = None; up = None; tag = hash; height = 0 }) put in
+      let put2 = put_untagged c d n (record { a = last; b = None; up = None; tag = hash; height = 0; digest = no_digest }) put in
       let kept = Runs-same (untagged c) (untagged d) None xs None (IsSameAt-others (untagged c) (untagged d) n put2.others xs lacks) runs in
       let front = next.runs xs None None (IsDistinct-parts xs (n ∷ []) dist).front is kept in
       let apart : last ≢ Some n = λ e. Lacks-last xs n lacks (sym is ∙ e) in

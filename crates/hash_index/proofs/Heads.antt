@@ -4,6 +4,7 @@ use Rattle.std.specs.List.{AllByRecursion, slice_get}
 use Rattle.std.proofs.lemmas.Option.{slice_get_within, slice_get-map, get_or_from_slice_get}
 use Rattle.std.specs.Option.{option_map, is_some}
 use Rattle.std.proofs.lemmas.Bool.{ne_eqb}
+use Rattle.node_store.specs.Digest.{no_digest}
 use Rattle.node_store.specs.declared.Node.{Node}
 use Rattle.node_store.specs.declared.Link.{Link}
 use Rattle.node_store.specs.Column.{Column}
@@ -78,10 +79,10 @@ pub right_none : (c : Column) (h : Head) → first_in h ≡ None → IsRight c h
 right_none c h none = λ alone n l first at. cc
 
 -- the head of a node that was put first
-pub right_new : (c : Column) (h : Head) (n : Node) (hash : ℕ) (after up : Option Node) (followed : Bool) → first_in h ≡ Some n → h.mark ≡ hash / 2 ^ 58 + cond followed 128 64 → followed ≡ is_some after → c n ≡ Some (record { a = None; b = after; up = up; tag = hash; height = 0 }) → IsRight c h
+pub right_new : (c : Column) (h : Head) (n : Node) (hash : ℕ) (after up : Option Node) (followed : Bool) → first_in h ≡ Some n → h.mark ≡ hash / 2 ^ 58 + cond followed 128 64 → followed ≡ is_some after → c n ≡ Some (record { a = None; b = after; up = up; tag = hash; height = 0; digest = no_digest }) → IsRight c h
 right_new c h n hash None up followed begin hint is at = λ alone m l first there.
     let same : m ≡ n = cc in
-    let link : l ≡ record { a = None; b = None; up = up; tag = hash; height = 0 } = cc in
+    let link : l ≡ record { a = None; b = None; up = up; tag = hash; height = 0; digest = no_digest } = cc in
     (ap (λ (k : Link). k.b) link, hint ∙ (ap (λ b. hash / 2 ^ 58 + cond b 128 64) is ∙ ap (λ k. k / 2 ^ 58 + 64) (sym (ap (λ (k : Link). k.tag) link))))
 right_new c h n hash (Some o) up followed begin hint is at = λ alone m l first there.
     let far : h.mark ≡ hash / 2 ^ 58 + 128 = hint ∙ ap (λ b. hash / 2 ^ 58 + cond b 128 64) is in

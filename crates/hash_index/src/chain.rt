@@ -11,7 +11,7 @@ ghost use Rattle.hash_index.specs.Chains.{untagged, tag_at, KeepsTags, KeepsOthe
 ghost use Rattle.hash_index.specs.Rising.{up_at, KeepsUps, IsRising};
 ghost use Rattle.hash_index.specs.Split.{Builds};
 
-use node_store::{Link, Node, NodeStore};
+use node_store::{Digest, Link, Node, NodeStore};
 
 // Makes `next` follow the node `at`, if there is one.
 pub(crate) fn set_next<R>(
@@ -136,6 +136,7 @@ impl Chain {
             up: None,
             tag: hash,
             height: 0,
+            digest: Digest::ZERO,
         };
         store.set_link(n, col, link);
         set_next(store, col, self.last, Some(n));

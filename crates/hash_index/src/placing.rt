@@ -17,7 +17,7 @@ ghost use Rattle.hash_index.specs.Walks.{rest_of};
 use crate::HashIndex;
 use crate::chain::{set_next, set_prev, set_up};
 use crate::head::Head;
-use node_store::{Link, Node, NodeStore};
+use node_store::{Digest, Link, Node, NodeStore};
 
 // How many nodes of a chain that rises are passed, from the last on, to put one behind another so that it still does.
 const STEPS: usize = 8;
@@ -187,6 +187,7 @@ impl HashIndex {
             up,
             tag: hash,
             height: 0,
+            digest: Digest::ZERO,
         };
         store.set_link(n, self.col, link);
         set_prev(store, self.col, head, Some(n));
@@ -234,6 +235,7 @@ impl HashIndex {
             up: None,
             tag: hash,
             height: 0,
+            digest: Digest::ZERO,
         };
         store.set_link(n, self.col, between);
         set_next(store, self.col, Some(at), Some(n));

@@ -22,6 +22,7 @@ impl<T> Extract<Keyed<T>> for ByKey {
     ghost use Rattle.std.proofs.lemmas.Map.Lookups.{exact_unsigned};
     ghost use Rattle.key_extract.specs.Laws.{cuts_at};
     ghost use Rattle.index_tests.specs.Keys.{by_key};
+    ghost use Rattle.key_extract.specs.Digests.{one_orders, one_cuts};
 
     type Probe = u64;
 
@@ -38,6 +39,10 @@ impl<T> Extract<Keyed<T>> for ByKey {
     ghost hash_of = { λ keys index a. a.key / 3 };
 
     ghost probe_hash_of = { λ keys index probe. probe / 3 };
+
+    ghost digest_of = { λ keys index a. 0 };
+
+    ghost probe_digest_of = { λ keys index probe. 0 };
 
     fn has(&self, _index: usize) -> bool {
         true
@@ -71,6 +76,14 @@ impl<T> Extract<Keyed<T>> for ByKey {
         *probe / 3
     }
 
+    fn digest(&self, _index: usize, _a: &Keyed<T>) -> u64 {
+        0
+    }
+
+    fn digest_probe(&self, _index: usize, _probe: &u64) -> u64 {
+        0
+    }
+
     ghost order_total = { λ keys index has. on_total (λ a. a.key) nat_cmp_total };
 
     ghost probe_cuts = { λ keys index probe has fits x y h. cuts_at nat_cmp_total probe x.key y.key h };
@@ -82,4 +95,8 @@ impl<T> Extract<Keyed<T>> for ByKey {
     ghost same_hash = { λ keys index a b has e. ap (λ key. key / 3) (exact_unsigned a.key b.key e) };
 
     ghost whole_hash = { λ keys index a probe has whole e. ap (λ key. key / 3) (exact_unsigned a.key probe e) };
+
+    ghost digest_order = { λ keys index has. one_orders (by_key) 0 };
+
+    ghost probe_digest_order = { λ keys index probe has fits. one_cuts (λ a. nat_cmp a.key probe) 0 };
 }

@@ -36,6 +36,7 @@ impl Extract<u64> for Numbers {
     ghost use Rattle.std.specs.Ordering.{nat_cmp};
     ghost use Rattle.std.proofs.lemmas.Cmp.{nat_cmp_total, tied_back};
     ghost use Rattle.key_extract.specs.Laws.{cuts_at};
+    ghost use Rattle.key_extract.specs.Digests.{one_orders, one_cuts};
 
     type Probe = u64;
 
@@ -52,6 +53,10 @@ impl Extract<u64> for Numbers {
     ghost hash_of = { λ keys index a. 0 };
 
     ghost probe_hash_of = { λ keys index probe. 0 };
+
+    ghost digest_of = { λ keys index a. 0 };
+
+    ghost probe_digest_of = { λ keys index probe. 0 };
 
     fn has(&self, _index: usize) -> bool {
         true
@@ -86,6 +91,14 @@ impl Extract<u64> for Numbers {
         0
     }
 
+    fn digest(&self, _index: usize, _a: &u64) -> u64 {
+        0
+    }
+
+    fn digest_probe(&self, _index: usize, _probe: &u64) -> u64 {
+        0
+    }
+
     ghost order_total = { λ keys index has. nat_cmp_total };
 
     ghost probe_cuts = { λ keys index probe has fits. cuts_at nat_cmp_total probe };
@@ -97,6 +110,10 @@ impl Extract<u64> for Numbers {
     ghost same_hash = { λ keys index a b has e. refl };
 
     ghost whole_hash = { λ keys index a probe has whole e. refl };
+
+    ghost digest_order = { λ keys index has. one_orders (nat_cmp) 0 };
+
+    ghost probe_digest_order = { λ keys index probe has fits. one_cuts (λ a. nat_cmp a probe) 0 };
 }
 
 /// Where a thousand numbers are put in, as they come.

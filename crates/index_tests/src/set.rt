@@ -23,6 +23,7 @@ impl Extract<u64> for OneKey {
     ghost use Rattle.std.proofs.Math.Nat.{le_refl};
     ghost use Rattle.std.specs.Ordering.{ordering_index};
     ghost use Rattle.std.specs.declared.cmp.Ordering.TheVariants.{Equal};
+    ghost use Rattle.key_extract.specs.Digests.{one_orders, one_cuts};
 
     type Probe = ();
 
@@ -39,6 +40,10 @@ impl Extract<u64> for OneKey {
     ghost hash_of = { λ keys index a. 0 };
 
     ghost probe_hash_of = { λ keys index probe. 0 };
+
+    ghost digest_of = { λ keys index a. 0 };
+
+    ghost probe_digest_of = { λ keys index probe. 0 };
 
     fn has(&self, _index: usize) -> bool {
         true
@@ -72,6 +77,14 @@ impl Extract<u64> for OneKey {
         0
     }
 
+    fn digest(&self, _index: usize, _a: &u64) -> u64 {
+        0
+    }
+
+    fn digest_probe(&self, _index: usize, _probe: &()) -> u64 {
+        0
+    }
+
     ghost order_total = { λ keys index has. record { antisymm = λ x y. refl; trans = λ x y z a b. a; congr = λ x y z e. refl } };
 
     ghost probe_cuts = { λ keys index probe has fits x y h. le_refl (ordering_index Equal) };
@@ -83,6 +96,10 @@ impl Extract<u64> for OneKey {
     ghost same_hash = { λ keys index a b has e. refl };
 
     ghost whole_hash = { λ keys index a probe has whole e. refl };
+
+    ghost digest_order = { λ keys index has. one_orders (λ a b. Equal) 0 };
+
+    ghost probe_digest_order = { λ keys index probe has fits. one_cuts (λ a. Equal) 0 };
 }
 
 // Puts a record into each index, unless a unique one has its key.

@@ -3,7 +3,7 @@ ghost use Rattle.std.specs.Prelude.{◌≡◌, ◌<◌, ◌≤◌};
 ghost use Rattle.node_store.specs.Store.{IsNodeOf, number_of, width_of};
 ghost use Rattle.node_store.specs.ByNode.{contents};
 
-use node_store::{BLOCK_BYTES, COLUMNS, LEAST_BLOCK_BYTES, Link, Node, NodeStore};
+use node_store::{BLOCK_BYTES, COLUMNS, Digest, LEAST_BLOCK_BYTES, Link, Node, NodeStore};
 use std::alloc::Global;
 use std::mem::size_of;
 use std::thread;
@@ -62,7 +62,7 @@ pub(crate) fn links_are_kept_by_column(alloc: Global) -> Option<bool> {
 
 // Whether the links are the same.
 fn are_same(a: Link, b: Link) -> bool {
-    a.a == b.a && a.b == b.b && a.up == b.up && a.tag == b.tag && a.height == b.height
+    a.a == b.a && a.b == b.b && a.up == b.up && a.tag == b.tag && a.height == b.height && a.digest == b.digest
 }
 
 // Whether the first so many columns of a node are empty but for the last, which has these links.
@@ -107,6 +107,7 @@ fn keep_last(store: &mut NodeStore<u32>, a: Node, b: Node, columns: usize) -> bo
         up: Some(b),
         tag: u64::MAX,
         height: 7,
+        digest: Digest::of(u64::MAX),
     };
     let of_b = Link {
         a: Some(a),

@@ -17,6 +17,7 @@ impl Extract<u64> for Tens {
     ghost use Rattle.std.proofs.lemmas.Map.Lookups.{exact_unsigned};
     ghost use Rattle.key_extract.specs.Laws.{cuts_at};
     ghost use Rattle.index_tests.specs.Tens.{has_tens, by_tens, hash_of_tens};
+    ghost use Rattle.key_extract.specs.Digests.{one_orders, one_cuts};
 
     type Probe = u64;
 
@@ -33,6 +34,10 @@ impl Extract<u64> for Tens {
     ghost hash_of = { λ keys index a. hash_of_tens a };
 
     ghost probe_hash_of = { λ keys index probe. hash_of_tens probe };
+
+    ghost digest_of = { λ keys index a. 0 };
+
+    ghost probe_digest_of = { λ keys index probe. 0 };
 
     fn has(&self, index: usize) -> bool {
         index < self.keyed
@@ -66,6 +71,14 @@ impl Extract<u64> for Tens {
         *probe / 10 / 3
     }
 
+    fn digest(&self, _index: usize, _a: &u64) -> u64 {
+        0
+    }
+
+    fn digest_probe(&self, _index: usize, _probe: &u64) -> u64 {
+        0
+    }
+
     ghost order_total = { λ keys index has. on_total (λ a. a / 10) nat_cmp_total };
 
     ghost probe_cuts = { λ keys index probe has fits x y h. cuts_at nat_cmp_total (probe / 10) (x / 10) (y / 10) h };
@@ -77,4 +90,8 @@ impl Extract<u64> for Tens {
     ghost same_hash = { λ keys index a b has e. ap (λ ten. ten / 3) (exact_unsigned (a / 10) (b / 10) e) };
 
     ghost whole_hash = { λ keys index a probe has whole e. ap (λ ten. ten / 3) (exact_unsigned (a / 10) (probe / 10) e) };
+
+    ghost digest_order = { λ keys index has. one_orders (by_tens) 0 };
+
+    ghost probe_digest_order = { λ keys index probe has fits. one_cuts (λ a. by_tens a probe) 0 };
 }

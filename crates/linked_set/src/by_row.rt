@@ -13,6 +13,7 @@ pub struct ByRow<E> {
 
 impl<R, E: Extract<R>> Extract<Entry<R>> for ByRow<E> {
     ghost use Rattle.std.proofs.lemmas.Cmp.{on_total};
+    ghost use Rattle.key_extract.specs.Digests.{cuts_on};
     ghost use Rattle.container_model.specs.declared.handle.Entry.{Entry};
 
     type Probe = E::Probe;
@@ -30,6 +31,10 @@ impl<R, E: Extract<R>> Extract<Entry<R>> for ByRow<E> {
     ghost hash_of = { λ by index a. E.hash_of by.keys index a.row };
 
     ghost probe_hash_of = { λ by index probe. E.probe_hash_of by.keys index probe };
+
+    ghost digest_of = { λ by index a. E.digest_of by.keys index a.row };
+
+    ghost probe_digest_of = { λ by index probe. E.probe_digest_of by.keys index probe };
 
     fn has(&self, index: usize) -> bool {
         self.keys.has(index)
@@ -63,6 +68,14 @@ impl<R, E: Extract<R>> Extract<Entry<R>> for ByRow<E> {
         self.keys.hash_probe(index, probe)
     }
 
+    fn digest(&self, index: usize, a: &Entry<R>) -> u64 {
+        self.keys.digest(index, &a.row)
+    }
+
+    fn digest_probe(&self, index: usize, probe: &E::Probe) -> u64 {
+        self.keys.digest_probe(index, probe)
+    }
+
     ghost order_total = { λ by index has. on_total (λ (e : Entry R). e.row) (E.order_total by.keys index has) };
 
     ghost probe_cuts = { λ by index probe has fits a b. E.probe_cuts by.keys index probe has fits a.row b.row };
@@ -74,4 +87,8 @@ impl<R, E: Extract<R>> Extract<Entry<R>> for ByRow<E> {
     ghost same_hash = { λ by index a b. E.same_hash by.keys index a.row b.row };
 
     ghost whole_hash = { λ by index a probe. E.whole_hash by.keys index a.row probe };
+
+    ghost digest_order = { λ by index has a b. E.digest_order by.keys index has a.row b.row };
+
+    ghost probe_digest_order = { λ by index probe has fits. cuts_on (λ (e : Entry R). e.row) (E.probe_digest_order by.keys index probe has fits) };
 }

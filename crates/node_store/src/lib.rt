@@ -1,7 +1,7 @@
 //! A store of records in heap blocks that never move.
 //!
-//! A node has a record and, in each of the store's columns, links to other nodes with a tag and a height. What the
-//! links mean is for the layers above: the store only keeps them. Every call is O(1) but the store's drop, which
+//! A node has a record and, in each of the store's columns, links to other nodes with a tag, a height and a digest. What
+//! the links mean is for the layers above: the store only keeps them. Every call is O(1) but the store's drop, which
 //! is O(length). `add` allocates one block; no other call allocates.
 #![tactic(auto)]
 
@@ -13,11 +13,13 @@ ghost use Rattle.node_store.specs.Column.{IsNode, IsPut, KeepsOthers};
 ghost use Rattle.node_store.specs.ByNode.{column_of, record_of, contents, AddsNode, RemovesNode};
 
 mod blocks;
+mod digest;
 mod shelf;
 mod shelves;
 mod stored;
 
 use blocks::Place;
+pub use digest::Digest;
 use shelf::{Block, Shelf};
 use shelves::Shelves;
 use std::alloc::Global;
@@ -36,7 +38,7 @@ pub struct Node {
     number: u64,
 }
 
-/// The links of one node in one column, with two values that the layer above keeps there.
+/// The links of one node in one column, with three values that the layer above keeps there.
 #[derive(Clone, Copy)]
 pub struct Link {
     pub a: Option<Node>,
@@ -44,6 +46,7 @@ pub struct Link {
     pub up: Option<Node>,
     pub tag: u64,
     pub height: u8,
+    pub digest: Digest,
 }
 
 /// A record that `add` hands back, since there was no memory for its block.
@@ -129,7 +132,7 @@ impl Eq for Node {
 }
 
 impl Link {
-    /// Links to no node, with tag and height 0.
+    /// Links to no node, with tag, height and digest 0.
     pub fn empty() -> Link
         ensures { result ≡ no_link }
     {
@@ -139,6 +142,7 @@ impl Link {
             up: None,
             tag: 0,
             height: 0,
+            digest: Digest::ZERO,
         }
     }
 }

@@ -1,18 +1,19 @@
 //! Links as a block keeps them.
-ghost use Rattle.std.specs.Prelude.{◌≡◌, Some, None, cond};
+ghost use Rattle.std.specs.Prelude.{◌≡◌, Some, None, cond, not, nat_eq};
+ghost use Rattle.std.specs.Int.Bits.{bit_and};
 ghost use Rattle.node_store.specs.Stored.{link_of};
 
-use crate::{Link, Node};
+use crate::{Digest, Link, Node};
 
 /// Links in which an absent node has a flag in place of a tag of its own, so that the whole is shorter. What a walk
 /// along a chain reads, the tag, the flags and `b`, stands beside the record of a block's first column.
 #[derive(Clone, Copy)]
 pub(crate) struct Stored {
     tag: u64,
+    high: u32,
+    low: u16,
     height: u8,
-    has_a: bool,
-    has_b: bool,
-    has_up: bool,
+    there: u8,
     b: Node,
     a: Node,
     up: Node,
@@ -22,6 +23,25 @@ pub(crate) struct Stored {
 #[derive(Drop)]
 pub(crate) struct Row<const N: usize> {
     pub(crate) row: [Stored; N],
+}
+
+// The bits of `there`.
+const HAS_A: u8 = 1;
+
+const HAS_B: u8 = 2;
+
+const HAS_UP: u8 = 4;
+
+// The bits of those that are there.
+fn flags(a: bool, b: bool, up: bool) -> u8
+    ensures first { nat_eq (bit_and result 1) 0 ≡ not a }
+    ensures second { nat_eq (bit_and result 2) 0 ≡ not b }
+    ensures third { nat_eq (bit_and result 4) 0 ≡ not up }
+{
+    let a = if a { HAS_A } else { 0 };
+    let b = if b { HAS_B } else { 0 };
+    let up = if up { HAS_UP } else { 0 };
+    a | b | up
 }
 
 // The node, where it is there.
@@ -39,10 +59,10 @@ impl Stored {
     {
         Stored {
             tag: link.tag,
+            high: link.digest.high,
+            low: link.digest.low,
             height: link.height,
-            has_a: link.a.is_some(),
-            has_b: link.b.is_some(),
-            has_up: link.up.is_some(),
+            there: flags(link.a.is_some(), link.b.is_some(), link.up.is_some()),
             b: link.b.unwrap_or(filler),
             a: link.a.unwrap_or(filler),
             up: link.up.unwrap_or(filler),
@@ -63,11 +83,15 @@ impl Stored {
         ensures { result ≡ link_of self }
     {
         Link {
-            a: node_if(self.has_a, self.a),
-            b: node_if(self.has_b, self.b),
-            up: node_if(self.has_up, self.up),
+            a: node_if(self.there & HAS_A != 0, self.a),
+            b: node_if(self.there & HAS_B != 0, self.b),
+            up: node_if(self.there & HAS_UP != 0, self.up),
             tag: self.tag,
             height: self.height,
+            digest: Digest {
+                high: self.high,
+                low: self.low,
+            },
         }
     }
 }

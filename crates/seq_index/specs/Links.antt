@@ -1,5 +1,6 @@
 -- What the links of a run of nodes say.
 use Rattle.std.specs.Prelude.{◌≡◌, ◌≢◌, List, [], ◌∷◌, Option, Some, None}
+use Rattle.node_store.specs.Digest.{no_digest}
 use Rattle.node_store.specs.declared.Node.{Node}
 use Rattle.node_store.specs.declared.Link.{Link}
 use Rattle.node_store.specs.Column.{Column, IsNode}
@@ -9,7 +10,7 @@ use Rattle.node_store.specs.Store.{Store, IsNodeOf}
 
 -- the block of a node that stands between these two
 abbrev pub chain_link : Option Node → Option Node → Link
-chain_link before after = record { a = before; b = after; up = None; tag = 0; height = 0 }
+chain_link before after = record { a = before; b = after; up = None; tag = 0; height = 0; digest = no_digest }
 
 -- the nodes are linked to and fro, and their ends lead to `before` and `after`
 abbrev pub Runs : Column → Option Node → List Node → Option Node → Type 0

@@ -14,6 +14,7 @@ impl Extract<u64> for Words {
     ghost use Rattle.std.proofs.lemmas.Cmp.{nat_cmp_total, tied_back};
     ghost use Rattle.ord_tree.specs.Laws.{cuts_at};
     ghost use Rattle.std.proofs.lemmas.Map.Lookups.{exact_unsigned};
+    ghost use Rattle.key_extract.specs.Digests.{one_orders, one_cuts};
 
     type Probe = u64;
 
@@ -30,6 +31,10 @@ impl Extract<u64> for Words {
     ghost hash_of = { λ keys index a. a };
 
     ghost probe_hash_of = { λ keys index probe. probe };
+
+    ghost digest_of = { λ keys index a. 0 };
+
+    ghost probe_digest_of = { λ keys index probe. 0 };
 
     fn has(&self, _index: usize) -> bool {
         true
@@ -63,6 +68,14 @@ impl Extract<u64> for Words {
         *probe
     }
 
+    fn digest(&self, _index: usize, _a: &u64) -> u64 {
+        0
+    }
+
+    fn digest_probe(&self, _index: usize, _probe: &u64) -> u64 {
+        0
+    }
+
     ghost order_total = { λ keys index has. nat_cmp_total };
 
     ghost probe_cuts = { λ keys index probe has fits. cuts_at nat_cmp_total probe };
@@ -74,4 +87,8 @@ impl Extract<u64> for Words {
     ghost same_hash = { λ keys index a b has e. exact_unsigned a b e };
 
     ghost whole_hash = { λ keys index a probe has whole e. exact_unsigned a probe e };
+
+    ghost digest_order = { λ keys index has. one_orders (nat_cmp) 0 };
+
+    ghost probe_digest_order = { λ keys index probe has fits. one_cuts (λ a. nat_cmp a probe) 0 };
 }
