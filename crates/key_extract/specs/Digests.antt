@@ -26,7 +26,7 @@ abbrev pub marks_by : {K R : Type 0} → (K → ℕ → R → ℕ) → (K → �
 marks_by hash_of digest_of keys index a = record { hash = hash_of keys index a; digest = digest_of keys index a }
 
 -- no number is below itself
-none_below : {P : Type 0} (n : ℕ) → n < n → P
+pub none_below : {P : Type 0} (n : ℕ) → n < n → P
 none_below n h = absurd (omega arith)
 
 -- one digest for all keys orders them

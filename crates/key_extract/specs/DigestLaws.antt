@@ -1,0 +1,160 @@
+-- Digests of keys keep the order of keys.
+use Rattle.std.proofs.Common.{◌≡◌, ℕ, zero, suc, ◌+◌, ◌-◌, ◌*◌, ◌^◌, ◌<◌, ◌≤◌, Bool, true, false, cond, List, [], ◌∷◌, length, refl, ap, ◌∙◌, arith, Option, Some, None, ℤ, pos, inl, inr}
+use Rattle.std.specs.Prelude.{slice_get, IsTrue, negsuc, nat_le, ◌&&◌}
+use Rattle.std.specs.Cmp.Lexicographic.{slice_cmp, options_total}
+use Rattle.std.specs.Ordering.{ordering_then, ordering_reverse, int_cmp, nat_cmp}
+use Rattle.std.specs.declared.cmp.Ordering.{Ordering}
+use Rattle.std.specs.declared.cmp.Ordering.TheVariants.{Less, Equal, Greater}
+use Rattle.std.proofs.lemmas.Bool.{cases_lt, cases_order}
+use Rattle.std.proofs.lemmas.Bool.Decides.{nat_tests}
+use Rattle.std.proofs.Math.Nat.{pow-suc, one-le-pow, mul-le-mul_right, suc-mul}
+use Rattle.key_extract.specs.declared.cell.Cell.{Cell}
+use Rattle.key_extract.specs.declared.cell.Cell.TheVariants.{Null, Int, Text, Bool as Truth}
+use Rattle.key_extract.specs.declared.key.Part.{Part}
+use Rattle.key_extract.specs.Cells.{cell_cmp, optional_cell_cmp}
+use Rattle.key_extract.specs.Digests.{OrdersDigests, CutsDigests, none_below, one_cuts}
+use Rattle.key_extract.specs.KeyDigests.{number_place, leading_bytes, cell_digest, optional_digest, part_digest, key_digest, probe_digest}
+use Rattle.key_extract.specs.Keys.{part_cmp, key_cmp, probe_cmp, probe_fits}
+use Rattle.key_extract.specs.Laws.{cells_total, directed_cmp, directed_total}
+
+pub number_place_below : (a : ℤ) → number_place a < 2 ^ 46
+number_place_below (pos n) = omega arith
+number_place_below (negsuc n) = omega arith
+
+less_pos : (m n : ℕ) → m < n → int_cmp (pos m) (pos n) ≡ Less
+less_pos m n h = grind (arith, nat_tests)
+
+less_negsuc : (m n : ℕ) → n < m → int_cmp (negsuc m) (negsuc n) ≡ Less
+less_negsuc m n h = grind (arith, nat_tests)
+
+numbers_order : (a b : ℤ) → number_place a < number_place b → int_cmp a b ≡ Less
+numbers_order (pos m) (pos n) h = less_pos m n (omega arith)
+numbers_order (pos m) (negsuc n) h = absurd (omega arith)
+numbers_order (negsuc m) (pos n) h = refl
+numbers_order (negsuc m) (negsuc n) h = less_negsuc m n (omega arith)
+
+module _ (k byte : ℕ) (bytes : List ℕ) where
+  pub small_byte : byte < 256 → leading_bytes (suc k) (byte ∷ bytes) ≡ byte * 256 ^ k + leading_bytes k bytes
+  small_byte h = grind (arith, nat_tests)
+
+  large_byte : 256 ≤ byte → leading_bytes (suc k) (byte ∷ bytes) ≡ 256 ^ k * 256 - 1
+  large_byte h = grind (arith, nat_tests)
+
+-- a smaller highest digit leaves room for all that follow
+below_next : (a b p r : ℕ) → a < b → r < p → a * p + r < b * p
+below_next a b p r h k = omega (arith, mul-le-mul_right p h, suc-mul a p, k)
+
+pub leading_below : (k : ℕ) (bytes : List ℕ) → leading_bytes k bytes < 256 ^ k
+leading_below zero bytes = omega arith
+leading_below (suc k) [] = omega (arith, one-le-pow (suc k) 256 (omega arith))
+leading_below (suc k) (byte ∷ bytes) = elim (cases_lt byte 256) [
+  | inl small ↦ omega (arith, small_byte k byte bytes small, below_next byte 256 (256 ^ k) (leading_bytes k bytes) small (leading_below k bytes), pow-suc 256 k)
+  | inr large ↦ omega (arith, large_byte k byte bytes large, pow-suc 256 k, one-le-pow k 256 (omega arith))
+]
+
+nat_less : (m n : ℕ) → m < n → nat_cmp m n ≡ Less
+nat_less m n h = grind (arith, nat_tests)
+
+nat_equal : (m n : ℕ) → m ≡ n → nat_cmp m n ≡ Equal
+nat_equal m n h = grind (arith, nat_tests)
+
+then_less : (o p : Ordering) → o ≡ Less → ordering_then o p ≡ Less
+then_less o p h = ap (λ x. ordering_then x p) h
+
+then_next : (o p : Ordering) → o ≡ Equal → p ≡ Less → ordering_then o p ≡ Less
+then_next o p h k = ap (λ x. ordering_then x p) h ∙ k
+
+module _ (k x y : ℕ) (xs ys : List ℕ) where
+  none_after : y < x → leading_bytes (suc k) (x ∷ xs) < leading_bytes (suc k) (y ∷ ys) → ⊥
+  none_after h less = elim (cases_lt x 256) [
+    | inl small ↦ omega (arith, less, small_byte k x xs small, small_byte k y ys (omega (arith, h, small)), below_next y x (256 ^ k) (leading_bytes k ys) h (leading_below k ys))
+    | inr large ↦ omega (arith, less, large_byte k x xs large, leading_below (suc k) (y ∷ ys), pow-suc 256 k)
+  ]
+
+  rest_less : x ≡ y → leading_bytes (suc k) (x ∷ xs) < leading_bytes (suc k) (y ∷ ys) → leading_bytes k xs < leading_bytes k ys
+  rest_less h less = elim (cases_lt x 256) [
+    | inl small ↦ omega (arith, less, small_byte k x xs small, small_byte k y ys (omega (arith, h, small)), ap (λ z. z * 256 ^ k) h)
+    | inr large ↦ absurd (omega (arith, less, large_byte k x xs large, large_byte k y ys (omega (arith, h, large))))
+  ]
+
+texts_order : (k : ℕ) (xs ys : List ℕ) → leading_bytes k xs < leading_bytes k ys → slice_cmp nat_cmp xs ys ≡ Less
+texts_order zero xs ys h = none_below 0 h
+texts_order (suc k) [] [] h = none_below 0 h
+texts_order (suc k) [] (y ∷ ys) h = refl
+texts_order (suc k) (x ∷ xs) [] h = absurd (omega (arith, h))
+texts_order (suc k) (x ∷ xs) (y ∷ ys) h = elim (cases_order x y) [
+  | inl same ↦ then_next (nat_cmp x y) (slice_cmp nat_cmp xs ys) (nat_equal x y same) (texts_order k xs ys (rest_less k x y xs ys same h))
+  | inr apart ↦ elim apart [
+    | inl less ↦ then_less (nat_cmp x y) (slice_cmp nat_cmp xs ys) (nat_less x y less)
+    | inr more ↦ absurd (none_after k x y xs ys more h)
+  ]
+]
+
+six : (bytes : List ℕ) → leading_bytes 6 bytes < 2 ^ 48
+six bytes = leading_below 6 bytes
+
+-- a cell of a smaller digest comes before
+cells_order : (a b : Cell) → cell_digest a < cell_digest b → cell_cmp a b ≡ Less
+cells_order Null Null h = none_below 0 h
+cells_order Null (Int b) h = refl
+cells_order Null (Text b) h = refl
+cells_order Null (Truth b) h = refl
+cells_order (Int a) Null h = absurd (omega (arith, h))
+cells_order (Int a) (Int b) h = numbers_order a b (omega (arith, h))
+cells_order (Int a) (Text b) h = refl
+cells_order (Int a) (Truth b) h = refl
+cells_order (Text a) Null h = absurd (omega (arith, h))
+cells_order (Text a) (Int b) h = absurd (omega (arith, h, number_place_below b))
+cells_order (Text a) (Text b) h = texts_order 6 a b (omega (arith, h))
+cells_order (Text a) (Truth b) h = refl
+cells_order (Truth a) Null h = absurd (omega (arith, h))
+cells_order (Truth false) (Int b) h = absurd (omega (arith, h, number_place_below b))
+cells_order (Truth true) (Int b) h = absurd (omega (arith, h, number_place_below b))
+cells_order (Truth false) (Text b) h = absurd (omega (arith, h, six b))
+cells_order (Truth true) (Text b) h = absurd (omega (arith, h, six b))
+cells_order (Truth false) (Truth false) h = absurd (omega (arith, h))
+cells_order (Truth false) (Truth true) h = refl
+cells_order (Truth true) (Truth false) h = absurd (omega (arith, h))
+cells_order (Truth true) (Truth true) h = absurd (omega (arith, h))
+
+optional_order : (x y : Option Cell) → optional_digest x < optional_digest y → optional_cell_cmp x y ≡ Less
+optional_order None None h = none_below 0 h
+optional_order None (Some b) h = refl
+optional_order (Some a) None h = absurd (omega (arith, h))
+optional_order (Some a) (Some b) h = cells_order a b h
+
+-- either way round
+directed_order : (falling : Bool) (x y : Option Cell) → cond falling (2 ^ 64 - 1 - optional_digest x) (optional_digest x) < cond falling (2 ^ 64 - 1 - optional_digest y) (optional_digest y) → cond falling (ordering_reverse (optional_cell_cmp x y)) (optional_cell_cmp x y) ≡ Less
+directed_order true x y h = ap ordering_reverse ((options_total cells_total).antisymm x y ∙ ap ordering_reverse (optional_order y x (omega (arith, h))))
+directed_order false x y h = optional_order x y h
+
+part_order : (part : Part) (x y : Option Cell) → part_digest part x < part_digest part y → directed_cmp part x y ≡ Less
+part_order part x y h = directed_order part.falling x y h
+
+part_order_back : (part : Part) (x y : Option Cell) → part_digest part y < part_digest part x → directed_cmp part x y ≡ Greater
+part_order_back part x y h = (directed_total part).antisymm x y ∙ ap ordering_reverse (part_order part y x h)
+
+-- a row of a smaller digest comes before
+pub digests_order : (parts : List Part) → OrdersDigests (key_cmp parts) (key_digest parts)
+digests_order [] a b h = none_below 0 h
+digests_order (part ∷ parts) a b h = then_less (part_cmp part a b) (key_cmp parts a b) (part_order part (slice_get a part.column) (slice_get b part.column) h)
+
+then_greater : (o p : Ordering) → o ≡ Greater → ordering_then o p ≡ Greater
+then_greater o p h = ap (λ x. ordering_then x p) h
+
+-- and a row of another digest than that of a probe, which has a cell, stands as its digest does
+pub digests_cut : (parts : List Part) (cells : List Cell) → IsTrue (nat_le 1 (length cells)) → CutsDigests (λ a. probe_cmp parts a cells) (key_digest parts) (probe_digest parts cells)
+digests_cut [] cells some = one_cuts (λ a. Equal) 0
+digests_cut (part ∷ parts) [] some = cc
+digests_cut (part ∷ parts) (cell ∷ cells) some = record {
+  below = λ a h. then_less (directed_cmp part (slice_get a part.column) (Some cell)) (probe_cmp parts a cells) (part_order part (slice_get a part.column) (Some cell) h);
+  above = λ a h. then_greater (directed_cmp part (slice_get a part.column) (Some cell)) (probe_cmp parts a cells) (part_order_back part (slice_get a part.column) (Some cell) h);
+}
+
+first_true : (b c : Bool) → IsTrue (b && c) → IsTrue b
+first_true true c h = refl
+first_true false c h = cc
+
+-- so it is where the probe fits
+pub fitting_cut : (parts : List Part) (cells : List Cell) → IsTrue (probe_fits parts cells) → CutsDigests (λ a. probe_cmp parts a cells) (key_digest parts) (probe_digest parts cells)
+fitting_cut parts cells fits = digests_cut parts cells (first_true (nat_le 1 (length cells)) (nat_le (length cells) (length parts)) fits)
