@@ -13,7 +13,7 @@ use Rattle.key_extract.specs.declared.cell.Cell.TheVariants.{Null, Int, Text, Bo
 use Rattle.key_extract.specs.declared.key.Part.{Part}
 use Rattle.key_extract.specs.Cells.{cell_cmp, optional_cell_cmp}
 use Rattle.key_extract.specs.Digests.{OrdersDigests, CutsDigests, none_below, one_cuts}
-use Rattle.key_extract.specs.KeyDigests.{number_place, leading_bytes, cell_digest, optional_digest, part_digest, key_digest, probe_digest}
+use Rattle.key_extract.specs.KeyDigests.{number_place, count_digest, leading_bytes, cell_digest, optional_digest, part_digest, key_digest, probe_digest}
 use Rattle.key_extract.specs.Keys.{part_cmp, key_cmp, probe_cmp, probe_fits}
 use Rattle.key_extract.specs.Laws.{cells_total, directed_cmp, directed_total}
 
@@ -44,6 +44,13 @@ module _ (k byte : ℕ) (bytes : List ℕ) where
 below_next : (a b p r : ℕ) → a < b → r < p → a * p + r < b * p
 below_next a b p r h k = omega (arith, mul-le-mul_right p h, suc-mul a p, k)
 
+not_counted : (m n : ℕ) → n ≤ m → count_digest n ≤ count_digest m
+not_counted m n h = grind (arith, nat_tests)
+
+-- of a smaller digest is the smaller number
+pub counted_below : (m n : ℕ) → count_digest m < count_digest n → m < n
+counted_below m n h = elim (cases_lt m n) [ inl less ↦ less | inr le ↦ absurd (omega (arith, h, not_counted m n le)) ]
+
 pub leading_below : (k : ℕ) (bytes : List ℕ) → leading_bytes k bytes < 256 ^ k
 leading_below zero bytes = omega arith
 leading_below (suc k) [] = omega (arith, one-le-pow (suc k) 256 (omega arith))
@@ -63,6 +70,16 @@ then_less o p h = ap (λ x. ordering_then x p) h
 
 then_next : (o p : Ordering) → o ≡ Equal → p ≡ Less → ordering_then o p ≡ Less
 then_next o p h k = ap (λ x. ordering_then x p) h ∙ k
+
+nat_greater : (m n : ℕ) → n < m → nat_cmp m n ≡ Greater
+nat_greater m n h = grind (arith, nat_tests)
+
+-- digests of numbers keep their order
+pub counts_order : {R : Type 0} (f : R → ℕ) → OrdersDigests (λ a b. nat_cmp (f a) (f b)) (λ a. count_digest (f a))
+counts_order f a b h = nat_less (f a) (f b) (counted_below (f a) (f b) h)
+
+pub counts_cut : {R : Type 0} (f : R → ℕ) (n : ℕ) → CutsDigests (λ a. nat_cmp (f a) n) (λ a. count_digest (f a)) (count_digest n)
+counts_cut f n = record { below = λ a h. nat_less (f a) n (counted_below (f a) n h); above = λ a h. nat_greater (f a) n (counted_below n (f a) h) }
 
 module _ (k x y : ℕ) (xs ys : List ℕ) where
   none_after : y < x → leading_bytes (suc k) (x ∷ xs) < leading_bytes (suc k) (y ∷ ys) → ⊥

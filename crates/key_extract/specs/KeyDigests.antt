@@ -1,5 +1,5 @@
 -- The digest of a key: that of its first part, which keeps the order of its cells as far as 64 bits go.
-use Rattle.std.specs.Prelude.{ℕ, zero, suc, ◌+◌, ◌-◌, ◌*◌, ◌^◌, min, nat_lt, ℤ, pos, negsuc, true, false, cond, List, [], ◌∷◌, Option, Some, None, slice_get}
+use Rattle.std.specs.Prelude.{ℕ, zero, suc, ◌+◌, ◌-◌, ◌*◌, ◌/◌, ◌^◌, min, nat_lt, ℤ, pos, negsuc, true, false, cond, List, [], ◌∷◌, Option, Some, None, slice_get}
 use Rattle.key_extract.specs.declared.cell.Cell.{Cell}
 use Rattle.key_extract.specs.declared.cell.Cell.TheVariants.{Null, Int, Text, Bool as Truth}
 use Rattle.key_extract.specs.declared.key.Part.{Part}
@@ -14,6 +14,10 @@ abbrev pub leading_bytes : ℕ → List ℕ → ℕ
 leading_bytes zero bytes = 0
 leading_bytes (suc k) [] = 0
 leading_bytes (suc k) (byte ∷ bytes) = cond (nat_lt byte 256) (byte * 256 ^ k + leading_bytes k bytes) (256 ^ k * 256 - 1)
+
+-- a number without a sign: below 2^47 each has a digest of its own in the upper 48 bits, and from there on 2^17 of them share one
+abbrev pub count_digest : ℕ → ℕ
+count_digest n = cond (nat_lt n (2 ^ 47)) (n * 2 ^ 16) (2 ^ 63 + n / 2)
 
 -- no value, whole numbers, texts, and truth values, in this order
 abbrev pub cell_digest : Cell → ℕ

@@ -1,10 +1,21 @@
 //! Digests of keys of rows.
 ghost use Rattle.std.specs.Prelude.{◌≡◌, ◌<◌, get_or};
 ghost use Rattle.std.specs.Option.{option_copied};
-ghost use Rattle.key_extract.specs.KeyDigests.{number_place as the_number_place, leading_bytes as the_leading_bytes, optional_digest, part_digest, key_digest, probe_digest};
+ghost use Rattle.key_extract.specs.KeyDigests.{count_digest as the_count_digest, number_place as the_number_place, leading_bytes as the_leading_bytes, optional_digest, part_digest, key_digest, probe_digest};
 
 use crate::cell::{Cell, cell_at};
 use crate::key::Part;
+
+/// The digest of a key that is a number without a sign, for one's own keys. O(1).
+pub fn count_digest(number: u64) -> u64
+    ensures { result ≡ the_count_digest number }
+{
+    if number < 1 << 47 {
+        number * (1 << 16)
+    } else {
+        (1 << 63) + number / 2
+    }
+}
 
 // Whole numbers from -2^45 to 2^45 - 1 have places of their own.
 const HALF: i64 = 1 << 45;
