@@ -12,5 +12,6 @@ pub mod Changes
 pub mod Matching
 pub mod AddedFirst
 pub mod Cutting
+pub mod Alone
 pub mod Growing
 pub mod Laws

@@ -25,6 +25,7 @@ use Rattle.hash_index.specs.declared.head.Head.{Head}
 use Rattle.hash_index.specs.Chains.{untagged_link, untagged, tag_at, IsIn, AreChains, joined, first_head}
 use Rattle.hash_index.specs.Heads.{first_in, start_in, IsRight, AreRight}
 use Rattle.hash_index.specs.Oldest.{AreOldest}
+use Rattle.hash_index.specs.Rising.{IsRising}
 use Rattle.hash_index.proofs.Oldest.{oldest_kept, none_oldest}
 use Rattle.hash_index.specs.Spelled.{all_of, heads_of, Spells, IsSound, spelled, chains_of, leads_to, Holds}
 use Rattle.hash_index.specs.Walks.{Leads, rest_of, Ends, HasHash}
@@ -234,6 +235,13 @@ head_ends cs i b head lt at h =
     let back = IsDistinct-parts f.front (f.chain ++ f.back) (subst IsDistinct f.whole h.distinct) in
     let ends : Ends cs i (get_or (heads_of i) b None) = subst (λ z. Leads (untagged (cs i.col)) (get_or (heads_of i) b None) z) (sym r.1) r.0 in
     (subst (Ends cs i) (sym at) ends, subst IsDistinct (sym (ap (λ o. rest_of cs i o) at ∙ r.1)) (IsDistinct-parts f.chain f.back back.back).front)
+
+-- which runs to and fro, and rises where its first node says so
+pub head_runs : (cs : ℕ → Column) (i : HashIndex) (b : ℕ) (head : Option Node) → b < i.buckets.len → head ≡ get_or (heads_of i) b None → IsSound cs i → Runs (untagged (cs i.col)) None (rest_of cs i head) None × IsRising (cs i.col) (rest_of cs i head)
+head_runs cs i b head lt at h =
+    let f = focus_of cs i (spelled cs i) b lt h in
+    let e = sym (ap (λ o. rest_of cs i o) at ∙ (rest_is cs i (spelled cs i) b f h.len).1) in
+    (subst (λ z. Runs (untagged (cs i.col)) None z None) e f.here.runs, subst (λ z. IsRising (cs i.col) z) e f.here.rising)
 
 pub has_hash : (cs : ℕ → Column) (i : HashIndex) (hash : ℕ) (head : Option Node) → leads_to i hash < i.buckets.len → head ≡ get_or (heads_of i) (leads_to i hash) None → IsSound cs i → HasHash cs i hash head
 has_hash cs i hash head lt at h =

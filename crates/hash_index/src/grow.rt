@@ -1,5 +1,5 @@
 //! Growth of the buckets, one at a time: four chains.
-ghost use Rattle.std.specs.Prelude.{◌≡◌, ℕ, ◌+◌, ◌*◌, ◌<◌, ◌≤◌, OnOk, OnErr, IsPermutation, length};
+ghost use Rattle.std.specs.Prelude.{◌≡◌, ℕ, ◌+◌, ◌*◌, ◌<◌, ◌≤◌, None, OnOk, OnErr, IsPermutation, length};
 ghost use Rattle.node_store.specs.declared.Node.{Node};
 ghost use Rattle.node_store.specs.ByNode.{column_of, contents};
 ghost use Rattle.node_store.specs.Column.{KeepsOthers};
@@ -7,15 +7,16 @@ ghost use Rattle.node_store.specs.Nodes.{IsDistinct, Lacks};
 ghost use Rattle.hash_index.specs.Spelled.{col_of, buckets_of, grown, leads_to, HasRoom, KeepsTags};
 ghost use Rattle.hash_index.specs.Stored.{nodes_of, AreBucketsOf, KeepsRest};
 ghost use Rattle.hash_index.specs.Walks.{rest_of, Ends};
-ghost use Rattle.hash_index.specs.Chains.{members};
+ghost use Rattle.hash_index.specs.Chains.{members, untagged};
 ghost use Rattle.hash_index.specs.Segments.{spare};
 ghost use Rattle.hash_index.specs.Split.{Builds, IsSame, left, taken};
 ghost use Rattle.hash_index.specs.Rising.{IsRising};
+ghost use Rattle.seq_index.specs.Links.{Runs};
 
 use crate::HashIndex;
 use crate::chain::Chain;
 use crate::head::Head;
-use node_store::{Node, NodeStore};
+use node_store::{Link, Node, NodeStore};
 use std::alloc::AllocError;
 
 impl HashIndex {
@@ -157,8 +158,51 @@ impl HashIndex {
         self.buckets.push_reserved(moved.cut_from(head));
     }
 
-    // Cuts a chain in two: the nodes that stay in it once there is one more, and those that go there.
+    // Cuts a chain in two: the nodes that stay in it once there is one more, and those that go there. Where the chain has
+    // one node or none, as most have, nothing is written.
     fn cut<R>(&self, store: &mut NodeStore<R>, at: Option<Node>) -> (Chain, Chain)
+        requires ends { Ends (column_of store.old) self.now at }
+        requires distinct { IsDistinct (rest_of (column_of store.old) self.now at) }
+        requires runs { Runs (untagged (column_of store.old (col_of self.now))) None
+            (rest_of (column_of store.old) self.now at) None }
+        requires rising { IsRising (column_of store.old (col_of self.now))
+            (rest_of (column_of store.old) self.now at) }
+        ensures stay { Builds (column_of store.new (col_of self.now)) result.0
+            (left (column_of store.old (col_of self.now)) self.now
+            (rest_of (column_of store.old) self.now at)) }
+        ensures moved { Builds (column_of store.new (col_of self.now)) result.1
+            (taken (column_of store.old (col_of self.now)) self.now
+            (rest_of (column_of store.old) self.now at)) }
+        ensures stay_rising { IsRising (column_of store.new (col_of self.now))
+            (left (column_of store.old (col_of self.now)) self.now
+            (rest_of (column_of store.old) self.now at)) }
+        ensures moved_rising { IsRising (column_of store.new (col_of self.now))
+            (taken (column_of store.old (col_of self.now)) self.now
+            (rest_of (column_of store.old) self.now at)) }
+        ensures tags { KeepsTags (column_of store.old (col_of self.now))
+            (column_of store.new (col_of self.now)) }
+        ensures same { (m : Node) → Lacks (rest_of (column_of store.old) self.now at) m →
+            column_of store.new (col_of self.now) m ≡ column_of store.old (col_of self.now) m }
+        ensures others { KeepsOthers (column_of store.old) (column_of store.new)
+            (col_of self.now) }
+        ensures contents { contents store.new ≡ contents store.old }
+    {
+        let Some(n) = at else {
+            return (Chain::new(), Chain::new());
+        };
+        let Link { b, tag, .. } = store.link(n, self.col);
+        if b.is_some() {
+            return self.cut_links(store, at);
+        }
+        if self.remainder(tag) == self.buckets.len() {
+            (Chain::new(), Chain::of(n))
+        } else {
+            (Chain::of(n), Chain::new())
+        }
+    }
+
+    // The same for a chain of any length, node by node.
+    fn cut_links<R>(&self, store: &mut NodeStore<R>, at: Option<Node>) -> (Chain, Chain)
         requires ends { Ends (column_of store.old) self.now at }
         requires distinct { IsDistinct (rest_of (column_of store.old) self.now at) }
         ensures stay { Builds (column_of store.new (col_of self.now)) result.0

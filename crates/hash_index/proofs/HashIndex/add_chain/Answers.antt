@@ -1,6 +1,6 @@
 use Rattle.std.proofs.Common.{◌+◌, ◌-◌, ◌<◌, ◌≤◌, [], ◌∷◌, ◌++◌, ◌∙◌, ap, sym, arith, refl}
 use Rattle.node_store.specs.ByNode.{column_of}
-use Rattle.hash_index.proofs.Spelling.{head_ends}
+use Rattle.hash_index.proofs.Spelling.{head_ends, head_runs}
 use Rattle.hash_index.proofs.Growing.{grown_sound, grown_moved, grown_order}
 use Rattle.hash_index.proofs.Cutting.{first_node}
 use Rattle.hash_index.proofs.Levels.{comes}
@@ -24,6 +24,20 @@ cut-requires-clause-distinct g c =
     let within : c.len.result - i.level < i.buckets.len = omega (arith, c.len.ensures, c.requires.some, i.some_level) in
     let at = (c.node.ensures ∙ slice_first (heads_of i) (all_of i) (c.len.result - i.level) refl c.head-head.result c.head-head.ensures) in
     (head_ends (column_of c.args.store.now) i (c.len.result - i.level) c.node.result within at c.requires.chain).1
+
+pub cut-requires-clause-runs : goal.cut-requires-clause-runs
+cut-requires-clause-runs g c =
+    let i = c.args.self.now in
+    let within : c.len.result - i.level < i.buckets.len = omega (arith, c.len.ensures, c.requires.some, i.some_level) in
+    let at = (c.node.ensures ∙ slice_first (heads_of i) (all_of i) (c.len.result - i.level) refl c.head-head.result c.head-head.ensures) in
+    (head_runs (column_of c.args.store.now) i (c.len.result - i.level) c.node.result within at c.requires.chain).0
+
+pub cut-requires-clause-rising : goal.cut-requires-clause-rising
+cut-requires-clause-rising g c =
+    let i = c.args.self.now in
+    let within : c.len.result - i.level < i.buckets.len = omega (arith, c.len.ensures, c.requires.some, i.some_level) in
+    let at = (c.node.ensures ∙ slice_first (heads_of i) (all_of i) (c.len.result - i.level) refl c.head-head.result c.head-head.ensures) in
+    (head_runs (column_of c.args.store.now) i (c.len.result - i.level) c.node.result within at c.requires.chain).1
 
 pub head_of-stay-requires : goal.head_of-stay-requires
 head_of-stay-requires g c = first_node _ _ _ c.cut.ensures.stay

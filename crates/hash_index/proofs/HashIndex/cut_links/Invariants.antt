@@ -5,7 +5,7 @@ use Rattle.hash_index.specs.Spelled.{col_of}
 use Rattle.hash_index.specs.Split.{goes}
 use Rattle.hash_index.specs.Walks.{rest_of, Ends}
 use Rattle.hash_index.proofs.Cutting.{Halves}
-use Rattle.hash_index.proofs.HashIndex.cut.Given as goal
+use Rattle.hash_index.proofs.HashIndex.cut_links.Given as goal
 
 abbrev pub invariant-loop-at : goal.invariant-loop-at
 invariant-loop-at g l = record {
