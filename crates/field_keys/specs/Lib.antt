@@ -1,4 +1,5 @@
 pub mod Fields
+pub mod Indices
 pub mod Row
 pub mod Sought
 pub mod Values

@@ -1,4 +1,5 @@
 -- The fields of a record, as the row that they make up.
+pub use Rattle.std.specs.Prelude.{◌∷◌, []}
 use Rattle.std.specs.Prelude.{ℕ, ℤ, pos, Bool, List, Option}
 use Rattle.std.specs.Option.{option_map_or}
 use Rattle.key_extract.specs.declared.cell.Cell.{Cell}

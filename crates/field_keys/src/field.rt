@@ -1,7 +1,8 @@
 //! The fields of a record.
-ghost use Rattle.std.specs.Prelude.{◌≡◌, ℕ, List, slice_get};
+ghost use Rattle.std.specs.Prelude.{◌≡◌, ℕ, List, [], slice_get};
 ghost use Rattle.std.specs.Option.{option_map};
 ghost use Rattle.key_extract.specs.declared.cell.Cell.{Cell};
+ghost use Rattle.container_model.specs.declared.handle.Spec.{Spec};
 ghost use Rattle.field_keys.specs.Fields.{cell_of};
 
 /// A value of a record in one column. Absence comes before whole numbers, these before texts, and texts before truth values.
@@ -21,6 +22,9 @@ pub enum Field<'a> {
 pub trait Fields {
     /// The fields, in column order.
     ghost row_of: { Self → List Cell };
+
+    /// What the indices of a container are, by number, where the records say it.
+    ghost indices: { List Spec } = { [] };
 
     /// The field of a column, from 0, if there is such a column.
     fn field(&self, column: usize) -> Option<Field<'_>>

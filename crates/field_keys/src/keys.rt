@@ -1,13 +1,16 @@
 //! The keys of a record's indices.
 ghost use Rattle.std.specs.Prelude.{◌≡◌, map};
 ghost use Rattle.field_keys.specs.Fields.{part_of};
+ghost use Rattle.field_keys.specs.Indices.{declared_keys};
 ghost use Rattle.field_keys.specs.Values.{key_at};
 
 use crate::compare::{compare_records, compare_search};
 use crate::field::Fields;
 use crate::hash::{hash_record, hash_values};
+use crate::index::Index;
 use crate::part::KeyPart;
 use crate::search::Search;
+use crate::source::Source;
 use key_extract::Extract;
 use std::cmp::Ordering;
 use std::marker::Model;
@@ -16,17 +19,17 @@ use std::marker::Model;
 /// has no key.
 #[derive(Drop)]
 pub struct FieldKeys {
-    keys: &'static [&'static [KeyPart]],
+    source: Source,
 }
 
 impl Model for FieldKeys {
-    ghost use Rattle.std.specs.Prelude.{List, map};
+    ghost use Rattle.std.specs.Prelude.{List};
     ghost use Rattle.key_extract.specs.declared.key.Part.{Part};
-    ghost use Rattle.field_keys.specs.Fields.{part_of};
+    ghost use Rattle.field_keys.specs.Indices.{keys_in};
 
     ghost Value = { List (List Part) };
 
-    ghost view = { λ k. map (λ key. map part_of key.now) k.keys.now };
+    ghost view = { λ k. keys_in k.source };
 }
 
 impl FieldKeys {
@@ -34,18 +37,25 @@ impl FieldKeys {
     pub fn new(keys: &'static [&'static [KeyPart]]) -> FieldKeys
         ensures { result ≡ map (λ key. map part_of key.now) keys.now }
     {
-        FieldKeys { keys }
+        FieldKeys {
+            source: Source::Keys(keys),
+        }
+    }
+
+    /// The keys of declared indices. O(1).
+    pub fn declared(indices: &'static [Index]) -> FieldKeys
+        ensures { result ≡ declared_keys indices.now }
+    {
+        FieldKeys {
+            source: Source::Declared(indices),
+        }
     }
 
     // The parts of the index's key.
     fn parts(&self, index: usize) -> &[KeyPart]
         ensures { map part_of result.now ≡ key_at self.now index }
     {
-        if index < self.keys.len() {
-            self.keys[index]
-        } else {
-            &[]
-        }
+        self.source.parts(index)
     }
 }
 
