@@ -1,0 +1,113 @@
+//! Changes of records.
+ghost use Rattle.std.specs.Prelude.{◌≡◌, ◌<◌, Err, IfErr, IfOk, IsTrue, None, Ok, OnErr, OnOk, Some, length, not};
+ghost use Rattle.std.specs.Fn.{FnOnceReturnsAtMut};
+ghost use Rattle.std.specs.Result.{MatchResult};
+ghost use Rattle.container_model.specs.State.{has_key_kind, is_hashed_kind, row_of};
+ghost use Rattle.container_model.specs.Change.{cleared, erased_count, modify_refusal, replace_refusal, spent, with_key_erased, with_modified, with_replaced};
+ghost use Rattle.container_model.specs.Insert.{ban};
+ghost use Rattle.linked_set.specs.Modified.{told};
+ghost use Rattle.indexed.specs.Kinds.{kind_of};
+ghost use Rattle.indexed.specs.Orders.{by_key, to_search};
+
+use crate::container::Indexed;
+use field_keys::{Fields, Search};
+use multi_index::{Handle, Modified, Refused, Why};
+
+impl<R: Fields + Drop> Indexed<R> {
+    /// Gives a record another row, and hands out the old one; its handle stays. Refused are, in this order: `Stale`; `Banned`,
+    /// by the first unique index in which another record has the row's key; `Spent`. The row is then handed back, and the
+    /// container is unchanged. O(log n) for each index.
+    pub fn replace(&mut self, handle: Handle, row: R) -> Result<R, Refused<R>>
+        ensures old { IfOk result (λ old. row_of self.old.entries handle ≡ Some old) }
+        ensures allowed { OnOk result
+            (replace_refusal (by_key R.row_of) self.old handle row ≡ None) }
+        ensures ok { OnOk result (self.new ≡ with_replaced (by_key R.row_of) self.old handle row) }
+        ensures why { IfErr result (λ refused. Some refused.why ≡
+            replace_refusal (by_key R.row_of) self.old handle row) }
+        ensures handed_back { IfErr result (λ refused. refused.row ≡ Some row) }
+        ensures unchanged { OnErr result (self.new ≡ self.old) }
+    {
+        self.records.replace(handle, row)
+    }
+
+    /// Takes out every record that has the key at the index, also a leading part of one, and answers how many there were.
+    /// `Spent` alone refuses, and then nothing is changed. For each record that goes, O(log n) for each index.
+    pub fn erase_key(&mut self, number: usize, search: &Search) -> Result<u64, Why>
+        requires kind { IsTrue (has_key_kind (kind_of R.indices number)) }
+        requires whole { IsTrue (is_hashed_kind (kind_of R.indices number)) →
+            IsTrue (not search.now.leading) }
+        requires within { number < length R.indices }
+        ensures count { IfOk result (λ count. count ≡
+            erased_count (to_search R.row_of) self.old number search.now) }
+        ensures allowed { OnOk result (spent self.old ≡ None) }
+        ensures ok { OnOk result (self.new ≡
+            with_key_erased (to_search R.row_of) self.old number search.now) }
+        ensures why { IfErr result (λ why. Some why ≡ spent self.old) }
+        ensures unchanged { OnErr result (self.new ≡ self.old) }
+    {
+        match self.records.erase_key(number, search) {
+            Ok(count) => Ok(count),
+            Err(refused) => Err(refused.why),
+        }
+    }
+
+    /// Takes every record out. `Spent` alone refuses, and then nothing is changed. O(records + slots).
+    pub fn clear(&mut self) -> Result<(), Why>
+        ensures allowed { OnOk result (spent self.old ≡ None) }
+        ensures ok { OnOk result (self.new ≡ cleared self.old) }
+        ensures why { IfErr result (λ why. Some why ≡ spent self.old) }
+        ensures unchanged { OnErr result (self.new ≡ self.old) }
+    {
+        match self.records.clear() {
+            Ok(()) => Ok(()),
+            Err(refused) => Err(refused.why),
+        }
+    }
+}
+
+impl<R: Fields + Copy + Drop> Indexed<R> {
+    /// Changes a record by a function, which is called once, on a copy, unless the handle is `Stale`. Where another record has
+    /// the new key in a unique index, the record is taken out, and the answer says so. O(log n) for each index.
+    pub fn modify_with<F: FnOnce(&mut R) + Drop>(
+        &mut self,
+        handle: Handle,
+        change: F,
+    ) -> Result<Modified<R>, Why>
+        requires { F.IsAlwaysCallable change }
+        ensures ok { (old : R) → row_of self.old.entries handle ≡ Some old → OnOk result
+            ((new : R) × FnOnceReturnsAtMut F.FnOnce change old tt new ×
+            (result ≡ Ok (told (ban (by_key R.row_of) self.old (Some handle) new) new)) ×
+            (self.new ≡ with_modified (by_key R.row_of) self.old handle new)) }
+        ensures allowed { OnOk result (modify_refusal self.old handle ≡ None) }
+        ensures why { IfErr result (λ why. Some why ≡ modify_refusal self.old handle) }
+        ensures unchanged { OnErr result (self.new ≡ self.old) }
+    {
+        match self.records.modify_with(handle, change) {
+            Ok(modified) => Ok(modified),
+            Err(refused) => Err(refused.why),
+        }
+    }
+
+    /// Changes a record by a function, and leaves the container unchanged where the new record is refused, as `replace` does.
+    /// The function is called once, on a copy, unless the handle is `Stale`. O(log n) for each index.
+    pub fn replace_with<F: FnOnce(&mut R) + Drop>(
+        &mut self,
+        handle: Handle,
+        change: F,
+    ) -> Result<(), Why>
+        requires { F.IsAlwaysCallable change }
+        ensures live { (old : R) → row_of self.old.entries handle ≡ Some old →
+            (new : R) × FnOnceReturnsAtMut F.FnOnce change old tt new ×
+            MatchResult result
+            (λ _. (replace_refusal (by_key R.row_of) self.old handle new ≡ None) ×
+            (self.new ≡ with_replaced (by_key R.row_of) self.old handle new))
+            (λ why. Some why ≡ replace_refusal (by_key R.row_of) self.old handle new) }
+        ensures stale { row_of self.old.entries handle ≡ None → result ≡ Err Why.Stale }
+        ensures unchanged { OnErr result (self.new ≡ self.old) }
+    {
+        match self.records.replace_with(handle, change) {
+            Ok(()) => Ok(()),
+            Err(refused) => Err(refused.why),
+        }
+    }
+}
