@@ -1,14 +1,10 @@
 //! Sessions that end when nothing was heard of them for a while: a hashed index by number, and one in the order of their ends.
 #![tactic(auto)]
 
-ghost use Rattle.std.specs.Prelude.{◌≡◌, length};
-ghost use Rattle.multi_index.specs.Find.{kind_at};
-ghost use Rattle.multi_index.specs.Kinds.{Ordered};
-
-use field_keys::{Field, FieldKeys, Fields, KeyPart, Search, Value};
-use multi_index::{Kind, MultiIndex, Spec};
+use indexed::{
+    Field, Fields, Index, Indexed, KeyPart, ORDERED, Search, UNIQUE_HASHED, pick, unsigned,
+};
 use std::io;
-use std::rt::Runtime;
 
 #[derive(Clone, Copy, Debug)]
 struct Session {
@@ -16,90 +12,54 @@ struct Session {
     end: u64,
 }
 
-impl Fields for Session {
-    ghost use Rattle.std.specs.Prelude.{◌∷◌, []};
-    ghost use Rattle.field_keys.specs.Row.{unsigned};
-
-    ghost row_of = { λ session. unsigned session.number ∷ unsigned session.end ∷ [] };
-
-    fn field(&self, column: usize) -> Option<Field<'_>> {
-        match column {
-            0 => Some(Field::Number(self.number.into())),
-            1 => Some(Field::Number(self.end.into())),
-            _ => None,
-        }
-    }
-}
-
 const BY_NUMBER: usize = 0;
 
 const BY_END: usize = 1;
 
-const KEYS: &[&[KeyPart]] = &[&[KeyPart::Rising(0)], &[KeyPart::Rising(1)]];
-
-const SPECS: [Spec; 2] = [
-    Spec {
-        kind: Kind::Hashed,
-        unique: true,
-    },
-    Spec {
-        kind: Kind::Ordered,
-        unique: false,
-    },
+const INDICES: &[Index] = &[
+    Index(UNIQUE_HASHED, &[KeyPart::Rising(0)]),
+    Index(ORDERED, &[KeyPart::Rising(1)]),
 ];
 
-#[derive(Drop)]
-struct Sessions {
-    live: MultiIndex<Session, FieldKeys>,
-    ghost indices: { length live.specs ≡ 2 },
-    ghost by_end: { kind_at live 1 ≡ Ordered },
-}
+impl Fields for Session {
+    ghost use Rattle.indexed.specs.Row.{◌∷◌, [], unsigned};
+    ghost use Rattle.indexed.specs.Kinds.{ordered, unique_hashed};
 
-impl Sessions {
-    // A session that was heard of lives until this time.
-    fn hear(&mut self, number: u64, end: u64) -> bool {
-        let search = Search::of(Value::Number(number.into()));
-        match self.live.find(BY_NUMBER, &search) {
-            Ok(Some(handle)) => self
-                .live
-                .modify_with(handle, |session| session.end = end)
-                .is_ok(),
-            _ => self.live.insert(Session { number, end }).is_ok(),
-        }
-    }
+    ghost row_of = { λ session. unsigned session.number ∷ unsigned session.end ∷ [] };
 
-    // Ends the sessions that were to live until before this time, and tells how many.
-    fn end_before(&mut self, time: u64) -> u64 {
-        let all = self.live.len();
-        for ended in 0..all {
-            match self.live.iter(BY_END).next() {
-                Some((handle, session)) if session.end < time => {
-                    if self.live.erase(handle, None).is_err() {
-                        return ended;
-                    }
-                }
-                _ => return ended,
-            }
-        }
-        all
+    ghost indices = { unique_hashed ∷ ordered ∷ [] };
+
+    fn field(&self, column: usize) -> Option<Field<'_>> {
+        pick(column, &[unsigned(self.number), unsigned(self.end)])
     }
 }
 
-fn list<R: Runtime>(rt: &R, sessions: &Sessions) -> io::Result<()> {
-    for (_, session) in sessions.live.iter(BY_END) {
-        println!(rt; "  session {} until {}", session.number, session.end)?;
+// A session that was heard of lives until this time.
+fn hear(live: &mut Indexed<Session>, number: u64, end: u64) -> bool {
+    match live.index(BY_NUMBER).find(&Search::unsigned(number)) {
+        Some(handle) => live
+            .modify_with(handle, |session| session.end = end)
+            .is_ok(),
+        None => live.insert(Session { number, end }).is_ok(),
     }
-    Ok(())
 }
 
 fn main(rt: HostRuntime) -> io::Result<()> {
-    let specs = SPECS.to_vec(rt.alloc())?;
-    let live = MultiIndex::new(rt.alloc(), specs, FieldKeys::new(KEYS), 1000, 0)?;
-    let mut sessions = Sessions { live };
+    let mut live = Indexed::new(rt.alloc(), INDICES, 1000)?;
     for (number, end) in [(1, 40), (2, 30), (3, 35), (2, 50)] {
-        println!(&rt; "heard of {number}: {}", sessions.hear(number, end))?;
+        println!(&rt; "heard of {number}: {}", hear(&mut live, number, end))?;
     }
-    list(&rt, &sessions)?;
-    println!(&rt; "ended before 45: {}", sessions.end_before(45))?;
-    list(&rt, &sessions)
+    for _ in 0..live.len() {
+        match live.index(BY_END).iter().next() {
+            Some((ended, session)) if session.end < 45 => {
+                println!(&rt; "session {} ended at {}", session.number, session.end)?;
+                println!(&rt; "taken out: {}", live.erase(ended).is_ok())?;
+            }
+            _ => break,
+        }
+    }
+    for (_, session) in live.index(BY_END).iter() {
+        println!(&rt; "session {} until {}", session.number, session.end)?;
+    }
+    Ok(())
 }

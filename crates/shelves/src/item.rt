@@ -1,6 +1,6 @@
-//! Items on shelves, and their keys.
+//! Items on shelves, and the indices that they stand under.
 
-use field_keys::{Field, Fields, KeyPart};
+use indexed::{Field, Fields, Index, KeyPart, ORDERED, RANKED, UNIQUE_HASHED, pick, unsigned};
 
 /// An item on a shelf.
 #[derive(Clone, Copy, Debug)]
@@ -10,25 +10,25 @@ pub struct Item {
     pub due: u64,
 }
 
+/// By number; by shelf, and on each the latest day first; by day.
+pub const INDICES: &[Index] = &[
+    Index(UNIQUE_HASHED, &[KeyPart::Rising(0)]),
+    Index(ORDERED, &[KeyPart::Rising(1), KeyPart::Falling(2)]),
+    Index(RANKED, &[KeyPart::Rising(2)]),
+];
+
 impl Fields for Item {
-    ghost use Rattle.std.specs.Prelude.{◌∷◌, []};
-    ghost use Rattle.field_keys.specs.Row.{unsigned};
+    ghost use Rattle.indexed.specs.Row.{◌∷◌, [], unsigned};
+    ghost use Rattle.indexed.specs.Kinds.{ordered, ranked, unique_hashed};
 
     ghost row_of = { λ item. unsigned item.sku ∷ unsigned item.shelf ∷ unsigned item.due ∷ [] };
 
+    ghost indices = { unique_hashed ∷ ordered ∷ ranked ∷ [] };
+
     fn field(&self, column: usize) -> Option<Field<'_>> {
-        match column {
-            0 => Some(Field::Number(self.sku.into())),
-            1 => Some(Field::Number(self.shelf.into())),
-            2 => Some(Field::Number(self.due.into())),
-            _ => None,
-        }
+        pick(
+            column,
+            &[unsigned(self.sku), unsigned(self.shelf), unsigned(self.due)],
+        )
     }
 }
-
-/// By number; by shelf, and on each the latest day first; by day.
-pub const KEYS: &[&[KeyPart]] = &[
-    &[KeyPart::Rising(0)],
-    &[KeyPart::Rising(1), KeyPart::Falling(2)],
-    &[KeyPart::Rising(2)],
-];

@@ -1,22 +1,25 @@
-//! Items on shelves, under keys from plain functions: `rt run` in this folder.
+//! Items on shelves, under three indices: `rt run` in this folder.
 #![tactic(auto)]
 
 mod item;
-mod shelves;
 
-use field_keys::FieldKeys;
-use item::Item;
-use multi_index::Iter;
-use shelves::Shelves;
+use indexed::{FieldKeys, Indexed, Iter, Search};
+use item::{INDICES, Item};
 use std::io;
 use std::rt::Runtime;
+
+const BY_NUMBER: usize = 0;
+
+const BY_SHELF: usize = 1;
+
+const BY_DAY: usize = 2;
 
 // Each with its number, shelf and day.
 const ITEMS: [(u64, u64, u64); 5] = [(7, 1, 30), (3, 2, 10), (5, 1, 20), (7, 3, 1), (4, 1, 25)];
 
-fn put_all<R: Runtime>(rt: &R, shelves: &mut Shelves) -> io::Result<()> {
+fn put_all<R: Runtime>(rt: &R, items: &mut Indexed<Item>) -> io::Result<()> {
     for (sku, shelf, due) in ITEMS {
-        match shelves.put(Item { sku, shelf, due }) {
+        match items.insert(Item { sku, shelf, due }) {
             Ok(handle) => println!(rt; "item {sku}: slot {}", handle.slot)?,
             Err(refused) => println!(rt; "item {sku}: {:?}", refused.why)?,
         }
@@ -35,13 +38,17 @@ fn list<R: Runtime>(rt: &R, items: Iter<'_, Item, FieldKeys>) -> io::Result<()> 
 }
 
 fn main(rt: HostRuntime) -> io::Result<()> {
-    let mut shelves = Shelves::new(rt.alloc(), 1000)?;
-    put_all(&rt, &mut shelves)?;
+    let mut items = Indexed::new(rt.alloc(), INDICES, 1000)?;
+    put_all(&rt, &mut items)?;
     println!(&rt; "by shelf, the latest first:")?;
-    list(&rt, shelves.by_shelf())?;
+    list(&rt, items.index(BY_SHELF).iter())?;
     println!(&rt; "by day:")?;
-    list(&rt, shelves.by_day())?;
-    println!(&rt; "on shelf 1: {}", shelves.count_on(1))?;
-    list(&rt, shelves.on(1))?;
-    println!(&rt; "item 5: {:?}", shelves.numbered(5))
+    list(&rt, items.index(BY_DAY).iter())?;
+    let shelf = Search::unsigned(1).leading();
+    println!(&rt; "on shelf 1: {}", items.index(BY_SHELF).count(&shelf))?;
+    list(&rt, items.index(BY_SHELF).equal(&shelf))?;
+    println!(&rt;
+        "item 5: {:?}",
+        items.index(BY_NUMBER).row(&Search::unsigned(5))
+    )
 }
