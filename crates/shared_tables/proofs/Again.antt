@@ -4,7 +4,7 @@ use Rattle.std.specs.Prelude.{⊤, bytes_eq, codes}
 use Rattle.std.specs.List.{All, AllByRecursion, list_any, position_or_len}
 use Rattle.std.proofs.lemmas.Bool.{and_parts, le-leb, lt-ltb, not-true, or_parts}
 use Rattle.std.proofs.lemmas.Grind.{flat_map-append}
-use Rattle.std.proofs.lemmas.List.Elements.{All-nil, recursion_from_All}
+use Rattle.std.proofs.lemmas.List.Elements.{recursion_from_All}
 use Rattle.std.proofs.lemmas.List.Splits.{slice_split_at}
 use Rattle.std.proofs.lemmas.Slice.Eq.{bytes_eq-Decides}
 use Rattle.command_text.specs.Text.{command_text}
@@ -14,7 +14,7 @@ use Rattle.table_engine.specs.Lines.{max_line, short}
 use Rattle.table_engine.specs.Tables.{AnswersLine, MayAnswer, answer_to, table_at}
 use Rattle.table_engine.specs.Whole.{AnswersLines, as_line, lines_of}
 use Rattle.table_engine.proofs.Tables.{carried-at}
-use Rattle.table_engine.proofs.Whole.{IsWithin, lines-from_Run}
+use Rattle.table_engine.proofs.Serving.{lines-from_Run}
 use Rattle.table_reply.specs.Buffer.{joined}
 use Rattle.table_schema.specs.Shape.{TableShape}
 use Rattle.table_schema.specs.Valid.{IsValidSchema, are_distinct}
@@ -199,6 +199,6 @@ tables_again done (shape ∷ schema) workers (j ∷ js) text new apart distinct 
 pub runs_again : (schema : List TableShape) (workers : ℕ) (journals : List (List EntryData)) → IsValidSchema schema → AreJournals schema workers journals
     → All CanBeRead (entries_in journals) → RunsAgain schema journals
 runs_again schema workers journals valid are readable = λ old new session told fresh within idle run.
-    let lines = lines-from_Run session old new [] (journals_text journals) told within idle (All-nil IsWithin) run in
+    let lines = lines-from_Run session old new (journals_text journals) told within idle run in
     tables_again [] schema workers journals (joined told) new.tables tt (and_parts _ _ valid.names).1 are.tables (recursion_from_All IsLegalCell (cells_of schema workers journals) are.legal)
     (recursion_from_All CanBeRead (entries_in journals) readable) (subst (λ ts. AnswersLines ts (lines_of (journals_text journals)) (joined told) new.tables) fresh lines)

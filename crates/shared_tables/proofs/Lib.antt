@@ -13,5 +13,4 @@ pub mod Lines
 pub mod Shapes
 pub mod Again
 pub mod Known
-pub mod Splits
 pub mod Serving

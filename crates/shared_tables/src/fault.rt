@@ -1,8 +1,5 @@
 //! Why a call is refused.
 
-ghost use Rattle.std.specs.Prelude.{◌≡◌};
-
-use table_engine::Unwritten;
 use thiserror::Error;
 
 /// Why a call is refused before its command is carried out.
@@ -32,26 +29,6 @@ pub enum ServeFault {
     /// The call of a command was refused.
     #[error("{0}")]
     Call(CallFault),
-}
-
-impl From<Unwritten> for ServeFault {
-    ghost use Rattle.shared_tables.specs.declared.fault.ServeFault.TheVariants.{Write};
-
-    ghost from_gives = { λ _ fault. fault ≡ Write };
-
-    fn from(_unwritten: Unwritten) -> ServeFault {
-        ServeFault::Write
-    }
-}
-
-impl From<CallFault> for ServeFault {
-    ghost use Rattle.shared_tables.specs.declared.fault.ServeFault.TheVariants.{Call};
-
-    ghost from_gives = { λ why fault. fault ≡ Call why };
-
-    fn from(why: CallFault) -> ServeFault {
-        ServeFault::Call(why)
-    }
 }
 
 /// Why no journals were gathered.

@@ -2,7 +2,6 @@
 //! writes, and for each session a pass that keeps what the session was told.
 #![tactic(auto)]
 
-mod ahead;
 mod cell;
 mod compare;
 mod entry;

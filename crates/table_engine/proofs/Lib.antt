@@ -6,5 +6,8 @@ pub mod Events
 pub mod Whole
 pub mod Added
 pub mod Quiet
+pub mod Results
+pub mod Feeds
+pub mod Outcomes
 pub mod Serving
 pub mod Devices

@@ -1,25 +1,20 @@
 -- One session's cutter among those of all.
-use Rattle.std.proofs.Common.{◌≡◌, ℕ, ◌+◌, ◌<◌, List, [], ◌∷◌, ◌++◌, length, map, take, get_or, slice_set, slice_get, option_map, sym, ap, subst, ◌∙◌, append-nil, Option, Some, IsTrue, arith}
-use Rattle.std.proofs.lemmas.List.{map-set, map_more, get_or-map, length-map}
+use Rattle.std.proofs.Common.{◌≡◌, ℕ, ◌<◌, List, [], ◌∷◌, ◌++◌, length, map, get_or, slice_set, slice_get, option_map, sym, ap, subst, ◌∙◌, append-nil, Option, Some, IsTrue, arith}
+use Rattle.std.proofs.lemmas.List.{map-set, get_or-map, length-map}
 use Rattle.std.proofs.lemmas.Option.{slice_get-get_or, slice_get-map}
 use Rattle.std.proofs.lemmas.Grind.{flat_map-append}
 use Rattle.std.proofs.Math.Seq.{map-set_same}
 use Rattle.table_reply.specs.Buffer.{joined}
 use Rattle.table_step.specs.Step.{TableState}
 use Rattle.table_engine.specs.Lines.{Cutter, Unfinished, short}
-use Rattle.table_engine.specs.Run.{Machine, Signal, byte, session_of, Answers, Takes, Run, Waits, line_of, bytes_of, forgotten, needs_answer, ready_room}
+use Rattle.table_engine.specs.Run.{Machine, Signal, byte, session_of, Answers, Takes, Waits, line_of, bytes_of, forgotten, needs_answer, ready_room}
 use Rattle.table_engine.specs.State.{machine}
-use Rattle.table_engine.proofs.Runs.{Run-more}
 
 abbrev unfinished_of : Cutter → Unfinished
 unfinished_of c = c.unfinished
 
-line_of-machine : (t : List TableState) (cutters : List Cutter) (s : ℕ) (old : Cutter) → s < length cutters → old ≡ get_or cutters s old → line_of (machine t cutters) s ≡ old.unfinished
+pub line_of-machine : (t : List TableState) (cutters : List Cutter) (s : ℕ) (old : Cutter) → s < length cutters → old ≡ get_or cutters s old → line_of (machine t cutters) s ≡ old.unfinished
 line_of-machine t cutters s old within is = get_or-map unfinished_of cutters s old (short []) within ∙ ap unfinished_of (sym is)
-
--- the same tables and cutters
-pub machine_is : (t u : List TableState) (cs ds : List Cutter) → t ≡ u → cs ≡ ds → machine t cs ≡ machine u ds
-machine_is t u cs ds tables cutters = ap (λ x. machine x cs) tables ∙ ap (machine u) cutters
 
 -- the session of the signal has a new cutter
 pub taken_by : (sig : Signal) (t u : List TableState) (cutters : List Cutter) (old new : Cutter) (text : List ℕ) → session_of sig < length cutters → old ≡ get_or cutters (session_of sig) old
@@ -58,12 +53,6 @@ forgets t cutters s new e =
 
 pub joined-more : (ts : List (List ℕ)) (t : List ℕ) → joined (ts ++ t ∷ []) ≡ joined ts ++ t
 joined-more ts t = flat_map-append (λ x. x) ts (t ∷ []) ∙ ap (λ x. joined ts ++ x) (append-nil t)
-
--- one byte more of a piece
-pub Run-byte : (a b c : Machine) (s i d : ℕ) (piece : List ℕ) (told : List (List ℕ)) (text : List ℕ) → i < length piece
-    → Run a (bytes_of s (take i piece)) told b → Takes b (byte s (get_or piece i d)) text c → Run a (bytes_of s (take (i + 1) piece)) (told ++ text ∷ []) c
-Run-byte a b c s i d piece told text within run h =
-    subst (λ ss. Run a ss (told ++ text ∷ []) c) (sym (map_more (byte s) piece i d within)) (Run-more a b c (bytes_of s (take i piece)) (byte s (get_or piece i d)) told text run h)
 
 pub within : (t : List TableState) (cutters : List Cutter) (s : ℕ) (m : Machine) → machine t cutters ≡ m → s < length m.unfinished → s < length cutters
 within t cutters s m is h =

@@ -1,30 +1,23 @@
--- A whole stream is answered as its lines are.
-use Rattle.std.proofs.Common.{◌≡◌, ◌⊎◌, inl, inr, ℕ, ◌+◌, ◌<◌, ◌≤◌, ◌==◌, eqb, leb, Bool, true, false, List, [], ◌∷◌, ◌++◌, length, get_or, refl, sym, ap, subst, ◌∙◌, append-nil, append_assoc, length-append, arith}
+-- A whole stream is told as its lines are.
+use Rattle.std.proofs.Common.{◌≡◌, ◌⊎◌, inl, inr, ℕ, ◌+◌, ◌<◌, ◌≤◌, ◌==◌, eqb, leb, Bool, true, false, List, [], ◌∷◌, ◌++◌, length, refl, sym, ap, subst, ◌∙◌, append-nil, append_assoc, length-append, arith}
 use Rattle.std.specs.List.{All}
 use Rattle.std.proofs.lemmas.Bool.{le-ltb, lt-ltb}
 use Rattle.std.proofs.lemmas.Bool.Decides.{eqb_tells, leb_tells}
-use Rattle.std.proofs.lemmas.List.{get_or-set_same, length-set}
 use Rattle.std.proofs.lemmas.List.Elements.{All-nil, All-push}
 use Rattle.std.proofs.lemmas.List.Splits.{slice_split_at, slice_split_none}
-use Rattle.table_reply.specs.Buffer.{joined}
 use Rattle.table_step.specs.Step.{TableState}
 use Rattle.table_engine.specs.Lines.{Unfinished, short, long, add, max_line}
 use Rattle.table_engine.specs.Tables.{AnswersLine}
-use Rattle.table_engine.specs.Run.{Machine, end, Run, AnswersByte, AnswersEnd, bytes_of, line_of}
-use Rattle.table_engine.specs.Whole.{AnswersLines, as_line, lines_of}
+use Rattle.table_engine.specs.Run.{AnswersEnd}
+use Rattle.table_engine.specs.Stream.{Feeds, TellsAll, TellsLine}
+use Rattle.table_engine.specs.Whole.{TellsLines, as_line, lines_of}
 
-abbrev newline : ℕ → Bool
+abbrev pub newline : ℕ → Bool
 newline b = b == 10
 
 -- a byte that is no newline
 abbrev pub IsWithin : ℕ → Type 0
 IsWithin b = newline b ≡ false
-
--- the end of a stream answers as a newline would
-end_line : (old : List TableState) (line : Unfinished) (text : List ℕ) (new : List TableState) (next : Unfinished) → AnswersEnd old line text new next → AnswersLine old line text new
-end_line old (short []) text new next h = h.0
-end_line old (short (b ∷ bs)) text new next h = h.0
-end_line old long text new next h = h.0
 
 -- the two tests of a line's length, and of its length with one byte more
 abbrev Tells : ℕ → ℕ → Type 0
@@ -45,38 +38,67 @@ add_by b line (inr more) (inr longer) =
 pub add-as_line : (b : ℕ) (line : List ℕ) → add b (as_line line) ≡ as_line (line ++ b ∷ [])
 add-as_line b line = add_by b line (leb_tells (length line) max_line) (leb_tells (length line + 1) max_line)
 
--- one byte of a part, given what the bytes after it answer
-byte_lines : (old mid new : List TableState) (part bs : List ℕ) (b : ℕ) (text rest : List ℕ) (next : Unfinished)
-    → ((eqb b 10 ≡ true) × (b ≡ 10)) ⊎ ((eqb b 10 ≡ false) × (b ≡ 10 → ⊥)) → AnswersByte old (as_line part) b text mid next → All IsWithin part
-    → ((more : List ℕ) → next ≡ as_line more → All IsWithin more → AnswersLines mid (lines_of (more ++ bs)) rest new)
-    → AnswersLines old (lines_of (part ++ b ∷ bs)) (text ++ rest) new
-byte_lines old mid new part bs b text rest next (inl same) h none after =
-    let taken = rw same.0 at h in
-    subst (λ lines. AnswersLines old lines (text ++ rest) new) (sym (slice_split_at newline part b bs none same.0))
-    (mid, text, rest, refl, taken.0, after [] taken.1 (All-nil IsWithin))
-byte_lines old mid new part bs b text rest next (inr other) h none after =
-    let taken = rw other.0 at h in
-    let lines = after (part ++ b ∷ []) (taken.2 ∙ add-as_line b part) (All-push IsWithin part b none other.0) in
-    let whole = subst (λ bytes. AnswersLines mid (lines_of bytes) rest new) (append_assoc part (b ∷ []) bs) lines in
-    let same = subst (λ tables. AnswersLines tables (lines_of (part ++ b ∷ bs)) rest new) taken.1 whole in
-    subst (λ t. AnswersLines old (lines_of (part ++ b ∷ bs)) t new) (ap (λ t. t ++ rest) (sym taken.0)) same
+-- ---- the lines of a stream
 
--- what a run over the rest of a stream tells, after the bytes of an unfinished line
-pub lines-from_Run : (s : ℕ) (old new : Machine) (part bytes : List ℕ) (told : List (List ℕ)) → s < length old.unfinished → line_of old s ≡ as_line part → All IsWithin part
-    → Run old (bytes_of s bytes ++ end s ∷ []) told new → AnswersLines old.tables (lines_of (part ++ bytes)) (joined told) new.tables
-lines-from_Run s old new part [] [] within line none run = absurd run
-lines-from_Run s old new part [] (t ∷ u ∷ ts) within line none run = absurd run.2
-lines-from_Run s old new part [] (t ∷ []) within line none run =
-    let mid = run.0 in
-    let takes = run.1 in
-    let ended = end_line old.tables (as_line part) t mid.tables takes.next (subst (λ l. AnswersEnd old.tables l t mid.tables takes.next) line takes.answers) in
-    subst (λ lines. AnswersLines old.tables lines (t ++ []) new.tables) (sym (ap lines_of (append-nil part) ∙ slice_split_none newline part none))
-    (mid.tables, t, [], refl, ended, (refl, ap (λ m. m.tables) run.2))
-lines-from_Run s old new part (b ∷ bs) [] within line none run = absurd run
-lines-from_Run s old new part (b ∷ bs) (t ∷ ts) within line none run =
-    let mid = run.0 in
-    let takes = run.1 in
-    let at : line_of mid s ≡ takes.next = ap (λ us. get_or us s (short [])) takes.unfinished ∙ get_or-set_same old.unfinished s takes.next (short []) within in
-    let sessions : length mid.unfinished ≡ length old.unfinished = ap length takes.unfinished ∙ length-set old.unfinished s takes.next in
-    byte_lines old.tables mid.tables new.tables part bs b t (joined ts) takes.next (eqb_tells b 10) (subst (λ l. AnswersByte old.tables l b t mid.tables takes.next) line takes.answers) none
-    (λ more next clear. lines-from_Run s mid new more bs ts (omega (arith, sessions, within)) (at ∙ next) clear run.2)
+-- the lines of bytes behind which nothing stands
+pub last_line : (bytes begun : List ℕ) (ended : List (List ℕ)) → All IsWithin begun → ((back : List ℕ) → lines_of (bytes ++ back) ≡ ended ++ lines_of (begun ++ back))
+    → lines_of bytes ≡ ended ++ begun ∷ []
+last_line bytes begun ended within behind =
+    ap lines_of (sym (append-nil bytes)) ∙ (behind [] ∙ ap (λ ls. ended ++ ls) (ap lines_of (append-nil begun) ∙ slice_split_none newline begun within))
+
+module _ {S : Type 0} (tells : S → List ℕ → List ℕ → S → Type 0) where
+  -- lines, and then a further one
+  TellsLines-more : (a b c : S) (lines : List (List ℕ)) (line text more : List ℕ) → TellsLines tells a lines text b → TellsLine tells b (as_line line) more c
+      → TellsLines tells a (lines ++ line ∷ []) (text ++ more) c
+  TellsLines-more a b c [] line text more h one =
+      (c, more, [], ap (λ t. t ++ more) h.0 ∙ sym (append-nil more), subst (λ s. TellsLine tells s (as_line line) more c) h.1 one, (refl, refl))
+  TellsLines-more a b c (first ∷ lines) line text more h one =
+      (h.0, h.1, h.2 ++ more, ap (λ t. t ++ more) h.3 ∙ append_assoc h.1 h.2 more, h.4, TellsLines-more h.0 b c lines line h.2 more h.5 one)
+
+  -- The lines that bytes end behind the part of a line are told. Another line is begun behind them, which goes on with what follows.
+  abbrev LinesTold : S → List ℕ → List ℕ → List ℕ → S → Unfinished → Type 0
+  LinesTold a part bytes text b m = (ended : List (List ℕ)) × (begun : List ℕ) × (m ≡ as_line begun) × All IsWithin begun × TellsLines tells a ended text b
+      × ((back : List ℕ) → lines_of (part ++ (bytes ++ back)) ≡ ended ++ lines_of (begun ++ back))
+
+  lines_behind : (a b : S) (part bs text : List ℕ) (x : ℕ) (l m : Unfinished) → ((eqb x 10 ≡ true) × (x ≡ 10)) ⊎ ((eqb x 10 ≡ false) × (x ≡ 10 → ⊥)) → l ≡ as_line part → All IsWithin part
+      → Feeds tells a l (x ∷ bs) text b m
+      → ((c : S) (part' text' : List ℕ) (l' : Unfinished) → l' ≡ as_line part' → All IsWithin part' → Feeds tells c l' bs text' b m → LinesTold c part' bs text' b m)
+      → LinesTold a part (x ∷ bs) text b m
+  lines_behind a b part bs text x l m (inl same) is within fed later =
+      let h = rw same.0 at fed in
+      let r = later h.0 [] h.2 (short []) refl (All-nil IsWithin) h.5 in (
+        part ∷ r.0,
+        r.1,
+        r.2,
+        r.3,
+        (h.0, h.1, h.2, h.3, subst (λ u. TellsLine tells a u h.1 h.0) is h.4, r.4),
+        λ back. slice_split_at newline part x (bs ++ back) within same.0 ∙ ap (λ ls. part ∷ ls) (r.5 back),
+      )
+  lines_behind a b part bs text x l m (inr other) is within fed later =
+      let h = rw other.0 at fed in
+      let r = later a (part ++ x ∷ []) text (add x l) (ap (add x) is ∙ add-as_line x part) (All-push IsWithin part x within other.0) h in
+      (r.0, r.1, r.2, r.3, r.4, λ back. ap lines_of (sym (append_assoc part (x ∷ []) (bs ++ back))) ∙ r.5 back)
+
+  lines_told : (a b : S) (part bytes text : List ℕ) (l m : Unfinished) → l ≡ as_line part → All IsWithin part → Feeds tells a l bytes text b m → LinesTold a part bytes text b m
+  lines_told a b part [] text l m is within h = ([], part, h.2 ∙ is, within, (h.0, h.1), λ back. refl)
+  lines_told a b part (x ∷ bs) text l m is within h =
+      lines_behind a b part bs text x l m (eqb_tells x 10) is within h (λ c part' text' l' is' within' fed. lines_told c b part' bs text' l' m is' within' fed)
+
+  -- the lines of a stream's first bytes, and what stands behind them
+  pub front_told : (a b : S) (bytes text : List ℕ) (m : Unfinished) → Feeds tells a (short []) bytes text b m
+      → (ended : List (List ℕ)) × (begun : List ℕ) × (m ≡ as_line begun) × All IsWithin begun × TellsLines tells a ended text b
+      × ((back : List ℕ) → lines_of (bytes ++ back) ≡ ended ++ lines_of (begun ++ back))
+  front_told a b bytes text m h = lines_told a b [] bytes text (short []) m refl (All-nil IsWithin) h
+
+  pub all_told : (a b : S) (bytes text : List ℕ) → TellsAll tells a (short []) bytes text b → TellsLines tells a (lines_of bytes) text b
+  all_told a b bytes text h =
+      let k = front_told a h.mid bytes h.first h.next h.fed in
+      subst (λ t. TellsLines tells a (lines_of bytes) t b) (sym h.whole)
+      (subst (λ lines. TellsLines tells a lines (h.first ++ h.last) b) (sym (last_line bytes k.1 k.0 k.3 k.5))
+      (TellsLines-more a h.mid b k.0 k.1 h.first h.last k.4 (subst (λ l. TellsLine tells h.mid l h.last b) k.2 h.ended)))
+
+-- what ends a line ends a stream too
+pub ends_line : (old : List TableState) (line : Unfinished) (text : List ℕ) (new : List TableState) (next : Unfinished) → AnswersLine old line text new → next ≡ short [] → AnswersEnd old line text new next
+ends_line old (short []) text new next h e = (h, e)
+ends_line old (short (b ∷ bs)) text new next h e = (h, e)
+ends_line old long text new next h e = (h, e)

@@ -18,8 +18,8 @@ signals_of (End session) = end session ∷ []
 abbrev pub signals : List Event → List Signal
 signals = flat_map signals_of
 
--- what was taken of one event's signals
-abbrev pub taken_of : Result (Unit {0}) Stop → List Signal → List Signal
+-- what was taken of one event's signals, or of its bytes
+abbrev pub taken_of : {X : Type 0} → Result (Unit {0}) Stop → List X → List X
 taken_of (Ok x) ss = ss
 taken_of (Err stop) ss = take stop.taken ss
 

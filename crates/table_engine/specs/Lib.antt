@@ -1,7 +1,9 @@
 pub mod Lines
+pub mod Stream
 pub mod Tables
 pub mod Run
 pub mod State
 pub mod Events
 pub mod Whole
 pub mod Devices
+pub mod Outcomes

@@ -13,18 +13,14 @@ abbrev pub AnswersByte : List TableState → Unfinished → ℕ → List ℕ →
 AnswersByte old line b text new next =
     MatchBool (b == 10) (AnswersLine old line text new × (next ≡ short [])) ((text ≡ []) × (new ≡ old) × (next ≡ add b line))
 
--- the same, appended to what was told before
-abbrev pub TakesByte : List TableState → Unfinished → ℕ → List ℕ → List ℕ → List TableState → Unfinished → Type 0
-TakesByte old line b told_before told new next = (text : List ℕ) × (told ≡ told_before ++ text) × AnswersByte old line b text new next
-
 -- the end of a stream completes the line so far, where it has a byte
 abbrev pub AnswersEnd : List TableState → Unfinished → List ℕ → List TableState → Unfinished → Type 0
 AnswersEnd old line text new next =
     MatchBool (is_empty line) ((text ≡ []) × (new ≡ old)) (AnswersLine old line text new) × (next ≡ short [])
 
--- the same, appended to what was told before
-abbrev pub TakesEnd : List TableState → Unfinished → List ℕ → List ℕ → List TableState → Unfinished → Type 0
-TakesEnd old line told_before told new next = (text : List ℕ) × (told ≡ told_before ++ text) × AnswersEnd old line text new next
+-- a line is completed, and its answer is appended to what was told before
+abbrev pub TakesLine : List TableState → Unfinished → List ℕ → List ℕ → List TableState → Unfinished → Type 0
+TakesLine old line told_before told new next = (text : List ℕ) × (told ≡ told_before ++ text) × AnswersLine old line text new × (next ≡ short [])
 
 -- ---- several sessions
 

@@ -1,6 +1,5 @@
 -- One line on the tables.
-use Rattle.std.specs.Prelude.{◌≡◌, ◌⊎◌, ℕ, List, [], ◌++◌, Option, Result, Ok, Err, slice_get, slice_set, position, bytes_eq}
-use Rattle.std.specs.Bool.{MatchBool}
+use Rattle.std.specs.Prelude.{◌≡◌, ◌⊎◌, ℕ, List, ◌++◌, Option, Result, Ok, Err, slice_get, slice_set, position, bytes_eq}
 use Rattle.std.specs.Option.{option_map_or}
 use Rattle.table_cmd.specs.declared.command.Command.{Command}
 use Rattle.command_lines.specs.declared.fault.CommandFault.{CommandFault}
@@ -11,7 +10,8 @@ use Rattle.command_lines.specs.Meaning.{meaning}
 use Rattle.table_reply.specs.Answer.{Answer, fault, answer_text}
 use Rattle.table_cmd.specs.Command.{table_in}
 use Rattle.table_step.specs.Step.{TableState, Step, step_of, memory_line}
-use Rattle.table_engine.specs.Lines.{Unfinished, short, long, is_blank}
+use Rattle.table_engine.specs.Lines.{Unfinished}
+use Rattle.table_engine.specs.Stream.{TellsLine}
 
 -- what a line is answered, and the tables after it
 pub record Carried : Type 0 where
@@ -52,7 +52,10 @@ MayAnswer old carried text new = ((text ≡ answer_text carried.answer) × (new 
 abbrev pub Replies : List ℕ → List ℕ → List TableState → List TableState → Carried → Type 0
 Replies told_before told old new carried = (text : List ℕ) × (told ≡ told_before ++ text) × MayAnswer old carried text new
 
--- A blank line has no answer, and one that is too long has its fault.
+-- what a line that is neither blank nor too long is answered
+abbrev pub AnswersText : List TableState → List ℕ → List ℕ → List TableState → Type 0
+AnswersText old line text new = MayAnswer old (answer_to old (meaning line)) text new
+
+-- what any line is answered
 abbrev pub AnswersLine : List TableState → Unfinished → List ℕ → List TableState → Type 0
-AnswersLine old long text new = (text ≡ answer_text (fault faults.Line)) × (new ≡ old)
-AnswersLine old (short line) text new = MatchBool (is_blank line) ((text ≡ []) × (new ≡ old)) (MayAnswer old (answer_to old (meaning line)) text new)
+AnswersLine = TellsLine AnswersText

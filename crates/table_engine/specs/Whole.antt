@@ -4,7 +4,8 @@ use Rattle.std.specs.List.{slice_split}
 use Rattle.table_reply.specs.Buffer.{joined}
 use Rattle.table_step.specs.Step.{TableState}
 use Rattle.table_engine.specs.Lines.{Unfinished, short, long, max_line}
-use Rattle.table_engine.specs.Tables.{AnswersLine}
+use Rattle.table_engine.specs.Stream.{TellsLine}
+use Rattle.table_engine.specs.Tables.{AnswersText}
 use Rattle.table_engine.specs.Run.{Machine, Signal, Run, bytes_of, end, forgotten, line_of}
 
 -- The lines of a stream: its parts between newlines. Where the stream is empty or ends with a newline, the last part is
@@ -16,11 +17,15 @@ lines_of bytes = slice_split (λ b. b == 10) bytes
 abbrev pub as_line : List ℕ → Unfinished
 as_line line = if nat_le (length line) max_line then short line else long
 
--- The lines are answered one after another.
+-- The lines are told one after another, each from what the one before it left.
+abbrev pub TellsLines : {S : Type 0} → (S → List ℕ → List ℕ → S → Type 0) → S → List (List ℕ) → List ℕ → S → Type 0
+TellsLines tells old [] text new = (text ≡ []) × (new ≡ old)
+TellsLines {S} tells old (line ∷ lines) text new = (mid : S) × (first : List ℕ) × (rest : List ℕ) × (text ≡ first ++ rest)
+    × TellsLine tells old (as_line line) first mid × TellsLines tells mid lines rest new
+
+-- the lines are answered one after another
 abbrev pub AnswersLines : List TableState → List (List ℕ) → List ℕ → List TableState → Type 0
-AnswersLines old [] text new = (text ≡ []) × (new ≡ old)
-AnswersLines old (line ∷ lines) text new = (mid : List TableState) × (first : List ℕ) × (rest : List ℕ) × (text ≡ first ++ rest)
-    × AnswersLine old (as_line line) first mid × AnswersLines mid lines rest new
+AnswersLines = TellsLines AnswersText
 
 -- The machine takes a session's stream to its end, and tells this text: what its lines are answered, where the session
 -- had no line begun.

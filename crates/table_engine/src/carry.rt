@@ -1,18 +1,68 @@
-//! Lines carried out on the tables.
+//! The tables of a schema, and lines that are carried out on them.
 
-ghost use Rattle.std.specs.Prelude.{◌≡◌, ◌≤◌};
+ghost use Rattle.std.specs.Prelude.{◌≡◌, ◌≤◌, IfOk, map};
 ghost use Rattle.table_reply.specs.Buffer.{Keeps};
 ghost use Rattle.command_lines.specs.Meaning.{meaning};
+ghost use Rattle.table_step.specs.Step.{new_table};
 ghost use Rattle.table_engine.specs.Tables.{Replies, answer_to, carried, table_at};
 
+use crate::answers::Answers;
 use command_lines::{CommandFault, read_command};
-use std::alloc::Global;
+use std::alloc::{AllocError, Global};
+use std::convert::Infallible;
+use std::marker::Model;
 use table_cmd::Command;
 use table_reply::{Fault, Out, READY_ROOM};
+use table_schema::Schema;
 use table_step::{Table, refuse};
 
+/// The tables of a schema.
+#[derive(Drop)]
+pub(crate) struct Tables {
+    alloc: Global,
+    tables: Vec<Table>,
+}
+
+impl Model for Tables {
+    ghost use Rattle.std.specs.Prelude.{List};
+    ghost use Rattle.table_step.specs.Step.{TableState};
+
+    ghost Value = { List TableState };
+
+    ghost view = { λ t. t.tables.items };
+}
+
+impl Tables {
+    /// The empty tables of a schema.
+    pub(crate) fn new(alloc: Global, schema: &Schema) -> Result<Tables, AllocError>
+        ensures { IfOk result (λ tables. tables ≡ map new_table schema.now) }
+    {
+        let specs = schema.tables();
+        let mut tables = Vec::with_capacity(alloc, specs.len())?;
+        for spec in specs {
+            tables.push(Table::new(alloc, spec)?)?;
+        }
+        Ok(Tables { alloc, tables })
+    }
+}
+
+impl Answers<()> for Tables {
+    ghost use Rattle.table_engine.specs.Tables.{AnswersText};
+
+    type Refusal = Infallible;
+
+    ghost tells = { λ _. AnswersText };
+
+    ghost refuses = { λ _ _ _ _. ⊥ };
+
+    fn answer(&mut self, _seat: &(), line: &[u8], out: &mut Out) -> Result<(), Infallible> {
+        answer_line(self.alloc, &mut self.tables, line, out);
+        Ok(())
+    }
+}
+
 // Answers a line that is neither blank nor too long.
-pub(crate) fn answer_line(alloc: Global, tables: &mut [Table], line: &[u8], out: &mut Out)
+fn answer_line(alloc: Global, tables: &mut [Table], line: &[u8], out: &mut Out)
     requires { READY_ROOM ≤ out.old.room }
     ensures answer { Replies out.old.bytes out.new.bytes tables.old tables.new (answer_to tables.old (meaning line.now)) }
     ensures kept { Keeps out.old out.new }

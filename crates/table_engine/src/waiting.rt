@@ -16,7 +16,7 @@ const FULL: usize = 65_536;
 const LARGE: usize = 1_048_576;
 
 /// An empty buffer with room for an answer. O(1).
-pub fn new_out(alloc: Global) -> Result<Out, OutOfRoom>
+pub(crate) fn new_out(alloc: Global) -> Result<Out, OutOfRoom>
     ensures { IfOk result (λ out. (out.bytes ≡ []) × (READY_ROOM ≤ out.room)) }
 {
     let mut out = Out::new(alloc);
@@ -26,7 +26,7 @@ pub fn new_out(alloc: Global) -> Result<Out, OutOfRoom>
 
 /// Sees to it that there is room for a further answer. The answers are written out where they are more than 64 KiB, or memory
 /// for more is refused.
-pub fn make_room<W: Write>(
+pub(crate) fn make_room<W: Write>(
     alloc: Global,
     sink: &mut Sink<W>,
     out: &mut Out,
@@ -45,7 +45,7 @@ pub fn make_room<W: Write>(
 
 /// Writes the answers out, in one write where the writer takes them whole, and empties the buffer. At an `Err` a front of them
 /// is written.
-pub fn write_out<W: Write>(
+pub(crate) fn write_out<W: Write>(
     alloc: Global,
     sink: &mut Sink<W>,
     out: &mut Out,

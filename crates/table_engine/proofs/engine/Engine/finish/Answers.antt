@@ -1,11 +1,9 @@
-use Rattle.std.proofs.Common.{◌≡◌, [], ◌∷◌, ◌++◌, List, slice_set, refl, sym, ap, subst, ◌∙◌, append-nil}
-use Rattle.std.specs.Vec.{with_items}
-use Rattle.std.proofs.lemmas.List.{with_items_is}
-use Rattle.table_step.specs.Step.{TableState}
-use Rattle.table_engine.specs.Run.{Run, AnswersEnd, end}
+use Rattle.std.proofs.Common.{◌≡◌, [], ◌∷◌, ◌++◌, slice_set, refl, sym, ap, subst, ◌∙◌, append-nil}
+use Rattle.table_engine.specs.Run.{Run, end}
 use Rattle.table_engine.specs.State.{machine}
 use Rattle.table_engine.proofs.Runs.{Run-one}
 use Rattle.table_engine.proofs.Sessions.{taken_by, left_by, waits_at, within}
+use Rattle.table_engine.proofs.Whole.{ends_line}
 use Rattle.table_engine.proofs.engine.Engine.finish.Goals as goal
 
 pub returns-clause-run : goal.returns-clause-run
@@ -14,23 +12,20 @@ returns-clause-run c =
     let ok = c.in_default.ensures.ok in
     let session = c.args.session in
     let cutters = slice_set inside.cutters.items session c.take_end.new.cutter in
-    let kept : (with_items inside.tables c.take_end.new.tables).items ≡ c.take_end.new.tables = with_items_is inside.tables c.take_end.new.tables (c.take_end.auto.tables ∙ c.deref_mut.ensures.len) in
-    let answers = subst (λ (t : List TableState). AnswersEnd t c.index_mut-cutter.result.now.unfinished ok.0 c.take_end.new.tables c.take_end.new.cutter.unfinished) c.deref_mut.ensures.value ok.2 in
-    let takes = taken_by (end session) inside.tables.items c.take_end.new.tables inside.cutters.items c.index_mut-cutter.result.now c.take_end.new.cutter ok.0
-    (within inside.tables.items inside.cutters.items session c.args.self.now c.self.view_is c.requires) c.index_mut-cutter.ensures.value answers in
+    let answers = ends_line inside.tables c.index_mut-cutter.result.now.unfinished ok.0 c.take_end.new.tables c.take_end.new.cutter.unfinished ok.2 ok.3 in
+    let takes = taken_by (end session) inside.tables c.take_end.new.tables inside.cutters.items c.index_mut-cutter.result.now c.take_end.new.cutter ok.0
+    (within inside.tables inside.cutters.items session c.args.self.now c.self.view_is c.requires) c.index_mut-cutter.ensures.value answers in
     let new = machine c.take_end.new.tables cutters in
-    let run = Run-one (machine inside.tables.items inside.cutters.items) new (end session) ok.0 takes in
-    let seen = subst (λ m. Run m (end session ∷ []) (ok.0 ∷ []) new) c.self.view_is run in
-    (ok.0 ∷ [], subst (λ t. Run c.args.self.now (end session ∷ []) (ok.0 ∷ []) (machine t cutters)) (sym kept) seen, ok.1 ∙ ap (λ xs. c.args.out.now.bytes ++ xs) (sym (append-nil ok.0)))
+    let run = Run-one (machine inside.tables inside.cutters.items) new (end session) ok.0 takes in
+    (ok.0 ∷ [], subst (λ m. Run m (end session ∷ []) (ok.0 ∷ []) new) c.self.view_is run, ok.1 ∙ ap (λ xs. c.args.out.now.bytes ++ xs) (sym (append-nil ok.0)))
 
 pub returns-in-Err-clause-unchanged : goal.returns-in-Err-clause-unchanged
 returns-in-Err-clause-unchanged c =
     let inside = c.self.inside in
     let err = c.in-Err.ensures.err in
     let set = slice_set inside.cutters.items c.args.session c.take_end.new.cutter in
-    let kept : (with_items inside.tables c.take_end.new.tables).items ≡ c.take_end.new.tables = with_items_is inside.tables c.take_end.new.tables (c.take_end.auto.tables ∙ c.deref_mut.ensures.len) in
-    let same : machine (with_items inside.tables c.take_end.new.tables).items set ≡ machine inside.tables.items inside.cutters.items =
-    ap (λ t. machine t set) (kept ∙ (err.0 ∙ c.deref_mut.ensures.value)) ∙ left_by inside.tables.items inside.cutters.items c.args.session c.index_mut-cutter.result.now c.take_end.new.cutter c.index_mut-cutter.ensures.value err.1 in
+    let same : machine c.take_end.new.tables set ≡ machine inside.tables inside.cutters.items =
+    ap (λ t. machine t set) err.0 ∙ left_by inside.tables inside.cutters.items c.args.session c.index_mut-cutter.result.now c.take_end.new.cutter c.index_mut-cutter.ensures.value err.1 in
     (same ∙ c.self.view_is, err.2)
 
 pub returns-in-Err-clause-run : goal.returns-in-Err-clause-run
@@ -44,6 +39,5 @@ returns-in-Err-clause-waits c =
     let err = c.in-Err.ensures.err in
     let waits = c.in-Err.ensures.waits in
     let session = c.args.session in
-    let tables = (with_items inside.tables c.take_end.new.tables).items in
-    waits_at (end session) tables inside.cutters.items c.index_mut-cutter.result.now c.take_end.new.cutter _ _
-    (within inside.tables.items inside.cutters.items session c.args.self.now c.self.view_is c.requires) c.index_mut-cutter.ensures.value err.1 refl waits.0 (rw err.2 waits.1)
+    waits_at (end session) c.take_end.new.tables inside.cutters.items c.index_mut-cutter.result.now c.take_end.new.cutter _ _
+    (within inside.tables inside.cutters.items session c.args.self.now c.self.view_is c.requires) c.index_mut-cutter.ensures.value err.1 refl waits.0 (rw err.2 waits.1)
