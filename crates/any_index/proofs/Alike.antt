@@ -1,19 +1,20 @@
 -- Records of nodes of which one was replaced by another with the same key.
-use Rattle.std.proofs.Common.{◌≡◌, ◌≢◌, ℕ, Option, Some, None, refl, sym, ap, ◌∙◌, ⊎_elim}
-use Rattle.std.specs.Option.{option_cmp, option_map}
+use Rattle.std.proofs.Common.{◌≡◌, ◌≢◌, ℕ, ◌/◌, ◌^◌, Option, Some, None, refl, sym, ap, ◌∙◌, ⊎_elim}
+use Rattle.std.specs.Option.{option_cmp, option_map, option_map_or}
 use Rattle.std.specs.Cmp.{IsTotalOrder}
 use Rattle.std.specs.declared.cmp.Ordering.{Ordering}
 use Rattle.std.specs.declared.cmp.Ordering.TheVariants.{Equal}
 use Rattle.std.proofs.lemmas.Cmp.{alike_right}
 use Rattle.node_store.specs.declared.Node.{Node}
 use Rattle.node_store.proofs.ByNode.{node_cases}
+use Rattle.key_extract.specs.Digests.{Marks}
 use Rattle.ord_tree.specs.Side.{order_at}
 
--- the second record stands equal to the first in a total order, and has its hash
-pub record HasOneKey {R : Type 0} (order : R → R → Ordering) (hash : R → ℕ) (a b : R) : Type 0 where
+-- the second record stands equal to the first in a total order, and has its marks
+pub record HasOneKey {R : Type 0} (order : R → R → Ordering) (marks : R → Marks) (a b : R) : Type 0 where
   pub total : IsTotalOrder order
   pub equal : order b a ≡ Equal
-  pub same_hash : hash b ≡ hash a
+  pub same_marks : marks b ≡ marks a
 
 module _ {R : Type 0} (old new : Node → Option R) (n : Node) (a b : R) (had : old n ≡ Some a) (has : new n ≡ Some b) (others : (m : Node) → m ≢ n → new m ≡ old m) where
   -- what says one thing of both records says one thing of each node's
@@ -37,3 +38,7 @@ module _ {R : Type 0} (old new : Node → Option R) (n : Node) (a b : R) (had : 
   -- each has the hash that it had
   pub hash_alike : (hash : R → ℕ) → hash b ≡ hash a → (m : Node) → option_map hash (new m) ≡ option_map hash (old m)
   hash_alike hash same m = same_of_each (option_map hash) (ap Some same) m
+
+  -- and the digest
+  pub digest_alike : (digest : R → ℕ) → digest b ≡ digest a → (m : Node) → option_map_or (λ r. digest r / 2 ^ 16) (new m) 0 ≡ option_map_or (λ r. digest r / 2 ^ 16) (old m) 0
+  digest_alike digest same m = same_of_each (λ o. option_map_or (λ r. digest r / 2 ^ 16) o 0) (ap (λ k. k / 2 ^ 16) same) m

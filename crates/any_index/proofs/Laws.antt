@@ -24,9 +24,14 @@ use Rattle.node_store.proofs.Members.{IsDistinct_moved, each_held}
 use Rattle.seq_index.proofs.Laws as seq
 pub use Rattle.seq_index.proofs.Walks.{without_at}
 use Rattle.row_index.proofs.Laws as row
+use Rattle.key_extract.specs.Digests.{Marks}
+use Rattle.node_store.specs.Digest.{digest_number}
+use Rattle.ord_tree.specs.Digests.{AreDigested}
+use Rattle.ord_tree.specs.Tree.{stored_digest}
 use Rattle.ord_tree.specs.Side.{order_at}
 use Rattle.ord_tree.proofs.Laws as ord
 pub use Rattle.ord_tree.proofs.Laws.{Holds_at, Holds_last}
+use Rattle.ord_tree.proofs.Digested.{digest_in, AreDigested_others, AreDigested_kept, AreDigested_without}
 use Rattle.ord_tree.proofs.Ordered.{IsInOrder_others}
 use Rattle.rank_tree.proofs.Laws as rank
 use Rattle.hash_index.specs.Chains.{tag_at}
@@ -36,10 +41,10 @@ use Rattle.hash_index.proofs.Laws as hash
 pub use Rattle.hash_index.proofs.Laws.{Lacks_without}
 use Rattle.any_index.specs.declared.index.AnyIndex.{AnyIndex}
 use Rattle.any_index.specs.declared.index.AnyIndex.TheVariants.{Sequenced, Random, Ordered, Ranked, Hashed}
-use Rattle.any_index.specs.Keyed.{HasItsKey, Accepts, AreKeyed, IsKeyed, IsKeyedBut}
+use Rattle.any_index.specs.Keyed.{hash_by, digest_by, HasItsKey, Accepts, AreOrdered, AreKeyed, IsKeyed, IsKeyedBut}
 use Rattle.any_index.specs.Lists.{entry_place}
 use Rattle.any_index.specs.Spelled.{IsSound, list_of, kind_of, col_of, index_of, by_number, number_cmp}
-use Rattle.any_index.proofs.Alike.{HasOneKey, order_alike, hash_alike}
+use Rattle.any_index.proofs.Alike.{HasOneKey, order_alike, hash_alike, digest_alike}
 use Rattle.any_index.proofs.ByNumber.{Lacks_moved, Holds_moved, moved_by_number, moved_back}
 
 -- ---- an index stays as it is where its column stays
@@ -133,91 +138,114 @@ Accepts_from does_fit is_whole (Ordered i) kind fits whole = fits
 Accepts_from does_fit is_whole (Ranked i) kind fits whole = fits
 Accepts_from does_fit is_whole (Hashed i) kind fits whole = whole refl
 
-module _ {R : Type 0} (order : ℕ → R → R → Ordering) (hash_of : ℕ → R → ℕ) where
+module _ {R : Type 0} (order : R → R → Ordering) (marks : R → Marks) (old new : Store R) (col : ℕ) where
+  -- nodes of a tree stay in order, with their digests, where links and records of all others than one stay
+  ordered_others : (n : Node) (xs : List Node) → ((m : Node) → m ≢ n → column_of new col m ≡ column_of old col m) → ((m : Node) → m ≢ n → record_of new m ≡ record_of old m) → Lacks xs n → AreOrdered order marks old col xs → AreOrdered order marks new col xs
+  ordered_others n xs links records lacks h = record {
+    in_order = IsInOrder_others (record_of old) order (record_of new) n xs records lacks h.in_order;
+    digested = AreDigested_others (digest_by marks) old new col n xs (λ m ne. ap digest_in (links m ne)) records lacks h.digested;
+  }
+
+  -- or where all stay
+  ordered_kept : (xs : List Node) → column_of new col ≡ column_of old col → record_of new ≡ record_of old → AreOrdered order marks old col xs → AreOrdered order marks new col xs
+  ordered_kept xs links records h = record {
+    in_order = subst (λ (f : Node → Option R). IsInOrder (order_at f order) xs) (sym records) h.in_order;
+    digested = AreDigested_kept (digest_by marks) old new col xs (λ m. ap (λ (c : Column). stored_digest c m) links) (λ m. ap (λ (f : Node → Option R). f m) records) h.digested;
+  }
+
+  -- nor does it matter that the record of one node is another with the same key
+  ordered_alike : (n : Node) (a b : R) (xs : List Node) → column_of new col ≡ column_of old col → record_of old n ≡ Some a → record_of new n ≡ Some b → ((m : Node) → m ≢ n → record_of new m ≡ record_of old m) → HasOneKey order marks a b → AreOrdered order marks old col xs → AreOrdered order marks new col xs
+  ordered_alike n a b xs links had has records one h = record {
+    in_order = subst (λ (f : Node → Node → Ordering). IsInOrder f xs) (sym (order_alike (record_of old) (record_of new) n a b had has records order one.total one.equal)) h.in_order;
+    digested = each xs h.digested;
+  }
+    where
+      each : (ys : List Node) → AreDigested (digest_by marks) old col ys → AreDigested (digest_by marks) new col ys
+      each [] p = tt
+      each (y ∷ ys) p =
+          (ap (λ (c : Column). digest_number (stored_digest c y)) links ∙ (p.0 ∙ sym (digest_alike (record_of old) (record_of new) n a b had has records (digest_by marks) (ap (λ (m : Marks). m.digest) one.same_marks) y)), each ys p.1)
+
+module _ {R : Type 0} (order : ℕ → R → R → Ordering) (marks : ℕ → R → Marks) where
   -- what the keys of some nodes say stays where the column and the records of all nodes but one stay
-  pub AreKeyed_others : (old new : Store R) (i : AnyIndex) (n : Node) (xs : List Node) → ((m : Node) → m ≢ n → column_of new (col_of i) m ≡ column_of old (col_of i) m) → ((m : Node) → m ≢ n → record_of new m ≡ record_of old m) → Lacks xs n → AreKeyed order hash_of old i xs → AreKeyed order hash_of new i xs
+  pub AreKeyed_others : (old new : Store R) (i : AnyIndex) (n : Node) (xs : List Node) → ((m : Node) → m ≢ n → column_of new (col_of i) m ≡ column_of old (col_of i) m) → ((m : Node) → m ≢ n → record_of new m ≡ record_of old m) → Lacks xs n → AreKeyed order marks old i xs → AreKeyed order marks new i xs
   AreKeyed_others old new (Sequenced i) n xs links records lacks h = tt
   AreKeyed_others old new (Random i) n xs links records lacks h = tt
-  AreKeyed_others old new (Ordered i) n xs links records lacks h = IsInOrder_others (record_of old) (order (index_of (Ordered i))) (record_of new) n xs records lacks h
-  AreKeyed_others old new (Ranked i) n xs links records lacks h = IsInOrder_others (record_of old) (order (index_of (Ranked i))) (record_of new) n xs records lacks h
+  AreKeyed_others old new (Ordered i) n xs links records lacks h = ordered_others (order (index_of (Ordered i))) (marks (index_of (Ordered i))) old new (col_of (Ordered i)) n xs links records lacks h
+  AreKeyed_others old new (Ranked i) n xs links records lacks h = ordered_others (order (index_of (Ranked i))) (marks (index_of (Ranked i))) old new (col_of (Ranked i)) n xs links records lacks h
   AreKeyed_others old new (Hashed i) n xs links records lacks h =
-      hash.IsHashed_others (hash_of (buckets.index_of i)) old new (buckets.col_of i) n xs (λ m ne. ap (option_map (λ (l : Link). l.tag)) (links m ne)) records lacks h
+      hash.IsHashed_others (hash_by (marks (buckets.index_of i))) old new (buckets.col_of i) n xs (λ m ne. ap (option_map (λ (l : Link). l.tag)) (links m ne)) records lacks h
 
   -- or where the column and all records stay
-  pub AreKeyed_kept : (old new : Store R) (i : AnyIndex) (xs : List Node) → column_of new (col_of i) ≡ column_of old (col_of i) → record_of new ≡ record_of old → AreKeyed order hash_of old i xs → AreKeyed order hash_of new i xs
+  pub AreKeyed_kept : (old new : Store R) (i : AnyIndex) (xs : List Node) → column_of new (col_of i) ≡ column_of old (col_of i) → record_of new ≡ record_of old → AreKeyed order marks old i xs → AreKeyed order marks new i xs
   AreKeyed_kept old new (Sequenced i) xs links records h = tt
   AreKeyed_kept old new (Random i) xs links records h = tt
-  AreKeyed_kept old new (Ordered i) xs links records h = subst (λ (f : Node → Option R). IsInOrder (order_at f (order (index_of (Ordered i)))) xs) (sym records) h
-  AreKeyed_kept old new (Ranked i) xs links records h = subst (λ (f : Node → Option R). IsInOrder (order_at f (order (index_of (Ranked i)))) xs) (sym records) h
+  AreKeyed_kept old new (Ordered i) xs links records h = ordered_kept (order (index_of (Ordered i))) (marks (index_of (Ordered i))) old new (col_of (Ordered i)) xs links records h
+  AreKeyed_kept old new (Ranked i) xs links records h = ordered_kept (order (index_of (Ranked i))) (marks (index_of (Ranked i))) old new (col_of (Ranked i)) xs links records h
   AreKeyed_kept old new (Hashed i) xs links records h = each xs h
     where
-      each : (ys : List Node) → IsHashed (hash_of (buckets.index_of i)) old (buckets.col_of i) ys → IsHashed (hash_of (buckets.index_of i)) new (buckets.col_of i) ys
+      each : (ys : List Node) → IsHashed (hash_by (marks (buckets.index_of i))) old (buckets.col_of i) ys → IsHashed (hash_by (marks (buckets.index_of i))) new (buckets.col_of i) ys
       each [] k = tt
       each (y ∷ ys) k =
-          (ap (λ (c : Column). tag_at c y) links ∙ (k.0 ∙ sym (ap (λ (f : Node → Option R). option_map (hash_of (buckets.index_of i)) (f y)) records)), each ys k.1)
+          (ap (λ (c : Column). tag_at c y) links ∙ (k.0 ∙ sym (ap (λ (f : Node → Option R). option_map (hash_by (marks (buckets.index_of i))) (f y)) records)), each ys k.1)
 
   -- some of the nodes are keyed where all are
-  pub AreKeyed_without : (s : Store R) (i : AnyIndex) (n : Node) (xs : List Node) → AreKeyed order hash_of s i xs → AreKeyed order hash_of s i (without (same_node n) xs)
+  pub AreKeyed_without : (s : Store R) (i : AnyIndex) (n : Node) (xs : List Node) → AreKeyed order marks s i xs → AreKeyed order marks s i (without (same_node n) xs)
   AreKeyed_without s (Sequenced i) n xs h = tt
   AreKeyed_without s (Random i) n xs h = tt
-  AreKeyed_without s (Ordered i) n xs h = EachPair-filter _ _ xs h
-  AreKeyed_without s (Ranked i) n xs h = EachPair-filter _ _ xs h
-  AreKeyed_without s (Hashed i) n xs h = hash.IsHashed_without (hash_of (buckets.index_of i)) s (buckets.col_of i) n xs h
+  AreKeyed_without s (Ordered i) n xs h = record { in_order = EachPair-filter _ _ xs h.in_order; digested = AreDigested_without s (digest_by (marks (index_of (Ordered i)))) (col_of (Ordered i)) n xs h.digested }
+  AreKeyed_without s (Ranked i) n xs h = record { in_order = EachPair-filter _ _ xs h.in_order; digested = AreDigested_without s (digest_by (marks (index_of (Ranked i)))) (col_of (Ranked i)) n xs h.digested }
+  AreKeyed_without s (Hashed i) n xs h = hash.IsHashed_without (hash_by (marks (buckets.index_of i))) s (buckets.col_of i) n xs h
 
-  pub IsKeyedBut_from : (s : Store R) (i : AnyIndex) (n : Node) → IsKeyed order hash_of s i → IsKeyedBut order hash_of s i n
+  pub IsKeyedBut_from : (s : Store R) (i : AnyIndex) (n : Node) → IsKeyed order marks s i → IsKeyedBut order marks s i n
   IsKeyedBut_from s i n h = AreKeyed_without s i n (list_of (column_of s) i) h
 
   -- when a node comes that is in no index yet, or goes that is in none
-  pub IsKeyed_added : (old new : Store R) (n : Node) (value : R) (i : AnyIndex) → AddsNode old new n value → IsSound (column_of old) i → IsKeyed order hash_of old i → IsKeyed order hash_of new i
+  pub IsKeyed_added : (old new : Store R) (n : Node) (value : R) (i : AnyIndex) → AddsNode old new n value → IsSound (column_of old) i → IsKeyed order marks old i → IsKeyed order marks new i
   IsKeyed_added old new n value i a sound h =
       let e = list_of_added old new n value i a sound in
       let lacks = subst (λ z. Lacks z n) e (Lacks_added old new n value i a sound) in
-      subst (AreKeyed order hash_of new i) (sym e)
+      subst (AreKeyed order marks new i) (sym e)
       (AreKeyed_others old new i n (list_of (column_of old) i) (λ m ne. (a.columns (col_of i)).others m ne) a.records.others lacks h)
 
-  pub IsKeyed_removed : (old new : Store R) (n : Node) (i : AnyIndex) → RemovesNode old new n → Lacks (list_of (column_of old) i) n → IsSound (column_of old) i → IsKeyed order hash_of old i → IsKeyed order hash_of new i
+  pub IsKeyed_removed : (old new : Store R) (n : Node) (i : AnyIndex) → RemovesNode old new n → Lacks (list_of (column_of old) i) n → IsSound (column_of old) i → IsKeyed order marks old i → IsKeyed order marks new i
   IsKeyed_removed old new n i r lacks sound h =
-      subst (AreKeyed order hash_of new i) (sym (list_of_removed old new n i r lacks sound))
+      subst (AreKeyed order marks new i) (sym (list_of_removed old new n i r lacks sound))
       (AreKeyed_others old new i n (list_of (column_of old) i) (λ m ne. (r.columns (col_of i)).others m ne) r.records.others lacks h)
 
   -- when the record of one node changes, the index is keyed but for that node
-  pub IsKeyedBut_rewritten : (old new : Store R) (n : Node) (i : AnyIndex) → column_of new (col_of i) ≡ column_of old (col_of i) → ((m : Node) → m ≢ n → record_of new m ≡ record_of old m) → IsKeyedBut order hash_of old i n → IsKeyedBut order hash_of new i n
+  pub IsKeyedBut_rewritten : (old new : Store R) (n : Node) (i : AnyIndex) → column_of new (col_of i) ≡ column_of old (col_of i) → ((m : Node) → m ≢ n → record_of new m ≡ record_of old m) → IsKeyedBut order marks old i n → IsKeyedBut order marks new i n
   IsKeyedBut_rewritten old new n i links records h =
       let xs = list_of (column_of old) i in
-      subst (λ z. AreKeyed order hash_of new i (without (same_node n) z)) (sym (list_of_kept (column_of old) (column_of new) i links))
+      subst (λ z. AreKeyed order marks new i (without (same_node n) z)) (sym (list_of_kept (column_of old) (column_of new) i links))
       (AreKeyed_others old new i n (without (same_node n) xs) (λ m ne. ap (λ (c : Column). c m) links) records (hash.Lacks_without xs n) h)
 
   -- and once all records are as they were, as keyed as it was
-  pub IsKeyed_restored : (old new : Store R) (i : AnyIndex) → column_of new (col_of i) ≡ column_of old (col_of i) → record_of new ≡ record_of old → IsKeyed order hash_of old i → IsKeyed order hash_of new i
+  pub IsKeyed_restored : (old new : Store R) (i : AnyIndex) → column_of new (col_of i) ≡ column_of old (col_of i) → record_of new ≡ record_of old → IsKeyed order marks old i → IsKeyed order marks new i
   IsKeyed_restored old new i links records h =
-      subst (AreKeyed order hash_of new i) (sym (list_of_kept (column_of old) (column_of new) i links))
+      subst (AreKeyed order marks new i) (sym (list_of_kept (column_of old) (column_of new) i links))
       (AreKeyed_kept old new i (list_of (column_of old) i) links records h)
 
   -- nor does it matter that the record of one node is another with the same keys
   AreKeyed_alike : (old new : Store R) (n : Node) (a b : R) (i : AnyIndex) (xs : List Node) → column_of new (col_of i) ≡ column_of old (col_of i) → record_of old n ≡ Some a → record_of new n ≡ Some b → ((m : Node) → m ≢ n → record_of new m ≡ record_of old m) →
-      (IsTrue (has_key_kind (kind_of i)) → HasOneKey (order (index_of i)) (hash_of (index_of i)) a b) → AreKeyed order hash_of old i xs → AreKeyed order hash_of new i xs
+      (IsTrue (has_key_kind (kind_of i)) → HasOneKey (order (index_of i)) (marks (index_of i)) a b) → AreKeyed order marks old i xs → AreKeyed order marks new i xs
   AreKeyed_alike old new n a b (Sequenced i) xs links had has records one h = tt
   AreKeyed_alike old new n a b (Random i) xs links had has records one h = tt
-  AreKeyed_alike old new n a b (Ordered i) xs links had has records one h =
-      let key = one refl in
-      subst (λ (f : Node → Node → Ordering). IsInOrder f xs) (sym (order_alike (record_of old) (record_of new) n a b had has records (order (index_of (Ordered i))) key.total key.equal)) h
-  AreKeyed_alike old new n a b (Ranked i) xs links had has records one h =
-      let key = one refl in
-      subst (λ (f : Node → Node → Ordering). IsInOrder f xs) (sym (order_alike (record_of old) (record_of new) n a b had has records (order (index_of (Ranked i))) key.total key.equal)) h
+  AreKeyed_alike old new n a b (Ordered i) xs links had has records one h = ordered_alike (order (index_of (Ordered i))) (marks (index_of (Ordered i))) old new (col_of (Ordered i)) n a b xs links had has records (one refl) h
+  AreKeyed_alike old new n a b (Ranked i) xs links had has records one h = ordered_alike (order (index_of (Ranked i))) (marks (index_of (Ranked i))) old new (col_of (Ranked i)) n a b xs links had has records (one refl) h
   AreKeyed_alike old new n a b (Hashed i) xs links had has records one h = each xs h
     where
       k : ℕ
       k = buckets.index_of i
 
-      each : (ys : List Node) → IsHashed (hash_of k) old (buckets.col_of i) ys → IsHashed (hash_of k) new (buckets.col_of i) ys
+      each : (ys : List Node) → IsHashed (hash_by (marks k)) old (buckets.col_of i) ys → IsHashed (hash_by (marks k)) new (buckets.col_of i) ys
       each [] p = tt
       each (y ∷ ys) p =
-          (ap (λ (c : Column). tag_at c y) links ∙ (p.0 ∙ sym (hash_alike (record_of old) (record_of new) n a b had has records (hash_of k) (one refl).same_hash y)), each ys p.1)
+          (ap (λ (c : Column). tag_at c y) links ∙ (p.0 ∙ sym (hash_alike (record_of old) (record_of new) n a b had has records (hash_by (marks k)) (ap (λ (m : Marks). m.hash) (one refl).same_marks) y)), each ys p.1)
 
   pub IsKeyed_alike : (old new : Store R) (n : Node) (a b : R) (i : AnyIndex) → column_of new (col_of i) ≡ column_of old (col_of i) → record_of old n ≡ Some a → record_of new n ≡ Some b → ((m : Node) → m ≢ n → record_of new m ≡ record_of old m) →
-      (IsTrue (has_key_kind (kind_of i)) → HasOneKey (order (index_of i)) (hash_of (index_of i)) a b) → IsKeyed order hash_of old i → IsKeyed order hash_of new i
+      (IsTrue (has_key_kind (kind_of i)) → HasOneKey (order (index_of i)) (marks (index_of i)) a b) → IsKeyed order marks old i → IsKeyed order marks new i
   IsKeyed_alike old new n a b i links had has records one h =
-      subst (AreKeyed order hash_of new i) (sym (list_of_kept (column_of old) (column_of new) i links))
+      subst (AreKeyed order marks new i) (sym (list_of_kept (column_of old) (column_of new) i links))
       (AreKeyed_alike old new n a b i (list_of (column_of old) i) links had has records one h)
 
 -- ---- the nodes of the lists that changes leave

@@ -11,3 +11,4 @@ pub mod Renumbered
 pub mod Marking
 pub mod InOrder
 pub mod Staying
+pub mod InTrees

@@ -32,7 +32,8 @@ use Rattle.hash_index.specs.declared.HashIndex.{HashIndex}
 use Rattle.hash_index.proofs.Laws as hash
 use Rattle.any_index.specs.declared.index.AnyIndex.{AnyIndex}
 use Rattle.any_index.specs.declared.index.AnyIndex.TheVariants.{Sequenced, Random, Ordered, Ranked, Hashed}
-use Rattle.any_index.specs.Keyed.{AreKeyed, HasItsKey, Accepts}
+use Rattle.key_extract.specs.Digests.{Marks}
+use Rattle.any_index.specs.Keyed.{marks_of, AreKeyed, HasItsKey, Accepts}
 use Rattle.any_index.specs.Marks.{walk_of, matches_in, is_marked, is_match}
 use Rattle.any_index.specs.Side.{side_of}
 use Rattle.any_index.specs.Spelled.{IsSound, list_of, col_of, kind_of, index_of}
@@ -189,12 +190,12 @@ sorted_fits fits whole (Ordered i) k h = h
 sorted_fits fits whole (Ranked i) k h = h
 sorted_fits fits whole (Hashed i) k h = cc
 
-pub sorted_rises : {R : Type 0} (order : ℕ → R → R → Ordering) (hash_of : ℕ → R → ℕ) (s : Store R) (i : AnyIndex) (xs : List Node) (side : R → Ordering) → IsTrue (is_sorted_kind (kind_of i)) → CutsInThreeRuns (order (index_of i)) side → AreKeyed order hash_of s i xs → EachPair (Rises (side_of (record_of s) side)) xs
-sorted_rises order hash_of s (Sequenced i) xs side k cuts h = cc
-sorted_rises order hash_of s (Random i) xs side k cuts h = cc
-sorted_rises order hash_of s (Ordered i) xs side k cuts h = Rises-from (record_of s) (order (index_of (Ordered i))) side xs cuts h
-sorted_rises order hash_of s (Ranked i) xs side k cuts h = Rises-from (record_of s) (order (index_of (Ranked i))) side xs cuts h
-sorted_rises order hash_of s (Hashed i) xs side k cuts h = cc
+pub sorted_rises : {R : Type 0} (order : ℕ → R → R → Ordering) (marks : ℕ → R → Marks) (s : Store R) (i : AnyIndex) (xs : List Node) (side : R → Ordering) → IsTrue (is_sorted_kind (kind_of i)) → CutsInThreeRuns (order (index_of i)) side → AreKeyed order marks s i xs → EachPair (Rises (side_of (record_of s) side)) xs
+sorted_rises order marks s (Sequenced i) xs side k cuts h = cc
+sorted_rises order marks s (Random i) xs side k cuts h = cc
+sorted_rises order marks s (Ordered i) xs side k cuts h = Rises-from (record_of s) (order (index_of (Ordered i))) side xs cuts h.in_order
+sorted_rises order marks s (Ranked i) xs side k cuts h = Rises-from (record_of s) (order (index_of (Ranked i))) side xs cuts h.in_order
+sorted_rises order marks s (Hashed i) xs side k cuts h = cc
 
 module _ {E R P : Type 0} (X : Ghosts E R P) (i : AnyIndex) (s t : Store R) (keys : E) (probe : P) (links : column_of t (col_of i) ≡ column_of s (col_of i)) (records : record_of t ≡ record_of s) where
   pub matches_kept : matches_in X i t keys probe ≡ matches_in X i s keys probe
@@ -205,7 +206,7 @@ module _ {E R P : Type 0} (X : Ghosts E R P) (i : AnyIndex) (s t : Store R) (key
     sound = IsSound_kept (column_of s) (column_of t) i links h.sound;
     key = h.key;
     fits = h.fits;
-    keyed = IsKeyed_restored (X.order_of keys) (X.hash_of keys) s t i links records h.keyed;
+    keyed = IsKeyed_restored (X.order_of keys) (marks_of X keys) s t i links records h.keyed;
   }
 
 -- ---- the loop

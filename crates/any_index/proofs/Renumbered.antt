@@ -6,12 +6,17 @@ use Rattle.node_store.specs.declared.Node.{Node}
 use Rattle.node_store.specs.Store.{Store}
 use Rattle.node_store.specs.ByNode.{record_of}
 use Rattle.hash_index.specs.Hashed.{IsHashed}
+use Rattle.key_extract.specs.Digests.{Marks}
+use Rattle.ord_tree.specs.Digests.{AreDigested}
+use Rattle.any_index.specs.Keyed.{AreOrdered, digest_by}
 use Rattle.any_index.specs.Side.{order_at}
 
 module _ {R : Type 0} (s : Store R) where
-  pub ordered_by : (old new : R → R → Ordering) (xs ys : List Node) → new ≡ old → ys ≡ xs → IsInOrder (order_at (record_of s) old) xs → IsInOrder (order_at (record_of s) new) ys
-  ordered_by old new xs ys same listed h =
-      subst (λ zs. IsInOrder (order_at (record_of s) new) zs) (sym listed) (subst (λ (f : R → R → Ordering). IsInOrder (order_at (record_of s) f) xs) (sym same) h)
+  pub ordered_by : (old new : R → R → Ordering) (was now : R → Marks) (c d : ℕ) (xs ys : List Node) → new ≡ old → now ≡ was → d ≡ c → ys ≡ xs → AreOrdered old was s c xs → AreOrdered new now s d ys
+  ordered_by old new was now c d xs ys same marked col listed h = record {
+    in_order = subst (λ zs. IsInOrder (order_at (record_of s) new) zs) (sym listed) (subst (λ (f : R → R → Ordering). IsInOrder (order_at (record_of s) f) xs) (sym same) h.in_order);
+    digested = subst (λ zs. AreDigested (digest_by now) s d zs) (sym listed) (subst (λ z. AreDigested (digest_by now) s z xs) (sym col) (subst (λ (f : R → Marks). AreDigested (digest_by f) s c xs) (sym marked) h.digested));
+  }
 
   pub hashed_by : (old new : R → ℕ) (c d : ℕ) (xs ys : List Node) → new ≡ old → d ≡ c → ys ≡ xs → IsHashed old s c xs → IsHashed new s d ys
   hashed_by old new c d xs ys same col listed h =

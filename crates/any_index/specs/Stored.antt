@@ -8,7 +8,7 @@ use Rattle.key_extract.specs.declared.extract.Extract.{Ghosts}
 use Rattle.any_index.specs.Side.{side_of, order_at}
 use Rattle.any_index.specs.declared.index.AnyIndex.{AnyIndex}
 use Rattle.any_index.specs.Spelled.{IsSound, Holds, KeepsOthers, list_of, kind_of, col_of, index_of}
-use Rattle.any_index.specs.Keyed.{HasItsKey, Accepts, IsKeyed, IsKeyedBut, IsKeyedExcept, HasOneOfEachKey}
+use Rattle.any_index.specs.Keyed.{marks_of, HasItsKey, Accepts, IsKeyed, IsKeyedBut, IsKeyedExcept, HasOneOfEachKey}
 
 module _ {R : Type 0} where
   -- the nodes of the index, in its order
@@ -49,19 +49,19 @@ module _ {E R P : Type 0} (X : Ghosts E R P) where
   pub record IsFiled (i : AnyIndex) (s : Store R) (keys : E) : Type 0 where
     pub sound : IsIn i s
     pub key : HasItsKey (X.has_key keys) i
-    pub keyed : IsKeyed (X.order_of keys) (X.hash_of keys) s i
+    pub keyed : IsKeyed (X.order_of keys) (marks_of X keys) s i
 
   -- all but this node are, whose record may have changed
   pub record IsFiledBut (n : Node) (i : AnyIndex) (s : Store R) (keys : E) : Type 0 where
     pub sound : IsIn i s
     pub key : HasItsKey (X.has_key keys) i
-    pub keyed : IsKeyedBut (X.order_of keys) (X.hash_of keys) s i n
+    pub keyed : IsKeyedBut (X.order_of keys) (marks_of X keys) s i n
 
   -- all but the excepted node are, and no two of them have one key in a hashed index
   pub record IsFiledOnce (except : Option Node) (i : AnyIndex) (s : Store R) (keys : E) : Type 0 where
     pub sound : IsIn i s
     pub key : HasItsKey (X.has_key keys) i
-    pub keyed : IsKeyedExcept (X.order_of keys) (X.hash_of keys) s i except
+    pub keyed : IsKeyedExcept (X.order_of keys) (marks_of X keys) s i except
     pub unique : HasOneOfEachKey (X.order_of keys) s i except
 
   -- nodes can be looked for by the probe: it is a key of the index, and they are where their keys put them
@@ -69,11 +69,11 @@ module _ {E R P : Type 0} (X : Ghosts E R P) where
     pub sound : IsIn i s
     pub key : HasItsKey (X.has_key keys) i
     pub fits : Accepts (λ j. X.does_fit keys j probe) (λ j. X.is_whole keys j probe) i
-    pub keyed : IsKeyed (X.order_of keys) (X.hash_of keys) s i
+    pub keyed : IsKeyed (X.order_of keys) (marks_of X keys) s i
 
   -- the same where the probe may be a leading part of a key
   pub record CanSearch (i : AnyIndex) (s : Store R) (keys : E) (probe : P) : Type 0 where
     pub sound : IsIn i s
     pub key : HasItsKey (X.has_key keys) i
     pub fits : IsTrue (X.does_fit keys (index_of i) probe)
-    pub keyed : IsKeyed (X.order_of keys) (X.hash_of keys) s i
+    pub keyed : IsKeyed (X.order_of keys) (marks_of X keys) s i

@@ -2,6 +2,7 @@
 ghost use Rattle.std.specs.Prelude.{◌≡◌, ℕ, ◌<◌, ◌≤◌, cond, Some, [], length, OnOk, OnErr};
 ghost use Rattle.std.specs.declared.cmp.Ordering.{Ordering};
 ghost use Rattle.list_model.specs.Walk.{without};
+ghost use Rattle.key_extract.specs.Digests.{Marks};
 ghost use Rattle.node_store.specs.Column.{Column, IsNode};
 ghost use Rattle.node_store.specs.Nodes.{Lacks};
 ghost use Rattle.node_store.specs.ByNode.{column_of, same_node};
@@ -36,7 +37,7 @@ pub enum AnyIndex {
 impl AnyIndex {
     ghost use Rattle.any_index.specs.Stored.{nodes_of, IsIn, HasNode, KeepsRest, order_in, IsFiled, IsFiledBut};
     ghost use Rattle.any_index.specs.Spelled.{IsSound, HasRoom, list_of, kind_of, col_of, index_of};
-    ghost use Rattle.any_index.specs.Keyed.{IsKeyed, IsKeyedBut, IsSameKey};
+    ghost use Rattle.any_index.specs.Keyed.{marks_of, IsKeyed, IsKeyedBut, IsSameKey};
 
     /// An index of no nodes in column `column`, by the keys of number `index` where its kind has keys. It allocates
     /// nothing. O(1).
@@ -82,10 +83,10 @@ impl AnyIndex {
         ensures index { index_of self.new ≡ cond (has_key_kind (kind_of self.old)) index
             (index_of self.old) }
         ensures room { HasRoom self.old → HasRoom self.new }
-        ensures keyed { (order after : ℕ → R → R → Ordering) (hash_of hash_after : ℕ → R → ℕ) →
+        ensures keyed { (order after : ℕ → R → R → Ordering) (marks marks_after : ℕ → R → Marks) →
             IsSameKey (kind_of self.old) (order (index_of self.old)) (after index) →
-            IsSameKey (kind_of self.old) (hash_of (index_of self.old)) (hash_after index) →
-            IsKeyed order hash_of store.now self.old → IsKeyed after hash_after store.now self.new }
+            IsSameKey (kind_of self.old) (marks (index_of self.old)) (marks_after index) →
+            IsKeyed order marks store.now self.old → IsKeyed after marks_after store.now self.new }
     {
         match self {
             AnyIndex::Sequenced(_) | AnyIndex::Random(_) => {}
@@ -103,8 +104,8 @@ impl AnyIndex {
         ensures list { nodes_of self.new store.new ≡ nodes_of self.old store.old }
         ensures room { OnOk result (HasRoom self.new) }
         ensures full { OnErr result (¬ HasRoom self.old) }
-        ensures keyed { (order : ℕ → R → R → Ordering) (hash_of : ℕ → R → ℕ) →
-            IsKeyed order hash_of store.old self.old → IsKeyed order hash_of store.new self.new }
+        ensures keyed { (order : ℕ → R → R → Ordering) (marks : ℕ → R → Marks) →
+            IsKeyed order marks store.old self.old → IsKeyed order marks store.new self.new }
         ensures rest { KeepsRest self.old self.new store.old store.new }
     {
         match self {
@@ -133,7 +134,7 @@ impl AnyIndex {
         ensures sound { IsIn self.new store.new }
         ensures list { nodes_of self.new store.new ≡ entered (kind_of self.old)
             (order_in E.Extract self.old store.old keys.now) at n (nodes_of self.old store.old) }
-        ensures keyed { IsKeyed (E.order_of keys.now) (E.hash_of keys.now) store.new self.new }
+        ensures keyed { IsKeyed (E.order_of keys.now) (marks_of E.Extract keys.now) store.new self.new }
         ensures rest { KeepsRest self.old self.new store.old store.new }
     {
         match self {
@@ -159,9 +160,9 @@ impl AnyIndex {
         ensures list { nodes_of self.new store.new ≡ without (same_node n)
             (nodes_of self.old store.old) }
         ensures room { HasRoom self.new }
-        ensures keyed { (order : ℕ → R → R → Ordering) (hash_of : ℕ → R → ℕ) →
-            IsKeyedBut order hash_of store.old self.old n →
-            IsKeyed order hash_of store.new self.new }
+        ensures keyed { (order : ℕ → R → R → Ordering) (marks : ℕ → R → Marks) →
+            IsKeyedBut order marks store.old self.old n →
+            IsKeyed order marks store.new self.new }
         ensures rest { KeepsRest self.old self.new store.old store.new }
     {
         match self {
@@ -182,7 +183,7 @@ impl AnyIndex {
         ensures sound { IsIn self.new store.new }
         ensures list { nodes_of self.new store.new ≡ settled_in (kind_of self.old)
             (order_in E.Extract self.old store.old keys.now) n (nodes_of self.old store.old) }
-        ensures keyed { IsKeyed (E.order_of keys.now) (E.hash_of keys.now) store.new self.new }
+        ensures keyed { IsKeyed (E.order_of keys.now) (marks_of E.Extract keys.now) store.new self.new }
         ensures rest { KeepsRest self.old self.new store.old store.new }
     {
         match self {

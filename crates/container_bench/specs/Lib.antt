@@ -1,3 +1,4 @@
+pub mod Digests
 pub mod Keys
 pub mod Pairs
 pub mod Trees

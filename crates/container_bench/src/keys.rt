@@ -3,7 +3,7 @@ ghost use Rattle.std.specs.Prelude.{◌≡◌, ◌<◌, ◌++◌, ◌∷◌, [],
 ghost use Rattle.container_bench.specs.Keys.{has_key, is_key, key_at, numbers, pair_cmp};
 
 use crate::record::Record;
-use key_extract::Extract;
+use key_extract::{Extract, count_digest};
 use std::alloc::AllocError;
 use std::cmp::Ordering;
 use std::marker::Model;
@@ -114,13 +114,14 @@ impl Keys {
 }
 
 impl Extract<Record> for Keys {
-    ghost use Rattle.std.specs.Prelude.{true};
+    ghost use Rattle.std.specs.Prelude.{true, refl};
     ghost use Rattle.std.proofs.Common.{◌∙◌};
     ghost use Rattle.std.proofs.lemmas.Cmp.{on_total, tied_back};
     ghost use Rattle.ord_tree.specs.Laws.{cuts_at};
     ghost use Rattle.container_bench.specs.Keys.{has_key, key_at, numbers, pair_cmp};
     ghost use Rattle.container_bench.specs.Pairs.{pairs_total, same_first};
-    ghost use Rattle.key_extract.specs.Digests.{one_orders, one_cuts};
+    ghost use Rattle.key_extract.specs.KeyDigests.{count_digest};
+    ghost use Rattle.container_bench.specs.Digests.{digest_by, digests_order, digests_cut, one_digest};
 
     type Probe = (u64, u64);
 
@@ -138,9 +139,9 @@ impl Extract<Record> for Keys {
 
     ghost probe_hash_of = { λ keys index probe. probe.0 };
 
-    ghost digest_of = { λ keys index a. 0 };
+    ghost digest_of = { λ keys index. digest_by (key_at keys index) };
 
-    ghost probe_digest_of = { λ keys index probe. 0 };
+    ghost probe_digest_of = { λ keys index probe. count_digest probe.0 };
 
     fn has(&self, index: usize) -> bool {
         self.has_key(index)
@@ -174,12 +175,12 @@ impl Extract<Record> for Keys {
         probe.0
     }
 
-    fn digest(&self, _index: usize, _a: &Record) -> u64 {
-        0
+    fn digest(&self, index: usize, a: &Record) -> u64 {
+        count_digest(self.numbers_at(index, a).0)
     }
 
-    fn digest_probe(&self, _index: usize, _probe: &(u64, u64)) -> u64 {
-        0
+    fn digest_probe(&self, _index: usize, probe: &(u64, u64)) -> u64 {
+        count_digest(probe.0)
     }
 
     ghost order_total = { λ keys index has. on_total (numbers (key_at keys index)) pairs_total };
@@ -194,7 +195,9 @@ impl Extract<Record> for Keys {
 
     ghost whole_hash = { λ keys index a probe has whole e. same_first (numbers (key_at keys index) a) probe e };
 
-    ghost digest_order = { λ keys index has. one_orders (λ a b. pair_cmp (numbers (key_at keys index) a) (numbers (key_at keys index) b)) 0 };
+    ghost digest_order = { λ keys index has. digests_order (key_at keys index) };
 
-    ghost probe_digest_order = { λ keys index probe has fits. one_cuts (λ a. pair_cmp (numbers (key_at keys index) a) probe) 0 };
+    ghost probe_digest_order = { λ keys index probe has fits. digests_cut (key_at keys index) probe };
+
+    ghost one_digest = { λ keys other index at. one_digest (key_at other at) (key_at keys index) };
 }

@@ -2,7 +2,7 @@
 ghost use Rattle.std.specs.Prelude.{◌≡◌};
 ghost use Rattle.embedded.specs.Fields.{field_of};
 
-use key_extract::Extract;
+use key_extract::{Extract, count_digest};
 use std::cmp::Ordering;
 
 /// An order in a book.
@@ -32,14 +32,16 @@ fn field(index: usize, order: &Order) -> u64
 }
 
 impl Extract<Order> for Fields {
-    ghost use Rattle.std.specs.Prelude.{true};
+    ghost use Rattle.std.specs.Prelude.{true, refl};
     ghost use Rattle.std.proofs.Common.{◌∙◌};
     ghost use Rattle.std.specs.Ordering.{nat_cmp};
     ghost use Rattle.std.proofs.lemmas.Cmp.{nat_cmp_total, on_total, tied_back};
     ghost use Rattle.std.proofs.lemmas.Map.Lookups.{exact_unsigned};
     ghost use Rattle.key_extract.specs.Laws.{cuts_at};
     ghost use Rattle.embedded.specs.Fields.{field_of, by_field, to_field};
-    ghost use Rattle.key_extract.specs.Digests.{one_orders, one_cuts};
+    ghost use Rattle.key_extract.specs.KeyDigests.{count_digest};
+    ghost use Rattle.key_extract.specs.DigestLaws.{counts_order, counts_cut};
+    ghost use Rattle.embedded.specs.Digests.{digest_by, one_digest};
 
     type Probe = u64;
 
@@ -57,9 +59,9 @@ impl Extract<Order> for Fields {
 
     ghost probe_hash_of = { λ keys index probe. probe };
 
-    ghost digest_of = { λ keys index a. 0 };
+    ghost digest_of = { digest_by };
 
-    ghost probe_digest_of = { λ keys index probe. 0 };
+    ghost probe_digest_of = { λ keys index probe. count_digest probe };
 
     fn has(&self, _index: usize) -> bool {
         true
@@ -93,12 +95,12 @@ impl Extract<Order> for Fields {
         *probe
     }
 
-    fn digest(&self, _index: usize, _a: &Order) -> u64 {
-        0
+    fn digest(&self, index: usize, a: &Order) -> u64 {
+        count_digest(field(index, a))
     }
 
-    fn digest_probe(&self, _index: usize, _probe: &u64) -> u64 {
-        0
+    fn digest_probe(&self, _index: usize, probe: &u64) -> u64 {
+        count_digest(*probe)
     }
 
     ghost order_total = { λ keys index has. on_total (field_of index) nat_cmp_total };
@@ -113,7 +115,9 @@ impl Extract<Order> for Fields {
 
     ghost whole_hash = { λ keys index a probe has whole e. exact_unsigned (field_of index a) probe e };
 
-    ghost digest_order = { λ keys index has. one_orders (by_field keys index) 0 };
+    ghost digest_order = { λ keys index has. counts_order (field_of index) };
 
-    ghost probe_digest_order = { λ keys index probe has fits. one_cuts (λ a. to_field keys index a probe) 0 };
+    ghost probe_digest_order = { λ keys index probe has fits. counts_cut (field_of index) probe };
+
+    ghost one_digest = { one_digest };
 }

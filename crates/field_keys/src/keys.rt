@@ -144,4 +144,6 @@ impl<R: Fields> Extract<R> for FieldKeys {
     ghost digest_order = { λ keys index has. one_orders (λ a b. key_cmp (key_at keys index) (R.row_of a) (R.row_of b)) 0 };
 
     ghost probe_digest_order = { λ keys index probe has fits. one_cuts (λ a. probe_cmp (key_at keys index) (R.row_of a) (sought (key_at keys index) probe)) 0 };
+
+    ghost one_digest = { λ keys other index at same. refl };
 }

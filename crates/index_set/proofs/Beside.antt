@@ -1,4 +1,5 @@
 -- A walk that passes indices over at which the key of a record has not changed.
+use Rattle.key_extract.specs.Digests.{Marks}
 use Rattle.std.proofs.Common.{◌≡◌, ℕ, false, ◌+◌, ◌<◌, ◌≤◌, List, length, get_or, set, arith}
 use Rattle.std.specs.declared.cmp.Ordering.{Ordering}
 use Rattle.node_store.specs.Store.{Store}
@@ -14,11 +15,11 @@ use Rattle.index_set.specs.Indices.{IsPlaced, ArePlaced}
 use Rattle.index_set.proofs.Each.{each_set}
 use Rattle.index_set.proofs.Frame.{Steps, IsFar, are_far, list_kept, keyed_kept}
 
-module _ {R : Type 0} (order : ℕ → R → R → Ordering) (hash_of : ℕ → R → ℕ) (specs : List Spec) where
+module _ {R : Type 0} (order : ℕ → R → R → Ordering) (marks : ℕ → R → Marks) (specs : List Spec) where
   module _ (changed : Changed) where
     -- those from the place k on are keyed where the key has not changed
     abbrev pub KeyedBeside : Store R → ℕ → ℕ → Spec → AnyIndex → Type 0
-    KeyedBeside s k j spec i = k ≤ j → may_differ changed j ≡ false → AreKeyed order hash_of s i (list_of (column_of s) i)
+    KeyedBeside s k j spec i = k ≤ j → may_differ changed j ≡ false → AreKeyed order marks s i (list_of (column_of s) i)
 
     pub beside_step : (k : ℕ) (s t : Store R) (is : List AnyIndex) (d new : AnyIndex) → k < length specs → ArePlaced (column_of s) specs is → Steps (column_of s) (column_of t) (get_or is k d) new → contents t ≡ contents s →
         EachOf (KeyedBeside s k) specs is → EachOf (KeyedBeside t (k + 1)) specs (set is k new)
@@ -28,4 +29,4 @@ module _ {R : Type 0} (order : ℕ → R → R → Ordering) (hash_of : ℕ → 
         (λ e above. absurd (omega (arith, above)))
         (λ j spec i apart p above kept.
         let c = col_of (get_or is k d) in
-        keyed_kept order hash_of s t c j spec i _ _ p.0.0 step.others same (p.0.1 apart) (list_kept (column_of s) (column_of t) c j spec i p.0.0 step.others (p.0.1 apart)) (p.1 (omega (arith, above)) kept))
+        keyed_kept order marks s t c j spec i _ _ p.0.0 step.others same (p.0.1 apart) (list_kept (column_of s) (column_of t) c j spec i p.0.0 step.others (p.0.1 apart)) (p.1 (omega (arith, above)) kept))

@@ -1,4 +1,5 @@
 -- An index that is built by putting nodes in one after the other, in a column of its own.
+use Rattle.key_extract.specs.Digests.{Marks}
 use Rattle.std.proofs.Common.{◌≡◌, ◌≢◌, ℕ, ◌+◌, ◌<◌, ◌≤◌, Bool, true, false, Option, Some, List, [], ◌∷◌, ◌++◌, length, take, drop, get_or, cond, None, refl, sym, ap, ◌∙◌, subst, append-nil}
 use Rattle.std.specs.Prelude.{IsTrue, IsPermutation, find, insert}
 use Rattle.std.specs.Cmp.{IsTotalOrder}
@@ -61,26 +62,26 @@ take_whole : (k : ℕ) (ns : List Node) → length ns ≤ k → take k ns ≡ ns
 take_whole k ns all = sym (append-nil (take k ns)) ∙ ap (λ l. take k ns ++ l) (sym (drop_all k ns all)) ∙ take-append-drop k ns
 
 -- so far
-pub record Built {R : Type 0} (order : ℕ → R → R → Ordering) (hash_of : ℕ → R → ℕ) (s : Store R) (spec : Spec) (column index : ℕ) (nodes : List Node) (k : ℕ) (t : Store R) (made : AnyIndex) : Type 0 where
+pub record Built {R : Type 0} (order : ℕ → R → R → Ordering) (marks : ℕ → R → Marks) (s : Store R) (spec : Spec) (column index : ℕ) (nodes : List Node) (k : ℕ) (t : Store R) (made : AnyIndex) : Type 0 where
   pub sound : IsSound (column_of t) made
   pub kind : kind_of made ≡ spec.kind
   pub col : col_of made ≡ column
   pub number : IsTrue (has_key_kind spec.kind) → index_of made ≡ index
   pub list : list_of (column_of t) made ≡ entered_all (order_at (record_of s) (order index)) spec.kind [] (take k nodes)
-  pub keyed : IsKeyed order hash_of t made
+  pub keyed : IsKeyed order marks t made
   pub unique : IsTrue spec.unique → HasEachKeyOnce (order_at (record_of s) (order index)) (list_of (column_of t) made)
   -- a clash is found among the nodes that come, or not at all
   pub clash : cond spec.unique (clash_from (order_at (record_of s) (order index)) (take k nodes) (drop k nodes)) None ≡ clash (order_at (record_of s) (order index)) spec.unique nodes
   pub others : KeepsOthers (column_of s) (column_of t) column
   pub contents : contents t ≡ contents s
 
-module _ {R : Type 0} (order : ℕ → R → R → Ordering) (hash_of : ℕ → R → ℕ) (s : Store R) (spec : Spec) (column index : ℕ) (nodes : List Node) (k : ℕ) (t u : Store R) (made new : AnyIndex)
-    (b : Built order hash_of s spec column index nodes k t made) (col : col_of new ≡ col_of made) (kind : kind_of new ≡ kind_of made) (number : index_of new ≡ index_of made)
-    (others : KeepsOthers (column_of t) (column_of u) (col_of made)) (same : contents u ≡ contents t) (sound : IsSound (column_of u) new) (keyed : IsKeyed order hash_of u new) where
+module _ {R : Type 0} (order : ℕ → R → R → Ordering) (marks : ℕ → R → Marks) (s : Store R) (spec : Spec) (column index : ℕ) (nodes : List Node) (k : ℕ) (t u : Store R) (made new : AnyIndex)
+    (b : Built order marks s spec column index nodes k t made) (col : col_of new ≡ col_of made) (kind : kind_of new ≡ kind_of made) (number : index_of new ≡ index_of made)
+    (others : KeepsOthers (column_of t) (column_of u) (col_of made)) (same : contents u ≡ contents t) (sound : IsSound (column_of u) new) (keyed : IsKeyed order marks u new) where
   kept : KeepsOthers (column_of s) (column_of u) column
   kept j apart = subst (KeepsOthers (column_of t) (column_of u)) b.col others j apart ∙ b.others j apart
 
-  pub built_room : list_of (column_of u) new ≡ list_of (column_of t) made → Built order hash_of s spec column index nodes k u new
+  pub built_room : list_of (column_of u) new ≡ list_of (column_of t) made → Built order marks s spec column index nodes k u new
   built_room listed = record {
     sound = sound;
     kind = kind ∙ b.kind;
@@ -97,7 +98,7 @@ module _ {R : Type 0} (order : ℕ → R → R → Ordering) (hash_of : ℕ → 
   pub built_more : (n : Node) → k < length nodes → n ≡ get_or nodes k n → list_of (column_of u) new ≡ entered (kind_of made) (order_at (record_of t) (order (index_of made))) None n (list_of (column_of t) made) →
       (IsTrue spec.unique → HasEachKeyOnce (order_at (record_of s) (order index)) (list_of (column_of u) new)) →
       cond spec.unique (clash_from (order_at (record_of s) (order index)) (take (k + 1) nodes) (drop (k + 1) nodes)) None ≡ clash (order_at (record_of s) (order index)) spec.unique nodes →
-      Built order hash_of s spec column index nodes (k + 1) u new
+      Built order marks s spec column index nodes (k + 1) u new
   built_more n lt is listed unique searched =
       let f = order_at (record_of s) (order index) in
       let records : record_of t ≡ record_of s = records_kept s t b.contents in
@@ -120,7 +121,7 @@ module _ {R : Type 0} (order : ℕ → R → R → Ordering) (hash_of : ℕ → 
         contents = same ∙ b.contents;
       }
 
-module _ {R : Type 0} (order : ℕ → R → R → Ordering) (hash_of : ℕ → R → ℕ) (s : Store R) (spec : Spec) (column index : ℕ) (nodes : List Node) (k : ℕ) (t : Store R) (made : AnyIndex) (b : Built order hash_of s spec column index nodes k t made) where
+module _ {R : Type 0} (order : ℕ → R → R → Ordering) (marks : ℕ → R → Marks) (s : Store R) (spec : Spec) (column index : ℕ) (nodes : List Node) (k : ℕ) (t : Store R) (made : AnyIndex) (b : Built order marks s spec column index nodes k t made) where
   -- the next node is not in yet
   pub built_lacks : (n : Node) → k < length nodes → n ≡ get_or nodes k n → IsDistinct nodes → Lacks (list_of (column_of t) made) n
   built_lacks n lt is distinct =

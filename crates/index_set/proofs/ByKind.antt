@@ -1,4 +1,5 @@
 -- Indices kind by kind.
+use Rattle.key_extract.specs.Digests.{Marks}
 use Rattle.std.proofs.Common.{ℕ, Bool, List, [], refl}
 use Rattle.std.specs.Prelude.{IsTrue}
 use Rattle.std.specs.declared.cmp.Ordering.{Ordering}
@@ -11,20 +12,20 @@ use Rattle.any_index.specs.Spelled.{kind_of, index_of}
 use Rattle.any_index.specs.Keyed.{AreKeyed, Accepts}
 
 -- no nodes are keyed
-pub AreKeyed_none : {R : Type 0} (order : ℕ → R → R → Ordering) (hash_of : ℕ → R → ℕ) (s : Store R) (i : AnyIndex) → AreKeyed order hash_of s i []
-AreKeyed_none order hash_of s (Sequenced i) = tt
-AreKeyed_none order hash_of s (Random i) = tt
-AreKeyed_none order hash_of s (Ordered i) = tt
-AreKeyed_none order hash_of s (Ranked i) = tt
-AreKeyed_none order hash_of s (Hashed i) = tt
+pub AreKeyed_none : {R : Type 0} (order : ℕ → R → R → Ordering) (marks : ℕ → R → Marks) (s : Store R) (i : AnyIndex) → AreKeyed order marks s i []
+AreKeyed_none order marks s (Sequenced i) = tt
+AreKeyed_none order marks s (Random i) = tt
+AreKeyed_none order marks s (Ordered i) = record { in_order = tt; digested = tt }
+AreKeyed_none order marks s (Ranked i) = record { in_order = tt; digested = tt }
+AreKeyed_none order marks s (Hashed i) = tt
 
 -- any nodes of a sequence are
-pub AreKeyed_sequence : {R : Type 0} (order : ℕ → R → R → Ordering) (hash_of : ℕ → R → ℕ) (s : Store R) (i : AnyIndex) (xs : List Node) → IsTrue (is_sequence_kind (kind_of i)) → AreKeyed order hash_of s i xs
-AreKeyed_sequence order hash_of s (Sequenced i) xs kind = tt
-AreKeyed_sequence order hash_of s (Random i) xs kind = tt
-AreKeyed_sequence order hash_of s (Ordered i) xs kind = absurd (cc)
-AreKeyed_sequence order hash_of s (Ranked i) xs kind = absurd (cc)
-AreKeyed_sequence order hash_of s (Hashed i) xs kind = absurd (cc)
+pub AreKeyed_sequence : {R : Type 0} (order : ℕ → R → R → Ordering) (marks : ℕ → R → Marks) (s : Store R) (i : AnyIndex) (xs : List Node) → IsTrue (is_sequence_kind (kind_of i)) → AreKeyed order marks s i xs
+AreKeyed_sequence order marks s (Sequenced i) xs kind = tt
+AreKeyed_sequence order marks s (Random i) xs kind = tt
+AreKeyed_sequence order marks s (Ordered i) xs kind = absurd (cc)
+AreKeyed_sequence order marks s (Ranked i) xs kind = absurd (cc)
+AreKeyed_sequence order marks s (Hashed i) xs kind = absurd (cc)
 
 -- a probe that fits is accepted in an index in order, and a whole one in a hashed one
 pub Accepts_from : (does_fit is_whole : ℕ → Bool) (i : AnyIndex) → IsTrue (has_key_kind (kind_of i)) → (IsTrue (is_sorted_kind (kind_of i)) → IsTrue (does_fit (index_of i))) → (IsTrue (is_hashed_kind (kind_of i)) → IsTrue (is_whole (index_of i))) → Accepts does_fit is_whole i

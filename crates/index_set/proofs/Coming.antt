@@ -1,4 +1,5 @@
 -- What stays of the indices where a node comes or goes that is in none of them, and where a record changes.
+use Rattle.key_extract.specs.Digests.{Marks}
 use Rattle.std.proofs.Common.{◌≡◌, ℕ, List, [], false, length, map, get_or, Result, Ok, Err, refl, sym, ap, ◌∙◌, subst, arith}
 use Rattle.std.specs.Prelude.{IfOk, OnErr}
 use Rattle.std.specs.declared.cmp.Ordering.{Ordering}
@@ -50,8 +51,8 @@ module _ {R : Type 0} (old new : Store R) (n : Node) (value : R) (specs : List S
       All-of_map (list_of (column_of new)) (λ xs. Lacks xs n) is
       (All-from_places (λ i. Lacks (list_of (column_of new) i) n) is (λ k d lt. Lacks_added old new n value (get_or is k d) a (p.each k (record { kind = Sequenced; unique = false }) d (omega (arith, lt, p.one_each))).sound))
 
-  pub keyed_added : (order : ℕ → R → R → Ordering) (hash_of : ℕ → R → ℕ) → AreKeyed order hash_of old specs is → AreKeyed order hash_of new specs is
-  keyed_added order hash_of h = record { each = λ j d e lt. IsKeyed_added order hash_of old new n value (get_or is j e) a (p.each j d e lt).sound (h.each j d e lt) }
+  pub keyed_added : (order : ℕ → R → R → Ordering) (marks : ℕ → R → Marks) → AreKeyed order marks old specs is → AreKeyed order marks new specs is
+  keyed_added order marks h = record { each = λ j d e lt. IsKeyed_added order marks old new n value (get_or is j e) a (p.each j d e lt).sound (h.each j d e lt) }
 
 -- a node may come
 module _ {R X : Type 0} (old new : Store R) (value : R) (specs : List Spec) (is : List AnyIndex) (p : ArePlaced (column_of old) specs is) where
@@ -67,9 +68,9 @@ module _ {R X : Type 0} (old new : Store R) (value : R) (specs : List Spec) (is 
   lacks_after (Ok n) a = lacks_added old new n value specs is a p
   lacks_after (Err e) a = a
 
-  pub keyed_after : (r : Result Node X) → IfOk r (λ n. AddsNode old new n value) → OnErr r (new ≡ old) → (order : ℕ → R → R → Ordering) (hash_of : ℕ → R → ℕ) → AreKeyed order hash_of old specs is → AreKeyed order hash_of new specs is
+  pub keyed_after : (r : Result Node X) → IfOk r (λ n. AddsNode old new n value) → OnErr r (new ≡ old) → (order : ℕ → R → R → Ordering) (marks : ℕ → R → Marks) → AreKeyed order marks old specs is → AreKeyed order marks new specs is
   keyed_after (Ok n) a u = keyed_added old new n value specs is a p
-  keyed_after (Err e) a u = λ order hash_of h. subst (λ (s : Store R). AreKeyed order hash_of s specs is) (sym u) h
+  keyed_after (Err e) a u = λ order marks h. subst (λ (s : Store R). AreKeyed order marks s specs is) (sym u) h
 
 -- a node goes
 module _ {R : Type 0} (old new : Store R) (n : Node) (specs : List Spec) (is : List AnyIndex) (r : RemovesNode old new n) (p : ArePlaced (column_of old) specs is) (all : LackIt (lists_in (column_of old) is) n) where
@@ -87,16 +88,16 @@ module _ {R : Type 0} (old new : Store R) (n : Node) (specs : List Spec) (is : L
       lists_kept (column_of old) (column_of new) specs is p.one_each
       (λ j d e lt. list_of_removed old new n (get_or is j e) r (each_lacks (column_of old) specs is n p.one_each all j d e lt) (p.each j d e lt).sound)
 
-  pub keyed_removed : (order : ℕ → R → R → Ordering) (hash_of : ℕ → R → ℕ) → AreKeyed order hash_of old specs is → AreKeyed order hash_of new specs is
-  keyed_removed order hash_of h = record {
-    each = λ j d e lt. IsKeyed_removed order hash_of old new n (get_or is j e) r (each_lacks (column_of old) specs is n p.one_each all j d e lt) (p.each j d e lt).sound (h.each j d e lt);
+  pub keyed_removed : (order : ℕ → R → R → Ordering) (marks : ℕ → R → Marks) → AreKeyed order marks old specs is → AreKeyed order marks new specs is
+  keyed_removed order marks h = record {
+    each = λ j d e lt. IsKeyed_removed order marks old new n (get_or is j e) r (each_lacks (column_of old) specs is n p.one_each all j d e lt) (p.each j d e lt).sound (h.each j d e lt);
   }
 
 -- indices without nodes are keyed
-pub keyed_empty : {R : Type 0} (order : ℕ → R → R → Ordering) (hash_of : ℕ → R → ℕ) (s : Store R) (specs : List Spec) (is : List AnyIndex) → length is ≡ length specs → lists_in (column_of s) is ≡ map (λ _. []) specs → AreKeyed order hash_of s specs is
-keyed_empty order hash_of s specs is one none = record {
+pub keyed_empty : {R : Type 0} (order : ℕ → R → R → Ordering) (marks : ℕ → R → Marks) (s : Store R) (specs : List Spec) (is : List AnyIndex) → length is ≡ length specs → lists_in (column_of s) is ≡ map (λ _. []) specs → AreKeyed order marks s specs is
+keyed_empty order marks s specs is one none = record {
   each = λ j d e lt.
-      subst (λ xs. any.AreKeyed order hash_of s (get_or is j e) xs)
+      subst (λ xs. any.AreKeyed order marks s (get_or is j e) xs)
       (sym (each_listed (list_of (column_of s)) specs is one j d e lt ∙ (ap (λ (ls : List (List Node)). list_at ls j) none ∙ get_or-map (λ _. []) specs j d [] lt)))
-      (AreKeyed_none order hash_of s (get_or is j e));
+      (AreKeyed_none order marks s (get_or is j e));
 }

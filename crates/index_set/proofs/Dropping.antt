@@ -1,4 +1,5 @@
 -- An index of a set goes, and the others go by their new numbers.
+use Rattle.key_extract.specs.Digests.{Marks}
 use Rattle.std.proofs.Common.{◌≡◌, ℕ, ◌+◌, ◌<◌, ◌≤◌, false, List, [], ◌∷◌, length, map, get_or, None, Option, refl, sym, ap, ◌∙◌, subst, arith, zero, suc, inl, inr, ⊎_elim}
 use Rattle.std.specs.Prelude.{IsTrue, remove, ◌⊎◌}
 use Rattle.std.specs.Ordering.{is_eq}
@@ -129,20 +130,20 @@ module _ {R : Type 0} (s : Store R) (specs : List Spec) (is fin : List AnyIndex)
       ∙ map_removed (list_of (column_of s)) is gone
 
   module _ (order after : ℕ → R → R → Ordering) (orders : KeepsRest order after specs gone) where
-    pub dropped_keyed : (hash_of hash_after : ℕ → R → ℕ) → KeepsRest hash_of hash_after specs gone → AreKeyed order hash_of s specs is → AreKeyed after hash_after s (remove specs gone) fin
-    dropped_keyed hash_of hash_after hashes h = record {
+    pub dropped_keyed : (marks marks_after : ℕ → R → Marks) → KeepsRest marks marks_after specs gone → AreKeyed order marks s specs is → AreKeyed after marks_after s (remove specs gone) fin
+    dropped_keyed marks marks_after marked h = record {
       each = λ j d e below.
           let w = before j below in
           let q = p.each w.number d e w.below in
           let old = index_was j e below in
-          (each j e (here j below)).keyed order after hash_of hash_after
+          (each j e (here j below)).keyed order after marks marks_after
           (λ has.
           let key = subst (λ (z : AnyIndex). IsTrue (has_key_kind (kind_of z))) old has in
           same_key order after specs gone j d w orders (subst (λ z. IsTrue (has_key_kind z)) q.kind key) ∙ sym (ap order (ap index_of old ∙ q.number key)))
           (λ has.
           let key = subst (λ (z : AnyIndex). IsTrue (has_key_kind (kind_of z))) old has in
-          same_key hash_of hash_after specs gone j d w hashes (subst (λ z. IsTrue (has_key_kind z)) q.kind key) ∙ sym (ap hash_of (ap index_of old ∙ q.number key)))
-          (subst (λ (z : AnyIndex). any.IsKeyed order hash_of s z) (sym old) (h.each w.number d e w.below));
+          same_key marks marks_after specs gone j d w marked (subst (λ z. IsTrue (has_key_kind z)) q.kind key) ∙ sym (ap marks (ap index_of old ∙ q.number key)))
+          (subst (λ (z : AnyIndex). any.IsKeyed order marks s z) (sym old) (h.each w.number d e w.below));
     }
 
     pub dropped_unique : (records : Node → Option R) (lists : List (List Node)) → length lists ≡ length specs → ((k : ℕ) (d : Spec) → k < length specs → IsTrue (get_or specs k d).unique → IsTrue (has_key_kind (get_or specs k d).kind)) →

@@ -1,4 +1,5 @@
 -- Indices that become ones without nodes, and stores that lose all.
+use Rattle.key_extract.specs.Digests.{Marks}
 use Rattle.std.proofs.Common.{◌≡◌, ℕ, ◌+◌, ◌<◌, ◌≤◌, List, [], length, ◌++◌, drop, take, map, get_or, set, None, refl, sym, ap, ◌∙◌, subst, arith, ⊎_elim}
 use Rattle.std.specs.declared.cmp.Ordering.{Ordering}
 use Rattle.std.proofs.lemmas.Bool.{cases_lt}
@@ -84,8 +85,8 @@ module _ {R : Type 0} (s : Store R) (was specs : List Spec) (told : specs ≡ wa
   pub emptied_lists : lists_in (column_of s) now ≡ map (λ _. []) was
   emptied_lists = ap (lists_in (column_of s)) filled ∙ (empty (column_of s) ∙ ap (map (λ _. [])) told)
 
-  pub emptied_keyed : (order : ℕ → R → R → Ordering) (hash_of : ℕ → R → ℕ) → AreKeyed order hash_of s was now
-  emptied_keyed order hash_of = keyed_empty order hash_of s was now emptied_placed.one_each emptied_lists
+  pub emptied_keyed : (order : ℕ → R → R → Ordering) (marks : ℕ → R → Marks) → AreKeyed order marks s was now
+  emptied_keyed order marks = keyed_empty order marks s was now emptied_placed.one_each emptied_lists
 
   pub emptied_unique : (order : ℕ → R → R → Ordering) → AreUniqueFrom order (record_of s) None 0 was (lists_in (column_of s) now)
   emptied_unique order = subst (λ z. AreUniqueFrom order (record_of s) None 0 was z) (sym emptied_lists) (unique_empty order (record_of s) 0 was)

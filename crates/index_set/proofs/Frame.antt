@@ -1,4 +1,5 @@
 -- What a change of one index leaves of those beside it.
+use Rattle.key_extract.specs.Digests.{Marks}
 use Rattle.std.proofs.Common.{◌≡◌, ◌≢◌, ℕ, ◌<◌, ◌≤◌, List, length, get_or, set, sym, ap, ◌∙◌, subst, arith, ⊎_elim, refl}
 use Rattle.std.specs.Prelude.{Bool, IsTrue}
 use Rattle.std.specs.declared.cmp.Ordering.{Ordering}
@@ -75,11 +76,11 @@ module _ (cs ds : ℕ → Column) (k j : ℕ) (spec : Spec) (i : AnyIndex) (p : 
   pub list_kept : list_of ds i ≡ list_of cs i
   list_kept = list_of_kept cs ds i column_kept
 
-pub keyed_kept : {R : Type 0} (order : ℕ → R → R → Ordering) (hash_of : ℕ → R → ℕ) (s t : Store R) (k j : ℕ) (spec : Spec) (i : AnyIndex) (xs ys : List Node) →
-    IsPlaced (column_of s) j spec i → KeepsOthers (column_of s) (column_of t) k → contents t ≡ contents s → col_of i ≢ k → ys ≡ xs → AreKeyed order hash_of s i xs → AreKeyed order hash_of t i ys
-keyed_kept order hash_of s t k j spec i xs ys p keep same apart e h =
-    subst (λ z. AreKeyed order hash_of t i z) (sym e)
-    (AreKeyed_kept order hash_of s t i xs (column_kept (column_of s) (column_of t) k j spec i p keep apart) (records_kept s t same) h)
+pub keyed_kept : {R : Type 0} (order : ℕ → R → R → Ordering) (marks : ℕ → R → Marks) (s t : Store R) (k j : ℕ) (spec : Spec) (i : AnyIndex) (xs ys : List Node) →
+    IsPlaced (column_of s) j spec i → KeepsOthers (column_of s) (column_of t) k → contents t ≡ contents s → col_of i ≢ k → ys ≡ xs → AreKeyed order marks s i xs → AreKeyed order marks t i ys
+keyed_kept order marks s t k j spec i xs ys p keep same apart e h =
+    subst (λ z. AreKeyed order marks t i z) (sym e)
+    (AreKeyed_kept order marks s t i xs (column_kept (column_of s) (column_of t) k j spec i p keep apart) (records_kept s t same) h)
 
 pub placed_set : (cs ds : ℕ → Column) (specs : List Spec) (is : List AnyIndex) (k : ℕ) (d new : AnyIndex) → k < length specs → ArePlaced cs specs is → Steps cs ds (get_or is k d) new → ArePlaced ds specs (set is k new)
 placed_set cs ds specs is k d new lt p s = record {

@@ -1,4 +1,5 @@
 -- An index is made beside those of a set, and joins them.
+use Rattle.key_extract.specs.Digests.{Marks}
 use Rattle.std.proofs.Common.{◌≡◌, ◌≢◌, ℕ, ◌+◌, ◌<◌, ◌≤◌, ◌==◌, Bool, true, false, List, [], ◌∷◌, ◌++◌, length, get_or, None, Option, refl, sym, ap, ◌∙◌, subst, arith, ⊎_elim}
 use Rattle.std.specs.Prelude.{IsTrue}
 use Rattle.std.specs.List.{list_any}
@@ -46,12 +47,12 @@ module _ {R : Type 0} (s t : Store R) (specs : List Spec) (is : List AnyIndex) (
   pub lists_beside : lists_in (column_of t) is ≡ lists_in (column_of s) is
   lists_beside = lists_kept (column_of s) (column_of t) specs is p.one_each (λ j d e lt. list_kept (column_of s) (column_of t) column j (get_or specs j d) (get_or is j e) (p.each j d e lt) others (apart j e lt))
 
-  pub keyed_beside : contents t ≡ contents s → (order : ℕ → R → R → Ordering) (hash_of : ℕ → R → ℕ) → AreKeyed order hash_of s specs is → AreKeyed order hash_of t specs is
-  keyed_beside same order hash_of h = record {
+  pub keyed_beside : contents t ≡ contents s → (order : ℕ → R → R → Ordering) (marks : ℕ → R → Marks) → AreKeyed order marks s specs is → AreKeyed order marks t specs is
+  keyed_beside same order marks h = record {
     each = λ j d e lt.
         let here = p.each j d e lt in
         let kept = list_kept (column_of s) (column_of t) column j (get_or specs j d) (get_or is j e) here others (apart j e lt) in
-        keyed_kept order hash_of s t column j (get_or specs j d) (get_or is j e) _ _ here others same (apart j e lt) kept (h.each j d e lt);
+        keyed_kept order marks s t column j (get_or specs j d) (get_or is j e) _ _ here others same (apart j e lt) kept (h.each j d e lt);
   }
 
 -- ---- one more
@@ -99,8 +100,8 @@ module _ (specs : List Spec) (is : List AnyIndex) (spec : Spec) (i : AnyIndex) (
   pub within_next : (columns : ℕ) → col_of i < columns → AreWithin columns specs is → AreWithin columns (specs ++ spec ∷ []) (is ++ i ∷ [])
   within_next columns here h = record { each = each_push (λ _ _ x. col_of x < columns) specs is spec i one here h.each }
 
-  pub keyed_next : {R : Type 0} (order : ℕ → R → R → Ordering) (hash_of : ℕ → R → ℕ) (s : Store R) → any.IsKeyed order hash_of s i → AreKeyed order hash_of s specs is → AreKeyed order hash_of s (specs ++ spec ∷ []) (is ++ i ∷ [])
-  keyed_next order hash_of s here h = record { each = each_push (λ _ _ x. any.IsKeyed order hash_of s x) specs is spec i one here h.each }
+  pub keyed_next : {R : Type 0} (order : ℕ → R → R → Ordering) (marks : ℕ → R → Marks) (s : Store R) → any.IsKeyed order marks s i → AreKeyed order marks s specs is → AreKeyed order marks s (specs ++ spec ∷ []) (is ++ i ∷ [])
+  keyed_next order marks s here h = record { each = each_push (λ _ _ x. any.IsKeyed order marks s x) specs is spec i one here h.each }
 
 -- the lists of those that were unique, and of one more
 module _ {R : Type 0} (order : ℕ → R → R → Ordering) (records : Node → Option R) (specs : List Spec) (lists : List (List Node)) (spec : Spec) (list : List Node) (one : length lists ≡ length specs) where

@@ -1,4 +1,5 @@
 -- What holds at the indices at which the key of a node's record stays as it was.
+use Rattle.key_extract.specs.Digests.{Marks}
 use Rattle.std.proofs.Common.{◌≡◌, ◌≢◌, ℕ, ◌<◌, Bool, true, false, not, ◌&&◌, length, get_or, Option, Some, None, refl, sym, ap, ◌∙◌, subst, arith}
 use Rattle.std.specs.Prelude.{IsTrue, slice_get}
 use Rattle.std.specs.Option.{option_map_or}
@@ -58,23 +59,23 @@ module _ {R E : Type 0} (order : E → ℕ → R → R → Ordering) (s : IndexS
 module _ {R E : Type 0} {has_key : E → ℕ → Bool} (order : E → ℕ → R → R → Ordering) (total : (keys : E) (index : ℕ) → IsTrue (has_key keys index) → IsTotalOrder (order keys index))
     (s : IndexSet R E) (sound : IsSound has_key s) (n : Node) (before row : R) (had : record_of s.store n ≡ Some before) (changed : Changed) (agrees : AgreesBeside order s changed row before) where
   -- a node whose record is written stays where its keys put it
-  module _ (is : IsNodeOf s.store n) (hash_of : E → ℕ → R → ℕ) (alike : (keys : E) (index : ℕ) (a b : R) → IsTrue (has_key keys index) → order keys index a b ≡ Equal → hash_of keys index a ≡ hash_of keys index b) where
-    one_key : (j : ℕ) → j < length s.specs.items → may_differ changed j ≡ false → IsTrue (has_key_kind (kind_at s j)) → HasOneKey (order s.keys j) (hash_of s.keys j) before row
+  module _ (is : IsNodeOf s.store n) (marks : E → ℕ → R → Marks) (alike : (keys : E) (index : ℕ) (a b : R) → IsTrue (has_key keys index) → order keys index a b ≡ Equal → marks keys index a ≡ marks keys index b) where
+    one_key : (j : ℕ) → j < length s.specs.items → may_differ changed j ≡ false → IsTrue (has_key_kind (kind_at s j)) → HasOneKey (order s.keys j) (marks s.keys j) before row
     one_key j lt kept key =
         let has = has_its_key s sound j lt key in
         let equal = agrees.equal j lt kept key in
-        record { total = total s.keys j has; equal = equal; same_hash = alike s.keys j row before has equal }
+        record { total = total s.keys j has; equal = equal; same_marks = alike s.keys j row before has equal }
 
-    one_key_at : (j : ℕ) (lt : j < length s.specs.items) → may_differ changed j ≡ false → (i : AnyIndex) → i ≡ get_or s.indices.items j i → IsTrue (has_key_kind (kind_of i)) → HasOneKey (order s.keys (index_of i)) (hash_of s.keys (index_of i)) before row
+    one_key_at : (j : ℕ) (lt : j < length s.specs.items) → may_differ changed j ≡ false → (i : AnyIndex) → i ≡ get_or s.indices.items j i → IsTrue (has_key_kind (kind_of i)) → HasOneKey (order s.keys (index_of i)) (marks s.keys (index_of i)) before row
     one_key_at j lt kept i e key =
         let there = subst (λ z. IsTrue (has_key_kind z)) (kind_here s sound j lt i e) key in
-        subst (λ z. HasOneKey (order s.keys z) (hash_of s.keys z) before row) (sym (number_here s sound j lt i e there)) (one_key j lt kept there)
+        subst (λ z. HasOneKey (order s.keys z) (marks s.keys z) before row) (sym (number_here s sound j lt i e there)) (one_key j lt kept there)
 
-    pub keyed_beside : IsKeyed order hash_of s → IsKeyedBeside order hash_of (with_record s n row) changed
+    pub keyed_beside : IsKeyed order marks s → IsKeyedBeside order marks (with_record s n row) changed
     keyed_beside h = record {
       each = λ j d i lt kept.
           let x = get_or s.indices.items j i in
-          IsKeyed_alike (order s.keys) (hash_of s.keys) s.store (store.with_record s.store n row) n before row x (ap (λ (cs : ℕ → Column). cs (col_of x)) (columns_written s.store n row)) had (record_written s.store n row is)
+          IsKeyed_alike (order s.keys) (marks s.keys) s.store (store.with_record s.store n row) n before row x (ap (λ (cs : ℕ → Column). cs (col_of x)) (columns_written s.store n row)) had (record_written s.store n row is)
           (others_written s.store n row is) (one_key_at j lt kept x (get_or_default s.indices.items j i x (omega (arith, lt, sound.placed.one_each)))) (h.each j d i lt);
     }
 

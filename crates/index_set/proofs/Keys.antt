@@ -1,4 +1,5 @@
 -- Where the indices of a set have their nodes by keys, and that no two have one key, for the crates above.
+use Rattle.key_extract.specs.Digests.{Marks}
 use Rattle.std.proofs.Common.{◌≡◌, ℕ, ◌+◌, List, [], ◌∷◌, map, get_or, Option, Some, None, sym, subst}
 use Rattle.std.specs.declared.cmp.Ordering.{Ordering}
 use Rattle.list_model.specs.Walk.{without}
@@ -12,15 +13,15 @@ use Rattle.index_set.specs.Indices.{LackIt}
 use Rattle.index_set.specs.Lists.{AreUniqueFrom}
 use Rattle.index_set.specs.Set.{keys_of, specs_of, lists_of, record_of, contents, IsKeyed, IsKeyedBut, IsKeyedExcept, IsUniqueExcept, IsOfSame}
 
-module _ {R E : Type 0} (order : E → ℕ → R → R → Ordering) (hash_of : E → ℕ → R → ℕ) (s : IndexSet R E) where
+module _ {R E : Type 0} (order : E → ℕ → R → R → Ordering) (marks : E → ℕ → R → Marks) (s : IndexSet R E) where
   -- what is keyed is so but for any node
-  pub but_from : (n : Node) → IsKeyed order hash_of s → IsKeyedBut order hash_of s n
-  but_from n h = record { each = λ j d e lt. any.IsKeyedBut_from (order s.keys) (hash_of s.keys) s.store (get_or s.indices.items j e) n (h.each j d e lt) }
+  pub but_from : (n : Node) → IsKeyed order marks s → IsKeyedBut order marks s n
+  but_from n h = record { each = λ j d e lt. any.IsKeyedBut_from (order s.keys) (marks s.keys) s.store (get_or s.indices.items j e) n (h.each j d e lt) }
 
-  pub except_none : IsKeyed order hash_of s → IsKeyedExcept order hash_of s None
+  pub except_none : IsKeyed order marks s → IsKeyedExcept order marks s None
   except_none h = record { each = h.each }
 
-  pub except_some : (n : Node) → IsKeyedBut order hash_of s n → IsKeyedExcept order hash_of s (Some n)
+  pub except_some : (n : Node) → IsKeyedBut order marks s n → IsKeyedExcept order marks s (Some n)
   except_some n h = record { each = h.each }
 
 -- lists without nodes have no two of one key

@@ -26,3 +26,4 @@ pub mod Dropping
 mod Beside
 pub mod Kept
 pub mod Clashless
+pub mod MarksKept

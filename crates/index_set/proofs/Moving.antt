@@ -1,4 +1,5 @@
 -- A change of one index alone, in place.
+use Rattle.key_extract.specs.Digests.{Marks}
 use Rattle.std.proofs.Common.{◌≡◌, ◌≢◌, ℕ, ◌<◌, List, length, get_or, set, [], sym, ap, ◌∙◌, subst, arith, ⊎_elim}
 use Rattle.std.specs.Prelude.{Bool, IsTrue}
 use Rattle.std.specs.declared.cmp.Ordering.{Ordering}
@@ -63,11 +64,11 @@ module _ {R E : Type 0} {has_key : E → ℕ → Bool} (s : IndexSet R E) (sound
   }
 
   -- a sequence has no keys, and the others are as they were
-  pub keyed_moved : IsTrue (is_sequence_kind (kind_at s k)) → contents t ≡ contents s.store → (order : ℕ → R → R → Ordering) (hash_of : ℕ → R → ℕ) → AreKeyed order hash_of s.store s.specs.items s.indices.items → AreKeyed order hash_of t s.specs.items (set s.indices.items k new)
-  keyed_moved kind same order hash_of h = record {
+  pub keyed_moved : IsTrue (is_sequence_kind (kind_at s k)) → contents t ≡ contents s.store → (order : ℕ → R → R → Ordering) (marks : ℕ → R → Marks) → AreKeyed order marks s.store s.specs.items s.indices.items → AreKeyed order marks t s.specs.items (set s.indices.items k new)
+  keyed_moved kind same order marks h = record {
     each =
-        each_set (λ j spec x. (IsPlaced (column_of s.store) j spec x × IsFar s.indices.items k i j x) × any.IsKeyed order hash_of s.store x) (λ _ _ x. any.IsKeyed order hash_of t x) s.specs.items s.indices.items k new sound.placed.one_each lt
+        each_set (λ j spec x. (IsPlaced (column_of s.store) j spec x × IsFar s.indices.items k i j x) × any.IsKeyed order marks s.store x) (λ _ _ x. any.IsKeyed order marks t x) s.specs.items s.indices.items k new sound.placed.one_each lt
         (λ j d x below. ((sound.placed.each j d x below, are_far s.specs.items s.indices.items k i lt sound.placed.apart j d x below), h.each j d x below))
-        (λ d. AreKeyed_sequence order hash_of t new _ (subst (λ z. IsTrue (is_sequence_kind z)) (sym (step.kind ∙ kind_here s sound k lt i e)) kind))
-        (λ j spec x apart p. keyed_kept order hash_of s.store t _ j spec x _ _ p.0.0 keep same (p.0.1 apart) (list_kept (column_of s.store) (column_of t) _ j spec x p.0.0 keep (p.0.1 apart)) p.1);
+        (λ d. AreKeyed_sequence order marks t new _ (subst (λ z. IsTrue (is_sequence_kind z)) (sym (step.kind ∙ kind_here s sound k lt i e)) kind))
+        (λ j spec x apart p. keyed_kept order marks s.store t _ j spec x _ _ p.0.0 keep same (p.0.1 apart) (list_kept (column_of s.store) (column_of t) _ j spec x p.0.0 keep (p.0.1 apart)) p.1);
   }

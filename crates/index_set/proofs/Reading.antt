@@ -1,4 +1,6 @@
 -- What a call at one index of a set reads.
+use Rattle.key_extract.specs.Digests.{Marks}
+use Rattle.any_index.specs.Keyed.{marks_of}
 use Rattle.std.proofs.Common.{◌≡◌, ℕ, ◌<◌, Bool, List, length, get_or, Option, sym, ap, ◌∙◌, subst, false, refl}
 use Rattle.std.specs.Prelude.{IsTrue}
 use Rattle.std.specs.Option.{option_map_or}
@@ -70,8 +72,8 @@ module _ {R E : Type 0} {has_key : E → ℕ → Bool} (s : IndexSet R E) (sound
   pub its_key : keyed.HasItsKey (has_key s.keys) i
   its_key = subst (λ (z : AnyIndex). keyed.HasItsKey (has_key s.keys) z) (sym e) (key_here (has_key s.keys) (column_of s.store) s.specs.items s.indices.items k some_spec i lt sound.keys sound.placed)
 
-  pub keyed_here : (order : E → ℕ → R → R → Ordering) (hash_of : E → ℕ → R → ℕ) → IsKeyed order hash_of s → keyed.IsKeyed (order s.keys) (hash_of s.keys) s.store i
-  keyed_here order hash_of h = subst (λ (z : AnyIndex). keyed.IsKeyed (order s.keys) (hash_of s.keys) s.store z) (sym e) (h.each k some_spec i lt)
+  pub keyed_here : (order : E → ℕ → R → R → Ordering) (marks : E → ℕ → R → Marks) → IsKeyed order marks s → keyed.IsKeyed (order s.keys) (marks s.keys) s.store i
+  keyed_here order marks h = subst (λ (z : AnyIndex). keyed.IsKeyed (order s.keys) (marks s.keys) s.store z) (sym e) (h.each k some_spec i lt)
 
   pub fits_here : IsTrue (has_key_kind (kind_at s k)) → (p : ℕ → Bool) → IsTrue (p k) → IsTrue (p (any.index_of i))
   fits_here has p h = subst (λ z. IsTrue (p z)) (sym (number_here has)) h
@@ -98,18 +100,18 @@ module _ {R E : Type 0} {has_key : E → ℕ → Bool} (s : IndexSet R E) (sound
 
 module _ {R E P : Type 0} (X : Ghosts E R P) (s : IndexSet R E) (sound : IsSound X.has_key s) (k : ℕ) (lt : k < length s.specs.items) (i : AnyIndex) (e : i ≡ get_or s.indices.items k i) where
   -- so nodes can be looked for there by a probe of the index's key
-  pub can_find : (probe : P) → IsTrue (has_key_kind (kind_at s k)) → (IsTrue (is_sorted_kind (kind_at s k)) → IsTrue (X.does_fit s.keys k probe)) → (IsTrue (is_hashed_kind (kind_at s k)) → IsTrue (X.is_whole s.keys k probe)) → IsKeyed X.order_of X.hash_of s → CanFind X i s.store s.keys probe
+  pub can_find : (probe : P) → IsTrue (has_key_kind (kind_at s k)) → (IsTrue (is_sorted_kind (kind_at s k)) → IsTrue (X.does_fit s.keys k probe)) → (IsTrue (is_hashed_kind (kind_at s k)) → IsTrue (X.is_whole s.keys k probe)) → IsKeyed X.order_of (marks_of X) s → CanFind X i s.store s.keys probe
   can_find probe kind fits whole keyed = record {
     sound = sound_here s sound k lt i e;
     key = its_key s sound k lt i e;
     fits = accepts_here s sound k lt i e (λ j. X.does_fit s.keys j probe) (λ j. X.is_whole s.keys j probe) kind fits whole;
-    keyed = keyed_here s sound k lt i e X.order_of X.hash_of keyed;
+    keyed = keyed_here s sound k lt i e X.order_of (marks_of X) keyed;
   }
 
-  pub can_search : (probe : P) → IsTrue (has_key_kind (kind_at s k)) → IsTrue (X.does_fit s.keys k probe) → IsKeyed X.order_of X.hash_of s → CanSearch X i s.store s.keys probe
+  pub can_search : (probe : P) → IsTrue (has_key_kind (kind_at s k)) → IsTrue (X.does_fit s.keys k probe) → IsKeyed X.order_of (marks_of X) s → CanSearch X i s.store s.keys probe
   can_search probe has fits keyed = record {
     sound = sound_here s sound k lt i e;
     key = its_key s sound k lt i e;
     fits = fits_here s sound k lt i e has (λ j. X.does_fit s.keys j probe) fits;
-    keyed = keyed_here s sound k lt i e X.order_of X.hash_of keyed;
+    keyed = keyed_here s sound k lt i e X.order_of (marks_of X) keyed;
   }

@@ -1,4 +1,5 @@
 -- A walk over all indices that changes one after the other.
+use Rattle.key_extract.specs.Digests.{Marks}
 use Rattle.std.proofs.Common.{◌≡◌, ◌≢◌, ℕ, Bool, true, Option, Some, None, cond, ◌==◌, ◌+◌, ◌<◌, ◌≤◌, List, length, get_or, set, sym, ap, ◌∙◌, subst, arith, refl, false, ⊎_elim, Result, Ok, Err}
 use Rattle.std.specs.Prelude.{OnErr, IsTrue}
 use Rattle.std.specs.declared.cmp.Ordering.{Ordering}
@@ -76,30 +77,30 @@ module _ {R : Type 0} (change : ℕ → Spec → List Node → List Node) (s : S
       (λ j d e lt. (w.lists j d e lt).0 (omega (arith, all, lt)))
 
 -- the indices before the place k are keyed, and of the others what the view shows
-abbrev pub KeyedTo : {R : Type 0} → (ℕ → R → R → Ordering) → (ℕ → R → ℕ) → Store R → (List Node → List Node) → ℕ → ℕ → Spec → AnyIndex → Type 0
-KeyedTo order hash_of s view k j spec i = (j < k → AreKeyed order hash_of s i (list_of (column_of s) i)) × (k ≤ j → AreKeyed order hash_of s i (view (list_of (column_of s) i)))
+abbrev pub KeyedTo : {R : Type 0} → (ℕ → R → R → Ordering) → (ℕ → R → Marks) → Store R → (List Node → List Node) → ℕ → ℕ → Spec → AnyIndex → Type 0
+KeyedTo order marks s view k j spec i = (j < k → AreKeyed order marks s i (list_of (column_of s) i)) × (k ≤ j → AreKeyed order marks s i (view (list_of (column_of s) i)))
 
-module _ {R : Type 0} (order : ℕ → R → R → Ordering) (hash_of : ℕ → R → ℕ) (view : List Node → List Node) (specs : List Spec) where
-  pub keyed_start : (s : Store R) (is : List AnyIndex) → EachOf (λ _ _ i. AreKeyed order hash_of s i (view (list_of (column_of s) i))) specs is → EachOf (KeyedTo order hash_of s view 0) specs is
+module _ {R : Type 0} (order : ℕ → R → R → Ordering) (marks : ℕ → R → Marks) (view : List Node → List Node) (specs : List Spec) where
+  pub keyed_start : (s : Store R) (is : List AnyIndex) → EachOf (λ _ _ i. AreKeyed order marks s i (view (list_of (column_of s) i))) specs is → EachOf (KeyedTo order marks s view 0) specs is
   keyed_start s is h j d e lt = ((λ below. absurd (omega (arith, below))), (λ _. h j d e lt))
 
-  pub keyed_here : (s : Store R) (is : List AnyIndex) (k : ℕ) (d : AnyIndex) → k < length specs → EachOf (KeyedTo order hash_of s view k) specs is → AreKeyed order hash_of s (get_or is k d) (view (list_of (column_of s) (get_or is k d)))
+  pub keyed_here : (s : Store R) (is : List AnyIndex) (k : ℕ) (d : AnyIndex) → k < length specs → EachOf (KeyedTo order marks s view k) specs is → AreKeyed order marks s (get_or is k d) (view (list_of (column_of s) (get_or is k d)))
   keyed_here s is k d lt h = (h k (record { kind = Sequenced; unique = false }) d lt).1 (omega arith)
 
   pub keyed_step : (k : ℕ) (s t : Store R) (is : List AnyIndex) (d new : AnyIndex) → k < length specs → ArePlaced (column_of s) specs is → Steps (column_of s) (column_of t) (get_or is k d) new → contents t ≡ contents s →
-      AreKeyed order hash_of t new (list_of (column_of t) new) → EachOf (KeyedTo order hash_of s view k) specs is → EachOf (KeyedTo order hash_of t view (k + 1)) specs (set is k new)
+      AreKeyed order marks t new (list_of (column_of t) new) → EachOf (KeyedTo order marks s view k) specs is → EachOf (KeyedTo order marks t view (k + 1)) specs (set is k new)
   keyed_step k s t is d new lt placed step same keyed h =
-      each_set (λ j spec i. (IsPlaced (column_of s) j spec i × IsFar is k d j i) × KeyedTo order hash_of s view k j spec i) (KeyedTo order hash_of t view (k + 1)) specs is k new placed.one_each lt
+      each_set (λ j spec i. (IsPlaced (column_of s) j spec i × IsFar is k d j i) × KeyedTo order marks s view k j spec i) (KeyedTo order marks t view (k + 1)) specs is k new placed.one_each lt
       (λ j e f below. ((placed.each j e f below, are_far specs is k d lt placed.apart j e f below), h j e f below))
       (λ e. ((λ _. keyed), (λ above. absurd (omega (arith, above)))))
       (λ j spec i apart p.
       let c = col_of (get_or is k d) in
       let kept = list_kept (column_of s) (column_of t) c j spec i p.0.0 step.others (p.0.1 apart) in (
-        (λ below. keyed_kept order hash_of s t c j spec i _ _ p.0.0 step.others same (p.0.1 apart) kept (p.1.0 (below_next j k below apart))),
-        (λ above. keyed_kept order hash_of s t c j spec i _ _ p.0.0 step.others same (p.0.1 apart) (ap view kept) (p.1.1 (omega (arith, above)))),
+        (λ below. keyed_kept order marks s t c j spec i _ _ p.0.0 step.others same (p.0.1 apart) kept (p.1.0 (below_next j k below apart))),
+        (λ above. keyed_kept order marks s t c j spec i _ _ p.0.0 step.others same (p.0.1 apart) (ap view kept) (p.1.1 (omega (arith, above)))),
       ))
 
-  pub keyed_end : (s : Store R) (is : List AnyIndex) (k : ℕ) → length specs ≤ k → EachOf (KeyedTo order hash_of s view k) specs is → EachOf (λ _ _ i. AreKeyed order hash_of s i (list_of (column_of s) i)) specs is
+  pub keyed_end : (s : Store R) (is : List AnyIndex) (k : ℕ) → length specs ≤ k → EachOf (KeyedTo order marks s view k) specs is → EachOf (λ _ _ i. AreKeyed order marks s i (list_of (column_of s) i)) specs is
   keyed_end s is k all h j d e lt = (h j d e lt).0 (omega (arith, all, lt))
 
 -- the indices before the place k have room
@@ -184,8 +185,8 @@ module _ {R : Type 0} (s t : Store R) (specs : List Spec) (is now : List AnyInde
       changed_each (list_of (column_of t)) (λ _ _ xs. xs) specs now was w.placed.one_each each (λ j d e lt. let p = w.lists j d e lt in either_side j k p.0 p.1)
       ∙ changed_not (λ xs. xs) 0 specs was each (λ xs. refl)
 
-  pub all_keyed : (order : ℕ → R → R → Ordering) (hash_of : ℕ → R → ℕ) → EachOf (KeyedTo order hash_of t (λ xs. xs) k) specs now → EachOf (λ _ _ i. AreKeyed order hash_of t i (list_of (column_of t) i)) specs now
-  all_keyed order hash_of h j d e lt = let p = h j d e lt in either_side j k p.0 p.1
+  pub all_keyed : (order : ℕ → R → R → Ordering) (marks : ℕ → R → Marks) → EachOf (KeyedTo order marks t (λ xs. xs) k) specs now → EachOf (λ _ _ i. AreKeyed order marks t i (list_of (column_of t) i)) specs now
+  all_keyed order marks h j d e lt = let p = h j d e lt in either_side j k p.0 p.1
 
 -- an index that has no room is one of those that were there
 pub no_room : (specs : List Spec) (is now : List AnyIndex) (k : ℕ) (d : AnyIndex) → k < length specs → EachOf (SameFrom is k) specs now → (¬ HasRoom (get_or now k d)) → ¬ HaveRoom specs is

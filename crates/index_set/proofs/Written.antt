@@ -1,4 +1,5 @@
 -- What stays of a set whose record of one node was written.
+use Rattle.key_extract.specs.Digests.{Marks}
 use Rattle.std.proofs.Common.{◌≡◌, ◌≢◌, ℕ, ◌<◌, Bool, length, get_or, Option, Some, None, sym, ap, ◌∙◌, subst, arith, ⊎_elim, cond, option_and_then}
 use Rattle.std.specs.Prelude.{IsTrue}
 use Rattle.std.specs.Cmp.{IsTotalOrder}
@@ -76,13 +77,13 @@ module _ {R E : Type 0} (s : IndexSet R E) (n : Node) (r : R) where
     placed = subst (λ (cs : ℕ → Column). ArePlaced cs s.specs.items s.indices.items) (sym (columns_written s.store n r)) h.placed;
   }
 
-  module _ (is : IsNodeOf s.store n) (order : E → ℕ → R → R → Ordering) (hash_of : E → ℕ → R → ℕ) where
+  module _ (is : IsNodeOf s.store n) (order : E → ℕ → R → R → Ordering) (marks : E → ℕ → R → Marks) where
     -- where a record was written, all but its node are where their keys put them
-    pub keyed_but_written : IsKeyedBut order hash_of s n → IsKeyedBut order hash_of (with_record s n r) n
+    pub keyed_but_written : IsKeyedBut order marks s n → IsKeyedBut order marks (with_record s n r) n
     keyed_but_written h = record {
       each = λ j d i lt.
           let x = get_or s.indices.items j i in
-          IsKeyedBut_rewritten (order s.keys) (hash_of s.keys) s.store (store.with_record s.store n r) n x (ap (λ (cs : ℕ → Column). cs (col_of x)) (columns_written s.store n r)) (others_written s.store n r is) (h.each j d i lt);
+          IsKeyedBut_rewritten (order s.keys) (marks s.keys) s.store (store.with_record s.store n r) n x (ap (λ (cs : ℕ → Column). cs (col_of x)) (columns_written s.store n r)) (others_written s.store n r is) (h.each j d i lt);
     }
 
 module _ {R E : Type 0} (s : IndexSet R E) (n : Node) (r w : R) (had : record_of s.store n ≡ Some r) (is : IsNodeOf s.store n) where
@@ -98,20 +99,20 @@ module _ {R E : Type 0} (s : IndexSet R E) (n : Node) (r w : R) (had : record_of
           (node_cases m n)
 
   -- so a set whose record was written and put back is as keyed as it was
-  pub keyed_put_back : (order : E → ℕ → R → R → Ordering) (hash_of : E → ℕ → R → ℕ) → IsKeyed order hash_of s → IsKeyed order hash_of (with_record (with_record s n w) n r)
-  keyed_put_back order hash_of h = record {
+  pub keyed_put_back : (order : E → ℕ → R → R → Ordering) (marks : E → ℕ → R → Marks) → IsKeyed order marks s → IsKeyed order marks (with_record (with_record s n w) n r)
+  keyed_put_back order marks h = record {
     each = λ j d i lt.
         let x = get_or s.indices.items j i in
-        IsKeyed_restored (order s.keys) (hash_of s.keys) s.store (store.with_record (store.with_record s.store n w) n r) x
+        IsKeyed_restored (order s.keys) (marks s.keys) s.store (store.with_record (store.with_record s.store n w) n r) x
         (ap (λ (cs : ℕ → Column). cs (col_of x)) (columns_written (store.with_record s.store n w) n r ∙ columns_written s.store n w)) written_back (h.each j d i lt);
   }
 
   -- and one whose record has other contents with the same keys is restored
-  pub restored : (order : E → ℕ → R → R → Ordering) (hash_of : E → ℕ → R → ℕ) → ((index : ℕ) → index < length s.specs.items → IsTrue (has_key_kind (kind_at s index)) → order s.keys index w r ≡ Equal) →
-      IsKeyed order hash_of s → IsRestored order hash_of (with_record s n w) n
-  restored order hash_of same h = record {
+  pub restored : (order : E → ℕ → R → R → Ordering) (marks : E → ℕ → R → Marks) → ((index : ℕ) → index < length s.specs.items → IsTrue (has_key_kind (kind_at s index)) → order s.keys index w r ≡ Equal) →
+      IsKeyed order marks s → IsRestored order marks (with_record s n w) n
+  restored order marks same h = record {
     before = r;
-    keyed = keyed_put_back order hash_of h;
+    keyed = keyed_put_back order marks h;
     keys = record { row = w; is = record_written s.store n w is; equal = same };
   }
 
@@ -124,23 +125,23 @@ module _ {R E : Type 0} {has_key : E → ℕ → Bool} (order : E → ℕ → R 
       order_alike (record_of (store.with_record s.store n before)) (record_of s.store) n before keys.row (record_written s.store n before is) keys.is (λ m ne. sym (others_written s.store n before is m ne))
       (order s.keys j) (total s.keys j (has_its_key s sound j lt key)) (keys.equal j lt key)
 
-  module _ (hash_of : E → ℕ → R → ℕ) (alike : (keys : E) (index : ℕ) (a b : R) → IsTrue (has_key keys index) → order keys index a b ≡ Equal → hash_of keys index a ≡ hash_of keys index b) where
-    one_key : (j : ℕ) → j < length s.specs.items → IsTrue (has_key_kind (kind_at s j)) → HasOneKey (order s.keys j) (hash_of s.keys j) before keys.row
+  module _ (marks : E → ℕ → R → Marks) (alike : (keys : E) (index : ℕ) (a b : R) → IsTrue (has_key keys index) → order keys index a b ≡ Equal → marks keys index a ≡ marks keys index b) where
+    one_key : (j : ℕ) → j < length s.specs.items → IsTrue (has_key_kind (kind_at s j)) → HasOneKey (order s.keys j) (marks s.keys j) before keys.row
     one_key j lt key =
         let has = has_its_key s sound j lt key in
-        record { total = total s.keys j has; equal = keys.equal j lt key; same_hash = alike s.keys j keys.row before has (keys.equal j lt key) }
+        record { total = total s.keys j has; equal = keys.equal j lt key; same_marks = alike s.keys j keys.row before has (keys.equal j lt key) }
 
-    one_key_at : (j : ℕ) (lt : j < length s.specs.items) (i : AnyIndex) → i ≡ get_or s.indices.items j i → IsTrue (has_key_kind (kind_of i)) → HasOneKey (order s.keys (index_of i)) (hash_of s.keys (index_of i)) before keys.row
+    one_key_at : (j : ℕ) (lt : j < length s.specs.items) (i : AnyIndex) → i ≡ get_or s.indices.items j i → IsTrue (has_key_kind (kind_of i)) → HasOneKey (order s.keys (index_of i)) (marks s.keys (index_of i)) before keys.row
     one_key_at j lt i e key =
-        subst (λ z. HasOneKey (order s.keys z) (hash_of s.keys z) before keys.row) (sym (number_here s sound j lt i e (subst (λ z. IsTrue (has_key_kind z)) (kind_here s sound j lt i e) key)))
+        subst (λ z. HasOneKey (order s.keys z) (marks s.keys z) before keys.row) (sym (number_here s sound j lt i e (subst (λ z. IsTrue (has_key_kind z)) (kind_here s sound j lt i e) key)))
         (one_key j lt (subst (λ z. IsTrue (has_key_kind z)) (kind_here s sound j lt i e) key))
 
     -- and the set is as keyed as it was
-    pub keyed_restored : IsKeyed order hash_of (with_record s n before) → IsKeyed order hash_of s
+    pub keyed_restored : IsKeyed order marks (with_record s n before) → IsKeyed order marks s
     keyed_restored h = record {
       each = λ j d i lt.
           let x = get_or s.indices.items j i in
-          IsKeyed_alike (order s.keys) (hash_of s.keys) (store.with_record s.store n before) s.store n before keys.row x
+          IsKeyed_alike (order s.keys) (marks s.keys) (store.with_record s.store n before) s.store n before keys.row x
           (sym (ap (λ (cs : ℕ → Column). cs (col_of x)) (columns_written s.store n before))) (record_written s.store n before is) keys.is (λ m ne. sym (others_written s.store n before is m ne))
           (one_key_at j lt x (get_or_default s.indices.items j i x (omega (arith, lt, sound.placed.one_each)))) (h.each j d i lt);
     }

@@ -15,7 +15,7 @@ use Rattle.container_model.specs.State.{KeysMatch}
 use Rattle.container_model.specs.Indices.{KeepsEach}
 use Rattle.key_extract.specs.declared.extract.Extract.{Ghosts}
 use Rattle.any_index.specs.declared.index.AnyIndex.{AnyIndex}
-use Rattle.any_index.specs.Keyed.{IsKeyed}
+use Rattle.any_index.specs.Keyed.{marks_of, IsKeyed}
 use Rattle.any_index.specs.Lists.{entered}
 use Rattle.any_index.specs.Side.{order_at}
 use Rattle.any_index.specs.Spelled.{list_of, col_of}
@@ -79,5 +79,5 @@ module _ {R E P : Type 0} (X : Ghosts E R P) (s : IndexSet R E) (spec : Spec) (g
     pub within : col_of made < columns_of now
     pub apart : (j : ℕ) (d : AnyIndex) → j < length (specs_of now) → col_of (slice_index_or now.indices.items j d) ≢ col_of made
     pub list : list_of (column_of (store_of now)) made ≡ new_list
-    pub keyed : IsKeyed (X.order_of given) (X.hash_of given) (store_of now) made
+    pub keyed : IsKeyed (X.order_of given) (marks_of X given) (store_of now) made
     pub unique : IsTrue spec.unique → HasEachKeyOnce new_order (list_of (column_of (store_of now)) made)

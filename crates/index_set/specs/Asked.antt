@@ -1,4 +1,5 @@
 -- What the calls of a set ask for, and the changes of its records.
+use Rattle.any_index.specs.Keyed.{marks_of}
 use Rattle.std.specs.Prelude.{ℕ, ◌<◌, length, Some, None, IsTrue}
 use Rattle.node_store.specs.declared.Node.{Node}
 use Rattle.container_model.specs.State.{has_key_kind, is_hashed_kind, is_sorted_kind}
@@ -20,24 +21,24 @@ module _ {R E P : Type 0} (X : Ghosts E R P) where
     pub kind : IsTrue (has_key_kind (kind_at s k))
     pub fits : IsTrue (is_sorted_kind (kind_at s k)) → IsTrue (X.does_fit (keys_of s) k probe)
     pub whole : IsTrue (is_hashed_kind (kind_at s k)) → IsTrue (X.is_whole (keys_of s) k probe)
-    pub keyed : IsKeyed X.order_of X.hash_of s
+    pub keyed : IsKeyed X.order_of (marks_of X) s
 
   -- the same where the probe may be a leading part of a key
   pub record CanSearch (s : IndexSet R E) (k : ℕ) (probe : P) : Type 0 where
     pub sound : IsSound X.has_key s
     pub index : k < length (specs_of s)
     pub fits : IsTrue (X.does_fit (keys_of s) k probe)
-    pub keyed : IsKeyed X.order_of X.hash_of s
+    pub keyed : IsKeyed X.order_of (marks_of X) s
 
 module _ {R E P : Type 0} (X : Ghosts E R P) where
   -- each index has its nodes where their keys put them, and a unique one has each key once
   pub record IsFiled (s : IndexSet R E) : Type 0 where
     pub sound : IsSound X.has_key s
-    pub keyed : IsKeyed X.order_of X.hash_of s
+    pub keyed : IsKeyed X.order_of (marks_of X) s
     pub unique : IsUniqueExcept X.order_of s None
 
   -- but for this node, whose record may have changed
   pub record IsFiledBut (s : IndexSet R E) (n : Node) : Type 0 where
     pub sound : IsSound X.has_key s
-    pub keyed : IsKeyedBut X.order_of X.hash_of s n
+    pub keyed : IsKeyedBut X.order_of (marks_of X) s n
     pub unique : IsUniqueExcept X.order_of s (Some n)

@@ -1,4 +1,5 @@
 -- At which indices the key of a record has changed, and what holds at the others.
+use Rattle.key_extract.specs.Digests.{Marks}
 use Rattle.std.specs.Prelude.{◌≡◌, ℕ, ◌<◌, Bool, true, false, not, ◌&&◌, List, length, slice_get, slice_index_or, Option, None, IsTrue}
 use Rattle.std.specs.Option.{option_map_or}
 use Rattle.std.specs.Ordering.{is_eq}
@@ -23,8 +24,8 @@ differs order specs a b index = option_map_or (λ (spec : Spec). has_key_kind sp
 
 module _ {R : Type 0} (order : ℕ → R → R → Ordering) where
   -- each index at which the key has not changed has its nodes where their records' keys put them
-  pub record AreKeyedBeside (changed : Changed) (hash_of : ℕ → R → ℕ) (s : Store R) (specs : List Spec) (indices : List AnyIndex) : Type 0 where
-    pub each : EachOf (λ j _ i. may_differ changed j ≡ false → IsKeyed order hash_of s i) specs indices
+  pub record AreKeyedBeside (changed : Changed) (marks : ℕ → R → Marks) (s : Store R) (specs : List Spec) (indices : List AnyIndex) : Type 0 where
+    pub each : EachOf (λ j _ i. may_differ changed j ≡ false → IsKeyed order marks s i) specs indices
 
   -- no unique index at which the key has not changed has another node with the record's key
   pub record AreFreeBeside (changed : Changed) (records : Node → Option R) (specs : List Spec) (lists : List (List Node)) (except : Option Node) (row : R) : Type 0 where

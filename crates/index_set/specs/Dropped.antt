@@ -1,4 +1,5 @@
 -- What dropping an index of a set asks for, and what becomes of those that stay.
+use Rattle.key_extract.specs.Digests.{Marks}
 use Rattle.std.specs.Prelude.{◌≡◌, ℕ, ◌<◌, cond, List, length, remove, slice_index_or}
 use Rattle.std.specs.declared.cmp.Ordering.{Ordering}
 use Rattle.node_store.specs.Store.{Store}
@@ -21,8 +22,8 @@ pub record IsRenumbered {R : Type 0} (s : Store R) (index : ℕ) (old new : AnyI
   pub col : col_of new ≡ col_of old
   pub number : index_of new ≡ cond (has_key_kind (kind_of old)) index (index_of old)
   pub room : HasRoom old → HasRoom new
-  pub keyed : (order after : ℕ → R → R → Ordering) (hash_of hash_after : ℕ → R → ℕ) → IsSameKey (kind_of old) (order (index_of old)) (after index) → IsSameKey (kind_of old) (hash_of (index_of old)) (hash_after index) →
-      IsKeyed order hash_of s old → IsKeyed after hash_after s new
+  pub keyed : (order after : ℕ → R → R → Ordering) (marks marks_after : ℕ → R → Marks) → IsSameKey (kind_of old) (order (index_of old)) (after index) → IsSameKey (kind_of old) (marks (index_of old)) (marks_after index) →
+      IsKeyed order marks s old → IsKeyed after marks_after s new
 
 module _ {R : Type 0} (s : Store R) where
   -- the links of each are those of the store

@@ -1,4 +1,5 @@
 -- The indices of a set, each in a column of its own.
+use Rattle.key_extract.specs.Digests.{Marks}
 use Rattle.std.specs.Prelude.{◌≡◌, ◌≢◌, ℕ, ◌<◌, List, length, map, slice_index_or, Option, IsTrue}
 use Rattle.std.specs.List.{AllByRecursion}
 use Rattle.std.specs.declared.cmp.Ordering.{Ordering}
@@ -49,15 +50,15 @@ LackIt lists n = AllByRecursion (λ xs. Lacks xs n) lists
 abbrev pub HoldIt : List (List Node) → Node → Type 0
 HoldIt lists n = AllByRecursion (λ xs. Holds xs n) lists
 
-module _ {R : Type 0} (order : ℕ → R → R → Ordering) (hash_of : ℕ → R → ℕ) (s : Store R) (specs : List Spec) (indices : List AnyIndex) where
+module _ {R : Type 0} (order : ℕ → R → R → Ordering) (marks : ℕ → R → Marks) (s : Store R) (specs : List Spec) (indices : List AnyIndex) where
   -- each index has its nodes where their records' keys put them
   pub record AreKeyed : Type 0 where
-    pub each : EachOf (λ _ _ i. IsKeyed order hash_of s i) specs indices
+    pub each : EachOf (λ _ _ i. IsKeyed order marks s i) specs indices
 
   -- all but one node, whose record may have changed
   pub record AreKeyedBut (n : Node) : Type 0 where
-    pub each : EachOf (λ _ _ i. IsKeyedBut order hash_of s i n) specs indices
+    pub each : EachOf (λ _ _ i. IsKeyedBut order marks s i n) specs indices
 
   -- all but the excepted node
   pub record AreKeyedExcept (except : Option Node) : Type 0 where
-    pub each : EachOf (λ _ _ i. IsKeyedExcept order hash_of s i except) specs indices
+    pub each : EachOf (λ _ _ i. IsKeyedExcept order marks s i except) specs indices

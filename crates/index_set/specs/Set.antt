@@ -1,4 +1,5 @@
 -- A set of records as the lists of its indices.
+use Rattle.key_extract.specs.Digests.{Marks}
 use Rattle.std.specs.Prelude.{◌≡◌, ℕ, ◌≤◌, ◌<◌, Bool, false, List, length, slice_get, Option, Some, IsTrue}
 use Rattle.std.specs.Option.{option_map_or}
 use Rattle.std.specs.declared.cmp.Ordering.{Ordering}
@@ -77,16 +78,16 @@ module _ {R E : Type 0} where
     pub wide : s.columns ≤ width_of s.store
 
   -- each index has its nodes where their records' keys put them
-  abbrev pub IsKeyed : (E → ℕ → R → R → Ordering) → (E → ℕ → R → ℕ) → IndexSet R E → Type 0
-  IsKeyed order hash_of s = every.AreKeyed (order s.keys) (hash_of s.keys) s.store s.specs.items s.indices.items
+  abbrev pub IsKeyed : (E → ℕ → R → R → Ordering) → (E → ℕ → R → Marks) → IndexSet R E → Type 0
+  IsKeyed order marks s = every.AreKeyed (order s.keys) (marks s.keys) s.store s.specs.items s.indices.items
 
   -- all but one node, whose record may have changed
-  abbrev pub IsKeyedBut : (E → ℕ → R → R → Ordering) → (E → ℕ → R → ℕ) → IndexSet R E → Node → Type 0
-  IsKeyedBut order hash_of s n = every.AreKeyedBut (order s.keys) (hash_of s.keys) s.store s.specs.items s.indices.items n
+  abbrev pub IsKeyedBut : (E → ℕ → R → R → Ordering) → (E → ℕ → R → Marks) → IndexSet R E → Node → Type 0
+  IsKeyedBut order marks s n = every.AreKeyedBut (order s.keys) (marks s.keys) s.store s.specs.items s.indices.items n
 
   -- all but the excepted node
-  abbrev pub IsKeyedExcept : (E → ℕ → R → R → Ordering) → (E → ℕ → R → ℕ) → IndexSet R E → Option Node → Type 0
-  IsKeyedExcept order hash_of s except = every.AreKeyedExcept (order s.keys) (hash_of s.keys) s.store s.specs.items s.indices.items except
+  abbrev pub IsKeyedExcept : (E → ℕ → R → R → Ordering) → (E → ℕ → R → Marks) → IndexSet R E → Option Node → Type 0
+  IsKeyedExcept order marks s except = every.AreKeyedExcept (order s.keys) (marks s.keys) s.store s.specs.items s.indices.items except
 
   -- at each unique index no two nodes but the excepted one have one key
   abbrev pub IsUniqueExcept : (E → ℕ → R → R → Ordering) → IndexSet R E → Option Node → Type 0
@@ -103,9 +104,9 @@ module _ {R E : Type 0} where
     pub equal : (index : ℕ) → index < length (specs_of s) → IsTrue (has_key_kind (kind_at s index)) → order s.keys index row before ≡ Equal
 
   -- the record of n has the keys of one with which each index had its nodes where their records' keys put them
-  pub record IsRestored (order : E → ℕ → R → R → Ordering) (hash_of : E → ℕ → R → ℕ) (s : IndexSet R E) (n : Node) : Type 0 where
+  pub record IsRestored (order : E → ℕ → R → R → Ordering) (marks : E → ℕ → R → Marks) (s : IndexSet R E) (n : Node) : Type 0 where
     pub before : R
-    pub keyed : IsKeyed order hash_of (with_record s n before)
+    pub keyed : IsKeyed order marks (with_record s n before)
     pub keys : HasKeysOf order s n before
 
   -- at each index but the changed ones the key of a record is that of another
@@ -113,8 +114,8 @@ module _ {R E : Type 0} where
     pub equal : (index : ℕ) → index < length (specs_of s) → beside.may_differ changed index ≡ false → IsTrue (has_key_kind (kind_at s index)) → order s.keys index row before ≡ Equal
 
   -- each index at which the key has not changed has its nodes where their records' keys put them
-  abbrev pub IsKeyedBeside : (E → ℕ → R → R → Ordering) → (E → ℕ → R → ℕ) → IndexSet R E → Changed → Type 0
-  IsKeyedBeside order hash_of s changed = beside.AreKeyedBeside (order s.keys) changed (hash_of s.keys) s.store s.specs.items s.indices.items
+  abbrev pub IsKeyedBeside : (E → ℕ → R → R → Ordering) → (E → ℕ → R → Marks) → IndexSet R E → Changed → Type 0
+  IsKeyedBeside order marks s changed = beside.AreKeyedBeside (order s.keys) changed (marks s.keys) s.store s.specs.items s.indices.items
 
   -- no unique index at which the key has not changed has another node with the record's key
   abbrev pub IsFreeBeside : (E → ℕ → R → R → Ordering) → IndexSet R E → Changed → Option Node → R → Type 0

@@ -1,4 +1,5 @@
 //! One index more in a set.
+ghost use Rattle.any_index.specs.Keyed.{marks_of};
 ghost use Rattle.std.specs.Prelude.{◌≡◌, ◌<◌, ◌++◌, ◌∷◌, [], None, IfOk, IfErr, OnOk, OnErr, vec_len, vec_capacity};
 ghost use Rattle.index_set.specs.Added.{CanAdd, HasColumn, IsNext, IsCause, clash, new_order, new_list};
 ghost use Rattle.index_set.specs.Set.{store_of, keys_of, specs_of, columns_of, contents, lists_of, HasRoom, IsSound, IsKeyed, IsUniqueExcept, IsOfSame};
@@ -28,8 +29,8 @@ impl<R, E: Extract<R>> IndexSet<R, E> {
         ensures same { IsOfSame self.old self.new }
         ensures store { store_of self.new ≡ store_of self.old }
         ensures indices { self.new.indices.items ≡ self.old.indices.items }
-        ensures keyed { IsKeyed E.order_of E.hash_of self.old →
-            IsKeyed E.order_of E.hash_of self.new }
+        ensures keyed { IsKeyed E.order_of (marks_of E.Extract) self.old →
+            IsKeyed E.order_of (marks_of E.Extract) self.new }
         ensures specs_room { OnOk result (vec_len self.new.specs < vec_capacity self.new.specs) }
         ensures indices_room { OnOk result (vec_len self.new.indices <
             vec_capacity self.new.indices) }
@@ -44,7 +45,7 @@ impl<R, E: Extract<R>> IndexSet<R, E> {
         ensures sound { IsSound E.has_key self.new }
         ensures same { IsOfSame self.old self.new }
         ensures lists { lists_of self.new ≡ lists_of self.old }
-        ensures keyed { IsKeyed E.order_of E.hash_of self.new }
+        ensures keyed { IsKeyed E.order_of (marks_of E.Extract) self.new }
         ensures contents { contents self.new ≡ contents self.old }
         ensures indices { self.new.indices.items ≡ self.old.indices.items }
         ensures specs_room { OnOk result (vec_len self.new.specs < vec_capacity self.new.specs) }
@@ -88,7 +89,7 @@ impl<R, E: Extract<R> + Drop> IndexSet<R, E> {
     pub fn add_index(&mut self, spec: Spec, keys: E, nodes: &[Node]) -> Result<(), NotAdded<E>>
         requires { CanAdd E.Extract self.old spec keys nodes.now }
         ensures sound { IsSound E.has_key self.new }
-        ensures keyed { IsKeyed E.order_of E.hash_of self.new }
+        ensures keyed { IsKeyed E.order_of (marks_of E.Extract) self.new }
         ensures unique { IsUniqueExcept E.order_of self.new None }
         ensures contents { contents self.new ≡ contents self.old }
         ensures columns { columns_of self.new ≡ columns_of self.old }
@@ -122,7 +123,7 @@ impl<R, E: Extract<R> + Drop> IndexSet<R, E> {
     pub fn check_index(&mut self, spec: Spec, keys: &E, nodes: &[Node]) -> Result<(), NoIndex>
         requires { CanAdd E.Extract self.old spec keys.now nodes.now }
         ensures sound { IsSound E.has_key self.new }
-        ensures keyed { IsKeyed E.order_of E.hash_of self.new }
+        ensures keyed { IsKeyed E.order_of (marks_of E.Extract) self.new }
         ensures unique { IsUniqueExcept E.order_of self.new None }
         ensures contents { contents self.new ≡ contents self.old }
         ensures same { IsOfSame self.old self.new }

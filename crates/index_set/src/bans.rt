@@ -1,4 +1,5 @@
 //! What bans a record.
+ghost use Rattle.any_index.specs.Keyed.{marks_of};
 ghost use Rattle.std.specs.Prelude.{◌≡◌, Option};
 ghost use Rattle.node_store.specs.ByNode.{column_of, record_of};
 ghost use Rattle.container_model.specs.State.{KeysMatch};
@@ -28,7 +29,7 @@ pub(crate) fn first_ban<R, E: Extract<R>>(
     requires keys { KeysMatch (E.has_key keys.now) specs.now }
     requires except { AreNodesOf store.now except }
     requires keyed { AreKeyedExcept (E.order_of keys.now)
-        (E.hash_of keys.now) store.now specs.now indices.now except }
+        (marks_of E.Extract keys.now) store.now specs.now indices.now except }
     requires unique { AreUniqueFrom (E.order_of keys.now) (record_of store.now) except 0 specs.now
         (lists_in (column_of store.now) indices.now) }
     requires free { AreFreeBeside (E.order_of keys.now) changed (record_of store.now) specs.now

@@ -8,7 +8,7 @@ ghost use Rattle.node_store.specs.ByNode.{column_of, record_of, contents};
 ghost use Rattle.container_model.specs.State.{has_key_kind};
 ghost use Rattle.any_index.specs.Spelled.{list_of, kind_of, col_of};
 ghost use Rattle.any_index.specs.Stored.{IsFiledOnce, nodes_of, record_side_in};
-ghost use Rattle.any_index.specs.Keyed.{IsKeyed};
+ghost use Rattle.any_index.specs.Keyed.{marks_of, IsKeyed};
 ghost use Rattle.any_index.specs.Side.{order_at, equal_but};
 ghost use Rattle.index_set.specs.Indices.{IsPlaced};
 ghost use Rattle.index_set.specs.Added.{entered_all, HasEachKeyOnce, clash, IsCause};
@@ -93,7 +93,7 @@ pub(crate) fn build<R, E: Extract<R>>(
     ensures column { IfOk result (λ made. col_of made ≡ column) }
     ensures list { IfOk result (λ made. list_of (column_of store.new) made ≡
         entered_all (order_at (record_of store.old) (E.order_of keys.now index)) spec.kind [] nodes.now) }
-    ensures keyed { IfOk result (λ made. IsKeyed (E.order_of keys.now) (E.hash_of keys.now) store.new made) }
+    ensures keyed { IfOk result (λ made. IsKeyed (E.order_of keys.now) (marks_of E.Extract keys.now) store.new made) }
     ensures unique { IfOk result (λ made. IsTrue spec.unique → HasEachKeyOnce
         (order_at (record_of store.old) (E.order_of keys.now index))
         (list_of (column_of store.new) made)) }

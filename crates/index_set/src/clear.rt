@@ -1,4 +1,5 @@
 //! A set without records again.
+ghost use Rattle.any_index.specs.Keyed.{marks_of};
 ghost use Rattle.std.specs.Prelude.{◌≡◌, ℕ, None, [], map};
 ghost use Rattle.node_store.specs.Store.{IsStore, nodes, len_of, width_of};
 ghost use Rattle.node_store.specs.Age.{nodes_of};
@@ -35,7 +36,7 @@ impl<R: Drop, E: Extract<R>> IndexSet<R, E> {
         ensures none { nodes_of (store_of self.new) ≡ [] }
         ensures len { len_of (store_of self.new) ≡ 0 }
         ensures count { (store_of self.new).added ≡ (store_of self.old).added }
-        ensures keyed { IsKeyed E.order_of E.hash_of self.new }
+        ensures keyed { IsKeyed E.order_of (marks_of E.Extract) self.new }
         ensures unique { IsUniqueExcept E.order_of self.new None }
     {
         empty_each(self.alloc, &self.specs, &mut self.indices);

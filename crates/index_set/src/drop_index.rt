@@ -1,4 +1,5 @@
 //! One index less in a set.
+ghost use Rattle.any_index.specs.Keyed.{marks_of};
 ghost use Rattle.std.specs.Prelude.{◌≡◌, None, length, remove};
 ghost use Rattle.index_set.specs.Dropped.{CanDrop, AreSound, AreRenumbered};
 ghost use Rattle.index_set.specs.Set.{keys_of, specs_of, columns_of, contents, lists_of, HasRoom, IsSound, IsKeyed, IsUniqueExcept};
@@ -26,7 +27,7 @@ impl<R, E: Extract<R> + Drop> IndexSet<R, E> {
     pub fn drop_index(&mut self, index: usize, keys: E)
         requires { CanDrop E.Extract self.old index keys }
         ensures sound { IsSound E.has_key self.new }
-        ensures keyed { IsKeyed E.order_of E.hash_of self.new }
+        ensures keyed { IsKeyed E.order_of (marks_of E.Extract) self.new }
         ensures unique { IsUniqueExcept E.order_of self.new None }
         ensures contents { contents self.new ≡ contents self.old }
         ensures columns { columns_of self.new ≡ columns_of self.old }

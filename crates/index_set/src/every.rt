@@ -1,4 +1,5 @@
 //! Changes of all indices, one after the other.
+ghost use Rattle.key_extract.specs.Digests.{Marks};
 ghost use Rattle.std.specs.Prelude.{◌≡◌, false, ℕ, ◌≤◌, ◌<◌, Some, OnOk, OnErr, IfOk, [], map, length};
 ghost use Rattle.std.specs.declared.cmp.Ordering.{Ordering};
 ghost use Rattle.list_model.specs.Walk.{without};
@@ -7,7 +8,7 @@ ghost use Rattle.node_store.specs.Store.{IsNodeOf, width_of};
 ghost use Rattle.node_store.specs.ByNode.{column_of, record_of, contents, same_node};
 ghost use Rattle.container_model.specs.State.{KeysMatch};
 ghost use Rattle.container_model.specs.Insert.{place_in};
-ghost use Rattle.any_index.specs.Keyed.{IsKeyed};
+ghost use Rattle.any_index.specs.Keyed.{marks_of, IsKeyed};
 ghost use Rattle.any_index.specs.Lists.{settled_in};
 ghost use Rattle.any_index.specs.Spelled.{kind_of};
 ghost use Rattle.any_index.specs.Stored.{HasNode, IsFiledBut, IsIn, KeepsRest, nodes_of, order_in};
@@ -65,9 +66,9 @@ pub(crate) fn reserve_each<R>(
         (column_of store.old) indices.old }
     ensures room { OnOk result (HaveRoom specs.now indices.new) }
     ensures full { OnErr result (¬ HaveRoom specs.now indices.old) }
-    ensures keyed { (order : ℕ → R → R → Ordering) (hash_of : ℕ → R → ℕ) →
-        AreKeyed order hash_of store.old specs.now indices.old →
-        AreKeyed order hash_of store.new specs.now indices.new }
+    ensures keyed { (order : ℕ → R → R → Ordering) (marks : ℕ → R → Marks) →
+        AreKeyed order marks store.old specs.now indices.old →
+        AreKeyed order marks store.new specs.now indices.new }
     ensures contents { contents store.new ≡ contents store.old }
 {
     for index in 0..specs.len() {
@@ -104,7 +105,7 @@ pub(crate) fn enter_each<R, E: Extract<R>>(
     requires place { (j p : ℕ) → at ≡ Some (j, p) →
         p ≤ length (list_at (lists_in (column_of store.old) indices.old) j) }
     requires keyed { AreKeyed (E.order_of keys.now)
-        (E.hash_of keys.now) store.old specs.now indices.old }
+        (marks_of E.Extract keys.now) store.old specs.now indices.old }
     ensures placed { ArePlaced (column_of store.new) specs.now indices.new }
     ensures within { (columns : ℕ) → AreWithin columns specs.now indices.old →
         AreWithin columns specs.now indices.new }
@@ -112,7 +113,7 @@ pub(crate) fn enter_each<R, E: Extract<R>>(
         (entered_at (E.order_of keys.now) (record_of store.old) at n) 0 specs.now
         (lists_in (column_of store.old) indices.old) }
     ensures keyed { AreKeyed (E.order_of keys.now)
-        (E.hash_of keys.now) store.new specs.now indices.new }
+        (marks_of E.Extract keys.now) store.new specs.now indices.new }
     ensures contents { contents store.new ≡ contents store.old }
 {
     for index in 0..specs.len() {
@@ -135,9 +136,9 @@ pub(crate) fn leave_each<R>(
     ensures lists { lists_in (column_of store.new) indices.new ≡ map (without (same_node n))
         (lists_in (column_of store.old) indices.old) }
     ensures room { HaveRoom specs.now indices.new }
-    ensures keyed { (order : ℕ → R → R → Ordering) (hash_of : ℕ → R → ℕ) →
-        AreKeyedBut order hash_of store.old specs.now indices.old n →
-        AreKeyed order hash_of store.new specs.now indices.new }
+    ensures keyed { (order : ℕ → R → R → Ordering) (marks : ℕ → R → Marks) →
+        AreKeyedBut order marks store.old specs.now indices.old n →
+        AreKeyed order marks store.new specs.now indices.new }
     ensures contents { contents store.new ≡ contents store.old }
 {
     for index in 0..specs.len() {
@@ -156,11 +157,11 @@ fn settle_where<R, E: Extract<R>>(
     requires node { HasNode index.old store.old n }
     requires others { IsFiledBut E.Extract n index.old store.old keys.now }
     requires kept { changed ≡ false →
-        IsKeyed (E.order_of keys.now) (E.hash_of keys.now) store.old index.old }
+        IsKeyed (E.order_of keys.now) (marks_of E.Extract keys.now) store.old index.old }
     ensures sound { IsIn index.new store.new }
     ensures list { nodes_of index.new store.new ≡ settled_in (kind_of index.old)
         (order_in E.Extract index.old store.old keys.now) n (nodes_of index.old store.old) }
-    ensures keyed { IsKeyed (E.order_of keys.now) (E.hash_of keys.now) store.new index.new }
+    ensures keyed { IsKeyed (E.order_of keys.now) (marks_of E.Extract keys.now) store.new index.new }
     ensures rest { KeepsRest index.old index.new store.old store.new }
 {
     if changed {
@@ -181,9 +182,9 @@ pub(crate) fn settle_each<R, E: Extract<R>>(
     requires keys { KeysMatch (E.has_key keys.now) specs.now }
     requires held { HoldIt (lists_in (column_of store.old) indices.old) n }
     requires keyed { AreKeyedBut (E.order_of keys.now)
-        (E.hash_of keys.now) store.old specs.now indices.old n }
+        (marks_of E.Extract keys.now) store.old specs.now indices.old n }
     requires beside { AreKeyedBeside (E.order_of keys.now) changed
-        (E.hash_of keys.now) store.old specs.now indices.old }
+        (marks_of E.Extract keys.now) store.old specs.now indices.old }
     ensures placed { ArePlaced (column_of store.new) specs.now indices.new }
     ensures within { (columns : ℕ) → AreWithin columns specs.now indices.old →
         AreWithin columns specs.now indices.new }
@@ -191,7 +192,7 @@ pub(crate) fn settle_each<R, E: Extract<R>>(
         (settled_at (E.order_of keys.now) (record_of store.old) n) 0 specs.now
         (lists_in (column_of store.old) indices.old) }
     ensures keyed { AreKeyed (E.order_of keys.now)
-        (E.hash_of keys.now) store.new specs.now indices.new }
+        (marks_of E.Extract keys.now) store.new specs.now indices.new }
     ensures contents { contents store.new ≡ contents store.old }
 {
     for index in 0..specs.len() {

@@ -1,4 +1,5 @@
 //! Changes of the order of one sequence.
+ghost use Rattle.any_index.specs.Keyed.{marks_of};
 ghost use Rattle.std.specs.Prelude.{◌≡◌, ◌≤◌, ◌<◌, length, IsTrue, IsPermutation, slice_set, reverse as reversed};
 ghost use Rattle.container_model.specs.declared.handle.Kind.TheVariants.{Random};
 ghost use Rattle.container_model.specs.State.{is_sequence_kind};
@@ -28,8 +29,8 @@ impl<R, E: Extract<R>> IndexSet<R, E> {
         ensures lists { lists_of self.new ≡ slice_set (lists_of self.old) index
             (relocated (same_node n) n place (list_of self.old index)) }
         ensures room { HasRoom self.old → HasRoom self.new }
-        ensures keyed { IsKeyed E.order_of E.hash_of self.old →
-            IsKeyed E.order_of E.hash_of self.new }
+        ensures keyed { IsKeyed E.order_of (marks_of E.Extract) self.old →
+            IsKeyed E.order_of (marks_of E.Extract) self.new }
         ensures contents { contents self.new ≡ contents self.old }
     {
         self.indices[index].move_to(&mut self.store, place, n);
@@ -44,8 +45,8 @@ impl<R, E: Extract<R>> IndexSet<R, E> {
         ensures same { IsOfSame self.old self.new }
         ensures lists { lists_of self.new ≡ slice_set (lists_of self.old) index order.now }
         ensures room { HasRoom self.old → HasRoom self.new }
-        ensures keyed { IsKeyed E.order_of E.hash_of self.old →
-            IsKeyed E.order_of E.hash_of self.new }
+        ensures keyed { IsKeyed E.order_of (marks_of E.Extract) self.old →
+            IsKeyed E.order_of (marks_of E.Extract) self.new }
         ensures contents { contents self.new ≡ contents self.old }
     {
         self.indices[index].rearrange(&mut self.store, order);
@@ -60,8 +61,8 @@ impl<R, E: Extract<R>> IndexSet<R, E> {
         ensures lists { lists_of self.new ≡ slice_set (lists_of self.old) index
             (reversed (list_of self.old index)) }
         ensures room { HasRoom self.old → HasRoom self.new }
-        ensures keyed { IsKeyed E.order_of E.hash_of self.old →
-            IsKeyed E.order_of E.hash_of self.new }
+        ensures keyed { IsKeyed E.order_of (marks_of E.Extract) self.old →
+            IsKeyed E.order_of (marks_of E.Extract) self.new }
         ensures contents { contents self.new ≡ contents self.old }
     {
         self.indices[index].reverse(&mut self.store);
@@ -82,7 +83,7 @@ impl<R, E: Extract<R>> IndexSet<R, E> {
         ensures sunk { IsSunk (is_match (probe_side E.probe_order_of self.old index probe.now)
             (list_of self.old index)) (list_of self.old row) (list_of self.new row) }
         ensures room { HasRoom self.old → HasRoom self.new }
-        ensures keyed { IsKeyed E.order_of E.hash_of self.new }
+        ensures keyed { IsKeyed E.order_of (marks_of E.Extract) self.new }
         ensures contents { contents self.new ≡ contents self.old }
     {
         let low = self.indices[index].mark_key(

@@ -1,4 +1,5 @@
 //! The set, its records, and changes of all indices.
+ghost use Rattle.any_index.specs.Keyed.{marks_of};
 ghost use Rattle.std.specs.Prelude.{◌≡◌, ◌+◌, ◌≤◌, ◌<◌, ◌^◌, ℕ, [], map, length, Some, None, IfOk, IfErr, OnOk, OnErr};
 ghost use Rattle.std.specs.Borrow.{sem};
 ghost use Rattle.list_model.specs.Walk.{without};
@@ -49,7 +50,7 @@ impl<R: Drop, E: Extract<R> + Drop> IndexSet<R, E> {
         requires most { columns ≤ 8 }
         requires keys { KeysMatch (E.has_key keys) specs.items }
         ensures sound { IfOk result (λ made. IsSound E.has_key made) }
-        ensures keyed { IfOk result (λ made. IsKeyed E.order_of E.hash_of made) }
+        ensures keyed { IfOk result (λ made. IsKeyed E.order_of (marks_of E.Extract) made) }
         ensures lists { IfOk result (λ made. lists_of made ≡ map (λ _. []) specs.items) }
         ensures empty { IfOk result (λ made.
             store_of made ≡ empty_store (width_of (store_of made))) }
@@ -85,8 +86,8 @@ impl<R: Drop, E: Extract<R>> IndexSet<R, E> {
             (store_of self.new) n value) }
         ensures len { OnOk result (len_of (store_of self.new) ≡ len_of (store_of self.old) + 1) }
         ensures loose { IfOk result (λ n. LackIt (lists_of self.new) n) }
-        ensures keyed { IsKeyed E.order_of E.hash_of self.old →
-            IsKeyed E.order_of E.hash_of self.new }
+        ensures keyed { IsKeyed E.order_of (marks_of E.Extract) self.old →
+            IsKeyed E.order_of (marks_of E.Extract) self.new }
         ensures room { HasRoom self.old → HasRoom self.new }
         ensures unchanged { OnErr result (self.new ≡ self.old) }
         ensures returned { IfErr result (λ e. e.value ≡ value) }
@@ -106,8 +107,8 @@ impl<R: Drop, E: Extract<R>> IndexSet<R, E> {
         ensures removed { RemovesNode (store_of self.old) (store_of self.new) n }
         ensures count { (store_of self.new).added ≡ (store_of self.old).added }
         ensures len { len_of (store_of self.new) + 1 ≡ len_of (store_of self.old) }
-        ensures keyed { IsKeyed E.order_of E.hash_of self.old →
-            IsKeyed E.order_of E.hash_of self.new }
+        ensures keyed { IsKeyed E.order_of (marks_of E.Extract) self.old →
+            IsKeyed E.order_of (marks_of E.Extract) self.new }
         ensures room { HasRoom self.old → HasRoom self.new }
     {
         self.store.remove(n)
@@ -196,8 +197,8 @@ impl<R, E: Extract<R>> IndexSet<R, E> {
         ensures contents { contents self.new ≡ contents self.old }
         ensures room { OnOk result (HasRoom self.new) }
         ensures full { OnErr result (¬ HasRoom self.old) }
-        ensures keyed { IsKeyed E.order_of E.hash_of self.old →
-            IsKeyed E.order_of E.hash_of self.new }
+        ensures keyed { IsKeyed E.order_of (marks_of E.Extract) self.old →
+            IsKeyed E.order_of (marks_of E.Extract) self.new }
     {
         reserve_each(&mut self.store, &self.specs, &mut self.indices)
     }
@@ -210,13 +211,13 @@ impl<R, E: Extract<R>> IndexSet<R, E> {
         requires loose { LackIt (lists_of self.old) n }
         requires room { HasRoom self.old }
         requires place { (j p : ℕ) → at ≡ Some (j, p) → p ≤ length (list_of self.old j) }
-        requires keyed { IsKeyed E.order_of E.hash_of self.old }
+        requires keyed { IsKeyed E.order_of (marks_of E.Extract) self.old }
         ensures sound { IsSound E.has_key self.new }
         ensures same { IsOfSame self.old self.new }
         ensures lists { lists_of self.new ≡ changed_from
             (entered_at (E.order_of (keys_of self.old)) (record_of self.old) at n) 0
             (specs_of self.old) (lists_of self.old) }
-        ensures keyed { IsKeyed E.order_of E.hash_of self.new }
+        ensures keyed { IsKeyed E.order_of (marks_of E.Extract) self.new }
         ensures contents { contents self.new ≡ contents self.old }
     {
         enter_each(
@@ -238,8 +239,8 @@ impl<R, E: Extract<R>> IndexSet<R, E> {
         ensures same { IsOfSame self.old self.new }
         ensures lists { lists_of self.new ≡ map (without (same_node n)) (lists_of self.old) }
         ensures room { HasRoom self.new }
-        ensures keyed { IsKeyedBut E.order_of E.hash_of self.old n →
-            IsKeyed E.order_of E.hash_of self.new }
+        ensures keyed { IsKeyedBut E.order_of (marks_of E.Extract) self.old n →
+            IsKeyed E.order_of (marks_of E.Extract) self.new }
         ensures contents { contents self.new ≡ contents self.old }
     {
         leave_each(&mut self.store, &self.specs, &mut self.indices, n);
@@ -250,13 +251,13 @@ impl<R, E: Extract<R>> IndexSet<R, E> {
     pub fn settle(&mut self, n: Node)
         requires sound { IsSound E.has_key self.old }
         requires held { HoldIt (lists_of self.old) n }
-        requires keyed { IsKeyedBut E.order_of E.hash_of self.old n }
+        requires keyed { IsKeyedBut E.order_of (marks_of E.Extract) self.old n }
         ensures sound { IsSound E.has_key self.new }
         ensures same { IsOfSame self.old self.new }
         ensures lists { lists_of self.new ≡ changed_from
             (settled_at (E.order_of (keys_of self.old)) (record_of self.old) n) 0
             (specs_of self.old) (lists_of self.old) }
-        ensures keyed { IsKeyed E.order_of E.hash_of self.new }
+        ensures keyed { IsKeyed E.order_of (marks_of E.Extract) self.new }
         ensures contents { contents self.new ≡ contents self.old }
     {
         self.settle_changed(n, Changed::all());
@@ -267,14 +268,14 @@ impl<R, E: Extract<R>> IndexSet<R, E> {
     pub fn settle_changed(&mut self, n: Node, changed: Changed)
         requires sound { IsSound E.has_key self.old }
         requires held { HoldIt (lists_of self.old) n }
-        requires keyed { IsKeyedBut E.order_of E.hash_of self.old n }
-        requires beside { IsKeyedBeside E.order_of E.hash_of self.old changed }
+        requires keyed { IsKeyedBut E.order_of (marks_of E.Extract) self.old n }
+        requires beside { IsKeyedBeside E.order_of (marks_of E.Extract) self.old changed }
         ensures sound { IsSound E.has_key self.new }
         ensures same { IsOfSame self.old self.new }
         ensures lists { lists_of self.new ≡ changed_from
             (settled_at (E.order_of (keys_of self.old)) (record_of self.old) n) 0
             (specs_of self.old) (lists_of self.old) }
-        ensures keyed { IsKeyed E.order_of E.hash_of self.new }
+        ensures keyed { IsKeyed E.order_of (marks_of E.Extract) self.new }
         ensures contents { contents self.new ≡ contents self.old }
     {
         settle_each(
@@ -293,9 +294,9 @@ impl<R, E: Extract<R>> IndexSet<R, E> {
     pub fn put_back(&mut self, n: Node)
         requires sound { IsSound E.has_key self.old }
         requires node { IsNodeOf (store_of self.old) n }
-        requires restored { IsRestored E.order_of E.hash_of self.old n }
+        requires restored { IsRestored E.order_of (marks_of E.Extract) self.old n }
         ensures unchanged { self.new ≡ self.old }
-        ensures keyed { IsKeyed E.order_of E.hash_of self.new }
+        ensures keyed { IsKeyed E.order_of (marks_of E.Extract) self.new }
         ensures unique { (before : R) → HasKeysOf E.order_of self.old n before →
             IsUniqueExcept E.order_of (with_record self.old n before) None →
             IsUniqueExcept E.order_of self.new None }
@@ -308,7 +309,7 @@ impl<R, E: Extract<R>> IndexSet<R, E> {
     pub fn bans(&self, r: &R, except: Option<Node>) -> Option<(usize, Node)>
         requires sound { IsSound E.has_key self.now }
         requires except { AreNodesOf (store_of self.now) except }
-        requires keyed { IsKeyedExcept E.order_of E.hash_of self.now except }
+        requires keyed { IsKeyedExcept E.order_of (marks_of E.Extract) self.now except }
         requires unique { IsUniqueExcept E.order_of self.now except }
         ensures { result ≡ ban_from (E.order_of (keys_of self.now)) (record_of self.now)
             (lists_of self.now) except r.now 0 (specs_of self.now) }
@@ -337,7 +338,7 @@ impl<R, E: Extract<R>> IndexSet<R, E> {
     ) -> Option<(usize, Node)>
         requires sound { IsSound E.has_key self.now }
         requires except { AreNodesOf (store_of self.now) except }
-        requires keyed { IsKeyedExcept E.order_of E.hash_of self.now except }
+        requires keyed { IsKeyedExcept E.order_of (marks_of E.Extract) self.now except }
         requires unique { IsUniqueExcept E.order_of self.now except }
         requires free { IsFreeBeside E.order_of self.now changed except r.now }
         ensures { result ≡ ban_from (E.order_of (keys_of self.now)) (record_of self.now)

@@ -13,9 +13,9 @@ use Rattle.container_model.specs.State.{KeysMatch, has_key_kind}
 use Rattle.index_set.specs.declared.set.IndexSet.{IndexSet}
 use Rattle.index_set.specs.Set.{store_of, keys_of, specs_of, contents, IsSound, IsKeyed, IsUniqueExcept}
 use Rattle.index_tests.specs.declared.tens.Tens.{Tens}
-use Rattle.index_tests.specs.Tens.{has_tens, by_tens, hash_of_tens, IsLive}
+use Rattle.index_tests.specs.Tens.{has_tens, by_tens, marks_of_tens, IsLive}
 
-pub live_from : (s t : IndexSet ℕ Tens) (nodes : List Node) → IsLive s nodes → contents t ≡ contents s → IsSound has_tens t → IsKeyed (λ _ _. by_tens) (λ _ _. hash_of_tens) t → IsUniqueExcept (λ _ _. by_tens) t None →
+pub live_from : (s t : IndexSet ℕ Tens) (nodes : List Node) → IsLive s nodes → contents t ≡ contents s → IsSound has_tens t → IsKeyed (λ _ _. by_tens) (λ _ _. marks_of_tens) t → IsUniqueExcept (λ _ _. by_tens) t None →
     (keys_of t).keyed ≤ length (specs_of t) → IsLive t nodes
 live_from s t nodes live same sound keyed unique few = record {
   sound = sound;

@@ -34,6 +34,6 @@ col_in (Hashed i) = buckets.col_of i
 abbrev pub IsSoundIn : {T : Type 0} → Store (Keyed T) → Index → Type 0
 IsSoundIn s (Chain i) = chains.IsSound (column_of s) i
 IsSoundIn s (Row i) = rows.IsSound (column_of s) i
-IsSoundIn s (Ordered i) = trees.IsSound (column_of s) i × IsByKey s (trees.spelled (column_of s) i)
-IsSoundIn s (Ranked i) = ranked.IsSound (column_of s) i × IsByKey s (ranked.spelled (column_of s) i)
+IsSoundIn s (Ordered i) = trees.IsSound (column_of s) i × IsByKey s (trees.col_of i) (trees.spelled (column_of s) i)
+IsSoundIn s (Ranked i) = ranked.IsSound (column_of s) i × IsByKey s (ranked.col_of i) (ranked.spelled (column_of s) i)
 IsSoundIn s (Hashed i) = buckets.IsSound (column_of s) i

@@ -3,6 +3,7 @@ ghost use Rattle.std.specs.Prelude.{◌≡◌, ◌≤◌};
 ghost use Rattle.std.specs.Ordering.{nat_cmp};
 ghost use Rattle.list_model.specs.Order.{IsInOrder};
 ghost use Rattle.node_store.specs.ByNode.{column_of, record_of};
+ghost use Rattle.ord_tree.specs.Digests.{AreDigested};
 ghost use Rattle.ord_tree.specs.Side.{order_at};
 ghost use Rattle.ord_tree.specs.Spelled as trees;
 ghost use Rattle.rank_tree.specs.Spelled as ranked;
@@ -34,6 +35,8 @@ fn said_by_tree(
     requires sound { trees.IsSound (column_of store.now) tree.now }
     requires order { IsInOrder (order_at (record_of store.now) nat_cmp)
         (trees.spelled (column_of store.now) tree.now) }
+    requires digested { AreDigested (λ _. 0) store.now (trees.col_of tree.now)
+        (trees.spelled (column_of store.now) tree.now) }
 {
     match call {
         Call::Find => tree.find_counted(store, keys, &id).1,
@@ -52,6 +55,8 @@ fn most_in_tree(
 ) -> Option<u64>
     requires sound { trees.IsSound (column_of store.now) tree.now }
     requires order { IsInOrder (order_at (record_of store.now) nat_cmp)
+        (trees.spelled (column_of store.now) tree.now) }
+    requires digested { AreDigested (λ _. 0) store.now (trees.col_of tree.now)
         (trees.spelled (column_of store.now) tree.now) }
 {
     let mut most = 0;
@@ -77,6 +82,8 @@ fn said_by_ranks(
     requires sound { ranked.IsSound (column_of store.now) tree.now }
     requires order { IsInOrder (order_at (record_of store.now) nat_cmp)
         (ranked.spelled (column_of store.now) tree.now) }
+    requires digested { AreDigested (λ _. 0) store.now (ranked.col_of tree.now)
+        (ranked.spelled (column_of store.now) tree.now) }
 {
     match call {
         Call::Find => tree.find_counted(store, keys, &id).1,
@@ -89,6 +96,8 @@ fn said_by_ranks(
 fn most_in_ranks(call: Call, store: &NodeStore<u64>, tree: &RankTree, keys: &Numbers) -> Option<u64>
     requires sound { ranked.IsSound (column_of store.now) tree.now }
     requires order { IsInOrder (order_at (record_of store.now) nat_cmp)
+        (ranked.spelled (column_of store.now) tree.now) }
+    requires digested { AreDigested (λ _. 0) store.now (ranked.col_of tree.now)
         (ranked.spelled (column_of store.now) tree.now) }
 {
     let mut most = 0;

@@ -99,4 +99,6 @@ impl<T> Extract<Keyed<T>> for ByKey {
     ghost digest_order = { λ keys index has. one_orders (by_key) 0 };
 
     ghost probe_digest_order = { λ keys index probe has fits. one_cuts (λ a. nat_cmp a.key probe) 0 };
+
+    ghost one_digest = { λ keys other index at same. refl };
 }

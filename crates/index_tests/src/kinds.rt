@@ -3,7 +3,7 @@ ghost use Rattle.std.specs.Prelude.{◌≡◌, ◌+◌, ◌<◌, ◌≤◌, IsTr
 ghost use Rattle.container_model.specs.State.{has_key_kind};
 ghost use Rattle.node_store.specs.Store.{width_of};
 ghost use Rattle.node_store.specs.ByNode.{column_of};
-ghost use Rattle.any_index.specs.Keyed.{IsKeyed};
+ghost use Rattle.any_index.specs.Keyed.{marks_of, IsKeyed};
 ghost use Rattle.any_index.specs.Spelled.{IsSound, kind_of, col_of, index_of};
 
 use crate::rows::{keys, probe, row};
@@ -22,11 +22,11 @@ fn enter_new<R: Drop, E: Extract<R>>(
 ) -> Option<()>
     requires sound { IsSound (column_of store.old) index.old }
     requires key { E.has_key keys.now (index_of index.old) ≡ has_key_kind (kind_of index.old) }
-    requires keyed { IsKeyed (E.order_of keys.now) (E.hash_of keys.now) store.old index.old }
+    requires keyed { IsKeyed (E.order_of keys.now) (marks_of E.Extract keys.now) store.old index.old }
     requires column { col_of index.old < width_of store.old }
     requires count { store.old.added < 1000 }
     ensures sound { IsSound (column_of store.new) index.new }
-    ensures keyed { IsKeyed (E.order_of keys.now) (E.hash_of keys.now) store.new index.new }
+    ensures keyed { IsKeyed (E.order_of keys.now) (marks_of E.Extract keys.now) store.new index.new }
     ensures kind { kind_of index.new ≡ kind_of index.old }
     ensures index { index_of index.new ≡ index_of index.old }
     ensures column { col_of index.new < width_of store.new }
@@ -52,12 +52,12 @@ fn fill<E: Extract<Row>>(
 ) -> Option<()>
     requires sound { IsSound (column_of store.old) index.old }
     requires key { E.has_key keys.now (index_of index.old) ≡ has_key_kind (kind_of index.old) }
-    requires keyed { IsKeyed (E.order_of keys.now) (E.hash_of keys.now) store.old index.old }
+    requires keyed { IsKeyed (E.order_of keys.now) (marks_of E.Extract keys.now) store.old index.old }
     requires column { col_of index.old < width_of store.old }
     requires empty { store.old.added ≡ 0 }
     requires few { count ≤ 100 }
     ensures sound { IsSound (column_of store.new) index.new }
-    ensures keyed { IsKeyed (E.order_of keys.now) (E.hash_of keys.now) store.new index.new }
+    ensures keyed { IsKeyed (E.order_of keys.now) (marks_of E.Extract keys.now) store.new index.new }
     ensures kind { kind_of index.new ≡ kind_of index.old }
     ensures index { index_of index.new ≡ index_of index.old }
 {

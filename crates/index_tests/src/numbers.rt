@@ -114,6 +114,8 @@ impl Extract<u64> for Numbers {
     ghost digest_order = { λ keys index has. one_orders (nat_cmp) 0 };
 
     ghost probe_digest_order = { λ keys index probe has fits. one_cuts (λ a. nat_cmp a probe) 0 };
+
+    ghost one_digest = { λ keys other index at same. refl };
 }
 
 /// Where a thousand numbers are put in, as they come.

@@ -49,11 +49,13 @@ pub(crate) fn put_first<R>(row: &mut RowIndex, store: &mut NodeStore<R>, n: Node
 
 pub(crate) fn put_by_key<T>(tree: &mut OrdTree<NoTally>, store: &mut NodeStore<Keyed<T>>, n: Node)
     requires sound { trees.IsSound (column_of store.old) tree.old }
-    requires order { IsByKey store.old (trees.spelled (column_of store.old) tree.old) }
+    requires order { IsByKey store.old (trees.col_of tree.old)
+        (trees.spelled (column_of store.old) tree.old) }
     requires node { IsNode (column_of store.old (trees.col_of tree.old)) n }
     requires new { Lacks (trees.spelled (column_of store.old) tree.old) n }
     ensures sound { trees.IsSound (column_of store.new) tree.new }
-    ensures order { IsByKey store.new (trees.spelled (column_of store.new) tree.new) }
+    ensures order { IsByKey store.new (trees.col_of tree.new)
+        (trees.spelled (column_of store.new) tree.new) }
     ensures col { trees.col_of tree.new ≡ trees.col_of tree.old }
     ensures others { KeepsOthers (column_of store.old) (column_of store.new)
         (trees.col_of tree.old) }
@@ -66,11 +68,13 @@ pub(crate) fn put_by_key<T>(tree: &mut OrdTree<NoTally>, store: &mut NodeStore<K
 
 pub(crate) fn put_by_rank<T>(tree: &mut RankTree, store: &mut NodeStore<Keyed<T>>, n: Node)
     requires sound { ranked.IsSound (column_of store.old) tree.old }
-    requires order { IsByKey store.old (ranked.spelled (column_of store.old) tree.old) }
+    requires order { IsByKey store.old (ranked.col_of tree.old)
+        (ranked.spelled (column_of store.old) tree.old) }
     requires node { IsNode (column_of store.old (ranked.col_of tree.old)) n }
     requires new { Lacks (ranked.spelled (column_of store.old) tree.old) n }
     ensures sound { ranked.IsSound (column_of store.new) tree.new }
-    ensures order { IsByKey store.new (ranked.spelled (column_of store.new) tree.new) }
+    ensures order { IsByKey store.new (ranked.col_of tree.new)
+        (ranked.spelled (column_of store.new) tree.new) }
     ensures col { ranked.col_of tree.new ≡ ranked.col_of tree.old }
     ensures others { KeepsOthers (column_of store.old) (column_of store.new)
         (ranked.col_of tree.old) }

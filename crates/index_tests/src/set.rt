@@ -5,6 +5,7 @@ ghost use Rattle.std.specs.declared.cmp.Ordering.TheVariants.{Equal};
 ghost use Rattle.node_store.specs.Store.{IsNodeOf};
 ghost use Rattle.container_model.specs.declared.handle.Kind.TheVariants.{Ordered, Hashed};
 ghost use Rattle.container_model.specs.State.{has_key_kind};
+ghost use Rattle.any_index.specs.Keyed.{marks_of};
 ghost use Rattle.index_set.specs.Set.{store_of, keys_of, specs_of, record_of, kind_at, IsSound, IsKeyed, IsUniqueExcept, IsOfSame};
 
 use container_model::{Kind, Spec};
@@ -100,16 +101,18 @@ impl Extract<u64> for OneKey {
     ghost digest_order = { λ keys index has. one_orders (λ a b. Equal) 0 };
 
     ghost probe_digest_order = { λ keys index probe has fits. one_cuts (λ a. Equal) 0 };
+
+    ghost one_digest = { λ keys other index at same. refl };
 }
 
 // Puts a record into each index, unless a unique one has its key.
 pub(crate) fn insert<R: Drop, E: Extract<R>>(set: &mut IndexSet<R, E>, value: R) -> Option<Node>
     requires sound { IsSound E.has_key set.old }
-    requires keyed { IsKeyed E.order_of E.hash_of set.old }
+    requires keyed { IsKeyed E.order_of (marks_of E.Extract) set.old }
     requires unique { IsUniqueExcept E.order_of set.old None }
     requires count { (store_of set.old).added < 1000 }
     ensures sound { IsSound E.has_key set.new }
-    ensures keyed { IsKeyed E.order_of E.hash_of set.new }
+    ensures keyed { IsKeyed E.order_of (marks_of E.Extract) set.new }
     ensures unique { OnSome result (IsUniqueExcept E.order_of set.new None) }
     ensures same { IsOfSame set.old set.new }
     ensures count { (store_of set.new).added ≤ (store_of set.old).added + 1 }
@@ -134,13 +137,13 @@ pub(crate) fn insert<R: Drop, E: Extract<R>>(set: &mut IndexSet<R, E>, value: R)
 // Gives a node another record of the same keys.
 fn rewrite<R: Drop, E: Extract<R>>(set: &mut IndexSet<R, E>, n: Node, value: R)
     requires sound { IsSound E.has_key set.old }
-    requires keyed { IsKeyed E.order_of E.hash_of set.old }
+    requires keyed { IsKeyed E.order_of (marks_of E.Extract) set.old }
     requires node { IsNodeOf (store_of set.old) n }
     requires same { (index : ℕ) (row : R) → index < length (specs_of set.old) →
         IsTrue (has_key_kind (kind_at set.old index)) → record_of set.old n ≡ Some row →
         E.order_of (keys_of set.old) index value row ≡ Equal }
     ensures sound { IsSound E.has_key set.new }
-    ensures keyed { IsKeyed E.order_of E.hash_of set.new }
+    ensures keyed { IsKeyed E.order_of (marks_of E.Extract) set.new }
     ensures same { IsOfSame set.old set.new }
     ensures written { record_of set.new n ≡ Some value }
 {

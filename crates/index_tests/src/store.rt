@@ -62,7 +62,12 @@ pub(crate) fn links_are_kept_by_column(alloc: Global) -> Option<bool> {
 
 // Whether the links are the same.
 fn are_same(a: Link, b: Link) -> bool {
-    a.a == b.a && a.b == b.b && a.up == b.up && a.tag == b.tag && a.height == b.height && a.digest == b.digest
+    a.a == b.a
+        && a.b == b.b
+        && a.up == b.up
+        && a.tag == b.tag
+        && a.height == b.height
+        && a.digest == b.digest
 }
 
 // Whether the first so many columns of a node are empty but for the last, which has these links.

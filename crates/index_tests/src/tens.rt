@@ -10,7 +10,7 @@ pub(crate) struct Tens {
 }
 
 impl Extract<u64> for Tens {
-    ghost use Rattle.std.specs.Prelude.{true, ◌/◌};
+    ghost use Rattle.std.specs.Prelude.{true, ◌/◌, refl};
     ghost use Rattle.std.proofs.Common.{ap, ◌∙◌};
     ghost use Rattle.std.specs.Ordering.{nat_cmp};
     ghost use Rattle.std.proofs.lemmas.Cmp.{nat_cmp_total, on_total, tied_back};
@@ -94,4 +94,6 @@ impl Extract<u64> for Tens {
     ghost digest_order = { λ keys index has. one_orders (by_tens) 0 };
 
     ghost probe_digest_order = { λ keys index probe has fits. one_cuts (λ a. by_tens a probe) 0 };
+
+    ghost one_digest = { λ keys other index at same. refl };
 }

@@ -4,6 +4,7 @@ ghost use Rattle.std.specs.Ordering.{nat_cmp};
 ghost use Rattle.node_store.specs.Store.{width_of};
 ghost use Rattle.node_store.specs.ByNode.{column_of, record_of};
 ghost use Rattle.list_model.specs.Order.{IsInOrder};
+ghost use Rattle.ord_tree.specs.Digests.{AreDigested};
 ghost use Rattle.ord_tree.specs.Side.{order_at};
 ghost use Rattle.ord_tree.specs.Spelled.{IsSound, spelled, col_of, index_of};
 ghost use Rattle.ord_tree.specs.Stored.{IsOrdered};
@@ -128,6 +129,8 @@ fn most_counted(
 ) -> Option<u64>
     requires sound { IsSound (column_of store.now) tree.now }
     requires order { IsInOrder (order_at (record_of store.now) nat_cmp)
+        (spelled (column_of store.now) tree.now) }
+    requires digested { AreDigested (λ _. 0) store.now (col_of tree.now)
         (spelled (column_of store.now) tree.now) }
     requires count { count ≤ 1000 }
 {

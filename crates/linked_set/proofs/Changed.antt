@@ -1,4 +1,5 @@
 -- What becomes of a set when the row of one record was changed in place, and its node settled or was taken out.
+use Rattle.key_extract.specs.Digests.{Marks}
 use Rattle.std.proofs.Common.{◌≡◌, ◌≢◌, ℕ, ◌+◌, Bool, true, false, cond, not, List, [], ◌∷◌, map, Option, Some, None, refl, sym, ap, ◌∙◌, subst}
 use Rattle.std.specs.Prelude.{filter, option_map}
 use Rattle.std.specs.List.{AllByRecursion}
@@ -30,7 +31,7 @@ use Rattle.index_set.proofs.StaysUnique.{unique_after_remove}
 use Rattle.index_set.proofs.Written.{lists_written}
 use Rattle.modify_ops.proofs.Held.{node_of_all}
 use Rattle.modify_ops.proofs.Others.{ban_written}
-use Rattle.linked_set.specs.ByRow.{has_by_row, order_by_row, hash_by_row}
+use Rattle.linked_set.specs.ByRow.{has_by_row, order_by_row, marks_by_row}
 use Rattle.linked_set.specs.declared.by_row.ByRow.{ByRow}
 use Rattle.linked_set.specs.LeadsTo.{LeadsTo}
 use Rattle.linked_set.specs.Linked.{handle_of, entries_in, handles_in}
@@ -54,19 +55,19 @@ filter-with_row h row (e ∷ es) = by_test e (filter (λ x. not (is_handle h x.h
     by_test x l r false is rest = ap (λ z. cond (not (is_handle h x.handle)) (x ∷ z) z) rest
 
 -- a set in which the row of one node's record was written, and whose lists may have changed since
-pub record IsChanged {E R : Type 0} (has_key : E → ℕ → Bool) (order : E → ℕ → R → R → Ordering) (hash : E → ℕ → R → ℕ) (old mid : IndexSet (Entry R) (ByRow E)) (slots : List (Option Node)) (n : Node) (h : Handle) (row : R) : Type 0 where
-  pub linked : IsLinked has_key order hash old slots
+pub record IsChanged {E R : Type 0} (has_key : E → ℕ → Bool) (order : E → ℕ → R → R → Ordering) (marks : E → ℕ → R → Marks) (old mid : IndexSet (Entry R) (ByRow E)) (slots : List (Option Node)) (n : Node) (h : Handle) (row : R) : Type 0 where
+  pub linked : IsLinked has_key order marks old slots
   pub held : HoldIt (lists_of old) n
   pub is : IsNodeOf (store_of old) n
   pub own : handle_of (set.record_of old) n ≡ h
   pub after : set.contents mid ≡ set.contents (set.with_record old n (record { handle = h; row = row }))
   pub same : IsOfSame old mid
 
-pub changed_set : {E R : Type 0} {has_key : E → ℕ → Bool} {order : E → ℕ → R → R → Ordering} {hash : E → ℕ → R → ℕ} (old mid : IndexSet (Entry R) (ByRow E)) (slots : List (Option Node)) (n : Node) (e : Entry R) (row : R) →
-    IsLinked has_key order hash old slots → HoldIt (lists_of old) n → set.record_of old n ≡ Some e → set.contents mid ≡ set.contents (set.with_record old n (record { handle = e.handle; row = row })) → IsOfSame (set.with_record old n (record { handle = e.handle; row = row })) mid → IsChanged has_key order hash old mid slots n e.handle row
+pub changed_set : {E R : Type 0} {has_key : E → ℕ → Bool} {order : E → ℕ → R → R → Ordering} {marks : E → ℕ → R → Marks} (old mid : IndexSet (Entry R) (ByRow E)) (slots : List (Option Node)) (n : Node) (e : Entry R) (row : R) →
+    IsLinked has_key order marks old slots → HoldIt (lists_of old) n → set.record_of old n ≡ Some e → set.contents mid ≡ set.contents (set.with_record old n (record { handle = e.handle; row = row })) → IsOfSame (set.with_record old n (record { handle = e.handle; row = row })) mid → IsChanged has_key order marks old mid slots n e.handle row
 changed_set old mid slots n e row linked held has after same = record { linked = linked; held = held; is = node_of_all old n linked.sound held; own = handle_of-is (set.record_of old) n e has; after = after; same = record { keys = same.keys; specs = same.specs; columns = same.columns } }
 
-module _ {E R : Type 0} {has_key : E → ℕ → Bool} {order : E → ℕ → R → R → Ordering} {hash : E → ℕ → R → ℕ} {old mid : IndexSet (Entry R) (ByRow E)} {slots : List (Option Node)} {n : Node} {h : Handle} {row : R} (w : IsChanged has_key order hash old mid slots n h row) where
+module _ {E R : Type 0} {has_key : E → ℕ → Bool} {order : E → ℕ → R → R → Ordering} {marks : E → ℕ → R → Marks} {old mid : IndexSet (Entry R) (ByRow E)} {slots : List (Option Node)} {n : Node} {h : Handle} {row : R} (w : IsChanged has_key order marks old mid slots n h row) where
   abbrev entry : Entry R
   entry = record { handle = h; row = row }
 
@@ -93,7 +94,7 @@ module _ {E R : Type 0} {has_key : E → ℕ → Bool} {order : E → ℕ → R 
   record_changed = its_record (store_of old) (store_of mid) n h row slots w.linked.sound.nodes w.linked.leads w.linked.apart w.is w.own w.after
 
   -- a set that is sound again is linked as before
-  pub IsLinked_changed : IsSound (has_by_row has_key) mid → IsKeyed (order_by_row order) (hash_by_row hash) mid → IsUniqueExcept (order_by_row order) mid None → IsLinked has_key order hash mid slots
+  pub IsLinked_changed : IsSound (has_by_row has_key) mid → IsKeyed (order_by_row order) (marks_by_row marks) mid → IsUniqueExcept (order_by_row order) mid None → IsLinked has_key order marks mid slots
   IsLinked_changed sound keyed unique = record {
     sound = sound;
     keyed = keyed;
@@ -165,7 +166,7 @@ module _ {E R : Type 0} {has_key : E → ℕ → Bool} {order : E → ℕ → R 
     pub seen_taken : (max writes : ℕ) → seen new max (writes + 1) ≡ with_erased (seen old max writes) h
     seen_taken max writes = seen_only old new (λ g. not (is_handle h g)) max writes (record { keys = kept.keys ∙ w.same.keys; specs = kept.specs ∙ w.same.specs; columns = kept.columns ∙ w.same.columns }) entries_taken lists_taken
 
-    pub IsLinked_taken : IsSound (has_by_row has_key) new → IsKeyed (order_by_row order) (hash_by_row hash) new → IsUniqueExcept (order_by_row order) mid None → IsLinked has_key order hash new (with_item slots h.slot None)
+    pub IsLinked_taken : IsSound (has_by_row has_key) new → IsKeyed (order_by_row order) (marks_by_row marks) new → IsUniqueExcept (order_by_row order) mid None → IsLinked has_key order marks new (with_item slots h.slot None)
     IsLinked_taken sound_new keyed unique = record {
       sound = sound_new;
       keyed = keyed;

@@ -1,4 +1,5 @@
 -- A set but for the record of one node, if one is excepted.
+use Rattle.key_extract.specs.Digests.{Marks}
 use Rattle.std.proofs.Common.{ℕ, Bool, not, List, Option, Some, None, refl, ap, ◌∙◌}
 use Rattle.std.specs.List.{AllByRecursion}
 use Rattle.std.specs.declared.cmp.Ordering.{Ordering}
@@ -30,9 +31,9 @@ module _ {R : Type 0} (s : Store (Entry R)) (slots : List (Option Node)) (leads 
 
 module _ {R E : Type 0} (order : E → ℕ → R → R → Ordering) (s : IndexSet R E) where
   -- what is keyed is so but for any node
-  pub keyed_except : (hash : E → ℕ → R → ℕ) (except : Option Node) → IsKeyed order hash s → IsKeyedExcept order hash s except
-  keyed_except hash None h = except_none order hash s h
-  keyed_except hash (Some n) h = except_some order hash s n (but_from order hash s n h)
+  pub keyed_except : (marks : E → ℕ → R → Marks) (except : Option Node) → IsKeyed order marks s → IsKeyedExcept order marks s except
+  keyed_except marks None h = except_none order marks s h
+  keyed_except marks (Some n) h = except_some order marks s n (but_from order marks s n h)
 
   -- what is unique too
   pub unique_but : {has_key : E → ℕ → Bool} (except : Option Node) → IsSound has_key s → IsUniqueExcept order s None → IsUniqueExcept order s except

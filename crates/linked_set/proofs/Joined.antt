@@ -1,4 +1,5 @@
 -- What becomes of a container's nodes, lists and slots when a node joins the store and then each list.
+use Rattle.key_extract.specs.Digests.{Marks}
 use Rattle.std.proofs.Common.{◌≡◌, ℕ, ◌+◌, ◌<◌, ◌==◌, Bool, false, List, [], ◌∷◌, ◌++◌, Option, Some, None, refl, sym, ap, ◌∙◌, subst, arith}
 use Rattle.std.specs.Prelude.{IsTrue, option_map}
 use Rattle.std.specs.List.{AllByRecursion}
@@ -26,7 +27,7 @@ use Rattle.index_set.proofs.Keys.{unique_kept}
 use Rattle.index_set.proofs.StaysUnique.{unique_after_enter}
 use Rattle.index_set.specs.Each.{changed_from}
 use Rattle.index_set.specs.Lists.{entered_at, ban_from}
-use Rattle.linked_set.specs.ByRow.{has_by_row, order_by_row, hash_by_row}
+use Rattle.linked_set.specs.ByRow.{has_by_row, order_by_row, marks_by_row}
 use Rattle.linked_set.specs.declared.by_row.ByRow.{ByRow}
 use Rattle.linked_set.specs.Seen.{IsLinked}
 use Rattle.linked_set.specs.Linked.{handle_of, entries_in, handles_in, IsKnown}
@@ -83,10 +84,10 @@ module _ {R : Type 0} (order : ℕ → R → R → Ordering) (specs : List Spec)
   pub allowed_joined : ban_of_handles order (entries_in (contents s)) (handles_in (record_of s) lists) None e.row 0 specs ≡ None → ban_from by_rows (record_of s) lists None e 0 specs ≡ None
   allowed_joined allowed = none_before (λ at. (at.0, handle_of (record_of s) at.1)) _ (sym (ban_known order (record_of s) (entries_in (contents s)) lists None known_before (told_none (record_of s) lists) e 0 specs) ∙ allowed)
 
-module _ {E R : Type 0} (has_key : E → ℕ → Bool) (order : E → ℕ → R → R → Ordering) (hash : E → ℕ → R → ℕ) where
+module _ {E R : Type 0} (has_key : E → ℕ → Bool) (order : E → ℕ → R → R → Ordering) (marks : E → ℕ → R → Marks) where
   -- a set with the same nodes and lists is linked as the old one is
   pub IsLinked_kept : (old new : IndexSet (Entry R) (ByRow E)) (slots : List (Option Node)) → IsOfSame old new → set.contents new ≡ set.contents old → lists_of new ≡ lists_of old → IsSound (has_by_row has_key) new →
-      IsKeyed (order_by_row order) (hash_by_row hash) new → IsLinked has_key order hash old slots → IsLinked has_key order hash new slots
+      IsKeyed (order_by_row order) (marks_by_row marks) new → IsLinked has_key order marks old slots → IsLinked has_key order marks new slots
   IsLinked_kept old new slots same contents lists sound keyed linked = record {
     sound = sound;
     keyed = keyed;
@@ -96,7 +97,7 @@ module _ {E R : Type 0} (has_key : E → ℕ → Bool) (order : E → ℕ → R 
   }
 
   -- a set whose store a node has joined, and then each list
-  module _ (total : (keys : E) (i : ℕ) → IsTrue (has_key keys i) → IsTotalOrder (order keys i)) (old mid new : IndexSet (Entry R) (ByRow E)) (slots : List (Option Node)) (at : At) (n : Node) (e : Entry R) (linked : IsLinked has_key order hash old slots)
+  module _ (total : (keys : E) (i : ℕ) → IsTrue (has_key keys i) → IsTotalOrder (order keys i)) (old mid new : IndexSet (Entry R) (ByRow E)) (slots : List (Option Node)) (at : At) (n : Node) (e : Entry R) (linked : IsLinked has_key order marks old slots)
       (same : IsOfSame old mid) (before : lists_of mid ≡ lists_of old) (adds : AddsNode (store_of old) (store_of mid) n e) (number : number_of n ≡ (store_of old).added) (count : (store_of mid).added ≡ (store_of old).added + 1)
       (kept : IsOfSame mid new) (entered : lists_of new ≡ changed_from (entered_at (order_by_row order (keys_of mid)) (set.record_of mid) at n) 0 (specs_of mid) (lists_of mid)) (after : set.contents new ≡ set.contents mid)
       (slot : e.handle.slot ≡ first_free slots) where
@@ -114,9 +115,9 @@ module _ {E R : Type 0} (has_key : E → ℕ → Bool) (order : E → ℕ → R 
         ∙ lists_joined (order (keys_of old).keys) (specs_of old) at (store_of old) (store_of mid) (store_of new) (lists_of old) n e slots linked.sound.nodes linked.apart linked.leads
         (nodes_held old linked.sound) (older old linked.sound) adds number count after slot
 
-    pub IsLinked_grown : LackIt (lists_of mid) n → IsSound (has_by_row has_key) new → IsKeyed (order_by_row order) (hash_by_row hash) new →
+    pub IsLinked_grown : LackIt (lists_of mid) n → IsSound (has_by_row has_key) new → IsKeyed (order_by_row order) (marks_by_row marks) new →
         ban_of_handles (order (keys_of old).keys) (entries_in (set.contents old)) (handles_in (set.record_of old) (lists_of old)) None e.row 0 (specs_of old) ≡ None →
-        IsLinked has_key order hash new (with_item slots (first_free slots) (Some n))
+        IsLinked has_key order marks new (with_item slots (first_free slots) (Some n))
     IsLinked_grown loose sound keyed allowed = record {
       sound = sound;
       keyed = keyed;

@@ -1,4 +1,5 @@
 -- What becomes of a container's nodes, lists and slots when a node leaves each list and then the store.
+use Rattle.key_extract.specs.Digests.{Marks}
 use Rattle.std.proofs.Common.{◌≡◌, ◌≢◌, ℕ, Bool, true, cond, not, List, [], ◌∷◌, ◌++◌, map, Option, Some, None, refl, sym, ap, ◌∙◌, subst, ⊎_elim, ne_eqb, eq-eqb}
 use Rattle.std.specs.Prelude.{filter}
 use Rattle.std.specs.List.{AllByRecursion, filter_map}
@@ -31,7 +32,7 @@ use Rattle.index_set.specs.Indices.{HoldIt, LackIt}
 use Rattle.index_set.proofs.Members.{nodes_held}
 use Rattle.index_set.proofs.Keys.{but_from, lacks_left}
 use Rattle.index_set.proofs.StaysUnique.{unique_except, unique_after_leave, unique_after_remove}
-use Rattle.linked_set.specs.ByRow.{has_by_row, order_by_row, hash_by_row}
+use Rattle.linked_set.specs.ByRow.{has_by_row, order_by_row, marks_by_row}
 use Rattle.linked_set.specs.declared.by_row.ByRow.{ByRow}
 use Rattle.linked_set.specs.Held.{AreHeld}
 use Rattle.linked_set.specs.LeadsTo.{LeadsTo}
@@ -123,9 +124,9 @@ module _ {R : Type 0} (s t : Store (Entry R)) (slots : List (Option Node)) (stor
           (others_removed s t n is removes m apart p.0, ap (λ (h : Handle). h.slot) (handle_stays m apart) ∙ p.1))
           (cases_eq k its.slot)
 
-module _ {E R : Type 0} (has_key : E → ℕ → Bool) (order : E → ℕ → R → R → Ordering) (hash : E → ℕ → R → ℕ) where
+module _ {E R : Type 0} (has_key : E → ℕ → Bool) (order : E → ℕ → R → R → Ordering) (marks : E → ℕ → R → Marks) where
   -- a set from whose lists a node was taken, and then its record from the store
-  module _ (old mid new : IndexSet (Entry R) (ByRow E)) (slots : List (Option Node)) (linked : IsLinked has_key order hash old slots) (n : Node) (is : IsNodeOf (store_of old) n) (e : Entry R) (has : set.record_of mid n ≡ Some e)
+  module _ (old mid new : IndexSet (Entry R) (ByRow E)) (slots : List (Option Node)) (linked : IsLinked has_key order marks old slots) (n : Node) (is : IsNodeOf (store_of old) n) (e : Entry R) (has : set.record_of mid n ≡ Some e)
       (same : IsOfSame old mid) (taken : lists_of mid ≡ map (without (same_node n)) (lists_of old)) (after : set.contents mid ≡ set.contents old) (sound : IsSound (has_by_row has_key) mid)
       (kept : IsOfSame mid new) (listed : lists_of new ≡ lists_of mid) (removes : RemovesNode (store_of mid) (store_of new) n) (count : (store_of new).added ≡ (store_of mid).added) where
     leads_mid : LeadsTo (store_of mid) slots
@@ -165,10 +166,10 @@ module _ {E R : Type 0} (has_key : E → ℕ → Bool) (order : E → ℕ → R 
           subst (λ lists. HoldIt lists m) (sym (listed ∙ taken)) (held_by_each n m was.0 (lists_of old) (held.each m (IsNodeOf_kept (store_of mid) (store_of old) m (sym after) was.1)));
     }
 
-    pub IsLinked_shrunk : IsSound (has_by_row has_key) new → (IsKeyedBut (order_by_row order) (hash_by_row hash) old n → IsKeyed (order_by_row order) (hash_by_row hash) mid) → (IsKeyed (order_by_row order) (hash_by_row hash) mid → IsKeyed (order_by_row order) (hash_by_row hash) new) → IsLinked has_key order hash new (with_item slots e.handle.slot None)
+    pub IsLinked_shrunk : IsSound (has_by_row has_key) new → (IsKeyedBut (order_by_row order) (marks_by_row marks) old n → IsKeyed (order_by_row order) (marks_by_row marks) mid) → (IsKeyed (order_by_row order) (marks_by_row marks) mid → IsKeyed (order_by_row order) (marks_by_row marks) new) → IsLinked has_key order marks new (with_item slots e.handle.slot None)
     IsLinked_shrunk sound_new keyed_taken keyed_removed = record {
       sound = sound_new;
-      keyed = keyed_removed (keyed_taken (but_from (order_by_row order) (hash_by_row hash) old n linked.keyed));
+      keyed = keyed_removed (keyed_taken (but_from (order_by_row order) (marks_by_row marks) old n linked.keyed));
       unique =
           unique_after_remove (order_by_row order) mid new sound kept n listed removes (subst (λ lists. LackIt lists n) (sym taken) (lacks_left (lists_of old) n))
           (unique_after_leave (order_by_row order) old mid linked.sound same n taken after (unique_except (order_by_row order) old linked.sound n linked.unique));

@@ -1,4 +1,5 @@
 -- What the calls at one index of a container read.
+use Rattle.key_extract.specs.Digests.{Marks}
 use Rattle.std.proofs.Common.{◌≡◌, ℕ, ◌<◌, Bool, true, cond, List, [], length, map, Option, Ok, Err, sym, ap, ◌∙◌, arith}
 use Rattle.std.specs.Prelude.{option_map}
 use Rattle.std.specs.List.{AllByRecursion}
@@ -22,7 +23,7 @@ use Rattle.linked_set.specs.Seen.{seen, IsLinked}
 use Rattle.linked_set.proofs.Contents.{known}
 use Rattle.linked_set.proofs.Sides.{found_known, counted_known}
 
-module _ {E R : Type 0} {has_key : E → ℕ → Bool} {order : E → ℕ → R → R → Ordering} {hash : E → ℕ → R → ℕ} (set : IndexSet (Entry R) (ByRow E)) (slots : List (Option Node)) (linked : IsLinked has_key order hash set slots) where
+module _ {E R : Type 0} {has_key : E → ℕ → Bool} {order : E → ℕ → R → R → Ordering} {marks : E → ℕ → R → Marks} (set : IndexSet (Entry R) (ByRow E)) (slots : List (Option Node)) (linked : IsLinked has_key order marks set slots) where
   -- the record of each node of each index is found by its handle
   pub known_all : AllByRecursion (AllByRecursion (IsKnown (record_of set) (entries_in (contents set)))) (lists_of set)
   known_all = All-map _ _ (λ xs are. All-map _ _ (λ n is. known (store_of set) n linked.sound.nodes linked.apart is) xs are) (lists_of set) (nodes_held set linked.sound)

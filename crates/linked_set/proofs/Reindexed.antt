@@ -1,4 +1,5 @@
 -- A set with an index more or less, and what that makes of a container.
+use Rattle.key_extract.specs.Digests.{Marks}
 use Rattle.std.proofs.Common.{◌≡◌, ℕ, zero, suc, ◌+◌, Bool, List, [], ◌∷◌, ◌++◌, length, map, Option, Some, None, refl, sym, ap, ◌∙◌, subst, inl, inr}
 use Rattle.std.specs.Prelude.{option_map, remove}
 use Rattle.std.specs.List.{AllByRecursion}
@@ -20,7 +21,7 @@ use Rattle.index_set.specs.declared.build.NoIndex.TheVariants.{Columns, Clash, M
 use Rattle.index_set.specs.declared.set.IndexSet.{IndexSet}
 use Rattle.index_set.specs.Set.{store_of, keys_of, specs_of, columns_of, contents, record_of, lists_of, IsSound, IsKeyed, IsUniqueExcept, IsOfSame}
 use Rattle.linked_set.specs.declared.by_row.ByRow.{ByRow}
-use Rattle.linked_set.specs.ByRow.{has_by_row, order_by_row, hash_by_row}
+use Rattle.linked_set.specs.ByRow.{has_by_row, order_by_row, marks_by_row}
 use Rattle.linked_set.specs.Linked.{handle_of, nodes_in, entries_in, handles_in, IsKnown}
 use Rattle.linked_set.specs.Refusal.{HasItsNodes, IsRefusal, by_handles}
 use Rattle.linked_set.specs.Seen.{seen, IsLinked}
@@ -37,14 +38,14 @@ map-remove f [] (suc i) = refl
 map-remove f (x ∷ xs) zero = refl
 map-remove f (x ∷ xs) (suc i) = ap (λ l. f x ∷ l) (map-remove f xs i)
 
-module _ {E R : Type 0} {has_key : E → ℕ → Bool} {order : E → ℕ → R → R → Ordering} {hash : E → ℕ → R → ℕ} (old : IndexSet (Entry R) (ByRow E)) (slots : List (Option Node)) (linked : IsLinked has_key order hash old slots) where
+module _ {E R : Type 0} {has_key : E → ℕ → Bool} {order : E → ℕ → R → R → Ordering} {marks : E → ℕ → R → Marks} (old : IndexSet (Entry R) (ByRow E)) (slots : List (Option Node)) (linked : IsLinked has_key order marks old slots) where
   -- the records of the nodes are found by their handles
   pub known_by_age : AllByRecursion (IsKnown (record_of old) (entries_in (contents old))) (nodes_in (contents old))
   known_by_age = All-map _ _ (λ n is. known (store_of old) n linked.sound.nodes linked.apart is) (nodes_in (contents old)) (nodes_held (store_of old) linked.sound.nodes)
 
   -- a set with the same records is linked
-  pub IsLinked_reindexed : (new : IndexSet (Entry R) (ByRow E)) → contents new ≡ contents old → IsSound (has_by_row has_key) new → IsKeyed (order_by_row order) (hash_by_row hash) new → IsUniqueExcept (order_by_row order) new None →
-      IsLinked has_key order hash new slots
+  pub IsLinked_reindexed : (new : IndexSet (Entry R) (ByRow E)) → contents new ≡ contents old → IsSound (has_by_row has_key) new → IsKeyed (order_by_row order) (marks_by_row marks) new → IsUniqueExcept (order_by_row order) new None →
+      IsLinked has_key order marks new slots
   IsLinked_reindexed new kept sound keyed unique = record {
     sound = sound;
     keyed = keyed;

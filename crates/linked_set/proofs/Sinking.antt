@@ -1,4 +1,5 @@
 -- What a container is once the records of a key have gone behind all others in one index.
+use Rattle.key_extract.specs.Digests.{Marks}
 use Rattle.std.proofs.Common.{◌≡◌, ℕ, ◌+◌, ◌<◌, Bool, true, false, cond, not, List, [], ◌∷◌, ◌++◌, length, map, zero, suc, get_or, set, Option, Some, None, refl, sym, ap, ◌∙◌, subst, arith}
 use Rattle.std.specs.Prelude.{count_by, filter, IfSome, IsTrue}
 use Rattle.std.specs.List.{AllByRecursion}
@@ -37,7 +38,7 @@ use Rattle.index_set.specs.Set.{store_of, keys_of, specs_of, contents, record_of
 use Rattle.index_set.proofs.Members.{nodes_held_at, one_list_each}
 use Rattle.index_set.proofs.Sinking.{sunk_alike}
 use Rattle.index_set.proofs.StaysUnique.{unique_after_move}
-use Rattle.linked_set.specs.ByRow.{has_by_row, order_by_row, hash_by_row, probe_by_row}
+use Rattle.linked_set.specs.ByRow.{has_by_row, order_by_row, marks_by_row, probe_by_row}
 use Rattle.linked_set.specs.declared.by_row.ByRow.{ByRow}
 use Rattle.linked_set.specs.Held.{AreHeld, has_other_key}
 use Rattle.linked_set.specs.Linked.{handle_of, entries_in, handles_in}
@@ -95,8 +96,8 @@ pub kind_said : {R E : Type 0} (s : IndexSet R E) (k : ℕ) (d : Spec) (specs : 
 kind_said s k d specs kind same lt is =
     ap (λ (o : Option Spec). option_map_or (λ (spec : Spec). spec.kind) o Sequenced) (slice_get_at (specs_of s) k d lt) ∙ (ap (λ (l : List Spec). (get_or l k d).kind) (sym same) ∙ is)
 
-module _ {E R P : Type 0} {has_key : E → ℕ → Bool} {order : E → ℕ → R → R → Ordering} {hash : E → ℕ → R → ℕ} (probe_order : E → ℕ → R → P → Ordering) (index : ℕ) (probe : P) (old now new : IndexSet (Entry R) (ByRow E)) (slots : List (Option Node))
-    (was : Thinned has_key order hash (has_other_key probe_order old index probe) old now slots) (within : index < length (specs_of old)) where
+module _ {E R P : Type 0} {has_key : E → ℕ → Bool} {order : E → ℕ → R → R → Ordering} {marks : E → ℕ → R → Marks} (probe_order : E → ℕ → R → P → Ordering) (index : ℕ) (probe : P) (old now new : IndexSet (Entry R) (ByRow E)) (slots : List (Option Node))
+    (was : Thinned has_key order marks (has_other_key probe_order old index probe) old now slots) (within : index < length (specs_of old)) where
   abbrev keep : Handle → Bool
   keep = has_other_key probe_order old index probe
 
@@ -105,7 +106,7 @@ module _ {E R P : Type 0} {has_key : E → ℕ → Bool} {order : E → ℕ → 
 
   module _ (row : ℕ) (lt : row < length (specs_of now)) (kind : kind_at now row ≡ Random) (sound : IsSound (has_by_row has_key) new) (same : IsOfSame now new)
       (lists : lists_of new ≡ set (lists_of now) row (list_of new row)) (sunk : IsSunk (is_match (set.probe_side (probe_by_row probe_order) now index probe) (list_of now index)) (list_of now row) (list_of new row))
-      (keyed : IsKeyed (order_by_row order) (hash_by_row hash) new) (kept : contents new ≡ contents now) where
+      (keyed : IsKeyed (order_by_row order) (marks_by_row marks) new) (kept : contents new ≡ contents now) where
     still : (n : Node) → IsNodeOf (store_of new) n → IsNodeOf (store_of now) n
     still n is = IsNodeOf_kept (store_of new) (store_of now) n (sym kept) is
 
@@ -128,7 +129,7 @@ module _ {E R P : Type 0} {has_key : E → ℕ → Bool} {order : E → ℕ → 
         ∙ sym (filter_mapped (handle_of (record_of now)) keep (λ n. not (has n)) (list_of now row)
         (All-map _ _ (λ n is. other_key probe_order index probe old now slots was within n is) (list_of now row) (nodes_held_at now was.linked.sound row lt))))
 
-    pub one_sunk : Thinned has_key order hash keep old new slots
+    pub one_sunk : Thinned has_key order marks keep old new slots
     one_sunk = record {
       linked = record {
         sound = sound;

@@ -1,4 +1,5 @@
 -- What is left of a container while the records that have a key are taken out one by one.
+use Rattle.key_extract.specs.Digests.{Marks}
 use Rattle.std.proofs.Common.{◌≡◌, ℕ, ◌+◌, ◌<◌, ◌≤◌, Bool, true, false, cond, not, List, [], ◌∷◌, length, map, Option, Some, None, refl, sym, ap, ◌∙◌, subst, arith}
 use Rattle.std.specs.Prelude.{count_by, filter, slice_get}
 use Rattle.std.specs.List.{AllByRecursion}
@@ -105,8 +106,8 @@ pub kind_kept : {R E : Type 0} (old now : IndexSet R E) (index : ℕ) → IsOfSa
 kind_kept old now index same = ap (λ (specs : List Spec). option_map_or (λ (spec : Spec). spec.kind) (slice_get specs index) Sequenced) same.specs
 
 -- records whose handles do not pass were taken out, and the others stand as they stood
-pub record Thinned {E R : Type 0} (has_key : E → ℕ → Bool) (order : E → ℕ → R → R → Ordering) (hash : E → ℕ → R → ℕ) (keep : Handle → Bool) (old now : IndexSet (Entry R) (ByRow E)) (slots : List (Option Node)) : Type 0 where
-  pub linked : IsLinked has_key order hash now slots
+pub record Thinned {E R : Type 0} (has_key : E → ℕ → Bool) (order : E → ℕ → R → R → Ordering) (marks : E → ℕ → R → Marks) (keep : Handle → Bool) (old now : IndexSet (Entry R) (ByRow E)) (slots : List (Option Node)) : Type 0 where
+  pub linked : IsLinked has_key order marks now slots
   pub held : AreHeld now
   pub same : IsOfSame old now
   pub entries : filter (λ e. keep e.handle) (entries_in (contents now)) ≡ filter (λ e. keep e.handle) (entries_in (contents old))
@@ -119,8 +120,8 @@ pub record Thinned {E R : Type 0} (has_key : E → ℕ → Bool) (order : E → 
 passes : (keep : Handle → Bool) (h : Handle) → keep h ≡ false → (g : Handle) → keep g ≡ true → not (is_handle h g) ≡ true
 passes keep h stopped g kept = ap not (false_from_ne_true _ (λ same. let bad = sym stopped ∙ (ap keep (is_handle_same h g same) ∙ kept) in cc))
 
-module _ {E R : Type 0} {has_key : E → ℕ → Bool} {order : E → ℕ → R → R → Ordering} {hash : E → ℕ → R → ℕ} (keep : Handle → Bool) (old : IndexSet (Entry R) (ByRow E)) where
-  pub none_thinned : (slots : List (Option Node)) → IsLinked has_key order hash old slots → AreHeld old → Thinned has_key order hash keep old old slots
+module _ {E R : Type 0} {has_key : E → ℕ → Bool} {order : E → ℕ → R → R → Ordering} {marks : E → ℕ → R → Marks} (keep : Handle → Bool) (old : IndexSet (Entry R) (ByRow E)) where
+  pub none_thinned : (slots : List (Option Node)) → IsLinked has_key order marks old slots → AreHeld old → Thinned has_key order marks keep old old slots
   none_thinned slots linked held = record {
     linked = linked;
     held = held;
@@ -133,10 +134,10 @@ module _ {E R : Type 0} {has_key : E → ℕ → Bool} {order : E → ℕ → R 
   }
 
   -- one more is taken out
-  pub one_thinned : (now new : IndexSet (Entry R) (ByRow E)) (slots more : List (Option Node)) → Thinned has_key order hash keep old now slots → (h : Handle) → keep h ≡ false →
-      IsLinked has_key order hash new more → AreHeld new → IsOfSame now new → entries_in (contents new) ≡ filter (λ e. not (is_handle h e.handle)) (entries_in (contents now)) →
+  pub one_thinned : (now new : IndexSet (Entry R) (ByRow E)) (slots more : List (Option Node)) → Thinned has_key order marks keep old now slots → (h : Handle) → keep h ≡ false →
+      IsLinked has_key order marks new more → AreHeld new → IsOfSame now new → entries_in (contents new) ≡ filter (λ e. not (is_handle h e.handle)) (entries_in (contents now)) →
       handles_in (record_of new) (lists_of new) ≡ map (λ list. filter (λ g. not (is_handle h g)) list) (handles_in (record_of now) (lists_of now)) → (store_of new).added ≡ (store_of now).added →
-      len_of (store_of new) + 1 ≡ len_of (store_of now) → Thinned has_key order hash keep old new more
+      len_of (store_of new) + 1 ≡ len_of (store_of now) → Thinned has_key order marks keep old new more
   one_thinned now new slots more was h stopped linked held same entries lists added len = record {
     linked = linked;
     held = held;
@@ -153,7 +154,7 @@ module _ {E R : Type 0} {has_key : E → ℕ → Bool} {order : E → ℕ → R 
   }
 
   -- once all pass
-  module _ (now : IndexSet (Entry R) (ByRow E)) (slots : List (Option Node)) (was : Thinned has_key order hash keep old now slots) (all : (n : Node) → IsNodeOf (store_of now) n → keep (handle_of (record_of now) n) ≡ true) where
+  module _ (now : IndexSet (Entry R) (ByRow E)) (slots : List (Option Node)) (was : Thinned has_key order marks keep old now slots) (all : (n : Node) → IsNodeOf (store_of now) n → keep (handle_of (record_of now) n) ≡ true) where
     pub entries_thinned : entries_in (contents now) ≡ filter (λ e. keep e.handle) (entries_in (contents old))
     entries_thinned =
         sym (filter_all (λ e. keep e.handle) (entries_in (contents now))
@@ -168,8 +169,8 @@ module _ {E R : Type 0} {has_key : E → ℕ → Bool} {order : E → ℕ → R 
 
 -- ---- while those of a key are
 
-module _ {E R P : Type 0} {has_key : E → ℕ → Bool} {order : E → ℕ → R → R → Ordering} {hash : E → ℕ → R → ℕ} (probe_order : E → ℕ → R → P → Ordering) (index : ℕ) (probe : P) (old now : IndexSet (Entry R) (ByRow E)) (slots : List (Option Node))
-    (was : Thinned has_key order hash (has_other_key probe_order old index probe) old now slots) (within : index < length (specs_of old)) where
+module _ {E R P : Type 0} {has_key : E → ℕ → Bool} {order : E → ℕ → R → R → Ordering} {marks : E → ℕ → R → Marks} (probe_order : E → ℕ → R → P → Ordering) (index : ℕ) (probe : P) (old now : IndexSet (Entry R) (ByRow E)) (slots : List (Option Node))
+    (was : Thinned has_key order marks (has_other_key probe_order old index probe) old now slots) (within : index < length (specs_of old)) where
   abbrev side : Node → Ordering
   side = set.probe_side (probe_by_row probe_order) now index probe
 

@@ -1,4 +1,5 @@
 -- What becomes of a container when the row of one record was changed in place, and the change was undone.
+use Rattle.key_extract.specs.Digests.{Marks}
 use Rattle.std.proofs.Common.{◌≡◌, ℕ, ◌-◌, ◌^◌, ◌==◌, Bool, cond, List, Option, Some, None, refl, ap, ◌∙◌}
 use Rattle.std.specs.Prelude.{option_map}
 use Rattle.std.specs.Option.{option_map_or}
@@ -40,14 +41,14 @@ none_bans f None rest e = refl
 none_bans f (Some at) rest e = absurd (cc)
 
 -- a set in which the record of a node was written, and then written again
-pub undone_set : {E R : Type 0} {has_key : E → ℕ → Bool} {order : E → ℕ → R → R → Ordering} {hash : E → ℕ → R → ℕ} (old mid : IndexSet (Entry R) (ByRow E)) (slots : List (Option Node)) (n : Node) (e changed undone : Entry R) →
-    IsLinked has_key order hash old slots → HoldIt (lists_of old) n → set.record_of old n ≡ Some e → undone.handle ≡ e.handle → mid ≡ set.with_record (set.with_record old n changed) n undone → IsChanged has_key order hash old mid slots n e.handle undone.row
+pub undone_set : {E R : Type 0} {has_key : E → ℕ → Bool} {order : E → ℕ → R → R → Ordering} {marks : E → ℕ → R → Marks} (old mid : IndexSet (Entry R) (ByRow E)) (slots : List (Option Node)) (n : Node) (e changed undone : Entry R) →
+    IsLinked has_key order marks old slots → HoldIt (lists_of old) n → set.record_of old n ≡ Some e → undone.handle ≡ e.handle → mid ≡ set.with_record (set.with_record old n changed) n undone → IsChanged has_key order marks old mid slots n e.handle undone.row
 undone_set old mid slots n e changed undone linked held has same is =
     changed_set old mid slots n e undone.row linked held has
     (ap (λ (s : IndexSet (Entry _) (ByRow _)). set.contents s) (is ∙ undone_is old n changed undone) ∙ ap (λ g. set.contents (set.with_record old n (record { handle = g; row = undone.row }))) same)
     (record { keys = ap (λ (s : IndexSet (Entry _) (ByRow _)). s.keys) is; specs = ap (λ (s : IndexSet (Entry _) (ByRow _)). s.specs.items) is; columns = ap (λ (s : IndexSet (Entry _) (ByRow _)). s.columns) is })
 
-module _ {E R : Type 0} {has_key : E → ℕ → Bool} {order : E → ℕ → R → R → Ordering} {hash : E → ℕ → R → ℕ} {old mid : IndexSet (Entry R) (ByRow E)} {slots : List (Option Node)} {n : Node} {h : Handle} {row : R} (w : IsChanged has_key order hash old mid slots n h row) where
+module _ {E R : Type 0} {has_key : E → ℕ → Bool} {order : E → ℕ → R → R → Ordering} {marks : E → ℕ → R → Marks} {old mid : IndexSet (Entry R) (ByRow E)} {slots : List (Option Node)} {n : Node} {h : Handle} {row : R} (w : IsChanged has_key order marks old mid slots n h row) where
   abbrev entry : Entry R
   entry = record { handle = h; row = row }
 

@@ -1,4 +1,5 @@
 -- What the calls on linked sets ask for.
+use Rattle.any_index.specs.Keyed.{marks_of}
 use Rattle.std.specs.Prelude.{ℕ, ◌<◌, List, [], ◌∷◌, ◌++◌, length, remove, Option, IsTrue}
 use Rattle.node_store.specs.declared.Node.{Node}
 use Rattle.container_model.specs.declared.handle.Entry.{Entry}
@@ -15,7 +16,7 @@ use Rattle.linked_set.specs.Seen.{IsLinked}
 -- the records of a key can be taken out: each index has each node, and the probe is a key of the index, a whole one
 -- where the index is hashed
 pub record CanTakeKey {E R P : Type 0} (X : Ghosts E R P) (set : IndexSet (Entry R) (ByRow E)) (slots : List (Option Node)) (k : ℕ) (probe : P) : Type 0 where
-  pub linked : IsLinked X.has_key X.order_of X.hash_of set slots
+  pub linked : IsLinked X.has_key X.order_of (marks_of X) set slots
   pub held : AreHeld set
   pub index : k < length (specs_of set)
   pub kind : IsTrue (has_key_kind (kind_at set k))
@@ -25,7 +26,7 @@ pub record CanTakeKey {E R P : Type 0} (X : Ghosts E R P) (set : IndexSet (Entry
 module _ {E R P : Type 0} (X : Ghosts E R P) (set : IndexSet (Entry R) (ByRow E)) (slots : List (Option Node)) where
   -- an index may be added: there may be one more, and the keys are those of the set and one more
   pub record CanAddIndex (spec : Spec) (given : E) : Type 0 where
-    pub linked : IsLinked X.has_key X.order_of X.hash_of set slots
+    pub linked : IsLinked X.has_key X.order_of (marks_of X) set slots
     pub room : length (specs_of set) < columns_of set
     pub keys : KeysMatch (X.has_key given) (specs_of set ++ spec ∷ [])
     pub orders : KeepsEach (X.order_of (keys_of set).keys) (X.order_of given) (specs_of set)
@@ -33,7 +34,7 @@ module _ {E R P : Type 0} (X : Ghosts E R P) (set : IndexSet (Entry R) (ByRow E)
 
   -- an index may be dropped: it is one of several, and the keys are those of the others
   pub record CanDropIndex (gone : ℕ) (given : E) : Type 0 where
-    pub linked : IsLinked X.has_key X.order_of X.hash_of set slots
+    pub linked : IsLinked X.has_key X.order_of (marks_of X) set slots
     pub index : gone < length (specs_of set)
     pub several : 1 < length (specs_of set)
     pub keys : KeysMatch (X.has_key given) (remove (specs_of set) gone)

@@ -15,6 +15,7 @@ impl<R, E: Extract<R>> Extract<Entry<R>> for ByRow<E> {
     ghost use Rattle.std.proofs.lemmas.Cmp.{on_total};
     ghost use Rattle.key_extract.specs.Digests.{cuts_on};
     ghost use Rattle.container_model.specs.declared.handle.Entry.{Entry};
+    ghost use Rattle.linked_set.specs.ByRow.{unnamed};
 
     type Probe = E::Probe;
 
@@ -91,4 +92,6 @@ impl<R, E: Extract<R>> Extract<Entry<R>> for ByRow<E> {
     ghost digest_order = { λ by index has a b. E.digest_order by.keys index has a.row b.row };
 
     ghost probe_digest_order = { λ by index probe has fits. cuts_on (λ (e : Entry R). e.row) (E.probe_digest_order by.keys index probe has fits) };
+
+    ghost one_digest = { λ by other index at same. λ i a. E.one_digest by.keys other.keys index at (λ j r t. same j (unnamed r) (unnamed t)) i a.row };
 }

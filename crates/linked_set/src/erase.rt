@@ -1,4 +1,5 @@
 //! Taking records out.
+ghost use Rattle.any_index.specs.Keyed.{marks_of};
 ghost use Rattle.std.specs.Prelude.{◌≡◌, ◌+◌, ◌<◌, filter, length, map, not, option_and_then, option_map, Some, IsTrue, IfSome};
 ghost use Rattle.list_model.specs.Walk.{next as the_next};
 ghost use Rattle.node_store.specs.Store.{IsNodeOf, len_of};
@@ -44,10 +45,10 @@ pub fn take_out<R: Drop, E: Extract<R>>(
     slots: &mut SlotTable<Node>,
     node: Node,
 ) -> Entry<R>
-    requires linked { IsLinked E.has_key E.order_of E.hash_of set.old slots.old.items }
+    requires linked { IsLinked E.has_key E.order_of (marks_of E.Extract) set.old slots.old.items }
     requires held { AreHeld set.old }
     requires node { IsNodeOf (store_of set.old) node }
-    ensures linked { IsLinked E.has_key E.order_of E.hash_of set.new slots.new.items }
+    ensures linked { IsLinked E.has_key E.order_of (marks_of E.Extract) set.new slots.new.items }
     ensures held { AreHeld set.new }
     ensures same { IsOfSame set.old set.new }
     ensures record { record_of set.old node ≡ Some result }

@@ -1,4 +1,5 @@
 //! Taking out all records of a key.
+ghost use Rattle.any_index.specs.Keyed.{marks_of};
 ghost use Rattle.std.specs.Prelude.{◌≡◌, ◌+◌, ◌<◌, filter, length, map, None, Some, IfSome, IsTrue};
 ghost use Rattle.std.specs.declared.cmp.Ordering.TheVariants.{Equal};
 ghost use Rattle.list_model.specs.Place.{find_equal};
@@ -34,7 +35,7 @@ pub fn take_key<R: Drop, E: Extract<R>>(
     probe: &E::Probe,
 ) -> u64
     requires { CanTakeKey E.Extract set.old slots.old.items index probe.now }
-    ensures linked { IsLinked E.has_key E.order_of E.hash_of set.new slots.new.items }
+    ensures linked { IsLinked E.has_key E.order_of (marks_of E.Extract) set.new slots.new.items }
     ensures same { IsOfSame set.old set.new }
     ensures entries { entries_in (contents set.new) ≡
         filter (λ e. has_other_key E.probe_order_of set.old index probe.now e.handle)
@@ -59,7 +60,7 @@ fn take_each<R: Drop, E: Extract<R>>(
     probe: &E::Probe,
 ) -> u64
     requires { CanTakeKey E.Extract set.old slots.old.items index probe.now }
-    ensures linked { IsLinked E.has_key E.order_of E.hash_of set.new slots.new.items }
+    ensures linked { IsLinked E.has_key E.order_of (marks_of E.Extract) set.new slots.new.items }
     ensures same { IsOfSame set.old set.new }
     ensures entries { entries_in (contents set.new) ≡
         filter (λ e. has_other_key E.probe_order_of set.old index probe.now e.handle)
@@ -85,7 +86,7 @@ fn sink_key<R, E: Extract<R>>(
     probe: &E::Probe,
 )
     requires { CanTakeKey E.Extract set.old slots.now.items index probe.now }
-    ensures linked { IsLinked E.has_key E.order_of E.hash_of set.new slots.now.items }
+    ensures linked { IsLinked E.has_key E.order_of (marks_of E.Extract) set.new slots.now.items }
     ensures held { AreHeld set.new }
     ensures same { IsOfSame set.old set.new }
     ensures contents { contents set.new ≡ contents set.old }

@@ -1,4 +1,5 @@
 //! Indices added and dropped.
+ghost use Rattle.any_index.specs.Keyed.{marks_of};
 ghost use Rattle.std.specs.Prelude.{◌≡◌, ◌+◌, ℕ, None, Some, IfErr, OnErr, OnOk};
 ghost use Rattle.container_model.specs.Indices.{clash, with_index, without_index};
 ghost use Rattle.index_set.specs.Set.{store_of, record_of};
@@ -28,7 +29,7 @@ pub fn add_index<R, E: Extract<R> + Drop>(
     keys: E,
 ) -> Result<(), Refused<E>>
     requires { CanAddIndex E.Extract set.old slots.now.items spec keys }
-    ensures linked { IsLinked E.has_key E.order_of E.hash_of set.new slots.now.items }
+    ensures linked { IsLinked E.has_key E.order_of (marks_of E.Extract) set.new slots.now.items }
     ensures count { (store_of set.new).added ≡ (store_of set.old).added }
     ensures no_clash { OnOk result (clash E.order_of (seen set.old 0 0) spec keys ≡ None) }
     ensures ok { OnOk result ((max writes : ℕ) → seen set.new max (writes + 1) ≡
@@ -64,7 +65,7 @@ pub fn check_index<R, E: Extract<R> + Drop>(
     keys: &ByRow<E>,
 ) -> Result<(), Why>
     requires { CanAddIndex E.Extract set.old slots.now.items spec keys.now.keys }
-    ensures linked { IsLinked E.has_key E.order_of E.hash_of set.new slots.now.items }
+    ensures linked { IsLinked E.has_key E.order_of (marks_of E.Extract) set.new slots.now.items }
     ensures count { (store_of set.new).added ≡ (store_of set.old).added }
     ensures same { (max writes : ℕ) → seen set.new max writes ≡ seen set.old max writes }
     ensures no_clash { OnOk result (clash E.order_of (seen set.old 0 0) spec keys.now.keys ≡ None) }
@@ -89,7 +90,7 @@ pub fn drop_index<R, E: Extract<R> + Drop>(
     keys: E,
 )
     requires { CanDropIndex E.Extract set.old slots.now.items index keys }
-    ensures linked { IsLinked E.has_key E.order_of E.hash_of set.new slots.now.items }
+    ensures linked { IsLinked E.has_key E.order_of (marks_of E.Extract) set.new slots.now.items }
     ensures count { (store_of set.new).added ≡ (store_of set.old).added }
     ensures ok { (max writes : ℕ) → seen set.new max (writes + 1) ≡
         without_index (seen set.old max writes) index keys }

@@ -1,4 +1,5 @@
 //! A set of nodes under several indices, and the slots that lead to them.
+ghost use Rattle.any_index.specs.Keyed.{marks_of};
 ghost use Rattle.std.specs.Prelude.{◌≡◌, ◌+◌, ◌<◌, ◌≤◌, ◌^◌, ◌++◌, ◌∷◌, [], ℕ, None, Some, IfErr, OnErr, OnOk, IsTrue, length, not, option_map};
 ghost use Rattle.node_store.specs.Store.{IsNodeOf};
 ghost use Rattle.any_index.specs.Side.{AreNodesOf};
@@ -68,7 +69,7 @@ pub fn first_ban<R, E: Extract<R>>(
     entry: &Entry<R>,
     except: Option<Node>,
 ) -> Option<(usize, Handle)>
-    requires linked { IsLinked E.has_key E.order_of E.hash_of set.now slots.now.items }
+    requires linked { IsLinked E.has_key E.order_of (marks_of E.Extract) set.now slots.now.items }
     requires except { AreNodesOf (store_of set.now) except }
     ensures { result ≡ ban_from (E.order_of (keys_of set.now).keys) (entries_in (contents set.now))
         (handles_in (record_of set.now) (lists_of set.now))
@@ -86,7 +87,7 @@ pub fn replacement_ban<R, E: Extract<R>>(
     entry: &Entry<R>,
     node: Node,
 ) -> Option<(usize, Handle)>
-    requires linked { IsLinked E.has_key E.order_of E.hash_of set.now slots.now.items }
+    requires linked { IsLinked E.has_key E.order_of (marks_of E.Extract) set.now slots.now.items }
     requires held { HoldIt (lists_of set.now) node }
     ensures { result ≡ ban_from (E.order_of (keys_of set.now).keys) (entries_in (contents set.now))
         (handles_in (record_of set.now) (lists_of set.now))
@@ -102,8 +103,8 @@ fn reserve_one<R, E: Extract<R>>(
     set: &mut IndexSet<Entry<R>, ByRow<E>>,
     slots: &mut SlotTable<Node>,
 ) -> Result<(), AllocError>
-    requires { IsLinked E.has_key E.order_of E.hash_of set.old slots.old.items }
-    ensures linked { IsLinked E.has_key E.order_of E.hash_of set.new slots.new.items }
+    requires { IsLinked E.has_key E.order_of (marks_of E.Extract) set.old slots.old.items }
+    ensures linked { IsLinked E.has_key E.order_of (marks_of E.Extract) set.new slots.new.items }
     ensures same { IsOfSame set.old set.new }
     ensures contents { contents set.new ≡ contents set.old }
     ensures lists { lists_of set.new ≡ lists_of set.old }
@@ -124,14 +125,14 @@ pub fn put_in<R: Drop, E: Extract<R>>(
     at: Option<(usize, u64)>,
     entry: Entry<R>,
 ) -> Result<(), NoRoom<Entry<R>>>
-    requires linked { IsLinked E.has_key E.order_of E.hash_of set.old slots.old.items }
+    requires linked { IsLinked E.has_key E.order_of (marks_of E.Extract) set.old slots.old.items }
     requires count { (store_of set.old).added + 1 < 2 ^ 64 }
     requires slot { entry.handle.slot ≡ first_free slots.old.items }
     requires place { (j p : ℕ) → at ≡ Some (j, p) → p ≤ length (list_of set.old j) }
     requires allowed { ban_from (E.order_of (keys_of set.old).keys) (entries_in (contents set.old))
         (handles_in (record_of set.old) (lists_of set.old)) None entry.row 0
         (specs_of set.old) ≡ None }
-    ensures linked { IsLinked E.has_key E.order_of E.hash_of set.new slots.new.items }
+    ensures linked { IsLinked E.has_key E.order_of (marks_of E.Extract) set.new slots.new.items }
     ensures same { IsOfSame set.old set.new }
     ensures entries { OnOk result (entries_in (contents set.new) ≡
         entries_in (contents set.old) ++ entry ∷ []) }

@@ -1,4 +1,5 @@
 //! Changing a record in place.
+ghost use Rattle.any_index.specs.Keyed.{marks_of};
 ghost use Rattle.std.specs.Prelude.{◌≡◌, ◌+◌, ℕ, option_map, Some};
 ghost use Rattle.container_model.specs.Insert.{ban};
 ghost use Rattle.container_model.specs.Change.{with_modified};
@@ -36,9 +37,9 @@ pub fn change<R: Drop, E: Extract<R>, T: Edit<R>>(
     node: Node,
     edit: &mut T,
 ) -> Modified<R>
-    requires linked { IsLinked E.has_key E.order_of E.hash_of set.old slots.old.items }
+    requires linked { IsLinked E.has_key E.order_of (marks_of E.Extract) set.old slots.old.items }
     requires held { HoldIt (lists_of set.old) node }
-    ensures linked { IsLinked E.has_key E.order_of E.hash_of set.new slots.new.items }
+    ensures linked { IsLinked E.has_key E.order_of (marks_of E.Extract) set.new slots.new.items }
     ensures count { (store_of set.new).added ≡ (store_of set.old).added }
     ensures left { (r : R) (max writes : ℕ) → option_map (λ e. e.row) (record_of set.old node) ≡
         Some r → seen set.new max (writes + 1) ≡ with_modified E.order_of (seen set.old max writes)

@@ -1,4 +1,5 @@
 //! Changing a record in place, and undoing the change where it is refused.
+ghost use Rattle.any_index.specs.Keyed.{marks_of};
 ghost use Rattle.std.specs.Prelude.{◌≡◌, ◌+◌, ◌-◌, ◌<◌, ◌^◌, ◌==◌, ℕ, cond, length, option_map, IsTrue, None, Some};
 ghost use Rattle.std.specs.Option.{option_map_or};
 ghost use Rattle.std.specs.declared.cmp.Ordering.TheVariants.{Equal};
@@ -10,7 +11,7 @@ ghost use Rattle.container_model.specs.Change.{spent, with_replaced, with_row};
 ghost use Rattle.index_set.specs.Indices.{HoldIt};
 ghost use Rattle.index_set.specs.Lists.{ban_from};
 ghost use Rattle.index_set.specs.Set.{store_of, keys_of, specs_of, kind_at, contents, record_of, lists_of, IsSound, IsKeyedBut, IsUniqueExcept, IsFreeBeside};
-ghost use Rattle.linked_set.specs.ByRow.{has_by_row, order_by_row, hash_by_row};
+ghost use Rattle.linked_set.specs.ByRow.{has_by_row, order_by_row, marks_by_row};
 ghost use Rattle.linked_set.specs.Linked.{entries_in, handle_of};
 ghost use Rattle.linked_set.specs.Seen.{seen, IsLinked};
 
@@ -35,13 +36,13 @@ pub fn change_or_undo<R, E: Extract<R>, T: Edit<R>>(
     node: Node,
     edit: &mut T,
 ) -> Option<Why>
-    requires linked { IsLinked E.has_key E.order_of E.hash_of set.old slots.now.items }
+    requires linked { IsLinked E.has_key E.order_of (marks_of E.Extract) set.old slots.now.items }
     requires held { HoldIt (lists_of set.old) node }
     requires undone { (index : ℕ) (r : R) → index < length (specs_of set.old) →
         IsTrue (has_key_kind (kind_at set.old index)) → option_map (λ e. e.row)
         (record_of set.old node) ≡ Some r → E.order_of (keys_of set.old).keys index
         (T.undone (T.after_apply edit.old r) (T.applied edit.old r)) r ≡ Equal }
-    ensures linked { IsLinked E.has_key E.order_of E.hash_of set.new slots.now.items }
+    ensures linked { IsLinked E.has_key E.order_of (marks_of E.Extract) set.new slots.now.items }
     ensures count { (store_of set.new).added ≡ (store_of set.old).added }
     ensures why { (r : R) (max : ℕ) → option_map (λ e. e.row) (record_of set.old node) ≡ Some r →
         result ≡ option_map_or (λ at. Some (Why.Banned at.0 at.1))
@@ -82,7 +83,7 @@ fn changed_refusal<R, E: Extract<R>>(
 ) -> Option<Why>
     requires sound { IsSound (has_by_row E.has_key) set.now }
     requires node { IsNodeOf (store_of set.now) node }
-    requires keyed { IsKeyedBut (order_by_row E.order_of) (hash_by_row E.hash_of) set.now node }
+    requires keyed { IsKeyedBut (order_by_row E.order_of) (marks_by_row (marks_of E.Extract)) set.now node }
     requires unique { IsUniqueExcept (order_by_row E.order_of) set.now (Some node) }
     requires free { (e : Entry R) → record_of set.now node ≡ Some e →
         IsFreeBeside (order_by_row E.order_of) set.now changed (Some node) e }

@@ -1,4 +1,5 @@
 //! The records of an index in order that stand between two bounds.
+ghost use Rattle.any_index.specs.Keyed.{marks_of};
 ghost use Rattle.std.specs.Prelude.{◌≡◌, ◌<◌, IfOk, IsTrue, Ok, Some, None, cond, count_by, length, map, not, option_and_then, slice_get};
 ghost use Rattle.std.specs.Range.Bound.{bound_map};
 ghost use Rattle.list_model.specs.Place.{is_from, is_to, range as members_between};
@@ -8,7 +9,7 @@ ghost use Rattle.container_model.specs.State.{is_sorted_kind};
 ghost use Rattle.container_model.specs.Find.{kind_at};
 ghost use Rattle.index_set.specs.Set as nodes;
 ghost use Rattle.index_set.specs.Set.{store_of, keys_of, specs_of, record_of, list_of, IsSound, IsKeyed};
-ghost use Rattle.linked_set.specs.ByRow.{has_by_row, order_by_row, hash_by_row};
+ghost use Rattle.linked_set.specs.ByRow.{has_by_row, order_by_row, marks_by_row};
 ghost use Rattle.linked_set.specs.Edges.{node_edge, KeyFits, Rises};
 ghost use Rattle.linked_set.specs.Linked.{handle_of};
 
@@ -37,7 +38,7 @@ pub fn between<R, E: Extract<R>>(
         (bound_map (λ p. p.now) low) }
     requires high_fits { KeyFits (E.does_fit (keys_of set.now).keys index)
         (bound_map (λ p. p.now) high) }
-    requires keyed { IsKeyed (order_by_row E.order_of) (hash_by_row E.hash_of) set.now }
+    requires keyed { IsKeyed (order_by_row E.order_of) (marks_by_row (marks_of E.Extract)) set.now }
     requires low_rises { Rises (node_edge E.probe_order_of set.now index
         (bound_map (λ p. p.now) low)) (list_of set.now index) }
     requires high_rises { Rises (node_edge E.probe_order_of set.now index
@@ -66,7 +67,7 @@ pub fn first_from<R, E: Extract<R>>(
     requires index { index < length (specs_of set.now) }
     requires kind { IsTrue (is_sorted_kind (nodes.kind_at set.now index)) }
     requires fits { KeyFits (E.does_fit (keys_of set.now).keys index) (bound_map (λ p. p.now) low) }
-    requires keyed { IsKeyed (order_by_row E.order_of) (hash_by_row E.hash_of) set.now }
+    requires keyed { IsKeyed (order_by_row E.order_of) (marks_by_row (marks_of E.Extract)) set.now }
     ensures { result ≡ slice_get (list_of set.now index)
         (count_by
         (λ n. not

@@ -1,4 +1,5 @@
 //! Handles that stand for each record once, and their nodes.
+ghost use Rattle.any_index.specs.Keyed.{marks_of};
 ghost use Rattle.std.specs.Prelude.{◌≡◌, ◌==◌, IsTrue, None, Some, IfOk, false, map, nat_eq};
 ghost use Rattle.std.specs.List.{AllByRecursion, IsDistinct, list_all};
 ghost use Rattle.list_model.specs.Order.{EachPair};
@@ -26,7 +27,7 @@ fn is_live<R, E: Extract<R>>(
     slots: &SlotTable<Node>,
     handle: Handle,
 ) -> bool
-    requires { IsLinked E.has_key E.order_of E.hash_of set.now slots.now.items }
+    requires { IsLinked E.has_key E.order_of (marks_of E.Extract) set.now slots.now.items }
     ensures { result ≡ is_live (seen set.now 0 0) handle }
 {
     match node_at(set, slots, handle) {
@@ -41,7 +42,7 @@ pub fn all_live<R, E: Extract<R>>(
     slots: &SlotTable<Node>,
     handles: &[Handle],
 ) -> bool
-    requires { IsLinked E.has_key E.order_of E.hash_of set.now slots.now.items }
+    requires { IsLinked E.has_key E.order_of (marks_of E.Extract) set.now slots.now.items }
     ensures { result ≡ list_all (λ h. is_live (seen set.now 0 0) h) handles.now }
 {
     for handle in handles {
@@ -95,7 +96,7 @@ pub fn nodes_of<R, E: Extract<R>>(
     slots: &SlotTable<Node>,
     handles: &[Handle],
 ) -> Result<Vec<Node>, AllocError>
-    requires linked { IsLinked E.has_key E.order_of E.hash_of set.now slots.now.items }
+    requires linked { IsLinked E.has_key E.order_of (marks_of E.Extract) set.now slots.now.items }
     requires live { IsTrue (list_all (λ h. is_live (seen set.now 0 0) h) handles.now) }
     ensures nodes { IfOk result (λ nodes. AllByRecursion (IsNodeOf (store_of set.now))
         nodes.items) }
@@ -115,7 +116,7 @@ fn live_node<R, E: Extract<R>>(
     slots: &SlotTable<Node>,
     handle: Handle,
 ) -> Node
-    requires linked { IsLinked E.has_key E.order_of E.hash_of set.now slots.now.items }
+    requires linked { IsLinked E.has_key E.order_of (marks_of E.Extract) set.now slots.now.items }
     requires live { IsTrue (is_live (seen set.now 0 0) handle) }
     ensures node { IsNodeOf (store_of set.now) result }
     ensures handle { handle_of (record_of set.now) result ≡ handle }

@@ -1,4 +1,5 @@
 //! Giving a record another row.
+ghost use Rattle.any_index.specs.Keyed.{marks_of};
 ghost use Rattle.std.specs.Prelude.{◌≡◌, option_map, None, Some};
 ghost use Rattle.container_model.specs.Insert.{ban_from};
 ghost use Rattle.container_model.specs.Change.{settled_from, with_row};
@@ -23,13 +24,13 @@ pub fn rewrite<R, E: Extract<R>>(
     node: Node,
     entry: Entry<R>,
 ) -> R
-    requires linked { IsLinked E.has_key E.order_of E.hash_of set.old slots.now.items }
+    requires linked { IsLinked E.has_key E.order_of (marks_of E.Extract) set.old slots.now.items }
     requires held { HoldIt (lists_of set.old) node }
     requires handle { handle_of (record_of set.old) node ≡ entry.handle }
     requires allowed { ban_from (E.order_of (keys_of set.old).keys) (entries_in (contents set.old))
         (handles_in (record_of set.old) (lists_of set.old)) (Some entry.handle) entry.row 0
         (specs_of set.old) ≡ None }
-    ensures linked { IsLinked E.has_key E.order_of E.hash_of set.new slots.now.items }
+    ensures linked { IsLinked E.has_key E.order_of (marks_of E.Extract) set.new slots.now.items }
     ensures same { IsOfSame set.old set.new }
     ensures old { option_map (λ e. e.row) (record_of set.old node) ≡ Some result }
     ensures entries { entries_in (contents set.new) ≡ with_row entry.handle entry.row

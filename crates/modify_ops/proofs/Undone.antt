@@ -1,4 +1,5 @@
 -- A record that is written, and then written again with the keys that it had before: the set that this leaves.
+use Rattle.key_extract.specs.Digests.{Marks}
 use Rattle.std.proofs.Common.{◌≡◌, ◌≢◌, ℕ, ◌<◌, Bool, length, Option, Some, None, refl, sym, ap, ◌∙◌, subst, ⊎_elim, nat_cmp}
 use Rattle.std.specs.Prelude.{IsTrue}
 use Rattle.std.specs.Option.{option_map_or}
@@ -60,8 +61,8 @@ module _ {R E : Type 0} (s : IndexSet R E) (n : Node) (changed undone : R) where
     pub keys_undone : HasKeysOf order set n before
     keys_undone = subst (λ t. HasKeysOf order t n before) (sym undone_is) (record { row = undone; is = record_written s.store n undone is; equal = same })
 
-    pub restored_undone : (hash_of : E → ℕ → R → ℕ) → IsKeyed order hash_of s → IsRestored order hash_of set n
-    restored_undone hash_of keyed = subst (λ t. IsRestored order hash_of t n) (sym undone_is) (restored s n before undone had is order hash_of same keyed)
+    pub restored_undone : (marks : E → ℕ → R → Marks) → IsKeyed order marks s → IsRestored order marks set n
+    restored_undone marks keyed = subst (λ t. IsRestored order marks t n) (sym undone_is) (restored s n before undone had is order marks same keyed)
 
     -- and with the record that it had before, no two nodes have one key at a unique index
     pub unique_before : {has_key : E → ℕ → Bool} → IsSound has_key s → IsUniqueExcept order s None → IsUniqueExcept order (with_record set n before) None

@@ -1,4 +1,5 @@
 //! Changes of the record of a node.
+ghost use Rattle.any_index.specs.Keyed.{marks_of};
 ghost use Rattle.std.specs.Prelude.{◌≡◌, ◌<◌, map, Some, None};
 ghost use Rattle.std.specs.Option.{option_map_or};
 ghost use Rattle.list_model.specs.Walk.{without};
@@ -33,7 +34,7 @@ pub fn settle_or_leave<R, E: Extract<R>>(
     ensures sound { IsSound E.has_key set.new }
     ensures same { IsOfSame set.old set.new }
     ensures contents { contents set.new ≡ contents set.old }
-    ensures keyed { IsKeyed E.order_of E.hash_of set.new }
+    ensures keyed { IsKeyed E.order_of (marks_of E.Extract) set.new }
     ensures unique { IsUniqueExcept E.order_of set.new None }
 {
     settle_or_leave_changed(set, node, Changed::all())
@@ -48,7 +49,7 @@ pub fn settle_or_leave_changed<R, E: Extract<R>>(
 ) -> Option<(usize, Node)>
     requires filed { IsFiledBut E.Extract set.old node }
     requires held { HoldIt (lists_of set.old) node }
-    requires beside { IsKeyedBeside E.order_of E.hash_of set.old changed }
+    requires beside { IsKeyedBeside E.order_of (marks_of E.Extract) set.old changed }
     requires free { (r : R) → record_of set.old node ≡ Some r →
         IsFreeBeside E.order_of set.old changed (Some node) r }
     ensures ban { (r : R) → record_of set.old node ≡ Some r →
@@ -61,7 +62,7 @@ pub fn settle_or_leave_changed<R, E: Extract<R>>(
     ensures sound { IsSound E.has_key set.new }
     ensures same { IsOfSame set.old set.new }
     ensures contents { contents set.new ≡ contents set.old }
-    ensures keyed { IsKeyed E.order_of E.hash_of set.new }
+    ensures keyed { IsKeyed E.order_of (marks_of E.Extract) set.new }
     ensures unique { IsUniqueExcept E.order_of set.new None }
 {
     let banned = set.bans_changed(set.get(node), Some(node), changed);
@@ -95,7 +96,7 @@ pub fn modify_node<R, E: Extract<R>, T: Edit<R>>(
         (specs_of set.old) (lists_of set.old)) }
     ensures sound { IsSound E.has_key set.new }
     ensures same { IsOfSame set.old set.new }
-    ensures keyed { IsKeyed E.order_of E.hash_of set.new }
+    ensures keyed { IsKeyed E.order_of (marks_of E.Extract) set.new }
     ensures unique { IsUniqueExcept E.order_of set.new None }
 {
     edit.apply(set.get_mut(node));

@@ -1,4 +1,5 @@
 //! Changes of the record of a node that are undone where another record bans them.
+ghost use Rattle.any_index.specs.Keyed.{marks_of};
 ghost use Rattle.std.specs.Prelude.{◌≡◌, ◌<◌, ℕ, length, IsTrue, Some, None};
 ghost use Rattle.std.specs.Option.{option_map_or};
 ghost use Rattle.std.specs.declared.cmp.Ordering.TheVariants.{Equal};
@@ -44,7 +45,7 @@ pub fn modify_or_undo_node<R, E: Extract<R>, T: Edit<R>>(
         (specs_of set.old) (lists_of set.old)) }
     ensures sound { IsSound E.has_key set.new }
     ensures same { IsOfSame set.old set.new }
-    ensures keyed { IsKeyed E.order_of E.hash_of set.new }
+    ensures keyed { IsKeyed E.order_of (marks_of E.Extract) set.new }
     ensures unique { IsUniqueExcept E.order_of set.new None }
 {
     edit.apply(set.get_mut(node));

@@ -1,4 +1,5 @@
 //! Another record for a node.
+ghost use Rattle.any_index.specs.Keyed.{marks_of};
 ghost use Rattle.std.specs.Prelude.{◌≡◌, Some, None};
 ghost use Rattle.index_set.specs.Each.{changed_from};
 ghost use Rattle.index_set.specs.Indices.{HoldIt};
@@ -25,7 +26,7 @@ pub fn replace_node<R, E: Extract<R>>(set: &mut IndexSet<R, E>, node: Node, valu
     ensures lists { lists_of set.new ≡ changed_from
         (settled_at (E.order_of (keys_of set.old)) (record_of set.new) node) 0 (specs_of set.old)
         (lists_of set.old) }
-    ensures keyed { IsKeyed E.order_of E.hash_of set.new }
+    ensures keyed { IsKeyed E.order_of (marks_of E.Extract) set.new }
     ensures unique { IsUniqueExcept E.order_of set.new None }
 {
     let changed = set.changed_by(node, &value);

@@ -1,4 +1,5 @@
 -- What a container is once all its records are taken out.
+use Rattle.key_extract.specs.Digests.{Marks}
 use Rattle.std.proofs.Common.{◌≡◌, ℕ, ◌+◌, ◌<◌, ◌^◌, Bool, List, [], map, Option, None, sym, ap, ◌∙◌, subst, arith}
 use Rattle.std.specs.List.{filter_map}
 use Rattle.std.specs.declared.cmp.Ordering.{Ordering}
@@ -13,7 +14,7 @@ use Rattle.container_model.specs.Change.{cleared}
 use Rattle.container_model.proofs.Erased.{IsState-cleared}
 use Rattle.index_set.specs.declared.set.IndexSet.{IndexSet}
 use Rattle.index_set.specs.Set.{store_of, specs_of, contents, record_of, lists_of, IsSound, IsKeyed, IsUniqueExcept, IsOfSame}
-use Rattle.linked_set.specs.ByRow.{has_by_row, order_by_row, hash_by_row}
+use Rattle.linked_set.specs.ByRow.{has_by_row, order_by_row, marks_by_row}
 use Rattle.linked_set.specs.declared.by_row.ByRow.{ByRow}
 use Rattle.linked_set.specs.LeadsTo.{LeadsTo}
 use Rattle.linked_set.specs.Linked.{entries_in, handles_in}
@@ -41,10 +42,10 @@ module _ {E R : Type 0} (old new : IndexSet (Entry R) (ByRow E)) (max writes : �
       let handles = ap (handles_in (record_of new)) lists ∙ no_handles (record_of new) (specs_of old) in
       λ i. state_with (same.columns i) max (writes + 1) (same.keys i).keys (same.specs i) (no_entries i) (handles i)
 
-  pub IsContainer_cleared : (has_key : E → ℕ → Bool) (order : E → ℕ → R → R → Ordering) (hash : E → ℕ → R → ℕ) (slots : List (Option Node)) →
-      IsSound (has_by_row has_key) new → IsKeyed (order_by_row order) (hash_by_row hash) new → IsUniqueExcept (order_by_row order) new None →
-      ((k : ℕ) → nodes (store_of new) k ≡ None) → (store_of new).added ≡ (store_of old).added → writes + 1 < 2 ^ 64 → IsContainer has_key order hash old slots max writes → IsContainer has_key order hash new [] max (writes + 1)
-  IsContainer_cleared has_key order hash slots sound keyed unique empty count next was = record {
+  pub IsContainer_cleared : (has_key : E → ℕ → Bool) (order : E → ℕ → R → R → Ordering) (marks : E → ℕ → R → Marks) (slots : List (Option Node)) →
+      IsSound (has_by_row has_key) new → IsKeyed (order_by_row order) (marks_by_row marks) new → IsUniqueExcept (order_by_row order) new None →
+      ((k : ℕ) → nodes (store_of new) k ≡ None) → (store_of new).added ≡ (store_of old).added → writes + 1 < 2 ^ 64 → IsContainer has_key order marks old slots max writes → IsContainer has_key order marks new [] max (writes + 1)
+  IsContainer_cleared has_key order marks slots sound keyed unique empty count next was = record {
     linked = record {
       sound = sound;
       keyed = keyed;

@@ -1,4 +1,5 @@
 -- Each index of a container has each node.
+use Rattle.key_extract.specs.Digests.{Marks}
 use Rattle.std.proofs.Common.{ℕ, Bool, List, Option, ap}
 use Rattle.std.specs.Prelude.{is_some}
 use Rattle.std.specs.declared.cmp.Ordering.{Ordering}
@@ -18,7 +19,7 @@ use Rattle.linked_set.proofs.Sides.{row_known}
 use Rattle.linked_set.proofs.ByHandle.{held_by_lists}
 
 -- each node of a container is in each list
-pub held_by_all : {E R : Type 0} {has_key : E → ℕ → Bool} {order : E → ℕ → R → R → Ordering} {hash : E → ℕ → R → ℕ} (held : IndexSet (Entry R) (ByRow E)) (slots : List (Option Node)) (max writes : ℕ) → IsContainer has_key order hash held slots max writes →
+pub held_by_all : {E R : Type 0} {has_key : E → ℕ → Bool} {order : E → ℕ → R → R → Ordering} {marks : E → ℕ → R → Marks} (held : IndexSet (Entry R) (ByRow E)) (slots : List (Option Node)) (max writes : ℕ) → IsContainer has_key order marks held slots max writes →
     (n : Node) → IsNodeOf (store_of held) n → HoldIt (lists_of held) n
 held_by_all {order = order} held slots max writes was n is =
     let linked = was.linked in

@@ -1,4 +1,5 @@
 -- What a change of a record in place makes of a container, and why one is refused.
+use Rattle.key_extract.specs.Digests.{Marks}
 use Rattle.std.proofs.Common.{◌≡◌, ℕ, ◌+◌, ◌-◌, ◌<◌, ◌^◌, ◌==◌, arith, Bool, cond, List, Option, Some, None, sym, ap, ◌∙◌, subst}
 use Rattle.std.specs.Prelude.{IsTrue, is_some}
 use Rattle.std.specs.Cmp.{IsTotalOrder}
@@ -27,10 +28,10 @@ module _ {E R : Type 0} (s : State E R) (h : Handle) where
   pub change_live : (row : R) → row_of s.entries h ≡ Some row → (b : Bool) → (s.writes == 2 ^ 64 - 1) ≡ b → modify_refusal s h ≡ cond b (Some Spent) None
   change_live row live b last = ap (λ o. cond (is_some o) (spent s) (Some Stale)) live ∙ ap (λ z. cond z (Some Spent) None) last
 
-pub IsContainer_modified : {E R : Type 0} (has_key : E → ℕ → Bool) (order : E → ℕ → R → R → Ordering) (hash : E → ℕ → R → ℕ) (total : (keys : E) (i : ℕ) → IsTrue (has_key keys i) → IsTotalOrder (order keys i)) (old new : IndexSet (Entry R) (ByRow E))
+pub IsContainer_modified : {E R : Type 0} (has_key : E → ℕ → Bool) (order : E → ℕ → R → R → Ordering) (marks : E → ℕ → R → Marks) (total : (keys : E) (i : ℕ) → IsTrue (has_key keys i) → IsTotalOrder (order keys i)) (old new : IndexSet (Entry R) (ByRow E))
     (old_slots slots : List (Option Node)) (h : Handle) (row was_row : R) (max writes : ℕ) → seen new max (writes + 1) ≡ with_modified order (seen old max writes) h row → row_of (entries_in (set.contents old)) h ≡ Some was_row → (store_of new).added ≡ (store_of old).added → writes + 1 < 2 ^ 64 →
-    IsContainer has_key order hash old old_slots max writes → IsLinked has_key order hash new slots → IsContainer has_key order hash new slots max (writes + 1)
-IsContainer_modified has_key order hash total old new old_slots slots h row was_row max writes is live count next was linked = record {
+    IsContainer has_key order marks old old_slots max writes → IsLinked has_key order marks new slots → IsContainer has_key order marks new slots max (writes + 1)
+IsContainer_modified has_key order marks total old new old_slots slots h row was_row max writes is live count next was linked = record {
   linked = linked;
   state = subst (IsState has_key order) (sym is) (IsState-modified has_key order total (seen old max writes) h row was.state (ap is_some live));
   narrow = was.narrow;

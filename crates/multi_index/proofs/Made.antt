@@ -1,4 +1,5 @@
 -- A container without records.
+use Rattle.key_extract.specs.Digests.{Marks}
 use Rattle.std.proofs.Common.{◌≡◌, ℕ, ◌<◌, ◌≤◌, ◌^◌, Bool, List, [], ◌∷◌, length, map, Option, None, refl, sym, ap, ◌∙◌, subst, arith}
 use Rattle.std.specs.declared.cmp.Ordering.{Ordering}
 use Rattle.list_model.specs.Order.{EachPair}
@@ -13,7 +14,7 @@ use Rattle.index_set.specs.declared.set.IndexSet.{IndexSet}
 use Rattle.index_set.specs.Lists.{AreUniqueFrom}
 use Rattle.index_set.proofs.Keys.{unique_empty}
 use Rattle.index_set.specs.Set.{store_of, keys_of, specs_of, columns_of, contents, record_of, lists_of, IsSound, IsKeyed}
-use Rattle.linked_set.specs.ByRow.{has_by_row, order_by_row, hash_by_row}
+use Rattle.linked_set.specs.ByRow.{has_by_row, order_by_row, marks_by_row}
 use Rattle.linked_set.specs.declared.by_row.ByRow.{ByRow}
 use Rattle.linked_set.specs.LeadsTo.{LeadsTo}
 use Rattle.linked_set.specs.Linked.{entries_in, handles_in}
@@ -37,10 +38,10 @@ module _ {E R : Type 0} (set : IndexSet (Entry R) (ByRow E)) (most : ℕ) (keys 
       let handles = ap (handles_in (record_of set)) lists ∙ no_handles (record_of set) specs in
       λ i. state_with (same_most i) max first_write (same_keys i) (same_specs i) (no_entries i) (handles i)
 
-  pub IsContainer_made : (has_key : E → ℕ → Bool) (order : E → ℕ → R → R → Ordering) (hash : E → ℕ → R → ℕ) →
-      IsSound (has_by_row has_key) set → IsKeyed (order_by_row order) (hash_by_row hash) set →
-      KeysMatch (has_key keys) specs → length specs ≤ most → max < 2 ^ 32 → first_write < 2 ^ 64 → IsContainer has_key order hash set [] max first_write
-  IsContainer_made has_key order hash sound keyed match few narrow numbered = record {
+  pub IsContainer_made : (has_key : E → ℕ → Bool) (order : E → ℕ → R → R → Ordering) (marks : E → ℕ → R → Marks) →
+      IsSound (has_by_row has_key) set → IsKeyed (order_by_row order) (marks_by_row marks) set →
+      KeysMatch (has_key keys) specs → length specs ≤ most → max < 2 ^ 32 → first_write < 2 ^ 64 → IsContainer has_key order marks set [] max first_write
+  IsContainer_made has_key order marks sound keyed match few narrow numbered = record {
     linked = record {
       sound = sound;
       keyed = keyed;

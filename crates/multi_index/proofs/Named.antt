@@ -1,4 +1,5 @@
 -- The node that a handle names, in the list of an index of a container: the list answers of it what the index answers of the handle.
+use Rattle.key_extract.specs.Digests.{Marks}
 use Rattle.std.proofs.Common.{◌≡◌, ℕ, ◌<◌, Bool, true, false, cond, List, ◌∷◌, ◌++◌, length, map, Option, Some, Ok, Err, sym, ap, ◌∙◌, arith}
 use Rattle.std.specs.Prelude.{option_map, count_by}
 use Rattle.std.specs.List.{AllByRecursion}
@@ -40,7 +41,7 @@ answered_live h answer {s} {t} a same live is = ap Ok (is ∙ ap answer same) �
 pub answered_stale : {E R A : Type 0} (h : Handle) (answer : A) {s t : State E R} → s ≡ t → is_live s h ≡ false → Err Stale ≡ cond (is_live t h) (Ok answer) (Err Stale)
 answered_stale h answer {s} {t} same stale = ap (λ b. cond b (Ok answer) (Err Stale)) (sym stale ∙ ap (λ u. is_live u h) same)
 
-module _ {E R : Type 0} {has_key : E → ℕ → Bool} {order : E → ℕ → R → R → Ordering} {hash : E → ℕ → R → ℕ} (set : IndexSet (Entry R) (ByRow E)) (slots : List (Option Node)) (linked : IsLinked has_key order hash set slots) (h : Handle) where
+module _ {E R : Type 0} {has_key : E → ℕ → Bool} {order : E → ℕ → R → R → Ordering} {marks : E → ℕ → R → Marks} (set : IndexSet (Entry R) (ByRow E)) (slots : List (Option Node)) (linked : IsLinked has_key order marks set slots) (h : Handle) where
   abbrev handle : Node → Handle
   handle = handle_of (record_of set)
 

@@ -1,4 +1,5 @@
 -- A sequence of nodes put into another order, and what that makes of a container.
+use Rattle.key_extract.specs.Digests.{Marks}
 use Rattle.std.proofs.Common.{◌≡◌, ℕ, ◌+◌, ◌-◌, ◌<◌, ◌≤◌, ◌^◌, Bool, true, false, cond, List, [], ◌∷◌, ◌++◌, length, map, reverse, set, Option, Some, None, refl, sym, ap, ◌∙◌, subst, arith, ◌==◌, eq-eqb}
 use Rattle.std.specs.Prelude.{nat_le, IsTrue, IsPermutation}
 use Rattle.std.specs.List.{AllByRecursion, list_all}
@@ -29,7 +30,7 @@ use Rattle.index_set.specs.Set.{store_of, keys_of, specs_of, contents, record_of
 use Rattle.index_set.proofs.Members.{nodes_held_at}
 use Rattle.index_set.proofs.StaysUnique.{unique_after_move}
 use Rattle.index_set.proofs.Reading.{some_spec}
-use Rattle.linked_set.specs.ByRow.{has_by_row, order_by_row, hash_by_row}
+use Rattle.linked_set.specs.ByRow.{has_by_row, order_by_row, marks_by_row}
 use Rattle.linked_set.specs.declared.by_row.ByRow.{ByRow}
 use Rattle.linked_set.specs.LeadsTo.{LeadsTo}
 use Rattle.linked_set.specs.Linked.{handle_of, entries_in, handles_in}
@@ -97,11 +98,11 @@ module _ {E R : Type 0} (old new : IndexSet (Entry R) (ByRow E)) (index max writ
   seen_listed = (λ i. state_with (same.columns i) max (writes + 1) (same.keys i).keys (same.specs i) (entries_kept (store_of old) (store_of new) kept i) (handles_listed i))
 
   -- and stays one
-  pub IsContainer_listed : (has_key : E → ℕ → Bool) (order : E → ℕ → R → R → Ordering) (hash : E → ℕ → R → ℕ) (slots : _) → IsContainer has_key order hash old slots max writes →
+  pub IsContainer_listed : (has_key : E → ℕ → Bool) (order : E → ℕ → R → R → Ordering) (marks : E → ℕ → R → Marks) (slots : _) → IsContainer has_key order marks old slots max writes →
       index < length (specs_of old) → IsTrue (is_sequence_kind (set.kind_at old index)) → (writes == 2 ^ 64 - 1) ≡ false → IsState has_key order (with_list (seen old max writes) index list) →
-      IsSound (has_by_row has_key) new → IsKeyed (order_by_row order) (hash_by_row hash) new →
-      IsContainer has_key order hash new slots max (writes + 1)
-  IsContainer_listed has_key order hash slots was within sequence more state sound keyed = record {
+      IsSound (has_by_row has_key) new → IsKeyed (order_by_row order) (marks_by_row marks) new →
+      IsContainer has_key order marks new slots max (writes + 1)
+  IsContainer_listed has_key order marks slots was within sequence more state sound keyed = record {
     linked = record {
       sound = sound;
       keyed = keyed;
@@ -117,7 +118,7 @@ module _ {E R : Type 0} (old new : IndexSet (Entry R) (ByRow E)) (index max writ
 
 -- ---- a record that moves
 
-module _ {E R : Type 0} {has_key : E → ℕ → Bool} {order : E → ℕ → R → R → Ordering} {hash : E → ℕ → R → ℕ} (old : IndexSet (Entry R) (ByRow E)) (slots : List (Option Node)) (max writes : ℕ) (was : IsContainer has_key order hash old slots max writes)
+module _ {E R : Type 0} {has_key : E → ℕ → Bool} {order : E → ℕ → R → R → Ordering} {marks : E → ℕ → R → Marks} (old : IndexSet (Entry R) (ByRow E)) (slots : List (Option Node)) (max writes : ℕ) (was : IsContainer has_key order marks old slots max writes)
     (index : ℕ) (within : index < length (specs_of old)) where
   -- each sequence has as many nodes as there are records
   pub as_many_nodes : length (list_of old index) ≡ length (entries_in (contents old))

@@ -1,4 +1,5 @@
 -- What the list of an index of a container answers of its nodes is what the index answers of their handles.
+use Rattle.key_extract.specs.Digests.{Marks}
 use Rattle.std.proofs.Common.{◌≡◌, ℕ, ◌<◌, Bool, true, cond, List, [], ◌∷◌, length, map, slice_get, Option, Some, None, Result, Ok, Err, sym, ap, ◌∙◌, subst, rules}
 use Rattle.std.specs.Prelude.{IfOk, option_map}
 use Rattle.std.specs.Result.{is_ok, MatchResult}
@@ -49,7 +50,7 @@ pub some_last : {X : Type 0} (P : X → Type 0) (xs : List X) → AllByRecursion
 some_last P [] all x e = cc
 some_last P (y ∷ ys) all x e = some_at P (y ∷ ys) (length ys) all x e
 
-module _ {E R : Type 0} {has_key : E → ℕ → Bool} {order : E → ℕ → R → R → Ordering} {hash : E → ℕ → R → ℕ} (set : IndexSet (Entry R) (ByRow E)) (slots : List (Option Node)) (linked : IsLinked has_key order hash set slots)
+module _ {E R : Type 0} {has_key : E → ℕ → Bool} {order : E → ℕ → R → R → Ordering} {marks : E → ℕ → R → Marks} (set : IndexSet (Entry R) (ByRow E)) (slots : List (Option Node)) (linked : IsLinked has_key order marks set slots)
     (index : ℕ) (within : index < length (specs_of set)) where
   abbrev handle : Node → Handle
   handle = handle_of (record_of set)

@@ -1,4 +1,5 @@
 -- Nodes that are those of an index in another order.
+use Rattle.key_extract.specs.Digests.{Marks}
 use Rattle.std.proofs.Common.{◌≡◌, ℕ, ◌<◌, Bool, true, List, length, map, Option, sym, subst}
 use Rattle.std.specs.Prelude.{IsPermutation}
 use Rattle.std.specs.List.{AllByRecursion}
@@ -24,7 +25,7 @@ use Rattle.linked_set.proofs.Reading.{list_seen}
 use Rattle.linked_set.proofs.Rearranged.{IsPermutation-unmap}
 
 -- nodes whose handles are each record's once are those of each index
-module _ {E R : Type 0} {has_key : E → ℕ → Bool} {order : E → ℕ → R → R → Ordering} {hash : E → ℕ → R → ℕ} (set : IndexSet (Entry R) (ByRow E)) (slots : List (Option Node)) (max writes : ℕ) (was : IsContainer has_key order hash set slots max writes)
+module _ {E R : Type 0} {has_key : E → ℕ → Bool} {order : E → ℕ → R → R → Ordering} {marks : E → ℕ → R → Marks} (set : IndexSet (Entry R) (ByRow E)) (slots : List (Option Node)) (max writes : ℕ) (was : IsContainer has_key order marks set slots max writes)
     (index : ℕ) (within : index < length (specs_of set)) where
   pub same_nodes : (nodes : List Node) (handles : List Handle) → AllByRecursion (IsNodeOf (store_of set)) nodes → map (handle_of (record_of set)) nodes ≡ handles → has_each_once (entries_in (contents set)) handles ≡ true → IsPermutation (list_of set index) nodes
   same_nodes nodes handles are named once =

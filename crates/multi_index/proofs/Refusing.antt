@@ -1,4 +1,5 @@
 -- Why a change of a record is refused and undone, and that the container stays one.
+use Rattle.key_extract.specs.Digests.{Marks}
 use Rattle.std.proofs.Common.{◌≡◌, ℕ, ◌+◌, ◌-◌, ◌<◌, ◌^◌, ◌==◌, Bool, false, List, length, Option, Some, None, sym, ap, ◌∙◌, subst, arith}
 use Rattle.std.specs.Prelude.{IsTrue}
 use Rattle.std.specs.Option.{option_map_or}
@@ -84,11 +85,11 @@ module _ {E R : Type 0} (order : E → ℕ → R → R → Ordering) (old new : 
     not_last = not_spent (writes == 2 ^ 64 - 1) allowed.1
 
 -- a container in which a change was undone stays one
-pub IsContainer_undone : {E R : Type 0} (has_key : E → ℕ → Bool) (order : E → ℕ → R → R → Ordering) (hash : E → ℕ → R → ℕ) (total : (keys : E) (i : ℕ) → IsTrue (has_key keys i) → IsTotalOrder (order keys i)) (old new : IndexSet (Entry R) (ByRow E))
+pub IsContainer_undone : {E R : Type 0} (has_key : E → ℕ → Bool) (order : E → ℕ → R → R → Ordering) (marks : E → ℕ → R → Marks) (total : (keys : E) (i : ℕ) → IsTrue (has_key keys i) → IsTotalOrder (order keys i)) (old new : IndexSet (Entry R) (ByRow E))
     (slots : List (Option Node)) (h : Handle) (row was_row : R) (max writes : ℕ) → seen new max writes ≡ with_undone (seen old max writes) h row → row_of (entries_in (contents old)) h ≡ Some was_row →
     ((i : ℕ) → i < length (specs_of old) → IsTrue (has_key_kind (kind_at (seen old max writes) i)) → order (keys_of old).keys i row was_row ≡ Equal) → (store_of new).added ≡ (store_of old).added →
-    IsContainer has_key order hash old slots max writes → IsLinked has_key order hash new slots → IsContainer has_key order hash new slots max writes
-IsContainer_undone has_key order hash total old new slots h row was_row max writes is live equal count was linked = record {
+    IsContainer has_key order marks old slots max writes → IsLinked has_key order marks new slots → IsContainer has_key order marks new slots max writes
+IsContainer_undone has_key order marks total old new slots h row was_row max writes is live equal count was linked = record {
   linked = linked;
   state = subst (IsState has_key order) (sym is) (IsState-undone has_key order total (seen old max writes) was.state h row was_row live equal);
   narrow = was.narrow;

@@ -1,4 +1,5 @@
 -- What a replacement makes of a container, and why one is refused.
+use Rattle.key_extract.specs.Digests.{Marks}
 use Rattle.std.proofs.Common.{◌≡◌, ℕ, Option, ◌+◌, ◌<◌, ◌^◌, Bool, true, false, cond, List, Some, None, refl, sym, ap, subst, arith}
 use Rattle.std.specs.Prelude.{IsTrue, is_some}
 use Rattle.std.specs.Cmp.{IsTotalOrder}
@@ -37,7 +38,7 @@ pub record IsNamed {R : Type 0} (s : Store (Entry R)) (h : Handle) (n : Node) : 
   pub has : store.record_of s n ≡ Some entry
   pub row : row_of (entries_in (store.contents s)) h ≡ Some entry.row
 
-module _ {E R : Type 0} {has_key : E → ℕ → Bool} {order : E → ℕ → R → R → Ordering} {hash : E → ℕ → R → ℕ} (set : IndexSet (Entry R) (ByRow E)) (slots : List (Option Node)) (linked : IsLinked has_key order hash set slots) (h : Handle) where
+module _ {E R : Type 0} {has_key : E → ℕ → Bool} {order : E → ℕ → R → R → Ordering} {marks : E → ℕ → R → Marks} (set : IndexSet (Entry R) (ByRow E)) (slots : List (Option Node)) (linked : IsLinked has_key order marks set slots) (h : Handle) where
   pub named : (n : Node) → (item_at slots h.slot ≡ Some n) × IsTrue (is_handle h (handle_of (record_of set) n)) → IsNamed (store_of set) h n
   named n found =
       let s = store_of set in
@@ -69,10 +70,10 @@ module _ {E R : Type 0} (order : E → ℕ → R → R → Ordering) (s : State 
 module _ {E R : Type 0} (order : E → ℕ → R → R → Ordering) (old new : IndexSet (Entry R) (ByRow E)) (h : Handle) (row : R) (max writes : ℕ) (same : IsOfSame old new) (entries : entries_in (contents new) ≡ with_row h row (entries_in (contents old)))
     (lists : handles_in (record_of new) (lists_of new) ≡ settled_from (order (keys_of old).keys) (entries_in (contents old)) h row 0 (specs_of old) (handles_in (record_of old) (lists_of old))) where
   -- and stays one
-  pub IsContainer_replaced : (has_key : E → ℕ → Bool) (hash : E → ℕ → R → ℕ) (slots : List (Option Node)) → ((keys : E) (i : ℕ) → IsTrue (has_key keys i) → IsTotalOrder (order keys i)) → (was_row : R) → row_of (entries_in (contents old)) h ≡ Some was_row →
+  pub IsContainer_replaced : (has_key : E → ℕ → Bool) (marks : E → ℕ → R → Marks) (slots : List (Option Node)) → ((keys : E) (i : ℕ) → IsTrue (has_key keys i) → IsTotalOrder (order keys i)) → (was_row : R) → row_of (entries_in (contents old)) h ≡ Some was_row →
       ban order (seen old max writes) (Some h) row ≡ None → (store_of new).added ≡ (store_of old).added → writes + 1 < 2 ^ 64 →
-      IsContainer has_key order hash old slots max writes → IsLinked has_key order hash new slots → IsContainer has_key order hash new slots max (writes + 1)
-  IsContainer_replaced has_key hash slots total was_row live allowed added next was linked = record {
+      IsContainer has_key order marks old slots max writes → IsLinked has_key order marks new slots → IsContainer has_key order marks new slots max (writes + 1)
+  IsContainer_replaced has_key marks slots total was_row live allowed added next was linked = record {
     linked = linked;
     state = subst (IsState has_key order) (sym (seen_replaced order old new h row max writes same entries lists)) (IsState-replaced has_key order total (seen old max writes) h row was.state (ap is_some live) allowed);
     narrow = was.narrow;

@@ -1,4 +1,5 @@
 -- In an index in order the sides of its nodes rise, and what stands between two bounds is the same of nodes and of handles.
+use Rattle.key_extract.specs.Digests.{Marks}
 use Rattle.std.proofs.Common.{◌≡◌, ℕ, zero, suc, ◌+◌, ◌<◌, ◌≤◌, Bool, true, false, ◌&&◌, List, [], ◌∷◌, length, map, get_or, Option, Some, sym, ap, ◌∙◌, subst, arith, refl}
 use Rattle.std.specs.Prelude.{IsTrue}
 use Rattle.std.specs.List.{AllByRecursion}
@@ -55,7 +56,7 @@ bound_rises side fits xs (Included probe) fit rise = rise probe fit
 bound_rises side fits xs (Excluded probe) fit rise = rise probe fit
 bound_rises side fits xs Unbounded fit rise = tt
 
-module _ {E R : Type 0} {has_key : E → ℕ → Bool} {order : E → ℕ → R → R → Ordering} {hash : E → ℕ → R → ℕ} (set : IndexSet (Entry R) (ByRow E)) (slots : List (Option Node)) (linked : IsLinked has_key order hash set slots)
+module _ {E R : Type 0} {has_key : E → ℕ → Bool} {order : E → ℕ → R → R → Ordering} {marks : E → ℕ → R → Marks} (set : IndexSet (Entry R) (ByRow E)) (slots : List (Option Node)) (linked : IsLinked has_key order marks set slots)
     (index : ℕ) (within : index < length (specs_of set)) {P : Type 0} (probe_order : E → ℕ → R → P → Ordering) where
   abbrev handle : Node → Handle
   handle = handle_of (record_of set)

@@ -1,4 +1,5 @@
 -- The records of nodes with their handles: those of the handles, and what a walk has left of them.
+use Rattle.key_extract.specs.Digests.{Marks}
 use Rattle.std.proofs.Common.{◌≡◌, ◌+◌, ◌<◌, ℕ, ◌==◌, Bool, true, false, List, [], ◌∷◌, length, map, slice_get, Option, Some, None, refl, sym, ap, ◌∙◌, eq-eqb}
 use Rattle.std.specs.Prelude.{IsTrue, not, option_map}
 use Rattle.std.specs.List.{AllByRecursion, filter_map, cons_option}
@@ -119,7 +120,7 @@ module _ {E R : Type 0} {has_key : E → ℕ → Bool} (set : IndexSet (Entry R)
 
 -- ---- the records of an index
 
-module _ {E R : Type 0} {has_key : E → ℕ → Bool} {order : E → ℕ → R → R → Ordering} {hash : E → ℕ → R → ℕ} (set : IndexSet (Entry R) (ByRow E)) (slots : List (Option Node)) (linked : IsLinked has_key order hash set slots)
+module _ {E R : Type 0} {has_key : E → ℕ → Bool} {order : E → ℕ → R → R → Ordering} {marks : E → ℕ → R → Marks} (set : IndexSet (Entry R) (ByRow E)) (slots : List (Option Node)) (linked : IsLinked has_key order marks set slots)
     (index : ℕ) (within : index < length (specs_of set)) (max writes : ℕ) where
   abbrev named : List Handle → List (Handle × R)
   named = with_rows (seen set max writes)

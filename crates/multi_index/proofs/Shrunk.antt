@@ -1,4 +1,5 @@
 -- What an erasure makes of a container.
+use Rattle.key_extract.specs.Digests.{Marks}
 use Rattle.std.proofs.Common.{◌≡◌, ℕ, ◌+◌, ◌-◌, ◌<◌, ◌^◌, ◌==◌, Bool, true, false, cond, List, length, map, Option, Some, None, refl, sym, subst, arith, option_and_then, option_map}
 use Rattle.std.specs.Prelude.{filter, IfSome}
 use Rattle.std.specs.Option.{option_map_or}
@@ -56,9 +57,9 @@ module _ {E R : Type 0} (old new : IndexSet (Entry R) (ByRow E)) (keep : Handle 
     (same : IsOfSame old new) (entries : entries_in (contents new) ≡ filter (λ e. keep e.handle) (entries_in (contents old)))
     (lists : handles_in (record_of new) (lists_of new) ≡ map (λ list. filter keep list) (handles_in (record_of old) (lists_of old))) where
   -- and stays one
-  pub IsContainer_only : (has_key : E → ℕ → Bool) (order : E → ℕ → R → R → Ordering) (hash : E → ℕ → R → ℕ) (old_slots slots : List (Option Node)) → (store_of new).added ≡ (store_of old).added → writes + 1 < 2 ^ 64 →
-      IsContainer has_key order hash old old_slots max writes → IsLinked has_key order hash new slots → IsContainer has_key order hash new slots max (writes + 1)
-  IsContainer_only has_key order hash old_slots slots count next was linked = record {
+  pub IsContainer_only : (has_key : E → ℕ → Bool) (order : E → ℕ → R → R → Ordering) (marks : E → ℕ → R → Marks) (old_slots slots : List (Option Node)) → (store_of new).added ≡ (store_of old).added → writes + 1 < 2 ^ 64 →
+      IsContainer has_key order marks old old_slots max writes → IsLinked has_key order marks new slots → IsContainer has_key order marks new slots max (writes + 1)
+  IsContainer_only has_key order marks old_slots slots count next was linked = record {
     linked = linked;
     state = subst (IsState has_key order) (sym (seen_only old new keep max writes same entries lists)) (IsState-only has_key order (seen old max writes) was.state keep);
     narrow = was.narrow;
@@ -67,7 +68,7 @@ module _ {E R : Type 0} (old new : IndexSet (Entry R) (ByRow E)) (keep : Handle 
   }
 
 -- the record after the one that a handle names, where an index is asked for
-pub next_named : {E R : Type 0} {has_key : E → ℕ → Bool} {order : E → ℕ → R → R → Ordering} {hash : E → ℕ → R → ℕ} (set : IndexSet (Entry R) (ByRow E)) (slots : List (Option Node)) → IsLinked has_key order hash set slots → (h : Handle) (n : Node) →
+pub next_named : {E R : Type 0} {has_key : E → ℕ → Bool} {order : E → ℕ → R → R → Ordering} {marks : E → ℕ → R → Marks} (set : IndexSet (Entry R) (ByRow E)) (slots : List (Option Node)) → IsLinked has_key order marks set slots → (h : Handle) (n : Node) →
     item_at slots h.slot ≡ Some n → is_handle h (handle_of (record_of set) n) ≡ true → (max writes : ℕ) (index : Option ℕ) → IfSome index (λ i. i < length (specs_of set)) →
     option_and_then (λ i. option_map (handle_of (record_of set)) (next (same_node n) (list_of set i))) index ≡ option_and_then (λ i. next_in (seen set max writes) i h) index
 next_named set slots linked h n at named max writes None within = refl

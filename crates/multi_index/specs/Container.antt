@@ -1,4 +1,5 @@
 -- What holds of every container.
+use Rattle.key_extract.specs.Digests.{Marks}
 use Rattle.std.specs.Prelude.{ℕ, ◌<◌, ◌≤◌, ◌^◌, Bool, List, Option}
 use Rattle.std.specs.declared.cmp.Ordering.{Ordering}
 use Rattle.node_store.specs.declared.Node.{Node}
@@ -11,8 +12,8 @@ use Rattle.linked_set.specs.Seen.{seen, IsLinked}
 
 module _ {E R : Type 0} where
   -- a set of nodes with slots that is a container
-  pub record IsContainer (has_key : E → ℕ → Bool) (order : E → ℕ → R → R → Ordering) (hash : E → ℕ → R → ℕ) (set : IndexSet (Entry R) (ByRow E)) (slots : List (Option Node)) (max writes : ℕ) : Type 0 where
-    pub linked : IsLinked has_key order hash set slots
+  pub record IsContainer (has_key : E → ℕ → Bool) (order : E → ℕ → R → R → Ordering) (marks : E → ℕ → R → Marks) (set : IndexSet (Entry R) (ByRow E)) (slots : List (Option Node)) (max writes : ℕ) : Type 0 where
+    pub linked : IsLinked has_key order marks set slots
     pub state : IsState has_key order (seen set max writes)
     pub narrow : max < 2 ^ 32
     pub numbered : writes < 2 ^ 64

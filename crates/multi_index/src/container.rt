@@ -1,11 +1,12 @@
 //! The container.
+ghost use Rattle.any_index.specs.Keyed.{marks_of};
 ghost use Rattle.std.specs.Prelude.{◌≡◌, ◌↔◌, ◌<◌, ◌≤◌, ◌^◌, ◌-◌, ◌==◌, IsTrue, false, length, [], None, unwrap_or, Some, IfOk, IfErr, IfSome, OnOk, OnErr};
 ghost use Rattle.list_model.specs.Place.{find_equal};
 ghost use Rattle.container_model.specs.State.{IsState, KeysMatch, empty, empty_with_most, list_at, row_of, has_key_kind, is_hashed_kind, is_sorted_kind};
 ghost use Rattle.container_model.specs.Find.{counted, found, kind_at};
 ghost use Rattle.container_model.specs.Insert.{insert_at_refusal, insert_refusal, new_handle, with_inserted};
 ghost use Rattle.index_set.specs.Set.{keys_of, specs_of, list_of, kind_at as set_kind_at, probe_side, IsSound, IsKeyed, IsUniqueExcept};
-ghost use Rattle.linked_set.specs.ByRow.{has_by_row, order_by_row, hash_by_row, probe_by_row};
+ghost use Rattle.linked_set.specs.ByRow.{has_by_row, order_by_row, marks_by_row, probe_by_row};
 
 use container_model::{Entry, Handle, Kind, Refused, Spec, Why};
 use index_set::IndexSet;
@@ -28,6 +29,7 @@ pub struct MultiIndex<R: Drop, E: Extract<R> + Drop> {
 
 impl<R: Drop, E: Extract<R> + Drop> Model for MultiIndex<R, E> {
     ghost use Rattle.container_model.specs.State.{State};
+    ghost use Rattle.any_index.specs.Keyed.{marks_of};
     ghost use Rattle.linked_set.specs.Seen.{seen};
     ghost use Rattle.multi_index.specs.Container.{IsContainer};
 
@@ -35,7 +37,7 @@ impl<R: Drop, E: Extract<R> + Drop> Model for MultiIndex<R, E> {
 
     ghost view = { λ c. seen c.set c.max c.writes };
 
-    ghost invariant = { λ c. IsContainer E.has_key E.order_of E.hash_of c.set c.slots.items c.max c.writes };
+    ghost invariant = { λ c. IsContainer E.has_key E.order_of (marks_of E.Extract) c.set c.slots.items c.max c.writes };
 }
 
 impl<R: Drop, E: Extract<R> + Drop> MultiIndex<R, E> {
@@ -330,7 +332,7 @@ fn first_with<R, E: Extract<R>>(
     probe: &E::Probe,
 ) -> Option<Node>
     requires sound { IsSound (has_by_row E.has_key) set.now }
-    requires keyed { IsKeyed (order_by_row E.order_of) (hash_by_row E.hash_of) set.now }
+    requires keyed { IsKeyed (order_by_row E.order_of) (marks_by_row (marks_of E.Extract)) set.now }
     requires unique { IsUniqueExcept (order_by_row E.order_of) set.now None }
     requires in_range { index < length (specs_of set.now) }
     requires has { IsTrue (has_key_kind (set_kind_at set.now index)) }

@@ -1,4 +1,5 @@
 //! The records of an index one after the other.
+ghost use Rattle.any_index.specs.Keyed.{marks_of};
 ghost use Rattle.std.specs.Prelude.{◌≡◌, ◌<◌, IsTrue, None, count_by, filter, length, not, slice_get};
 ghost use Rattle.std.specs.Ordering.{is_eq};
 ghost use Rattle.std.specs.Range.Bound.{bound_map};
@@ -8,7 +9,7 @@ ghost use Rattle.container_model.specs.Find.{kind_at, probe_side};
 ghost use Rattle.index_set.specs.Asked.{HasIndex};
 ghost use Rattle.index_set.specs.Set as nodes;
 ghost use Rattle.index_set.specs.Set.{keys_of, specs_of, list_of, IsSound, IsKeyed};
-ghost use Rattle.linked_set.specs.ByRow.{has_by_row, order_by_row, hash_by_row};
+ghost use Rattle.linked_set.specs.ByRow.{has_by_row, order_by_row, marks_by_row};
 ghost use Rattle.linked_set.specs.Edges.{edge_of, node_edge, KeyFits};
 ghost use Rattle.multi_index.specs.Iteration.{with_rows};
 
@@ -88,7 +89,7 @@ fn first_past<R, E: Extract<R>>(
     requires kind { IsTrue (is_sorted_kind (nodes.kind_at set.now index)) }
     requires fits { KeyFits (E.does_fit (keys_of set.now).keys index)
         (bound_map (λ p. p.now) high) }
-    requires keyed { IsKeyed (order_by_row E.order_of) (hash_by_row E.hash_of) set.now }
+    requires keyed { IsKeyed (order_by_row E.order_of) (marks_by_row (marks_of E.Extract)) set.now }
     ensures { result ≡ slice_get (list_of set.now index)
         (count_by
         (is_to (node_edge E.probe_order_of set.now index (bound_map (λ p. p.now) high.entry)))

@@ -1,4 +1,5 @@
 //! Changes of the order of one sequence that take no memory.
+ghost use Rattle.any_index.specs.Keyed.{marks_of};
 ghost use Rattle.std.specs.Prelude.{◌≡◌, ◌<◌, ◌==◌, None, Some, IfErr, IfOk, OnErr, OnOk, length, false};
 ghost use Rattle.container_model.specs.State.{is_sequence_kind};
 ghost use Rattle.container_model.specs.Sequence.{relocate_refusal, sequence_refusal, with_relocated, with_reversed};
@@ -96,7 +97,7 @@ fn movable<R, E: Extract<R>>(
     place: u64,
     handle: Handle,
 ) -> Result<Node, Why>
-    requires linked { IsLinked E.has_key E.order_of E.hash_of set.now slots.now.items }
+    requires linked { IsLinked E.has_key E.order_of (marks_of E.Extract) set.now slots.now.items }
     requires index { index < length (specs_of set.now) }
     ensures allowed { OnOk result (relocate_refusal (seen set.now 0 writes) index place
         handle ≡ None) }

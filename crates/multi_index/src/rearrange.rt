@@ -1,4 +1,5 @@
 //! Changes of the order of one sequence that take memory.
+ghost use Rattle.any_index.specs.Keyed.{marks_of};
 ghost use Rattle.std.specs.Prelude.{◌≡◌, ◌==◌, ◌⊎◌, ◌<◌, IsTrue, None, Some, IfErr, IfOk, OnErr, OnOk, length, map};
 ghost use Rattle.std.specs.List.{AllByRecursion};
 ghost use Rattle.container_model.specs.Sequence.{rearrange_refusal, with_list};
@@ -61,7 +62,7 @@ fn arrangement<R, E: Extract<R>>(
     index: usize,
     handles: &[Handle],
 ) -> Result<Vec<Node>, Why>
-    requires linked { IsLinked E.has_key E.order_of E.hash_of set.now slots.now.items }
+    requires linked { IsLinked E.has_key E.order_of (marks_of E.Extract) set.now slots.now.items }
     requires index { index < length (specs_of set.now) }
     ensures allowed { OnOk result
         (rearrange_refusal (seen set.now 0 writes) index handles.now ≡ None) }

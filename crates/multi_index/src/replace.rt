@@ -1,4 +1,5 @@
 //! Giving a record another row.
+ghost use Rattle.any_index.specs.Keyed.{marks_of};
 ghost use Rattle.std.specs.Prelude.{◌≡◌, ◌-◌, ◌^◌, ◌==◌, cond, None, Some, IfOk, IfErr, OnOk, OnErr};
 ghost use Rattle.std.specs.Option.{option_map_or};
 ghost use Rattle.container_model.specs.State.{row_of};
@@ -58,7 +59,7 @@ fn keeps_out<R, E: Extract<R>>(
     node: Node,
     entry: &Entry<R>,
 ) -> Option<Why>
-    requires linked { IsLinked E.has_key E.order_of E.hash_of set.now slots.now.items }
+    requires linked { IsLinked E.has_key E.order_of (marks_of E.Extract) set.now slots.now.items }
     requires held { HoldIt (lists_of set.now) node }
     requires handle { handle_of (record_of set.now) node ≡ entry.now.handle }
     ensures { result ≡ option_map_or (λ at. Some (Why.Banned at.0 at.1))

@@ -37,7 +37,7 @@ not_kept n except e = ap (λ (o : Option Node). is_kept o n) e ∙ ap not (same_
 kept_beside : (n m : Node) (except : Option Node) → except ≡ Some n → m ≢ n → is_kept except m ≡ true
 kept_beside n m except e ne = kept_if m except (λ k. ne (same_Some _ _ (sym k ∙ e)))
 
-excepted_or_not : (n : Node) (except : Option Node) → (except ≡ Some n) ⊎ (except ≢ Some n)
+pub excepted_or_not : (n : Node) (except : Option Node) → (except ≡ Some n) ⊎ (except ≢ Some n)
 excepted_or_not n None = inr (λ e. none-some n e)
 excepted_or_not n (Some m) = elim (node_cases m n) [ inl e ↦ inl (ap some_node e) | inr ne ↦ inr (λ e. ne (same_Some _ _ e)) ]
   where
@@ -51,7 +51,7 @@ All-kept_by : (keep : Node → Bool) (P : Node → Type 0) (x : Node) (xs : List
 All-kept_by keep P x xs true e k = (λ f. k.0, k.1)
 All-kept_by keep P x xs false e k = (λ f. absurd (false≢true (sym e ∙ f)), k)
 
-All-kept : (keep : Node → Bool) (P : Node → Type 0) (xs : List Node) → AllByRecursion P (filter keep xs) → AllByRecursion (λ y. keep y ≡ true → P y) xs
+pub All-kept : (keep : Node → Bool) (P : Node → Type 0) (xs : List Node) → AllByRecursion P (filter keep xs) → AllByRecursion (λ y. keep y ≡ true → P y) xs
 All-kept keep P [] h = tt
 All-kept keep P (x ∷ xs) h = let r = All-kept_by keep P x xs (keep x) refl h in (r.0, All-kept keep P xs r.1)
 

@@ -1,7 +1,9 @@
 -- The laws of what an index spells, for the crates above.
 use Rattle.std.proofs.Common.{◌≡◌, ℕ, zero, suc, ◌≤◌, List, [], ◌∷◌, ◌++◌, Option, Some, None, slice_get, ◌+◌, refl, sym, ap, ◌∙◌, subst, arith, length}
 use Rattle.node_store.specs.declared.Node.{Node}
-use Rattle.node_store.specs.Column.{Column, IsNode}
+use Rattle.node_store.specs.declared.Link.{Link}
+use Rattle.node_store.specs.declared.digest.Digest.{Digest}
+use Rattle.node_store.specs.Column.{Column, IsNode, IsPut}
 use Rattle.node_store.specs.Nodes.{AllNodes, Lacks, IsDistinct, IsSameAt}
 use Rattle.node_store.specs.Store.{Store, IsNodeOf}
 use Rattle.node_store.specs.ByNode.{column_of, same_node, AddsNode, RemovesNode}
@@ -11,12 +13,12 @@ use Rattle.node_store.proofs.Members.{each_held}
 pub use Rattle.node_store.proofs.Members.{Holds_at}
 use Rattle.ord_tree.specs.declared.tree.OrdTree.{OrdTree}
 use Rattle.ord_tree.specs.declared.tally.Tally.{Ghosts}
-use Rattle.ord_tree.specs.Tree.{Tree, Leaf, Fork, nodes, root, height, tree_link, Hangs, stored_height, left_of, right_of}
+use Rattle.ord_tree.specs.Tree.{Tree, Leaf, Fork, nodes, root, height, tree_link, stored_digest, Hangs, stored_height, left_of, right_of}
 use Rattle.ord_tree.specs.Spelled.{SpellsTree, Spells, IsSound, spelled, tree_of, tree_below, col_of, Holds}
 use Rattle.list_model.specs.Walk.{without, next, prev, last, place_of}
 use Rattle.list_model.proofs.Neighbours.{some_prev}
 use Rattle.ord_tree.proofs.NodeWalks.{without_at, rest_lacks}
-use Rattle.ord_tree.proofs.TreeLinks.{Hangs-same, stored_height-is}
+use Rattle.ord_tree.proofs.TreeLinks.{Hangs-same, Hangs-redigested, stored_height-is}
 use Rattle.ord_tree.proofs.Removing.{left_of-is, right_of-is}
 
 tree_below-is : (tally : ℕ → ℕ → ℕ) (c : Column) (p : Option Node) (t : Tree) (k : ℕ) → Hangs tally c p t → height t ≤ k → tree_below c (root t) k ≡ t
@@ -76,13 +78,28 @@ module _ {T : Type 0} {G : Ghosts T} where
   unfolding tree_of
   spelled_kept cs ds i e = ap (λ (c : Column). nodes (tree_below c i.root (stored_height c i.root))) e
 
+  -- a write of a digest alone leaves the list
+  pub Spells_redigested : (cs ds : ℕ → Column) (i : OrdTree T G) (xs : List Node) (n : Node) (link : Link) (x : Digest) → cs i.col n ≡ Some link → IsPut (cs i.col) (ds i.col) n (record link { digest = x }) → Spells cs i xs → Spells ds i xs
+  Spells_redigested cs ds i xs n link x has put s = record {
+    tree = s.tree;
+    nodes_are = s.nodes_are;
+    is = record {
+      hangs = Hangs-redigested G.of (cs i.col) (ds i.col) n link x has put None s.tree s.is.hangs;
+      root_is = s.is.root_is;
+      balanced = s.is.balanced;
+      distinct = s.is.distinct;
+      len = s.is.len;
+      fits = s.is.fits;
+    };
+  }
+
 AllNodes-append : (c : Column) (xs ys : List Node) → AllNodes c xs → AllNodes c ys → AllNodes c (xs ++ ys)
 AllNodes-append c [] ys h k = k
 AllNodes-append c (x ∷ xs) ys h k = (h.0, AllNodes-append c xs ys h.1 k)
 
 tree_nodes : (tally : ℕ → ℕ → ℕ) (c : Column) (p : Option Node) (t : Tree) → Hangs tally c p t → AllNodes c (nodes t)
 tree_nodes tally c p Leaf h = tt
-tree_nodes tally c p (Fork l n r) h = AllNodes-append c (nodes l) (n ∷ nodes r) (tree_nodes tally c (Some n) l h.1) (record { block = tree_link tally p l r; is = h.0 }, tree_nodes tally c (Some n) r h.2)
+tree_nodes tally c p (Fork l n r) h = AllNodes-append c (nodes l) (n ∷ nodes r) (tree_nodes tally c (Some n) l h.1) (record { block = tree_link tally p l r (stored_digest c n); is = h.0 }, tree_nodes tally c (Some n) r h.2)
 
 module _ {T : Type 0} {G : Ghosts T} where
   -- ---- when nodes come and go in the store

@@ -22,3 +22,5 @@ pub mod NextTo
 pub mod Settling
 pub mod Ordered
 pub mod Ways
+pub mod Digested
+pub mod Below

@@ -2,13 +2,14 @@
 use Rattle.std.proofs.Common.{◌≡◌, ℕ, ◌+◌, ◌<◌, ◌≤◌, max, inl, inr, Bool, false, true, not, List, ◌∷◌, ◌++◌, Option, Some, None, sym, ap, ◌∙◌, subst, refl, arith}
 use Rattle.node_store.specs.declared.Node.{Node}
 use Rattle.node_store.specs.declared.Link.{Link}
+use Rattle.node_store.specs.declared.digest.Digest.{Digest}
 use Rattle.node_store.specs.Column.{Column, IsPut}
 use Rattle.node_store.specs.Nodes.{Lacks, IsDistinct}
 use Rattle.node_store.proofs.NodeLists.{Lacks-back, IsDistinct-parts}
-use Rattle.ord_tree.specs.Tree.{Tree, Fork, nodes, root, height, tag_of, tree_link, Hangs, IsBalanced, stored_height, AreNodes}
+use Rattle.ord_tree.specs.Tree.{Tree, Fork, nodes, root, height, tag_of, tree_link, stored_digest, Hangs, IsBalanced, stored_height, AreNodes}
 use Rattle.ord_tree.specs.Steps.{Sides, Becomes, SetsUp, rebalanced, IsHeightOver, child_at, pair_at}
 use Rattle.ord_tree.specs.Path.{Path, LeftOf, RightOf, bottom, above, left_with, right_with, outside, Grafted, Turned, Lifts, Lifted}
-use Rattle.ord_tree.proofs.TreeLinks.{Split-from, Hangs-same, IsSameAt-put, AreNodes-root, stored_height-is, absent}
+use Rattle.ord_tree.proofs.TreeLinks.{own_link, Split-from, Hangs-same, IsSameAt-put, AreNodes-root, stored_height-is, absent}
 use Rattle.ord_tree.proofs.Rotations.{rebalanced-fork}
 use Rattle.ord_tree.proofs.Heights.{Settles-rebalanced}
 use Rattle.ord_tree.proofs.Rising.{Inner-plug, IsDistinct-left, IsDistinct-right, side_of}
@@ -33,7 +34,7 @@ pub record Sided (tally : ℕ → ℕ → ℕ) (c : Column) (n : Node) (own : Li
   pub over : (h : ℕ) → IsHeightOver h (height now) (stored_height c other) → IsHeightOver h (height (left_with path now)) (height (right_with path now))
   pub tag : (v : ℕ) → ((o : ℕ) → own.tag ≡ tally (tag_of tally was) o → v ≡ tally (tag_of tally now) o) → ((o : ℕ) → own.tag ≡ tally o (tag_of tally was) → v ≡ tally o (tag_of tally now)) → v ≡ tally (tag_of tally (left_with path now)) (tag_of tally (right_with path now))
 
-sided_left : (tally : ℕ → ℕ → ℕ) (c : Column) (n : Node) (new : Option Node) (own : Link) (ab : Option Node × Option Node) (other : Option Node) (z : Path) (r was now : Tree) → Grafted tally c (Some n) new (LeftOf z n r) was now → Hangs tally c (Some n) now → own ≡ tree_link tally (bottom z) was r → other ≡ own.b → ab ≡ (new, other) → Sided tally c n own ab other (LeftOf z n r) was now
+sided_left : (tally : ℕ → ℕ → ℕ) (c : Column) (n : Node) (new : Option Node) (own : Link) (ab : Option Node × Option Node) (other : Option Node) (z : Path) (r was now : Tree) → Grafted tally c (Some n) new (LeftOf z n r) was now → Hangs tally c (Some n) now → own ≡ tree_link tally (bottom z) was r (stored_digest c n) → other ≡ own.b → ab ≡ (new, other) → Sided tally c n own ab other (LeftOf z n r) was now
 sided_left tally c n new own ab other z r was now h hangs e f g =
     let inner = Inner-plug z (Fork was n r) h.was_balanced in
     let b : other ≡ root r = f ∙ ap (λ (x : Link). x.b) e in
@@ -59,7 +60,7 @@ sided_left tally c n new own ab other z r was now h hangs e f g =
       tag = λ v on_left on_right. on_left (tag_of tally r) (ap (λ (x : Link). x.tag) e);
     }
 
-sided_right : (tally : ℕ → ℕ → ℕ) (c : Column) (n : Node) (new : Option Node) (own : Link) (ab : Option Node × Option Node) (other : Option Node) (z : Path) (l was now : Tree) → Grafted tally c (Some n) new (RightOf z l n) was now → Hangs tally c (Some n) now → own ≡ tree_link tally (bottom z) l was → other ≡ own.a → ab ≡ (other, new) → Sided tally c n own ab other (RightOf z l n) was now
+sided_right : (tally : ℕ → ℕ → ℕ) (c : Column) (n : Node) (new : Option Node) (own : Link) (ab : Option Node × Option Node) (other : Option Node) (z : Path) (l was now : Tree) → Grafted tally c (Some n) new (RightOf z l n) was now → Hangs tally c (Some n) now → own ≡ tree_link tally (bottom z) l was (stored_digest c n) → other ≡ own.a → ab ≡ (other, new) → Sided tally c n own ab other (RightOf z l n) was now
 sided_right tally c n new own ab other z l was now h hangs e f g =
     let inner = Inner-plug z (Fork l n was) h.was_balanced in
     let a : other ≡ root l = f ∙ ap (λ (x : Link). x.a) e in
@@ -117,20 +118,20 @@ Sides-of tally c n own ab other path was now s = record {
   right_low = s.right_low;
 }
 
-abbrev a_link : Option Node × Option Node → Option Node → ℕ → ℕ → Link
-a_link ab up tag height = record { a = ab.0; b = ab.1; up = up; tag = tag; height = height }
+abbrev a_link : Option Node × Option Node → Option Node → ℕ → ℕ → Digest → Link
+a_link ab up tag height digest = record { a = ab.0; b = ab.1; up = up; tag = tag; height = height; digest = digest }
 
 -- the links of a node that stays in balance
-kept_link : (tally : ℕ → ℕ → ℕ) (ab : Option Node × Option Node) (up p : Option Node) (l r : Tree) (v h : ℕ) → ab.0 ≡ root l → ab.1 ≡ root r → up ≡ p → v ≡ tally (tag_of tally l) (tag_of tally r) → h ≡ max (height l) (height r) + 1 → Some (a_link ab up v h) ≡ Some (tree_link tally p l r)
-kept_link tally ab up p l r v h e f g t k = rw (e, f, g, t, k) refl
+kept_link : (tally : ℕ → ℕ → ℕ) (ab : Option Node × Option Node) (up p : Option Node) (l r : Tree) (v h : ℕ) (q : Digest) → ab.0 ≡ root l → ab.1 ≡ root r → up ≡ p → v ≡ tally (tag_of tally l) (tag_of tally r) → h ≡ max (height l) (height r) + 1 → Some (a_link ab up v h q) ≡ Some (tree_link tally p l r q)
+kept_link tally ab up p l r v h q e f g t k = rw (e, f, g, t, k) refl
 
-pub lifted_kept : (tally : ℕ → ℕ → ℕ) (c d : Column) (n : Node) (own : Link) (ab : Option Node × Option Node) (other : Option Node) (path : Path) (was now : Tree) (v h : ℕ) → Sided tally c n own ab other path was now → IsPut c d n (a_link ab own.up v h) → v ≡ tally (tag_of tally (left_with path now)) (tag_of tally (right_with path now)) → IsHeightOver h (height (left_with path now)) (height (right_with path now)) → Lifted tally c d n path now n
+pub lifted_kept : (tally : ℕ → ℕ → ℕ) (c d : Column) (n : Node) (own : Link) (ab : Option Node × Option Node) (other : Option Node) (path : Path) (was now : Tree) (v h : ℕ) → Sided tally c n own ab other path was now → IsPut c d n (a_link ab own.up v h own.digest) → v ≡ tally (tag_of tally (left_with path now)) (tag_of tally (right_with path now)) → IsHeightOver h (height (left_with path now)) (height (right_with path now)) → Lifted tally c d n path now n
 lifted_kept tally c d n own ab other path was now v h s put t k =
     let l = left_with path now in
     let r = right_with path now in
     let split = Split-from (nodes l) n (nodes r) s.distinct in
     let is = rebalanced-fork l n r (height l) (height r) refl refl k.left_low k.right_low in
-    let here = put.at ∙ kept_link tally ab own.up (bottom (above path)) l r v h s.a_is s.b_is s.up_is t k.is in
+    let here = own_link tally d n (bottom (above path)) l r _ (put.at ∙ kept_link tally ab own.up (bottom (above path)) l r v h own.digest s.a_is s.b_is s.up_is t k.is) in
     let left = Hangs-same tally c d (Some n) l (IsSameAt-put c d n _ put (nodes l) split.left_lacks) s.left in
     let right = Hangs-same tally c d (Some n) r (IsSameAt-put c d n _ put (nodes r) split.right_lacks) s.right in
     record {

@@ -5,12 +5,14 @@ use Rattle.std.proofs.lemmas.List.{reverse-append, length-reverse}
 use Rattle.std.proofs.lemmas.Option.{none-some}
 use Rattle.node_store.specs.declared.Node.{Node}
 use Rattle.node_store.specs.declared.Link.{Link}
+use Rattle.node_store.specs.declared.digest.Digest.{Digest}
 use Rattle.node_store.specs.Column.{Column, IsNode}
 use Rattle.node_store.specs.Nodes.{Lacks, IsDistinct}
 use Rattle.node_store.proofs.NodeLists.{Lacks-append, AreApart-nil, AreApart-cons, IsDistinct-append, reverse_cons}
-use Rattle.ord_tree.specs.Tree.{Tree, Leaf, Fork, nodes, root, height, tag_of, tree_link, Hangs, IsAt, IsBalanced}
+use Rattle.ord_tree.specs.Tree.{Tree, Leaf, Fork, nodes, root, height, tag_of, tree_link, stored_digest, Hangs, IsAt, IsBalanced}
 use Rattle.ord_tree.specs.Removal.{IsIn, Whole}
 use Rattle.ord_tree.specs.Mirror.{mirror, flipped, flipped_link, flipped_tally}
+use Rattle.ord_tree.proofs.TreeLinks.{own_link}
 use Rattle.ord_tree.proofs.Removing.{IsIn-at}
 
 -- ---- lists the other way round
@@ -44,18 +46,18 @@ IsBalanced-mirror (Fork l n r) h = (omega (arith, h.1, height-mirror l, height-m
 length-mirror : (t : Tree) → length (nodes (mirror t)) ≡ length (nodes t)
 length-mirror t = ap length (nodes-mirror t) ∙ length-reverse (nodes t)
 
-abbrev a_link : Option Node → Option Node → Option Node → ℕ → ℕ → Link
-a_link a b up tag height = record { a = a; b = b; up = up; tag = tag; height = height }
+abbrev a_link : Option Node → Option Node → Option Node → ℕ → ℕ → Digest → Link
+a_link a b up tag height digest = record { a = a; b = b; up = up; tag = tag; height = height; digest = digest }
 
-same_parts : (a x b y up : Option Node) (t u h k : ℕ) → a ≡ x → b ≡ y → t ≡ u → h ≡ k → a_link a b up t h ≡ a_link x y up u k
-same_parts a x b y up t u h k e f g i =
-    ap (λ (z : Option Node). a_link z b up t h) e ∙ ap (λ (z : Option Node). a_link x z up t h) f ∙ ap (λ (z : ℕ). a_link x y up z h) g ∙ ap (λ (z : ℕ). a_link x y up u z) i
+same_parts : (a x b y up : Option Node) (t u h k : ℕ) (q : Digest) → a ≡ x → b ≡ y → t ≡ u → h ≡ k → a_link a b up t h q ≡ a_link x y up u k q
+same_parts a x b y up t u h k q e f g i =
+    ap (λ (z : Option Node). a_link z b up t h q) e ∙ ap (λ (z : Option Node). a_link x z up t h q) f ∙ ap (λ (z : ℕ). a_link x y up z h q) g ∙ ap (λ (z : ℕ). a_link x y up u z q) i
 
-link-mirror : (tally : ℕ → ℕ → ℕ) (p : Option Node) (l r : Tree) → flipped_link (tree_link tally p l r) ≡ tree_link (flipped_tally tally) p (mirror r) (mirror l)
-link-mirror tally p l r =
+link-mirror : (tally : ℕ → ℕ → ℕ) (p : Option Node) (l r : Tree) (q : Digest) → flipped_link (tree_link tally p l r q) ≡ tree_link (flipped_tally tally) p (mirror r) (mirror l) q
+link-mirror tally p l r q =
     let tags : tally (tag_of tally l) (tag_of tally r) ≡ tally (tag_of (flipped_tally tally) (mirror l)) (tag_of (flipped_tally tally) (mirror r)) =
     ap (λ (x : ℕ). tally x (tag_of tally r)) (sym (tag-mirror tally l)) ∙ ap (λ (x : ℕ). tally (tag_of (flipped_tally tally) (mirror l)) x) (sym (tag-mirror tally r)) in
-    same_parts (root r) (root (mirror r)) (root l) (root (mirror l)) p _ _ _ _ (sym (root-mirror r)) (sym (root-mirror l)) tags (omega (arith, height-mirror l, height-mirror r))
+    same_parts (root r) (root (mirror r)) (root l) (root (mirror l)) p _ _ _ _ q (sym (root-mirror r)) (sym (root-mirror l)) tags (omega (arith, height-mirror l, height-mirror r))
 
 -- ---- columns
 
@@ -74,7 +76,7 @@ unflip_node c n h = by_link (c n) refl
 
 pub Hangs-mirror : (tally : ℕ → ℕ → ℕ) (c : Column) (p : Option Node) (t : Tree) → Hangs tally c p t → Hangs (flipped_tally tally) (flipped c) p (mirror t)
 Hangs-mirror tally c p Leaf h = tt
-Hangs-mirror tally c p (Fork l n r) h = (flip_link c n (tree_link tally p l r) h.0 ∙ ap some_link (link-mirror tally p l r), Hangs-mirror tally c (Some n) r h.2, Hangs-mirror tally c (Some n) l h.1)
+Hangs-mirror tally c p (Fork l n r) h = (own_link (flipped_tally tally) (flipped c) n p (mirror r) (mirror l) _ (flip_link c n (tree_link tally p l r (stored_digest c n)) h.0 ∙ ap some_link (link-mirror tally p l r (stored_digest c n))), Hangs-mirror tally c (Some n) r h.2, Hangs-mirror tally c (Some n) l h.1)
   where
     some_link : Link → Option Link
     some_link x = Some x

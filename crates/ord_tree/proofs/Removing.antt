@@ -7,7 +7,7 @@ use Rattle.node_store.specs.declared.Link.{Link}
 use Rattle.node_store.specs.Column.{Column, IsNode, IsPut}
 use Rattle.node_store.specs.Nodes.{Lacks, IsDistinct, first_or}
 use Rattle.node_store.proofs.NodeLists.{Lacks-front, Lacks-back, Lacks-append, AreApart-head, AreApart-tail, AreApart-append, AreApart-sym, IsDistinct-parts, IsDistinct-append, first_or-append, IsDistinct-insert}
-use Rattle.ord_tree.specs.Tree.{Tree, Leaf, Fork, nodes, root, height, tree_link, Hangs, IsAt, IsBalanced, stored_height, left_of, right_of}
+use Rattle.ord_tree.specs.Tree.{Tree, Leaf, Fork, nodes, root, height, tree_link, stored_digest, Hangs, IsAt, IsBalanced, stored_height, left_of, right_of}
 use Rattle.ord_tree.specs.Steps.{ChangesAt, Joins, CanHang}
 use Rattle.ord_tree.specs.Path.{Path, Top, LeftOf, RightOf, plug, bottom, outside, before, after, rebuilt, Leads, ReplacedAt, Replaced, Rises}
 use Rattle.ord_tree.specs.declared.tree.OrdTree.{OrdTree}
@@ -168,7 +168,7 @@ pub spliced : (tally : ℕ → ℕ → ℕ) (c : Column) (n : Node) (link : Link
 spliced tally c n link t w e one =
     let at = locate t n w.has in
     let u = Unplugged-from tally c at.path (Fork at.l n at.r) (subst (λ (z : Tree). Hangs tally c None z) (sym at.is) w.hangs) in
-    let is : link ≡ tree_link tally (bottom at.path) at.l at.r = same_Some _ _ (sym e ∙ u.hangs.0) in
+    let is : link ≡ tree_link tally (bottom at.path) at.l at.r (stored_digest c n) = same_Some _ _ (sym e ∙ u.hangs.0) in
     let a : link.a ≡ root at.l = ap (λ (z : Link). z.a) is in
     let b : link.b ≡ root at.r = ap (λ (z : Link). z.b) is in
     let small : root at.l ≡ None ⊎ root at.r ≡ None = elim one [ inl k ↦ inl (sym a ∙ k) | inr k ↦ inr (sym b ∙ k) ] in
@@ -229,7 +229,7 @@ pub whole_node : (tally : ℕ → ℕ → ℕ) (c : Column) (n : Node) (t : Tree
 whole_node tally c n t w =
     let at = locate t n w.has in
     let u = Unplugged-from tally c at.path (Fork at.l n at.r) (subst (λ (z : Tree). Hangs tally c None z) (sym at.is) w.hangs) in
-    record { block = tree_link tally (bottom at.path) at.l at.r; is = u.hangs.0 }
+    record { block = tree_link tally (bottom at.path) at.l at.r (stored_digest c n); is = u.hangs.0 }
 
 pub one_child : (c : Column) (n : Node) (link : Link) → c n ≡ Some link → (left_of c n ≡ None) ⊎ (right_of c n ≡ None) → link.a ≡ None ⊎ link.b ≡ None
 one_child c n link e h = elim h [ inl k ↦ inl (sym (left_of-is c n link e) ∙ k) | inr k ↦ inr (sym (right_of-is c n link e) ∙ k) ]
@@ -251,7 +251,7 @@ pub record WholeSides (tally : ℕ → ℕ → ℕ) (c : Column) (n : Node) (lin
   pub is : plug path (Fork l n r) ≡ t
   pub at_left : IsAt tally c link.a l
   pub at_right : IsAt tally c link.b r
-  pub link_is : link ≡ tree_link tally (bottom path) l r
+  pub link_is : link ≡ tree_link tally (bottom path) l r (stored_digest c n)
   pub up_is : link.up ≡ bottom path
   pub leads : Leads tally c path (Fork l n r)
   pub balanced : IsBalanced (plug path (Fork l n r))
@@ -264,7 +264,7 @@ pub whole_sides : (tally : ℕ → ℕ → ℕ) (c : Column) (n : Node) (link : 
 whole_sides tally c n link t w e =
     let at = locate t n w.has in
     let u = Unplugged-from tally c at.path (Fork at.l n at.r) (subst (λ (z : Tree). Hangs tally c None z) (sym at.is) w.hangs) in
-    let is : link ≡ tree_link tally (bottom at.path) at.l at.r = same_Some _ _ (sym e ∙ u.hangs.0) in
+    let is : link ≡ tree_link tally (bottom at.path) at.l at.r (stored_digest c n) = same_Some _ _ (sym e ∙ u.hangs.0) in
     let bal = subst IsBalanced (sym at.is) w.balanced in
     record {
       path = at.path;

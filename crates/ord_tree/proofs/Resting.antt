@@ -2,8 +2,9 @@
 use Rattle.std.proofs.Common.{◌≡◌, ℕ, ◌+◌, ◌≤◌, max, Option, Some, None, refl, sym, ap, ◌∙◌, subst, arith}
 use Rattle.node_store.specs.declared.Node.{Node}
 use Rattle.node_store.specs.declared.Link.{Link}
+use Rattle.node_store.specs.declared.digest.Digest.{Digest}
 use Rattle.node_store.specs.Column.{Column}
-use Rattle.ord_tree.specs.Tree.{Tree, Fork, nodes, root, height, tag_of, tree_link, Hangs, IsAt, IsBalanced, stored_tag}
+use Rattle.ord_tree.specs.Tree.{Tree, Fork, nodes, root, height, tag_of, tree_link, stored_digest, Hangs, IsAt, IsBalanced, stored_tag}
 use Rattle.ord_tree.specs.Path.{Path, Top, LeftOf, RightOf, plug, bottom, Leads, rebuilt, IsLike, Rises}
 use Rattle.ord_tree.proofs.TreeLinks.{stored_tag-is}
 use Rattle.ord_tree.proofs.Rotations.{IsAt-height, rebalanced-fork}
@@ -29,17 +30,17 @@ Alike-right tally t u n l a = record {
   tag_is = ap (λ (v : ℕ). tally (tag_of tally l) v) a.tag_is;
 }
 
-link-left : (tally : ℕ → ℕ → ℕ) (p : Option Node) (t u r : Tree) → Alike tally t u → Some (tree_link tally p t r) ≡ Some (tree_link tally p u r)
-link-left tally p t u r a = rw (a.root_is, a.height_is, a.tag_is) refl
+link-left : (tally : ℕ → ℕ → ℕ) (p : Option Node) (t u r : Tree) (q : Digest) → Alike tally t u → Some (tree_link tally p t r q) ≡ Some (tree_link tally p u r q)
+link-left tally p t u r q a = rw (a.root_is, a.height_is, a.tag_is) refl
 
-link-right : (tally : ℕ → ℕ → ℕ) (p : Option Node) (t u l : Tree) → Alike tally t u → Some (tree_link tally p l t) ≡ Some (tree_link tally p l u)
-link-right tally p t u l a = rw (a.root_is, a.height_is, a.tag_is) refl
+link-right : (tally : ℕ → ℕ → ℕ) (p : Option Node) (t u l : Tree) (q : Digest) → Alike tally t u → Some (tree_link tally p l t q) ≡ Some (tree_link tally p l u q)
+link-right tally p t u l q a = rw (a.root_is, a.height_is, a.tag_is) refl
 
 -- the links above lead to either
 Leads-alike : (tally : ℕ → ℕ → ℕ) (c : Column) (z : Path) (t u : Tree) → Alike tally t u → Leads tally c z t → Leads tally c z u
 Leads-alike tally c Top t u a h = tt
-Leads-alike tally c (LeftOf z n r) t u a h = (h.0 ∙ link-left tally (bottom z) t u r a, h.1, Leads-alike tally c z (Fork t n r) (Fork u n r) (Alike-left tally t u n r a) h.2)
-Leads-alike tally c (RightOf z l n) t u a h = (h.0 ∙ link-right tally (bottom z) t u l a, h.1, Leads-alike tally c z (Fork l n t) (Fork l n u) (Alike-right tally t u n l a) h.2)
+Leads-alike tally c (LeftOf z n r) t u a h = (h.0 ∙ link-left tally (bottom z) t u r (stored_digest c n) a, h.1, Leads-alike tally c z (Fork t n r) (Fork u n r) (Alike-left tally t u n r a) h.2)
+Leads-alike tally c (RightOf z l n) t u a h = (h.0 ∙ link-right tally (bottom z) t u l (stored_digest c n) a, h.1, Leads-alike tally c z (Fork l n t) (Fork l n u) (Alike-right tally t u n l a) h.2)
 
 -- the links of a subtree and those above it are those of the whole tree
 plugged : (tally : ℕ → ℕ → ℕ) (c : Column) (z : Path) (t : Tree) → Leads tally c z t → Hangs tally c (bottom z) t → Hangs tally c None (plug z t)

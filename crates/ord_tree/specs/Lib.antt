@@ -1,4 +1,5 @@
 pub mod Tree
+pub mod Digests
 pub mod Steps
 pub mod Path
 pub mod Cut

@@ -9,7 +9,7 @@ mirror Leaf = Leaf
 mirror (Fork l n r) = Fork (mirror r) n (mirror l)
 
 abbrev pub flipped_link : Link → Link
-flipped_link l = record { a = l.b; b = l.a; up = l.up; tag = l.tag; height = l.height }
+flipped_link l = record { a = l.b; b = l.a; up = l.up; tag = l.tag; height = l.height; digest = l.digest }
 
 abbrev pub flipped : Column → Column
 flipped c n = option_map flipped_link (c n)

@@ -10,6 +10,7 @@ use Rattle.node_store.specs.ByNode.{column_of, record_of, contents}
 use Rattle.key_extract.specs.declared.extract.Extract.{Ghosts}
 use Rattle.ord_tree.specs.declared.tally.Tally.{Ghosts as Tallies}
 use Rattle.ord_tree.specs.declared.tree.OrdTree.{OrdTree}
+use Rattle.ord_tree.specs.Digests.{KeepsDigest, AreDigested}
 use Rattle.ord_tree.specs.Side.{side_of, order_at}
 use Rattle.ord_tree.specs.Same.{without_excepted}
 use Rattle.ord_tree.specs.Spelled.{Spells, IsSound, spelled, col_of, index_of}
@@ -59,21 +60,32 @@ module _ {T : Type 0} {G : Tallies T} where
     abbrev pub HasKey : OrdTree T G → E → Type 0
     HasKey i keys = IsTrue (X.has_key keys (index_of i))
 
-    -- the nodes of the tree stand in the order of its key
+    -- the link of the node has the digest of its record's key
+    abbrev pub HasItsDigest : OrdTree T G → Store R → E → Node → Type 0
+    HasItsDigest i s keys n = KeepsDigest (X.digest_of keys (index_of i)) s (col_of i) n
+
+    -- those of the nodes do
+    abbrev pub HaveTheirDigests : OrdTree T G → Store R → E → List Node → Type 0
+    HaveTheirDigests i s keys xs = AreDigested (X.digest_of keys (index_of i)) s (col_of i) xs
+
+    -- the nodes of the tree stand in the order of its key, and their links have their digests
     pub record IsOrdered (i : OrdTree T G) (s : Store R) (keys : E) : Type 0 where
       pub tree : IsTreeOf i s
       pub key : HasKey i keys
       pub order : IsInOrder (order_in i s keys) (nodes_of i s)
+      pub digested : HaveTheirDigests i s keys (nodes_of i s)
 
     -- all but the excepted one do
     pub record IsOrderedBut (except : Option Node) (i : OrdTree T G) (s : Store R) (keys : E) : Type 0 where
       pub tree : IsTreeOf i s
       pub key : HasKey i keys
       pub order : IsInOrder (order_in i s keys) (without_excepted except (nodes_of i s))
+      pub digested : HaveTheirDigests i s keys (without_excepted except (nodes_of i s))
 
-    -- the nodes stand in order, and the probe is a part of the key
+    -- the nodes stand in order, their links have their digests, and the probe is a part of the key
     pub record CanSearch (i : OrdTree T G) (s : Store R) (keys : E) (probe : P) : Type 0 where
       pub tree : IsTreeOf i s
       pub key : HasKey i keys
       pub fits : IsTrue (X.does_fit keys (index_of i) probe)
       pub order : IsInOrder (order_in i s keys) (nodes_of i s)
+      pub digested : HaveTheirDigests i s keys (nodes_of i s)

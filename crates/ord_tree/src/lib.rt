@@ -5,6 +5,7 @@
 #![tactic(auto)]
 
 mod height;
+mod order;
 mod parts;
 mod removal;
 mod same;
@@ -15,5 +16,6 @@ mod tally;
 mod tree;
 mod walk;
 
+pub use order::order_to_probe;
 pub use tally::{NoTally, Tally};
 pub use tree::OrdTree;

@@ -3,6 +3,7 @@ ghost use Rattle.std.specs.Prelude.{◌≡◌, ◌<◌, ◌⊎◌, Option, Some,
 ghost use Rattle.node_store.specs.Column.{IsNode};
 ghost use Rattle.node_store.specs.Nodes.{Lacks, first_or};
 ghost use Rattle.ord_tree.specs.Tree.{Tree, nodes, root, IsAt, left_of, right_of};
+ghost use Rattle.ord_tree.specs.Digests.{KeepsDigests};
 ghost use Rattle.ord_tree.specs.Steps.{KeepsOthers, KeepsNodes};
 ghost use Rattle.ord_tree.specs.Path.{Path, after};
 ghost use Rattle.ord_tree.specs.Removal.{Climbs, HasClimb, or_node, HasTree, Whole, HasWhole, HasRoomFor, Without, Substitutes};
@@ -45,6 +46,7 @@ pub(crate) fn splice<T: Tally, R>(
     ensures tree { (t : Tree) → Whole T.of (column_of store.old col) n t → tree_root ≡ root t →
         Without T.of (column_of store.old col) (column_of store.new col) n t result }
     ensures nodes { KeepsNodes (column_of store.old col) (column_of store.new col) }
+    ensures digests { KeepsDigests (column_of store.old col) (column_of store.new col) }
     ensures others { KeepsOthers (column_of store.old) (column_of store.new) col }
     ensures contents { contents store.new ≡ contents store.old }
 {
@@ -66,6 +68,7 @@ pub(crate) fn replace<T: Tally, R>(
         tree_root ≡ root t → Substitutes T.of (column_of store.old col)
         (column_of store.new col) old new t result }
     ensures nodes { KeepsNodes (column_of store.old col) (column_of store.new col) }
+    ensures digests { KeepsDigests (column_of store.old col) (column_of store.new col) }
     ensures others { KeepsOthers (column_of store.old) (column_of store.new) col }
     ensures contents { contents store.new ≡ contents store.old }
 {
@@ -85,6 +88,7 @@ pub(crate) fn take_out<T: Tally, R>(
     ensures tree { (t : Tree) → Whole T.of (column_of store.old col) n t → tree_root ≡ root t →
         Without T.of (column_of store.old col) (column_of store.new col) n t result }
     ensures nodes { KeepsNodes (column_of store.old col) (column_of store.new col) }
+    ensures digests { KeepsDigests (column_of store.old col) (column_of store.new col) }
     ensures others { KeepsOthers (column_of store.old) (column_of store.new) col }
     ensures contents { contents store.new ≡ contents store.old }
 {

@@ -3,10 +3,11 @@ ghost use Rattle.std.specs.Prelude.{◌≡◌, ◌<◌, find};
 ghost use Rattle.list_model.specs.Place.{lower as the_lower, upper as the_upper, find_equal};
 ghost use Rattle.ord_tree.specs.Seek.{is_sought, comes_before};
 
+use crate::order::order_to_probe;
 use crate::tally::Tally;
 use crate::tree::OrdTree;
 use key_extract::Extract;
-use node_store::{Node, NodeStore};
+use node_store::{Digest, Node, NodeStore};
 use std::cmp::Ordering;
 
 /// The nodes that a descent looks for, by how they stand to its key: it finds the first of them.
@@ -153,9 +154,10 @@ impl<T: Tally> OrdTree<T> {
         let mut found = None;
         let mut at = self.root;
         let mut comparisons = 0;
+        let digest = Digest::of(keys.digest_probe(self.index, probe));
         while let Some(n) = at {
             let link = store.link(n, self.col);
-            let order = keys.order_probe(self.index, store.get(n), probe);
+            let order = order_to_probe(keys, self.index, link.digest, store.get(n), digest, probe);
             comparisons += 1;
             if sought.comes_after(order) {
                 at = link.b;

@@ -2,13 +2,14 @@
 ghost use Rattle.std.specs.Prelude.{◌≡◌, ◌+◌, ◌<◌, ◌≤◌, Option, Some, None, IfSome, IsTrue, ◌↔◌};
 ghost use Rattle.node_store.specs.Column.{IsNode};
 ghost use Rattle.node_store.specs.declared.Link.{Link};
-ghost use Rattle.ord_tree.specs.Tree.{Tree, Leaf, Fork, root, nodes, Hangs, stored_height, stored_tag, AreNodes};
+ghost use Rattle.ord_tree.specs.Tree.{Tree, Leaf, Fork, root, nodes, Hangs, stored_height, stored_tag, stored_digest, AreNodes};
 ghost use Rattle.ord_tree.specs.Path.{Path, plug, IsLike, Replaced, ReplacedAt, Hung, Rises, Grafted, GraftedSide, Turned, Lifts, HasLift, Lifted};
+ghost use Rattle.ord_tree.specs.Digests.{KeepsDigests, KeepsOtherDigests};
 ghost use Rattle.ord_tree.specs.Steps.{CanHang, KeepsOthers, KeepsNodes, SetsUp, Joins, Sides, Becomes, rotated_right, rotated_left, rebalanced, IsHeightOver, child_at, pair_at};
 ghost use Rattle.node_store.specs.ByNode.{column_of, contents};
 
 use crate::tally::Tally;
-use node_store::{Link, Node, NodeStore};
+use node_store::{Digest, Link, Node, NodeStore};
 
 /// The height of the subtree below `child`.
 pub(crate) fn height_of<R>(store: &NodeStore<R>, col: usize, child: Option<Node>) -> u8
@@ -41,6 +42,7 @@ pub(crate) fn set_up<T: Tally, R>(
 )
     requires { AreNodes (column_of store.old col) child }
     ensures up { SetsUp T.of (column_of store.old col) (column_of store.new col) child parent }
+    ensures digests { KeepsDigests (column_of store.old col) (column_of store.new col) }
     ensures others { KeepsOthers (column_of store.old) (column_of store.new) col }
     ensures contents { contents store.new ≡ contents store.old }
 {
@@ -62,6 +64,7 @@ pub(crate) fn join<T: Tally, R>(
     requires left { CanHang (column_of store.old col) left }
     requires right { CanHang (column_of store.old col) right }
     ensures joined { Joins T.of (column_of store.old col) (column_of store.new col) left n right }
+    ensures digests { KeepsDigests (column_of store.old col) (column_of store.new col) }
     ensures others { KeepsOthers (column_of store.old) (column_of store.new) col }
     ensures contents { contents store.new ≡ contents store.old }
 {
@@ -72,10 +75,31 @@ pub(crate) fn join<T: Tally, R>(
         up: None,
         tag: T::of(tally_of(store, col, left), tally_of(store, col, right)),
         height,
+        digest: store.link(n, col).digest,
     };
     store.set_link(n, col, link);
     set_up::<T, R>(store, col, left, Some(n));
     set_up::<T, R>(store, col, right, Some(n));
+}
+
+/// Makes `n` a tree of its own, with this digest.
+pub(crate) fn plant<T: Tally, R>(store: &mut NodeStore<R>, col: usize, n: Node, digest: Digest)
+    requires node { IsNode (column_of store.old col) n }
+    ensures joined { Joins T.of (column_of store.old col) (column_of store.new col) None n None }
+    ensures digest { stored_digest (column_of store.new col) n ≡ digest }
+    ensures digests { KeepsOtherDigests (column_of store.old col) (column_of store.new col) n }
+    ensures others { KeepsOthers (column_of store.old) (column_of store.new) col }
+    ensures contents { contents store.new ≡ contents store.old }
+{
+    let link = Link {
+        a: None,
+        b: None,
+        up: None,
+        tag: T::of(0, 0),
+        height: 1,
+        digest,
+    };
+    store.set_link(n, col, link);
 }
 
 /// Rotates to the right: the left side of `n` is too high, and its root goes up, or the middle below it.
@@ -92,6 +116,7 @@ fn rotate_right<T: Tally, R>(
         Becomes T.of (column_of store.old col) (column_of store.new col) None (nodes (Fork s.l n s.r))
         (rotated_right s.l n s.r) result }
     ensures nodes { KeepsNodes (column_of store.old col) (column_of store.new col) }
+    ensures digests { KeepsDigests (column_of store.old col) (column_of store.new col) }
     ensures others { KeepsOthers (column_of store.old) (column_of store.new) col }
     ensures contents { contents store.new ≡ contents store.old }
 {
@@ -131,6 +156,7 @@ fn rotate_left<T: Tally, R>(
         Becomes T.of (column_of store.old col) (column_of store.new col) None (nodes (Fork s.l n s.r))
         (rotated_left s.l n s.r) result }
     ensures nodes { KeepsNodes (column_of store.old col) (column_of store.new col) }
+    ensures digests { KeepsDigests (column_of store.old col) (column_of store.new col) }
     ensures others { KeepsOthers (column_of store.old) (column_of store.new) col }
     ensures contents { contents store.new ≡ contents store.old }
 {
@@ -170,6 +196,7 @@ fn balance<T: Tally, R>(
         Becomes T.of (column_of store.old col) (column_of store.new col) None (nodes (Fork s.l n s.r))
         (rebalanced s.l n s.r) result }
     ensures nodes { KeepsNodes (column_of store.old col) (column_of store.new col) }
+    ensures digests { KeepsDigests (column_of store.old col) (column_of store.new col) }
     ensures others { KeepsOthers (column_of store.old) (column_of store.new) col }
     ensures contents { contents store.new ≡ contents store.old }
 {
@@ -267,6 +294,7 @@ fn lift<T: Tally, R>(
         Lifts T.of (column_of store.old col) n on_right height_was tag_was new path was now →
         Lifted T.of (column_of store.old col) (column_of store.new col) n path now result }
     ensures nodes { KeepsNodes (column_of store.old col) (column_of store.new col) }
+    ensures digests { KeepsDigests (column_of store.old col) (column_of store.new col) }
     ensures others { KeepsOthers (column_of store.old) (column_of store.new) col }
     ensures contents { contents store.new ≡ contents store.old }
 {
@@ -276,13 +304,12 @@ fn lift<T: Tally, R>(
     let other = child(store, col, n, !on_right);
     let (a, b) = in_order(on_right, new, other);
     if let Some(height) = height_over(store, col, link.height, height_was, now, other) {
-        let up = link.up;
         let lifted = Link {
             a,
             b,
-            up,
             tag,
             height,
+            ..link
         };
         store.set_link(n, col, lifted);
         return n;
@@ -310,6 +337,7 @@ pub(crate) fn rise<T: Tally, R>(
         tree_root ≡ root (plug path was) →
         Rises T.of (column_of store.old col) (column_of store.new col) path now result }
     ensures nodes { KeepsNodes (column_of store.old col) (column_of store.new col) }
+    ensures digests { KeepsDigests (column_of store.old col) (column_of store.new col) }
     ensures others { KeepsOthers (column_of store.old) (column_of store.new) col }
     ensures contents { contents store.new ≡ contents store.old }
 {
@@ -333,6 +361,7 @@ fn climb<T: Tally, R>(
         Hangs T.of (column_of store.old col) link.up now → tree_root ≡ root (plug path was) →
         Rises T.of (column_of store.old col) (column_of store.new col) path now result }
     ensures nodes { KeepsNodes (column_of store.old col) (column_of store.new col) }
+    ensures digests { KeepsDigests (column_of store.old col) (column_of store.new col) }
     ensures others { KeepsOthers (column_of store.old) (column_of store.new) col }
     ensures contents { contents store.new ≡ contents store.old }
 {
@@ -366,6 +395,7 @@ pub(crate) fn graft<T: Tally, R>(
         tree_root ≡ root (plug path Leaf) →
         Rises T.of (column_of store.old col) (column_of store.new col) path now result }
     ensures nodes { KeepsNodes (column_of store.old col) (column_of store.new col) }
+    ensures digests { KeepsDigests (column_of store.old col) (column_of store.new col) }
     ensures others { KeepsOthers (column_of store.old) (column_of store.new) col }
     ensures contents { contents store.new ≡ contents store.old }
 {

@@ -5,14 +5,17 @@ ghost use Rattle.node_store.specs.Column.{Column, IsNode};
 ghost use Rattle.node_store.specs.Nodes.{Lacks};
 ghost use Rattle.node_store.specs.declared.Node.{Node};
 ghost use Rattle.node_store.specs.ByNode.{column_of, same_node};
+ghost use Rattle.node_store.specs.Digest.{digest_number};
+ghost use Rattle.ord_tree.specs.Digests.{kept_digest, KeepsOtherDigests};
 ghost use Rattle.list_model.specs.Walk.{without, placed};
 ghost use Rattle.std.specs.Ordering.{is_le};
 
+use crate::order::order_to_record;
 use crate::removal::take_out;
-use crate::steps::{graft, join};
+use crate::steps::{graft, plant};
 use crate::tally::Tally;
 use key_extract::Extract;
-use node_store::{Link, Node, NodeStore};
+use node_store::{Digest, Link, Node, NodeStore};
 use std::alloc::AllocError;
 use std::marker::PhantomData;
 
@@ -28,7 +31,7 @@ pub struct OrdTree<T: Tally> {
 }
 
 impl<T: Tally> OrdTree<T> {
-    ghost use Rattle.ord_tree.specs.Stored.{HasNode, BecomesTree, nodes_of, order_in, IsOrdered};
+    ghost use Rattle.ord_tree.specs.Stored.{HasNode, BecomesTree, nodes_of, order_in, IsOrdered, HaveTheirDigests};
     ghost use Rattle.ord_tree.specs.Path.{Place};
     ghost use Rattle.ord_tree.specs.Spelled.{Spells, spelled, tree_of, col_of, index_of, HasRoom};
 
@@ -84,12 +87,15 @@ impl<T: Tally> OrdTree<T> {
         requires node { IsNode (column_of store.old (col_of self.old)) n }
         requires new { Lacks (nodes_of self.old store.old) n }
         requires room { HasRoom self.old }
-        ensures { BecomesTree self.old self.new store.old store.new
+        ensures tree { BecomesTree self.old self.new store.old store.new
             (placed (λ m. order_in E.Extract self.old store.old keys.now m n) n
             (nodes_of self.old store.old)) }
+        ensures digested { HaveTheirDigests E.Extract self.old store.new keys.now
+            (nodes_of self.new store.new) }
     {
-        let (parent, on_right) = self.place_of(store, keys, n);
-        join::<T, R>(store, self.col, None, n, None);
+        let digest = Digest::of(keys.digest(self.index, store.get(n)));
+        let (parent, on_right) = self.place_of(store, keys, n, digest);
+        plant::<T, R>(store, self.col, n, digest);
         self.root = graft::<T, R>(store, self.col, self.root, parent, on_right, Some(n));
         self.len += 1;
     }
@@ -100,6 +106,8 @@ impl<T: Tally> OrdTree<T> {
         ensures tree { BecomesTree self.old self.new store.old store.new
             (without (same_node n) (nodes_of self.old store.old)) }
         ensures emptied { column_of store.new (col_of self.old) n ≡ Some no_link }
+        ensures digests { KeepsOtherDigests (column_of store.old (col_of self.old))
+            (column_of store.new (col_of self.old)) n }
         ensures room { HasRoom self.new }
     {
         self.root = take_out::<T, R>(store, self.col, self.root, n);
@@ -107,15 +115,18 @@ impl<T: Tally> OrdTree<T> {
         store.set_link(n, self.col, Link::empty());
     }
 
-    // Where a leaf for `n` goes: its parent, and on which side of it.
+    // Where a leaf for `n`, whose digest is given, goes: its parent, and on which side of it.
     fn place_of<R, E: Extract<R>>(
         &self,
         store: &NodeStore<R>,
         keys: &E,
         n: Node,
+        digest: Digest,
     ) -> (Option<Node>, bool)
         requires ordered { IsOrdered E.Extract self.now store.now keys.now }
         requires node { IsNodeOf store.now n }
+        requires digest { digest_number digest ≡ kept_digest
+            (E.digest_of keys.now (index_of self.now)) store.now n }
         ensures { Place (λ m. is_le (order_in E.Extract self.now store.now keys.now m n))
             (tree_of (column_of store.now) self.now) result.0 result.1 }
     {
@@ -126,7 +137,8 @@ impl<T: Tally> OrdTree<T> {
         while let Some(m) = at {
             let link = store.link(m, self.col);
             parent = Some(m);
-            on_right = keys.order(self.index, store.get(m), own).is_le();
+            let order = order_to_record(keys, self.index, link.digest, store.get(m), digest, own);
+            on_right = order.is_le();
             at = if on_right { link.b } else { link.a };
         }
         (parent, on_right)

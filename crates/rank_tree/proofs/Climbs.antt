@@ -11,7 +11,7 @@ use Rattle.node_store.proofs.Members.{others_differ}
 use Rattle.node_store.proofs.NodeLists.{AreApart-head, Lacks-front, IsDistinct-parts}
 use Rattle.list_model.specs.Walk.{place_of}
 use Rattle.list_model.proofs.Settled.{place_of-middle}
-use Rattle.ord_tree.specs.Tree.{Tree, Fork, nodes, root, height, tree_link, AreNodes, stored_tag}
+use Rattle.ord_tree.specs.Tree.{Tree, Fork, nodes, root, height, tree_link, stored_digest, AreNodes, stored_tag}
 use Rattle.ord_tree.specs.Path.{Path, Top, LeftOf, RightOf, plug, bottom, outside, before, after, Leads}
 use Rattle.ord_tree.specs.Removal.{Whole}
 use Rattle.ord_tree.proofs.Removing.{whole_sides}
@@ -63,7 +63,7 @@ turn_at c whole n below at parent link size rank links Top t k e l w = absurd (n
     none h = cc
 turn_at c whole n below at parent link size rank links (LeftOf z m r) t k e l w =
     let q : parent ≡ m = same_Some _ _ (sym e ∙ k.at_is) in
-    let is : link ≡ tree_link size_tally (bottom z) t r = same_Some _ _ (sym l ∙ ap c q ∙ k.leads.0) in
+    let is : link ≡ tree_link size_tally (bottom z) t r (stored_digest c m) = same_Some _ _ (sym l ∙ ap c q ∙ k.leads.0) in
     let left : link.a ≡ Some below = ap (λ (x : Link). x.a) is ∙ k.below_is in
     let low = height-plug z (Fork t m r) in
     let high : height (plug z (Fork t m r)) ≡ height whole = ap height k.whole_is in
@@ -91,7 +91,7 @@ turn_at c whole n below at parent link size rank links (LeftOf z m r) t k e l w 
     }
 turn_at c whole n below at parent link size rank links (RightOf z s m) t k e l w =
     let q : parent ≡ m = same_Some _ _ (sym e ∙ k.at_is) in
-    let is : link ≡ tree_link size_tally (bottom z) s t = same_Some _ _ (sym l ∙ ap c q ∙ k.leads.0) in
+    let is : link ≡ tree_link size_tally (bottom z) s t (stored_digest c m) = same_Some _ _ (sym l ∙ ap c q ∙ k.leads.0) in
     let left : link.a ≡ root s = ap (λ (x : Link). x.a) is in
     let parts = IsDistinct-parts (nodes t) (m ∷ (nodes s ++ outside z)) k.distinct in
     let lacks = LacksRoot-apart t (m ∷ (nodes s ++ outside z)) parts.apart below k.below_is in
@@ -133,9 +133,9 @@ climb_turn c whole n below at parent link size rank links k e l w = turn_at c wh
 parent_at : (c : Column) (whole : Tree) (n below : Node) (at : Option Node) (rank links : ℕ) (path : Path) (t : Tree) → ClimbsAt c whole n below at rank links path t → AreNodes c at
 parent_at c whole n below at rank links Top t k b h = cc (k.at_is, h)
 parent_at c whole n below at rank links (LeftOf z m r) t k b h =
-    subst (λ (x : Node). IsNode c x) (same_Some _ _ (sym k.at_is ∙ h)) (record { block = tree_link size_tally (bottom z) t r; is = k.leads.0 })
+    subst (λ (x : Node). IsNode c x) (same_Some _ _ (sym k.at_is ∙ h)) (record { block = tree_link size_tally (bottom z) t r (stored_digest c m); is = k.leads.0 })
 parent_at c whole n below at rank links (RightOf z s m) t k b h =
-    subst (λ (x : Node). IsNode c x) (same_Some _ _ (sym k.at_is ∙ h)) (record { block = tree_link size_tally (bottom z) s t; is = k.leads.0 })
+    subst (λ (x : Node). IsNode c x) (same_Some _ _ (sym k.at_is ∙ h)) (record { block = tree_link size_tally (bottom z) s t (stored_digest c m); is = k.leads.0 })
 
 pub climb_parent : (c : Column) (whole : Tree) (n below : Node) (at : Option Node) (rank links : ℕ) → Climbs c whole n below at rank links → AreNodes c at
 climb_parent c whole n below at rank links k = parent_at c whole n below at rank links k.path k.here k.is

@@ -39,7 +39,11 @@ module _ {E R P : Type 0} (X : Ghosts E R P) where
   abbrev pub record_side_in : RankTree → Store R → E → R → Node → Ordering
   record_side_in i s keys value = ord.record_side_in X i.tree s keys value
 
-  -- the nodes of the tree stand in the order of its key
+  -- the links of the nodes have the digests of their records' keys
+  abbrev pub HaveTheirDigests : RankTree → Store R → E → List Node → Type 0
+  HaveTheirDigests i s keys xs = ord.HaveTheirDigests X i.tree s keys xs
+
+  -- the nodes of the tree stand in the order of its key, and their links have their digests
   abbrev pub IsOrdered : RankTree → Store R → E → Type 0
   IsOrdered i s keys = ord.IsOrdered X i.tree s keys
 
@@ -47,6 +51,6 @@ module _ {E R P : Type 0} (X : Ghosts E R P) where
   abbrev pub IsOrderedBut : Option Node → RankTree → Store R → E → Type 0
   IsOrderedBut except i s keys = ord.IsOrderedBut X except i.tree s keys
 
-  -- the nodes stand in order, and the probe is a part of the key
+  -- the nodes stand in order, their links have their digests, and the probe is a part of the key
   abbrev pub CanSearch : RankTree → Store R → E → P → Type 0
   CanSearch i s keys probe = ord.CanSearch X i.tree s keys probe

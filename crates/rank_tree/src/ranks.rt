@@ -8,7 +8,8 @@ ghost use Rattle.rank_tree.specs.Sides.{comes_first};
 use crate::places::size_of;
 use crate::tree::RankTree;
 use key_extract::Extract;
-use node_store::{Link, NodeStore};
+use node_store::{Digest, Link, NodeStore};
+use ord_tree::order_to_probe;
 use std::cmp::Ordering;
 
 // Whether a node that stands so to a key comes before the place looked for: after its equals, or before them.
@@ -94,13 +95,15 @@ impl RankTree {
         let mut at = self.tree.root(store);
         let mut rank = 0;
         let mut met = false;
+        let digest = Digest::of(keys.digest_probe(index, probe));
         while let Some(n) = at {
             let Link {
                 a: left,
                 b: right,
+                digest: own,
                 ..
             } = store.link(n, col);
-            let order = keys.order_probe(index, store.get(n), probe);
+            let order = order_to_probe(keys, index, own, store.get(n), digest, probe);
             met |= order.is_eq();
             if is_first(after_equals, order) {
                 rank += size_of(store, col, left) + 1;

@@ -6,6 +6,7 @@ ghost use Rattle.node_store.specs.Nodes.{Lacks};
 ghost use Rattle.node_store.specs.declared.Node.{Node};
 ghost use Rattle.node_store.specs.ByNode.{column_of, same_node};
 ghost use Rattle.list_model.specs.Walk.{without, placed, settled};
+ghost use Rattle.ord_tree.specs.Digests.{KeepsOtherDigests};
 
 use crate::sizes::Sizes;
 use key_extract::Extract;
@@ -21,7 +22,7 @@ pub struct RankTree {
 }
 
 impl RankTree {
-    ghost use Rattle.rank_tree.specs.Stored.{HasNode, BecomesTree, order_in, IsOrdered, IsOrderedBut, nodes_of};
+    ghost use Rattle.rank_tree.specs.Stored.{HasNode, BecomesTree, order_in, IsOrdered, IsOrderedBut, HaveTheirDigests, nodes_of};
     ghost use Rattle.rank_tree.specs.Spelled.{Spells, HasRoom, spelled, col_of, index_of};
 
     /// A tree of no nodes in column `col`, ordered by the keys of index number `index`. O(1).
@@ -76,9 +77,11 @@ impl RankTree {
         requires node { IsNode (column_of store.old (col_of self.old)) n }
         requires new { Lacks (nodes_of self.old store.old) n }
         requires room { HasRoom self.old }
-        ensures { BecomesTree self.old self.new store.old store.new
+        ensures tree { BecomesTree self.old self.new store.old store.new
             (placed (λ m. order_in E.Extract self.old store.old keys.now m n) n
             (nodes_of self.old store.old)) }
+        ensures digested { HaveTheirDigests E.Extract self.old store.new keys.now
+            (nodes_of self.new store.new) }
     {
         self.tree.link(store, keys, n);
     }
@@ -89,6 +92,8 @@ impl RankTree {
         ensures tree { BecomesTree self.old self.new store.old store.new
             (without (same_node n) (nodes_of self.old store.old)) }
         ensures emptied { column_of store.new (col_of self.old) n ≡ Some no_link }
+        ensures digests { KeepsOtherDigests (column_of store.old (col_of self.old))
+            (column_of store.new (col_of self.old)) n }
         ensures room { HasRoom self.new }
     {
         self.tree.unlink(store, n);
@@ -99,9 +104,11 @@ impl RankTree {
     pub fn settle<R, E: Extract<R>>(&mut self, store: &mut NodeStore<R>, keys: &E, n: Node)
         requires node { HasNode self.old store.old n }
         requires others { IsOrderedBut E.Extract (Some n) self.old store.old keys.now }
-        ensures { BecomesTree self.old self.new store.old store.new
+        ensures tree { BecomesTree self.old self.new store.old store.new
             (settled (same_node n) (λ m. order_in E.Extract self.old store.old keys.now m n) n
             (nodes_of self.old store.old)) }
+        ensures digested { HaveTheirDigests E.Extract self.old store.new keys.now
+            (nodes_of self.new store.new) }
     {
         self.tree.settle(store, keys, n);
     }

@@ -1,6 +1,6 @@
 //! Records of one word, which are their own keys.
 
-use key_extract::Extract;
+use key_extract::{Extract, count_digest};
 use std::cmp::Ordering;
 
 /// The order of words at each index.
@@ -14,7 +14,8 @@ impl Extract<u64> for Words {
     ghost use Rattle.std.proofs.lemmas.Cmp.{nat_cmp_total, tied_back};
     ghost use Rattle.ord_tree.specs.Laws.{cuts_at};
     ghost use Rattle.std.proofs.lemmas.Map.Lookups.{exact_unsigned};
-    ghost use Rattle.key_extract.specs.Digests.{one_orders, one_cuts};
+    ghost use Rattle.key_extract.specs.KeyDigests.{count_digest};
+    ghost use Rattle.key_extract.specs.DigestLaws.{counts_order, counts_cut};
 
     type Probe = u64;
 
@@ -32,9 +33,9 @@ impl Extract<u64> for Words {
 
     ghost probe_hash_of = { λ keys index probe. probe };
 
-    ghost digest_of = { λ keys index a. 0 };
+    ghost digest_of = { λ keys index. count_digest };
 
-    ghost probe_digest_of = { λ keys index probe. 0 };
+    ghost probe_digest_of = { λ keys index. count_digest };
 
     fn has(&self, _index: usize) -> bool {
         true
@@ -68,12 +69,12 @@ impl Extract<u64> for Words {
         *probe
     }
 
-    fn digest(&self, _index: usize, _a: &u64) -> u64 {
-        0
+    fn digest(&self, _index: usize, a: &u64) -> u64 {
+        count_digest(*a)
     }
 
-    fn digest_probe(&self, _index: usize, _probe: &u64) -> u64 {
-        0
+    fn digest_probe(&self, _index: usize, probe: &u64) -> u64 {
+        count_digest(*probe)
     }
 
     ghost order_total = { λ keys index has. nat_cmp_total };
@@ -88,7 +89,9 @@ impl Extract<u64> for Words {
 
     ghost whole_hash = { λ keys index a probe has whole e. exact_unsigned a probe e };
 
-    ghost digest_order = { λ keys index has. one_orders (nat_cmp) 0 };
+    ghost digest_order = { λ keys index has. counts_order (λ a. a) };
 
-    ghost probe_digest_order = { λ keys index probe has fits. one_cuts (λ a. nat_cmp a probe) 0 };
+    ghost probe_digest_order = { λ keys index probe has fits. counts_cut (λ a. a) probe };
+
+    ghost one_digest = { λ keys other index at same. refl };
 }

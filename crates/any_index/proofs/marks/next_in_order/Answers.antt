@@ -5,6 +5,7 @@ use Rattle.list_model.specs.Walk.{next}
 use Rattle.node_store.specs.Nodes.{Holds}
 use Rattle.node_store.specs.ByNode.{column_of, record_of, same_node}
 use Rattle.ord_tree.proofs.KeySides.{side_of-is}
+use Rattle.any_index.specs.Keyed.{marks_of}
 use Rattle.any_index.specs.Marks.{walk_of}
 use Rattle.any_index.specs.Side.{side_of}
 use Rattle.any_index.specs.Spelled.{list_of, index_of}
@@ -33,7 +34,7 @@ returns-then-eq g c =
     let whole = walk_sorted (column_of c.args.store.now) c.args.by.now c.requires.kind in
     let cuts = g.met.E.Extract.probe_cuts c.args.keys.now (index_of c.args.by.now) c.args.probe.now
     (sorted_key (g.E.Extract.has_key c.args.keys.now) c.args.by.now c.requires.kind c.requires.find.key) (sorted_fits (λ j. g.E.Extract.does_fit c.args.keys.now j c.args.probe.now) (λ j. g.E.Extract.is_whole c.args.keys.now j c.args.probe.now) c.args.by.now c.requires.kind c.requires.find.fits) in
-    let rises = sorted_rises (g.E.Extract.order_of c.args.keys.now) (g.E.Extract.hash_of c.args.keys.now) c.args.store.now c.args.by.now xs (λ a. g.E.Extract.probe_order_of c.args.keys.now (index_of c.args.by.now) a c.args.probe.now) c.requires.kind cuts c.requires.find.keyed in
+    let rises = sorted_rises (g.E.Extract.order_of c.args.keys.now) (marks_of g.E.Extract c.args.keys.now) c.args.store.now c.args.by.now xs (λ a. g.E.Extract.probe_order_of c.args.keys.now (index_of c.args.by.now) a c.args.probe.now) c.requires.kind cuts c.requires.find.keyed in
     let equal : is_eq c.order_probe.result ≡ true = search rules in
     let has : is_eq (side c.in-Some.next) ≡ true =
     ap is_eq (side_of-is (record_of c.args.store.now) (λ a. g.E.Extract.probe_order_of c.args.keys.now (index_of c.args.by.now) a c.args.probe.now) c.in-Some.next c.get.result.now c.get.ensures
@@ -49,7 +50,7 @@ returns-else-eq g c =
     let whole = walk_sorted (column_of c.args.store.now) c.args.by.now c.requires.kind in
     let cuts = g.met.E.Extract.probe_cuts c.args.keys.now (index_of c.args.by.now) c.args.probe.now
     (sorted_key (g.E.Extract.has_key c.args.keys.now) c.args.by.now c.requires.kind c.requires.find.key) (sorted_fits (λ j. g.E.Extract.does_fit c.args.keys.now j c.args.probe.now) (λ j. g.E.Extract.is_whole c.args.keys.now j c.args.probe.now) c.args.by.now c.requires.kind c.requires.find.fits) in
-    let rises = sorted_rises (g.E.Extract.order_of c.args.keys.now) (g.E.Extract.hash_of c.args.keys.now) c.args.store.now c.args.by.now xs (λ a. g.E.Extract.probe_order_of c.args.keys.now (index_of c.args.by.now) a c.args.probe.now) c.requires.kind cuts c.requires.find.keyed in
+    let rises = sorted_rises (g.E.Extract.order_of c.args.keys.now) (marks_of g.E.Extract c.args.keys.now) c.args.store.now c.args.by.now xs (λ a. g.E.Extract.probe_order_of c.args.keys.now (index_of c.args.by.now) a c.args.probe.now) c.requires.kind cuts c.requires.find.keyed in
     let equal : is_eq c.order_probe.result ≡ false = search rules in
     let has : is_eq (side c.in-Some.next) ≡ false =
     ap is_eq (side_of-is (record_of c.args.store.now) (λ a. g.E.Extract.probe_order_of c.args.keys.now (index_of c.args.by.now) a c.args.probe.now) c.in-Some.next c.get.result.now c.get.ensures
@@ -65,7 +66,7 @@ returns-in-None g c =
     let whole = walk_sorted (column_of c.args.store.now) c.args.by.now c.requires.kind in
     let cuts = g.met.E.Extract.probe_cuts c.args.keys.now (index_of c.args.by.now) c.args.probe.now
     (sorted_key (g.E.Extract.has_key c.args.keys.now) c.args.by.now c.requires.kind c.requires.find.key) (sorted_fits (λ j. g.E.Extract.does_fit c.args.keys.now j c.args.probe.now) (λ j. g.E.Extract.is_whole c.args.keys.now j c.args.probe.now) c.args.by.now c.requires.kind c.requires.find.fits) in
-    let rises = sorted_rises (g.E.Extract.order_of c.args.keys.now) (g.E.Extract.hash_of c.args.keys.now) c.args.store.now c.args.by.now xs (λ a. g.E.Extract.probe_order_of c.args.keys.now (index_of c.args.by.now) a c.args.probe.now) c.requires.kind cuts c.requires.find.keyed in
+    let rises = sorted_rises (g.E.Extract.order_of c.args.keys.now) (marks_of g.E.Extract c.args.keys.now) c.args.store.now c.args.by.now xs (λ a. g.E.Extract.probe_order_of c.args.keys.now (index_of c.args.by.now) a c.args.probe.now) c.requires.kind cuts c.requires.find.keyed in
     next_none side c.args.n xs (list_distinct (column_of c.args.store.now) c.args.by.now c.requires.find.sound) rises (subst (λ l. Holds (filter (λ m. is_eq (side m)) l) c.args.n) whole c.requires.held)
     (sym c.next.ensures ∙ c.in-None.is)
     ∙ ap (λ l. next (same_node c.args.n) (filter (λ m. is_eq (side m)) l)) (sym whole)

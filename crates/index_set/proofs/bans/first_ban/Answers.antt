@@ -4,7 +4,7 @@ use Rattle.node_store.specs.ByNode.{column_of, record_of}
 use Rattle.container_model.specs.State.{has_key_kind}
 use Rattle.any_index.specs.Spelled.{kind_of}
 use Rattle.any_index.specs.Stored.{IsIn}
-use Rattle.any_index.specs.Keyed.{HasItsKey, IsKeyedExcept, HasOneOfEachKey}
+use Rattle.any_index.specs.Keyed.{marks_of, HasItsKey, IsKeyedExcept, HasOneOfEachKey}
 use Rattle.index_set.proofs.Frame.{key_here}
 use Rattle.index_set.proofs.Reading.{some_spec}
 use Rattle.index_set.proofs.Uniques.{unique_here}
@@ -24,7 +24,7 @@ same_as-requires-clause-others g c = record {
       subst (λ i. HasItsKey (g.E.Extract.has_key c.args.keys.now) i) (sym c.index-indices-index.is)
       (key_here (g.E.Extract.has_key c.args.keys.now) (column_of c.args.store.now) c.args.specs.now c.args.indices.now c.loop-index.index some_spec c.index-indices-index.result c.loop-index-test.true c.requires.keys c.requires.placed);
   keyed =
-      subst (λ i. IsKeyedExcept (g.E.Extract.order_of c.args.keys.now) (g.E.Extract.hash_of c.args.keys.now) c.args.store.now i c.args.except) (sym c.index-indices-index.is)
+      subst (λ i. IsKeyedExcept (g.E.Extract.order_of c.args.keys.now) (marks_of g.E.Extract c.args.keys.now) c.args.store.now i c.args.except) (sym c.index-indices-index.is)
       (c.requires.keyed.each c.loop-index.index some_spec c.index-indices-index.result c.loop-index-test.true);
   unique =
       subst (λ i. HasOneOfEachKey (g.E.Extract.order_of c.args.keys.now) c.args.store.now i c.args.except) (sym c.index-indices-index.is)

@@ -8,7 +8,7 @@ use Rattle.node_store.specs.declared.Node.{Node}
 use Rattle.node_store.specs.Store.{IsNodeOf}
 use Rattle.node_store.specs.ByNode.{column_of, record_of}
 use Rattle.node_store.proofs.ByNode.{IsNodeOf_kept, node_in_column, width_kept, records_kept}
-use Rattle.any_index.specs.Keyed.{AreKeyed}
+use Rattle.any_index.specs.Keyed.{marks_of, AreKeyed}
 use Rattle.any_index.specs.Side.{order_at}
 use Rattle.any_index.specs.Spelled.{list_of, col_of}
 use Rattle.index_set.specs.Added.{HasEachKeyOnce}
@@ -22,7 +22,7 @@ use Rattle.index_set.proofs.build.build.Goals as goal
 pub loop-n-init : goal.loop-n-init
 loop-n-init g c =
     let order = g.E.Extract.order_of c.args.keys.now in
-    let hash = g.E.Extract.hash_of c.args.keys.now in
+    let marks = marks_of g.E.Extract c.args.keys.now in
     let new = c.new-made.ensures in
     let empty = new.empty (column_of c.args.store.now) in
     record {
@@ -31,7 +31,7 @@ loop-n-init g c =
       col = new.col;
       number = keyed_number _ _ _ _ new.index;
       list = empty;
-      keyed = subst (λ xs. AreKeyed order hash c.args.store.now c.new-made.result xs) (sym empty) (AreKeyed_none order hash c.args.store.now c.new-made.result);
+      keyed = subst (λ xs. AreKeyed order marks c.args.store.now c.new-made.result xs) (sym empty) (AreKeyed_none order marks c.args.store.now c.new-made.result);
       unique = λ one. subst (HasEachKeyOnce (order_at (record_of c.args.store.now) (order c.args.index))) (sym empty) tt;
       clash = refl;
       others = λ j apart. refl;
@@ -58,7 +58,7 @@ rival-requires-clause-once g c one =
 pub returns-in-Some-clause-cause : goal.returns-in-Some-clause-cause
 returns-in-Some-clause-cause g c = (
   tt,
-  built_clash (g.E.Extract.order_of c.args.keys.now) (g.E.Extract.hash_of c.args.keys.now) c.args.store.now c.args.spec c.args.column c.args.index c.args.nodes.now c.loop-n.n-index c.loop-n.store c.loop-n.made c.loop-n.invariant
+  built_clash (g.E.Extract.order_of c.args.keys.now) (marks_of g.E.Extract c.args.keys.now) c.args.store.now c.args.spec c.args.column c.args.index c.args.nodes.now c.loop-n.n-index c.loop-n.store c.loop-n.made c.loop-n.invariant
       _ c.loop-n-test.true (get_or_default c.args.nodes.now c.loop-n.n-index _ _ c.loop-n-test.true) c.get.result.now c.get.ensures c.requires.unique
       (λ has. g.met.E.Extract.order_total c.args.keys.now c.args.index (c.requires.key has)) c.rival.result c.in-Some.first c.rival.ensures c.in-Some.is,
 )
@@ -76,19 +76,19 @@ enter-requires-clause-node g c =
 pub enter-requires-clause-new : goal.enter-requires-clause-new
 enter-requires-clause-new g c =
     let order = g.E.Extract.order_of c.args.keys.now in
-    let hash = g.E.Extract.hash_of c.args.keys.now in
+    let marks = marks_of g.E.Extract c.args.keys.now in
     let b = c.loop-n.invariant in
     let r = c.in-Ok.ensures in
     let room =
-    built_room order hash c.args.store.now c.args.spec c.args.column c.args.index c.args.nodes.now c.loop-n.n-index c.loop-n.store c.reserve_one.new.store c.loop-n.made c.reserve_one.new.self b
-    r.rest.col r.rest.kind r.rest.index r.rest.others r.rest.contents r.sound (r.keyed order hash b.keyed) r.list in
-    built_lacks order hash c.args.store.now c.args.spec c.args.column c.args.index c.args.nodes.now c.loop-n.n-index c.reserve_one.new.store c.reserve_one.new.self room _ c.loop-n-test.true
+    built_room order marks c.args.store.now c.args.spec c.args.column c.args.index c.args.nodes.now c.loop-n.n-index c.loop-n.store c.reserve_one.new.store c.loop-n.made c.reserve_one.new.self b
+    r.rest.col r.rest.kind r.rest.index r.rest.others r.rest.contents r.sound (r.keyed order marks b.keyed) r.list in
+    built_lacks order marks c.args.store.now c.args.spec c.args.column c.args.index c.args.nodes.now c.loop-n.n-index c.reserve_one.new.store c.reserve_one.new.self room _ c.loop-n-test.true
     (get_or_default c.args.nodes.now c.loop-n.n-index _ _ c.loop-n-test.true) c.requires.distinct
 
 pub loop-n-preserved : goal.loop-n-preserved
 loop-n-preserved g c =
     let order = g.E.Extract.order_of c.args.keys.now in
-    let hash = g.E.Extract.hash_of c.args.keys.now in
+    let marks = marks_of g.E.Extract c.args.keys.now in
     let s = c.args.store.now in
     let ns = c.args.nodes.now in
     let k = c.loop-n.n-index in
@@ -98,15 +98,15 @@ loop-n-preserved g c =
     let e = c.enter.ensures in
     let is = get_or_default ns k _ _ lt in
     let room =
-    built_room order hash s c.args.spec c.args.column c.args.index ns k c.loop-n.store c.reserve_one.new.store c.loop-n.made c.reserve_one.new.self b
-    r.rest.col r.rest.kind r.rest.index r.rest.others r.rest.contents r.sound (r.keyed order hash b.keyed) r.list in
-    built_more order hash s c.args.spec c.args.column c.args.index ns k c.reserve_one.new.store c.enter.new.store c.reserve_one.new.self c.enter.new.self room
+    built_room order marks s c.args.spec c.args.column c.args.index ns k c.loop-n.store c.reserve_one.new.store c.loop-n.made c.reserve_one.new.self b
+    r.rest.col r.rest.kind r.rest.index r.rest.others r.rest.contents r.sound (r.keyed order marks b.keyed) r.list in
+    built_more order marks s c.args.spec c.args.column c.args.index ns k c.reserve_one.new.store c.enter.new.store c.reserve_one.new.self c.enter.new.self room
     e.rest.col e.rest.kind e.rest.index e.rest.others e.rest.contents e.sound e.keyed _ lt is e.list
     (λ one. subst (HasEachKeyOnce (order_at (record_of s) (order c.args.index))) (sym e.list)
-    (built_once order hash s c.args.spec c.args.column c.args.index ns k c.loop-n.store c.loop-n.made b _ lt is c.get.result.now c.get.ensures c.requires.unique (λ has. g.met.E.Extract.order_total c.args.keys.now c.args.index (c.requires.key has)) c.rival.result c.rival.ensures c.in_default.is c.requires.distinct
+    (built_once order marks s c.args.spec c.args.column c.args.index ns k c.loop-n.store c.loop-n.made b _ lt is c.get.result.now c.get.ensures c.requires.unique (λ has. g.met.E.Extract.order_total c.args.keys.now c.args.index (c.requires.key has)) c.rival.result c.rival.ensures c.in_default.is c.requires.distinct
     (list_of (column_of c.reserve_one.new.store) c.reserve_one.new.self)
     _ r.list one))
-    (built_no_clash order hash s c.args.spec c.args.column c.args.index ns k c.loop-n.store c.loop-n.made b _ lt is c.get.result.now c.get.ensures c.requires.unique (λ has. g.met.E.Extract.order_total c.args.keys.now c.args.index (c.requires.key has)) c.rival.result c.rival.ensures c.in_default.is)
+    (built_no_clash order marks s c.args.spec c.args.column c.args.index ns k c.loop-n.store c.loop-n.made b _ lt is c.get.result.now c.get.ensures c.requires.unique (λ has. g.met.E.Extract.order_total c.args.keys.now c.args.index (c.requires.key has)) c.rival.result c.rival.ensures c.in_default.is)
 
 pub returns-clause-placed : goal.returns-clause-placed
 returns-clause-placed g c =
@@ -115,7 +115,7 @@ returns-clause-placed g c =
 
 pub returns-clause-list : goal.returns-clause-list
 returns-clause-list g c =
-    built_whole (g.E.Extract.order_of c.args.keys.now) (g.E.Extract.hash_of c.args.keys.now) c.args.store.now c.args.spec c.args.column c.args.index c.args.nodes.now c.loop-n.n-index c.loop-n.store c.loop-n.made c.loop-n.invariant
+    built_whole (g.E.Extract.order_of c.args.keys.now) (marks_of g.E.Extract c.args.keys.now) c.args.store.now c.args.spec c.args.column c.args.index c.args.nodes.now c.loop-n.n-index c.loop-n.store c.loop-n.made c.loop-n.invariant
     c.loop-n-test.false
 
 pub returns-clause-keyed : goal.returns-clause-keyed
@@ -126,5 +126,5 @@ returns-clause-unique g c = c.loop-n.invariant.unique
 
 pub returns-clause-no_clash : goal.returns-clause-no_clash
 returns-clause-no_clash g c =
-    built_clear (g.E.Extract.order_of c.args.keys.now) (g.E.Extract.hash_of c.args.keys.now) c.args.store.now c.args.spec c.args.column c.args.index c.args.nodes.now c.loop-n.n-index c.loop-n.store c.loop-n.made c.loop-n.invariant
+    built_clear (g.E.Extract.order_of c.args.keys.now) (marks_of g.E.Extract c.args.keys.now) c.args.store.now c.args.spec c.args.column c.args.index c.args.nodes.now c.loop-n.n-index c.loop-n.store c.loop-n.made c.loop-n.invariant
     c.loop-n-test.false

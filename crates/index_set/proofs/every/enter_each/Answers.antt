@@ -1,3 +1,4 @@
+use Rattle.any_index.specs.Keyed.{marks_of}
 use Rattle.std.proofs.Common.{◌∙◌, sym, subst, length, ◌≤◌, arith, false}
 use Rattle.std.proofs.lemmas.List.{length-map}
 use Rattle.node_store.specs.Nodes.{Lacks}
@@ -15,7 +16,7 @@ use Rattle.index_set.proofs.every.enter_each.Goals as goal
 pub loop-index-init : goal.loop-index-init
 loop-index-init g c = record {
   walk = walk_start _ c.args.store.now c.args.specs.now c.args.indices.now c.requires.placed;
-  keyed = keyed_start (g.E.Extract.order_of c.args.keys.now) (g.E.Extract.hash_of c.args.keys.now) (λ xs. xs) c.args.specs.now c.args.store.now c.args.indices.now c.requires.keyed.each;
+  keyed = keyed_start (g.E.Extract.order_of c.args.keys.now) (marks_of g.E.Extract c.args.keys.now) (λ xs. xs) c.args.specs.now c.args.store.now c.args.indices.now c.requires.keyed.each;
   room = λ j d e lt _. c.requires.room.each j d e lt;
 }
 
@@ -23,7 +24,7 @@ pub enter-requires-clause-filed : goal.enter-requires-clause-filed
 enter-requires-clause-filed g c = record {
   sound = (c.loop-index.invariant.walk.placed.each c.loop-index.index (record { kind = Sequenced; unique = false }) _ c.loop-index-test.true).sound;
   key = key_here (g.E.Extract.has_key c.args.keys.now) (column_of c.loop-index.store) c.args.specs.now c.loop-index.indices c.loop-index.index (record { kind = Sequenced; unique = false }) _ c.loop-index-test.true c.requires.keys c.loop-index.invariant.walk.placed;
-  keyed = keyed_here (g.E.Extract.order_of c.args.keys.now) (g.E.Extract.hash_of c.args.keys.now) (λ xs. xs) c.args.specs.now c.loop-index.store c.loop-index.indices c.loop-index.index _ c.loop-index-test.true c.loop-index.invariant.keyed;
+  keyed = keyed_here (g.E.Extract.order_of c.args.keys.now) (marks_of g.E.Extract c.args.keys.now) (λ xs. xs) c.args.specs.now c.loop-index.store c.loop-index.indices c.loop-index.index _ c.loop-index-test.true c.loop-index.invariant.keyed;
 }
 
 pub enter-requires-clause-node : goal.enter-requires-clause-node
@@ -56,7 +57,7 @@ loop-index-preserved g c =
       walk =
           walk_step _ c.args.store.now c.args.specs.now c.args.indices.now c.loop-index.index c.loop-index.store c.enter.new.store c.loop-index.indices _ c.enter.new.self lt walk step new.rest.contents
           (entered_here (g.E.Extract.order_of c.args.keys.now) c.args.store.now c.args.specs.now c.args.indices.now c.args.n c.args.at c.loop-index.index c.loop-index.store _ c.loop-index.indices _ c.enter.new.self _ lt walk c.place_in.ensures new.list);
-      keyed = keyed_step (g.E.Extract.order_of c.args.keys.now) (g.E.Extract.hash_of c.args.keys.now) (λ xs. xs) c.args.specs.now c.loop-index.index c.loop-index.store c.enter.new.store c.loop-index.indices _ c.enter.new.self lt walk.placed step new.rest.contents new.keyed c.loop-index.invariant.keyed;
+      keyed = keyed_step (g.E.Extract.order_of c.args.keys.now) (marks_of g.E.Extract c.args.keys.now) (λ xs. xs) c.args.specs.now c.loop-index.index c.loop-index.store c.enter.new.store c.loop-index.indices _ c.enter.new.self lt walk.placed step new.rest.contents new.keyed c.loop-index.invariant.keyed;
       room = room_from_step c.args.specs.now c.loop-index.indices c.loop-index.index c.enter.new.self walk.placed.one_each lt c.loop-index.invariant.room;
     }
 
@@ -64,4 +65,4 @@ pub returns-clause-lists : goal.returns-clause-lists
 returns-clause-lists g c = walk_end _ c.args.store.now c.args.specs.now c.args.indices.now c.loop-index.index c.loop-index.store c.loop-index.indices (omega arith) c.requires.placed.one_each c.loop-index.invariant.walk
 
 pub returns-clause-keyed : goal.returns-clause-keyed
-returns-clause-keyed g c = record { each = keyed_end (g.E.Extract.order_of c.args.keys.now) (g.E.Extract.hash_of c.args.keys.now) (λ xs. xs) c.args.specs.now c.loop-index.store c.loop-index.indices c.loop-index.index (omega arith) c.loop-index.invariant.keyed }
+returns-clause-keyed g c = record { each = keyed_end (g.E.Extract.order_of c.args.keys.now) (marks_of g.E.Extract c.args.keys.now) (λ xs. xs) c.args.specs.now c.loop-index.store c.loop-index.indices c.loop-index.index (omega arith) c.loop-index.invariant.keyed }

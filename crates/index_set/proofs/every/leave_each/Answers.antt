@@ -13,7 +13,7 @@ use Rattle.index_set.proofs.every.leave_each.Goals as goal
 pub loop-index-init : goal.loop-index-init
 loop-index-init g c = record {
   walk = walk_start _ c.args.store.now c.args.specs.now c.args.indices.now c.requires.placed;
-  keyed = λ order hash_of h. keyed_start order hash_of (without (same_node c.args.n)) c.args.specs.now c.args.store.now c.args.indices.now h.each;
+  keyed = λ order marks h. keyed_start order marks (without (same_node c.args.n)) c.args.specs.now c.args.store.now c.args.indices.now h.each;
   room = λ j d e lt below. absurd (omega (arith, below));
 }
 
@@ -33,10 +33,10 @@ loop-index-preserved g c =
     let lt = c.loop-index-test.true in
     record {
       walk = walk_step _ c.args.store.now c.args.specs.now c.args.indices.now c.loop-index.index c.loop-index.store c.leave.new.store c.loop-index.indices _ c.leave.new.self lt walk step new.rest.contents (λ e. new.list);
-      keyed = λ order hash_of h.
-          let far = c.loop-index.invariant.keyed order hash_of h in
-          let here = new.keyed order hash_of (keyed_here order hash_of (without (same_node c.args.n)) c.args.specs.now c.loop-index.store c.loop-index.indices c.loop-index.index _ lt far) in
-          keyed_step order hash_of (without (same_node c.args.n)) c.args.specs.now c.loop-index.index c.loop-index.store c.leave.new.store c.loop-index.indices _ c.leave.new.self lt walk.placed step new.rest.contents here far;
+      keyed = λ order marks h.
+          let far = c.loop-index.invariant.keyed order marks h in
+          let here = new.keyed order marks (keyed_here order marks (without (same_node c.args.n)) c.args.specs.now c.loop-index.store c.loop-index.indices c.loop-index.index _ lt far) in
+          keyed_step order marks (without (same_node c.args.n)) c.args.specs.now c.loop-index.index c.loop-index.store c.leave.new.store c.loop-index.indices _ c.leave.new.self lt walk.placed step new.rest.contents here far;
       room = room_to_step c.args.specs.now c.loop-index.indices c.loop-index.index c.leave.new.self walk.placed.one_each lt new.room c.loop-index.invariant.room;
     }
 
@@ -46,7 +46,7 @@ returns-clause-lists g c =
     ∙ changed_alike (without (same_node c.args.n)) 0 c.args.specs.now _ (length-map c.args.indices.now (list_of (column_of c.args.store.now)) ∙ c.requires.placed.one_each)
 
 pub returns-clause-keyed : goal.returns-clause-keyed
-returns-clause-keyed g c order hash_of h = record { each = keyed_end order hash_of (without (same_node c.args.n)) c.args.specs.now c.loop-index.store c.loop-index.indices c.loop-index.index (omega arith) (c.loop-index.invariant.keyed order hash_of h) }
+returns-clause-keyed g c order marks h = record { each = keyed_end order marks (without (same_node c.args.n)) c.args.specs.now c.loop-index.store c.loop-index.indices c.loop-index.index (omega arith) (c.loop-index.invariant.keyed order marks h) }
 
 pub returns-clause-room : goal.returns-clause-room
 returns-clause-room g c = record { each = λ j d e lt. c.loop-index.invariant.room j d e lt (omega (arith, lt)) }

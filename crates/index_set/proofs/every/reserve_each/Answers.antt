@@ -8,7 +8,7 @@ use Rattle.index_set.proofs.every.reserve_each.Goals as goal
 pub loop-index-init : goal.loop-index-init
 loop-index-init g c = record {
   walk = walk_start _ c.args.store.now c.args.specs.now c.args.indices.now c.requires;
-  keyed = λ order hash_of h. keyed_start order hash_of (λ xs. xs) c.args.specs.now c.args.store.now c.args.indices.now h.each;
+  keyed = λ order marks h. keyed_start order marks (λ xs. xs) c.args.specs.now c.args.store.now c.args.indices.now h.each;
   room = λ j d e lt below. absurd (omega (arith, below));
   rest = λ j d e lt _ f. get_or_default c.args.indices.now j e f (omega (arith, lt, c.requires.one_each));
 }
@@ -24,10 +24,10 @@ loop-index-preserved g c =
     let lt = c.loop-index-test.true in
     record {
       walk = walk_step _ c.args.store.now c.args.specs.now c.args.indices.now c.loop-index.index c.loop-index.store c.reserve_one.new.store c.loop-index.indices _ c.reserve_one.new.self lt walk step new.rest.contents (λ e. new.list);
-      keyed = λ order hash_of h.
-          let far = c.loop-index.invariant.keyed order hash_of h in
-          let here = new.keyed order hash_of (keyed_here order hash_of (λ xs. xs) c.args.specs.now c.loop-index.store c.loop-index.indices c.loop-index.index _ lt far) in
-          keyed_step order hash_of (λ xs. xs) c.args.specs.now c.loop-index.index c.loop-index.store c.reserve_one.new.store c.loop-index.indices _ c.reserve_one.new.self lt walk.placed step new.rest.contents here far;
+      keyed = λ order marks h.
+          let far = c.loop-index.invariant.keyed order marks h in
+          let here = new.keyed order marks (keyed_here order marks (λ xs. xs) c.args.specs.now c.loop-index.store c.loop-index.indices c.loop-index.index _ lt far) in
+          keyed_step order marks (λ xs. xs) c.args.specs.now c.loop-index.index c.loop-index.store c.reserve_one.new.store c.loop-index.indices _ c.reserve_one.new.self lt walk.placed step new.rest.contents here far;
       room = room_to_step c.args.specs.now c.loop-index.indices c.loop-index.index c.reserve_one.new.self walk.placed.one_each lt c.in_ok-reserve_one.ensures.room c.loop-index.invariant.room;
       rest = same_from_step c.args.specs.now c.loop-index.indices c.loop-index.index c.reserve_one.new.self walk.placed.one_each lt c.args.indices.now c.loop-index.invariant.rest;
     }
@@ -39,8 +39,8 @@ pub returns-clause-room : goal.returns-clause-room
 returns-clause-room g c = record { each = λ j d e lt. c.loop-index.invariant.room j d e lt (omega (arith, lt)) }
 
 pub returns-clause-keyed : goal.returns-clause-keyed
-returns-clause-keyed g c order hash_of h =
-    record { each = all_keyed c.args.store.now c.loop-index.store c.args.specs.now c.args.indices.now c.loop-index.indices c.loop-index.index order hash_of (c.loop-index.invariant.keyed order hash_of h) }
+returns-clause-keyed g c order marks h =
+    record { each = all_keyed c.args.store.now c.loop-index.store c.args.specs.now c.args.indices.now c.loop-index.indices c.loop-index.index order marks (c.loop-index.invariant.keyed order marks h) }
 
 pub returns-in_err-reserve_one-clause-placed : goal.returns-in_err-reserve_one-clause-placed
 returns-in_err-reserve_one-clause-placed g c =
@@ -63,12 +63,12 @@ returns-in_err-reserve_one-clause-full g c =
     on_err c.from_residual.result (no_room c.args.specs.now c.args.indices.now c.loop-index.indices c.loop-index.index _ c.loop-index-test.true c.loop-index.invariant.rest c.in_err-reserve_one.ensures.full)
 
 pub returns-in_err-reserve_one-clause-keyed : goal.returns-in_err-reserve_one-clause-keyed
-returns-in_err-reserve_one-clause-keyed g c order hash_of h =
+returns-in_err-reserve_one-clause-keyed g c order marks h =
     let new = c.reserve_one.ensures in
-    let far = c.loop-index.invariant.keyed order hash_of h in
-    let here = new.keyed order hash_of (keyed_here order hash_of (λ xs. xs) c.args.specs.now c.loop-index.store c.loop-index.indices c.loop-index.index _ c.loop-index-test.true far) in
+    let far = c.loop-index.invariant.keyed order marks h in
+    let here = new.keyed order marks (keyed_here order marks (λ xs. xs) c.args.specs.now c.loop-index.store c.loop-index.indices c.loop-index.index _ c.loop-index-test.true far) in
     record {
-      each = all_keyed c.args.store.now c.reserve_one.new.store c.args.specs.now c.args.indices.now _ (c.loop-index.index + 1) order hash_of
-          (keyed_step order hash_of (λ xs. xs) c.args.specs.now c.loop-index.index c.loop-index.store c.reserve_one.new.store c.loop-index.indices _ c.reserve_one.new.self c.loop-index-test.true c.loop-index.invariant.walk.placed
+      each = all_keyed c.args.store.now c.reserve_one.new.store c.args.specs.now c.args.indices.now _ (c.loop-index.index + 1) order marks
+          (keyed_step order marks (λ xs. xs) c.args.specs.now c.loop-index.index c.loop-index.store c.reserve_one.new.store c.loop-index.indices _ c.reserve_one.new.self c.loop-index-test.true c.loop-index.invariant.walk.placed
           (steps_of new.sound new.rest.kind new.rest.col new.rest.index new.rest.others) new.rest.contents here far);
     }

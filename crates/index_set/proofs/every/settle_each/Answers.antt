@@ -1,3 +1,4 @@
+use Rattle.any_index.specs.Keyed.{marks_of}
 use Rattle.std.proofs.Common.{◌∙◌, sym, subst, arith, false}
 use Rattle.std.proofs.lemmas.List.{length-map}
 use Rattle.node_store.specs.Nodes.{Holds}
@@ -15,7 +16,7 @@ use Rattle.index_set.proofs.every.settle_each.Goals as goal
 pub loop-index-init : goal.loop-index-init
 loop-index-init g c = record {
   walk = walk_start _ c.args.store.now c.args.specs.now c.args.indices.now c.requires.placed;
-  keyed = keyed_start (g.E.Extract.order_of c.args.keys.now) (g.E.Extract.hash_of c.args.keys.now) (without (same_node c.args.n)) c.args.specs.now c.args.store.now c.args.indices.now c.requires.keyed.each;
+  keyed = keyed_start (g.E.Extract.order_of c.args.keys.now) (marks_of g.E.Extract c.args.keys.now) (without (same_node c.args.n)) c.args.specs.now c.args.store.now c.args.indices.now c.requires.keyed.each;
   beside = λ j e d lt above. c.requires.beside.each j e d lt;
 }
 
@@ -31,7 +32,7 @@ pub settle_where-requires-clause-others : goal.settle_where-requires-clause-othe
 settle_where-requires-clause-others g c = record {
   sound = (c.loop-index.invariant.walk.placed.each c.loop-index.index (record { kind = Sequenced; unique = false }) _ c.loop-index-test.true).sound;
   key = key_here (g.E.Extract.has_key c.args.keys.now) (column_of c.loop-index.store) c.args.specs.now c.loop-index.indices c.loop-index.index (record { kind = Sequenced; unique = false }) _ c.loop-index-test.true c.requires.keys c.loop-index.invariant.walk.placed;
-  keyed = keyed_here (g.E.Extract.order_of c.args.keys.now) (g.E.Extract.hash_of c.args.keys.now) (without (same_node c.args.n)) c.args.specs.now c.loop-index.store c.loop-index.indices c.loop-index.index _ c.loop-index-test.true c.loop-index.invariant.keyed;
+  keyed = keyed_here (g.E.Extract.order_of c.args.keys.now) (marks_of g.E.Extract c.args.keys.now) (without (same_node c.args.n)) c.args.specs.now c.loop-index.store c.loop-index.indices c.loop-index.index _ c.loop-index-test.true c.loop-index.invariant.keyed;
 }
 
 pub settle_where-requires-clause-kept : goal.settle_where-requires-clause-kept
@@ -44,17 +45,17 @@ loop-index-preserved g c =
     let walk = c.loop-index.invariant.walk in
     let lt = c.loop-index-test.true in
     let order = g.E.Extract.order_of c.args.keys.now in
-    let hash = g.E.Extract.hash_of c.args.keys.now in
+    let marks = marks_of g.E.Extract c.args.keys.now in
     record {
       walk =
           walk_step _ c.args.store.now c.args.specs.now c.args.indices.now c.loop-index.index c.loop-index.store c.settle_where.new.store c.loop-index.indices _ c.settle_where.new.index lt walk step new.rest.contents
           (settled_here order c.args.store.now c.args.specs.now c.args.indices.now c.args.n c.loop-index.index c.loop-index.store _ c.loop-index.indices _ c.settle_where.new.index lt walk new.list);
-      keyed = keyed_step order hash (without (same_node c.args.n)) c.args.specs.now c.loop-index.index c.loop-index.store c.settle_where.new.store c.loop-index.indices _ c.settle_where.new.index lt walk.placed step new.rest.contents new.keyed c.loop-index.invariant.keyed;
-      beside = beside_step order hash c.args.specs.now c.args.changed c.loop-index.index c.loop-index.store c.settle_where.new.store c.loop-index.indices _ c.settle_where.new.index lt walk.placed step new.rest.contents c.loop-index.invariant.beside;
+      keyed = keyed_step order marks (without (same_node c.args.n)) c.args.specs.now c.loop-index.index c.loop-index.store c.settle_where.new.store c.loop-index.indices _ c.settle_where.new.index lt walk.placed step new.rest.contents new.keyed c.loop-index.invariant.keyed;
+      beside = beside_step order marks c.args.specs.now c.args.changed c.loop-index.index c.loop-index.store c.settle_where.new.store c.loop-index.indices _ c.settle_where.new.index lt walk.placed step new.rest.contents c.loop-index.invariant.beside;
     }
 
 pub returns-clause-lists : goal.returns-clause-lists
 returns-clause-lists g c = walk_end _ c.args.store.now c.args.specs.now c.args.indices.now c.loop-index.index c.loop-index.store c.loop-index.indices (omega arith) c.requires.placed.one_each c.loop-index.invariant.walk
 
 pub returns-clause-keyed : goal.returns-clause-keyed
-returns-clause-keyed g c = record { each = keyed_end (g.E.Extract.order_of c.args.keys.now) (g.E.Extract.hash_of c.args.keys.now) (without (same_node c.args.n)) c.args.specs.now c.loop-index.store c.loop-index.indices c.loop-index.index (omega arith) c.loop-index.invariant.keyed }
+returns-clause-keyed g c = record { each = keyed_end (g.E.Extract.order_of c.args.keys.now) (marks_of g.E.Extract c.args.keys.now) (without (same_node c.args.n)) c.args.specs.now c.loop-index.store c.loop-index.indices c.loop-index.index (omega arith) c.loop-index.invariant.keyed }

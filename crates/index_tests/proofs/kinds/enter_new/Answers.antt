@@ -2,6 +2,7 @@ use Rattle.std.proofs.Common.{ap, arith, sym, ◌∙◌}
 use Rattle.container_model.specs.State.{has_key_kind}
 use Rattle.node_store.specs.Store.{Store, width_of}
 use Rattle.node_store.proofs.ByNode.{added_kept, width_kept}
+use Rattle.any_index.specs.Keyed.{marks_of}
 use Rattle.any_index.proofs.Laws.{HasItsKey_from, IsSound_added, Lacks_added, IsKeyed_added}
 use Rattle.index_tests.proofs.Added.{new_in_column}
 use Rattle.index_tests.proofs.kinds.enter_new.Goals as goal
@@ -30,8 +31,8 @@ enter-requires-clause-filed g c = record {
   key = HasItsKey_from (g.E.Extract.has_key c.args.keys.now) c.reserve_one.new.self (ap (g.E.Extract.has_key c.args.keys.now) c.reserve_one.ensures.rest.index ∙ c.requires.key ∙ sym (ap has_key_kind c.reserve_one.ensures.rest.kind));
   keyed =
       let order = g.E.Extract.order_of c.args.keys.now in
-      let hash = g.E.Extract.hash_of c.args.keys.now in
-      IsKeyed_added order hash c.reserve_one.new.store c.add.new.self c.in-Ok-add.n c.args.value c.reserve_one.new.self c.in-Ok-add.ensures.added c.reserve_one.ensures.sound (c.reserve_one.ensures.keyed order hash c.requires.keyed);
+      let marks = marks_of g.E.Extract c.args.keys.now in
+      IsKeyed_added order marks c.reserve_one.new.store c.add.new.self c.in-Ok-add.n c.args.value c.reserve_one.new.self c.in-Ok-add.ensures.added c.reserve_one.ensures.sound (c.reserve_one.ensures.keyed order marks c.requires.keyed);
 }
 
 pub enter-requires-clause-node : goal.enter-requires-clause-node

@@ -5,7 +5,7 @@ use Rattle.container_model.specs.State.{has_key_kind}
 use Rattle.node_store.specs.ByNode.{column_of}
 use Rattle.any_index.specs.declared.index.AnyIndex.{AnyIndex}
 use Rattle.any_index.specs.Spelled.{kind_of, index_of}
-use Rattle.any_index.specs.Keyed.{HasItsKey, Accepts}
+use Rattle.any_index.specs.Keyed.{marks_of, HasItsKey, Accepts}
 use Rattle.any_index.proofs.Laws.{HasItsKey_from, Accepts_from, Holds_found, IsKeyedBut_from}
 use Rattle.index_tests.proofs.kinds.finds.Goals as goal
 
@@ -53,7 +53,7 @@ leave-requires g c = record {
 pub find-requires-2 : goal.find-requires-2
 find-requires-2 g c =
     let order = g.E.Extract.order_of c.args.keys.now in
-    let hash = g.E.Extract.hash_of c.args.keys.now in
+    let marks = marks_of g.E.Extract c.args.keys.now in
     let first = c.leave.ensures.rest.index ∙ c.fill.ensures.index ∙ c.new-index.ensures.index ∙ ap (λ b. cond b 0 0) c.requires.kind in
     let same = c.leave.ensures.rest.kind ∙ c.fill.ensures.kind ∙ c.new-index.ensures.kind in
     let fits = g.met.E.Extract.whole_fits c.args.keys.now 0 c.args.sought.now c.requires.key c.requires.whole in
@@ -61,5 +61,5 @@ find-requires-2 g c =
       sound = c.leave.ensures.sound;
       key = its_key c.leave.new.self c.args.kind first same c.requires.kind (g.E.Extract.has_key c.args.keys.now) c.requires.key;
       fits = accepts c.leave.new.self c.args.kind first same c.requires.kind (λ j. g.E.Extract.does_fit c.args.keys.now j c.args.sought.now) (λ j. g.E.Extract.is_whole c.args.keys.now j c.args.sought.now) fits c.requires.whole;
-      keyed = c.leave.ensures.keyed order hash (IsKeyedBut_from order hash c.fill.new.store c.fill.new.index c.in_ok-first.first c.fill.ensures.keyed);
+      keyed = c.leave.ensures.keyed order marks (IsKeyedBut_from order marks c.fill.new.store c.fill.new.index c.in_ok-first.first c.fill.ensures.keyed);
     }

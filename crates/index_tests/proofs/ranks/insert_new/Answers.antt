@@ -26,14 +26,14 @@ returns-clause-ordered g c =
     let ordered = subst (λ (t : RankTree). IsOrdered g.E.Extract t c.args.store.now c.args.keys.now) (sym c.reserve_one.ensures.same) c.requires.ordered in
     let before = IsOrdered_added g.E.Extract c.args.store.now c.add.new.self c.args.keys.now c.in-Ok-add.n c.args.value c.reserve_one.new.self.tree c.in-Ok-add.ensures.added ordered in
     let total = g.met.E.Extract.order_total c.args.keys.now (index_of c.reserve_one.new.self) ordered.key in
-    IsOrdered_linked g.E.Extract c.add.new.self c.link.new.store c.args.keys.now c.reserve_one.new.self.tree c.link.new.self.tree c.in-Ok-add.n total before c.link.ensures
+    IsOrdered_linked g.E.Extract c.add.new.self c.link.new.store c.args.keys.now c.reserve_one.new.self.tree c.link.new.self.tree c.in-Ok-add.n total before c.link.ensures.tree c.link.ensures.digested
 
 pub returns-clause-column : goal.returns-clause-column
 returns-clause-column g c =
-    let kept = width_kept c.add.new.self c.link.new.store c.link.ensures.contents in
-    omega (arith, c.requires.column, c.reserve_one.ensures.col, c.in-Ok-add.ensures.added.width, c.link.ensures.col, kept)
+    let kept = width_kept c.add.new.self c.link.new.store c.link.ensures.tree.contents in
+    omega (arith, c.requires.column, c.reserve_one.ensures.col, c.in-Ok-add.ensures.added.width, c.link.ensures.tree.col, kept)
 
 pub returns-clause-count : goal.returns-clause-count
 returns-clause-count g c =
-    let e = added_kept c.add.new.self c.link.new.store c.link.ensures.contents in
+    let e = added_kept c.add.new.self c.link.new.store c.link.ensures.tree.contents in
     omega (arith, e, c.in-Ok-add.ensures.count)

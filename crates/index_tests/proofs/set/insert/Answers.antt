@@ -1,6 +1,7 @@
 use Rattle.std.proofs.Common.{◌≡◌, false, Option, Some, None, sym, ap, arith}
 use Rattle.std.specs.Prelude.{is_some}
 use Rattle.node_store.proofs.ByNode.{added_kept, IsNodeOf_added, IsNodeOf_kept, others_added, new_node}
+use Rattle.any_index.specs.Keyed.{marks_of}
 use Rattle.index_set.specs.declared.set.IndexSet.{IndexSet}
 use Rattle.index_set.specs.Set.{store_of}
 use Rattle.index_set.proofs.Keys.{except_none, unique_kept}
@@ -8,7 +9,7 @@ use Rattle.index_set.proofs.StaysUnique.{unique_after_enter}
 use Rattle.index_tests.proofs.set.insert.Goals as goal
 
 pub bans-requires-clause-keyed : goal.bans-requires-clause-keyed
-bans-requires-clause-keyed g c = except_none g.E.Extract.order_of g.E.Extract.hash_of c.reserve_one.new.self (c.reserve_one.ensures.keyed c.requires.keyed)
+bans-requires-clause-keyed g c = except_none g.E.Extract.order_of (marks_of g.E.Extract) c.reserve_one.new.self (c.reserve_one.ensures.keyed c.requires.keyed)
 
 pub bans-requires-clause-unique : goal.bans-requires-clause-unique
 bans-requires-clause-unique g c = unique_kept g.E.Extract.order_of c.args.set.now c.reserve_one.new.self None c.reserve_one.ensures.same c.reserve_one.ensures.lists c.reserve_one.ensures.contents c.requires.unique

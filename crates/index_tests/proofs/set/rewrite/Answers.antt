@@ -1,4 +1,5 @@
 use Rattle.std.proofs.Common.{ap, sym, subst, ◌∙◌}
+use Rattle.any_index.specs.Keyed.{marks_of}
 use Rattle.index_set.specs.declared.set.IndexSet.{IndexSet}
 use Rattle.index_set.specs.Set.{IsSound, store_of, keys_of, specs_of, columns_of, record_of}
 use Rattle.index_set.proofs.Written.{sound_written, node_written, record_written, restored}
@@ -14,7 +15,7 @@ pub put_back-requires-clause-restored : goal.put_back-requires-clause-restored
 put_back-requires-clause-restored g c =
     let row = c.get_mut.result.now in
     let had = c.get_mut.ensures.value in
-    restored c.args.set.now c.args.n row c.args.value had c.requires.node g.E.Extract.order_of g.E.Extract.hash_of (λ index lt key. c.requires.same index row lt key had) c.requires.keyed
+    restored c.args.set.now c.args.n row c.args.value had c.requires.node g.E.Extract.order_of (marks_of g.E.Extract) (λ index lt key. c.requires.same index row lt key had) c.requires.keyed
 
 pub returns-clause-sound : goal.returns-clause-sound
 returns-clause-sound g c =

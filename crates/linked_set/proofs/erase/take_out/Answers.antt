@@ -1,3 +1,4 @@
+use Rattle.any_index.specs.Keyed.{marks_of}
 use Rattle.std.proofs.Common.{◌∙◌, sym, subst}
 use Rattle.node_store.proofs.ByNode.{added_kept, len_kept, IsNodeOf_kept}
 use Rattle.index_set.specs.Indices.{LackIt}
@@ -17,7 +18,7 @@ pub release-requires : goal.release-requires
 release-requires g c =
     let left = c.leave.ensures in
     let removed = c.remove-entry.ensures in
-    slot_taken g.E.Extract.has_key g.E.Extract.order_of g.E.Extract.hash_of c.args.set.now c.leave.new.self c.remove-entry.new.self c.args.slots.now.items c.requires.linked c.args.node c.requires.node c.remove-entry.result removed.value
+    slot_taken g.E.Extract.has_key g.E.Extract.order_of (marks_of g.E.Extract) c.args.set.now c.leave.new.self c.remove-entry.new.self c.args.slots.now.items c.requires.linked c.args.node c.requires.node c.remove-entry.result removed.value
     left.same left.lists left.contents left.sound removed.same removed.lists removed.removed removed.count
 
 pub returns-clause-linked : goal.returns-clause-linked
@@ -26,9 +27,9 @@ returns-clause-linked g c =
     let removed = c.remove-entry.ensures in
     let has_key = g.E.Extract.has_key in
     let order = g.E.Extract.order_of in
-    let hash = g.E.Extract.hash_of in
-    subst (λ slots. IsLinked has_key order hash c.remove-entry.new.self slots) (sym c.release.ensures.items)
-    (IsLinked_shrunk g.E.Extract.has_key g.E.Extract.order_of g.E.Extract.hash_of c.args.set.now c.leave.new.self c.remove-entry.new.self c.args.slots.now.items c.requires.linked c.args.node c.requires.node c.remove-entry.result removed.value
+    let marks = marks_of g.E.Extract in
+    subst (λ slots. IsLinked has_key order marks c.remove-entry.new.self slots) (sym c.release.ensures.items)
+    (IsLinked_shrunk g.E.Extract.has_key g.E.Extract.order_of (marks_of g.E.Extract) c.args.set.now c.leave.new.self c.remove-entry.new.self c.args.slots.now.items c.requires.linked c.args.node c.requires.node c.remove-entry.result removed.value
     left.same left.lists left.contents left.sound removed.same removed.lists removed.removed removed.count
     removed.sound left.keyed removed.keyed)
 
@@ -36,28 +37,28 @@ pub returns-clause-held : goal.returns-clause-held
 returns-clause-held g c =
     let left = c.leave.ensures in
     let removed = c.remove-entry.ensures in
-    held_shrunk g.E.Extract.has_key g.E.Extract.order_of g.E.Extract.hash_of c.args.set.now c.leave.new.self c.remove-entry.new.self c.args.slots.now.items c.requires.linked c.args.node c.requires.node c.remove-entry.result removed.value
+    held_shrunk g.E.Extract.has_key g.E.Extract.order_of (marks_of g.E.Extract) c.args.set.now c.leave.new.self c.remove-entry.new.self c.args.slots.now.items c.requires.linked c.args.node c.requires.node c.remove-entry.result removed.value
     left.same left.lists left.contents left.sound removed.same removed.lists removed.removed removed.count c.requires.held
 
 pub returns-clause-record : goal.returns-clause-record
 returns-clause-record g c =
     let left = c.leave.ensures in
     let removed = c.remove-entry.ensures in
-    had_record g.E.Extract.has_key g.E.Extract.order_of g.E.Extract.hash_of c.args.set.now c.leave.new.self c.remove-entry.new.self c.args.slots.now.items c.requires.linked c.args.node c.requires.node c.remove-entry.result removed.value
+    had_record g.E.Extract.has_key g.E.Extract.order_of (marks_of g.E.Extract) c.args.set.now c.leave.new.self c.remove-entry.new.self c.args.slots.now.items c.requires.linked c.args.node c.requires.node c.remove-entry.result removed.value
     left.same left.lists left.contents left.sound removed.same removed.lists removed.removed removed.count
 
 pub returns-clause-entries : goal.returns-clause-entries
 returns-clause-entries g c =
     let left = c.leave.ensures in
     let removed = c.remove-entry.ensures in
-    entries_shrunk g.E.Extract.has_key g.E.Extract.order_of g.E.Extract.hash_of c.args.set.now c.leave.new.self c.remove-entry.new.self c.args.slots.now.items c.requires.linked c.args.node c.requires.node c.remove-entry.result removed.value
+    entries_shrunk g.E.Extract.has_key g.E.Extract.order_of (marks_of g.E.Extract) c.args.set.now c.leave.new.self c.remove-entry.new.self c.args.slots.now.items c.requires.linked c.args.node c.requires.node c.remove-entry.result removed.value
     left.same left.lists left.contents left.sound removed.same removed.lists removed.removed removed.count
 
 pub returns-clause-lists : goal.returns-clause-lists
 returns-clause-lists g c =
     let left = c.leave.ensures in
     let removed = c.remove-entry.ensures in
-    lists_shrunk g.E.Extract.has_key g.E.Extract.order_of g.E.Extract.hash_of c.args.set.now c.leave.new.self c.remove-entry.new.self c.args.slots.now.items c.requires.linked c.args.node c.requires.node c.remove-entry.result removed.value
+    lists_shrunk g.E.Extract.has_key g.E.Extract.order_of (marks_of g.E.Extract) c.args.set.now c.leave.new.self c.remove-entry.new.self c.args.slots.now.items c.requires.linked c.args.node c.requires.node c.remove-entry.result removed.value
     left.same left.lists left.contents left.sound removed.same removed.lists removed.removed removed.count
 
 pub returns-clause-count : goal.returns-clause-count

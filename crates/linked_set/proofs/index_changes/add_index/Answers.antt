@@ -19,7 +19,7 @@ add_index-requires g c =
       filed = record { sound = linked.sound; keyed = linked.keyed; unique = linked.unique };
       keys = c.requires.keys;
       orders = λ k d lt has. ap (λ order a b. order a.row b.row) (c.requires.orders k d lt has);
-      hashes = λ k d lt has. ap (λ hash a. hash a.row) (c.requires.hashes k d lt has);
+      hashes = λ k d lt has. ap (λ marks a. marks a.row) (c.requires.hashes k d lt has);
       nodes = subst (AllByRecursion (IsNodeOf (store_of set))) (sym by_age) (nodes_held (store_of set) linked.sound.nodes);
       distinct = subst IsDistinct (sym by_age) (distinct_by_age (nodes_in (contents set)) (nodes_rise (store_of set) linked.sound.nodes));
     }

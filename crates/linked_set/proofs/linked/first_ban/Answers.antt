@@ -1,9 +1,10 @@
+use Rattle.any_index.specs.Keyed.{marks_of}
 use Rattle.std.proofs.Common.{◌∙◌, ap, sym, Some}
 use Rattle.std.specs.Prelude.{option_map}
 use Rattle.node_store.specs.Store.{IsNodeOf}
 use Rattle.index_set.specs.Set.{store_of, keys_of, specs_of, contents, record_of, lists_of}
 use Rattle.index_set.proofs.Members.{nodes_held}
-use Rattle.linked_set.specs.ByRow.{order_by_row, hash_by_row}
+use Rattle.linked_set.specs.ByRow.{order_by_row, marks_by_row}
 use Rattle.linked_set.specs.Linked.{handle_of, entries_in}
 use Rattle.linked_set.proofs.Bans.{ban_known, ban_of}
 use Rattle.linked_set.proofs.Excepted.{told_of, keyed_except, unique_but}
@@ -12,7 +13,7 @@ use Rattle.linked_set.proofs.linked.first_ban.Goals as goal
 
 pub bans-requires-clause-keyed : goal.bans-requires-clause-keyed
 bans-requires-clause-keyed g c =
-    keyed_except (order_by_row g.E.Extract.order_of) c.args.set.now (hash_by_row g.E.Extract.hash_of) c.args.except c.requires.linked.keyed
+    keyed_except (order_by_row g.E.Extract.order_of) c.args.set.now (marks_by_row (marks_of g.E.Extract)) c.args.except c.requires.linked.keyed
 
 pub bans-requires-clause-unique : goal.bans-requires-clause-unique
 bans-requires-clause-unique g c =

@@ -1,3 +1,4 @@
+use Rattle.any_index.specs.Keyed.{marks_of}
 use Rattle.std.proofs.Common.{◌≡◌, ◌+◌, ◌++◌, ◌∷◌, ◌∙◌, true, [], None, rules, Result, Ok, Err, sym, ap, subst, arith}
 use Rattle.std.specs.Prelude.{OnOk, OnErr}
 use Rattle.std.specs.Result.{is_ok}
@@ -53,7 +54,7 @@ pub returns-clause-linked : goal.returns-clause-linked
 returns-clause-linked g c =
     let has_key = g.E.Extract.has_key in
     let order = g.E.Extract.order_of in
-    let hash = g.E.Extract.hash_of in
+    let marks = marks_of g.E.Extract in
     let old = c.args.set.now in
     let now = c.reserve_one.new.set in
     let same = c.reserve_one.ensures.same in
@@ -64,8 +65,8 @@ returns-clause-linked g c =
     let slot = c.requires.slot ∙ ap first_free (sym c.reserve_one.ensures.items) in
     let added = c.in_ok-node.ensures in
     let entered = c.enter.ensures in
-    subst (λ slots. IsLinked has_key order hash c.enter.new.self slots) (sym c.take.ensures.items)
-    (IsLinked_grown has_key order hash g.met.E.Extract.order_total now c.add.new.self c.enter.new.self c.reserve_one.new.slots.items c.args.at c.in_ok-node.node c.args.entry c.reserve_one.ensures.linked
+    subst (λ slots. IsLinked has_key order marks c.enter.new.self slots) (sym c.take.ensures.items)
+    (IsLinked_grown has_key order marks g.met.E.Extract.order_total now c.add.new.self c.enter.new.self c.reserve_one.new.slots.items c.args.at c.in_ok-node.node c.args.entry c.reserve_one.ensures.linked
     added.same added.lists added.added added.number added.count entered.same entered.lists entered.contents slot added.loose entered.sound entered.keyed allowed)
 
 pub returns-clause-entries : goal.returns-clause-entries
@@ -75,7 +76,7 @@ returns-clause-entries g c =
     let slot = c.requires.slot ∙ ap first_free (sym c.reserve_one.ensures.items) in
     let added = c.in_ok-node.ensures in
     let entered = c.enter.ensures in
-    entries_grown g.E.Extract.has_key g.E.Extract.order_of g.E.Extract.hash_of g.met.E.Extract.order_total now c.add.new.self c.enter.new.self c.reserve_one.new.slots.items c.args.at c.in_ok-node.node c.args.entry c.reserve_one.ensures.linked
+    entries_grown g.E.Extract.has_key g.E.Extract.order_of (marks_of g.E.Extract) g.met.E.Extract.order_total now c.add.new.self c.enter.new.self c.reserve_one.new.slots.items c.args.at c.in_ok-node.node c.args.entry c.reserve_one.ensures.linked
     added.same added.lists added.added added.number added.count entered.same entered.lists entered.contents slot
     ∙ ap (λ es. es ++ c.args.entry ∷ []) (entries_kept (store_of old) (store_of now) c.reserve_one.ensures.contents)
 
@@ -90,7 +91,7 @@ returns-clause-lists g c =
     let slot = c.requires.slot ∙ ap first_free (sym c.reserve_one.ensures.items) in
     let added = c.in_ok-node.ensures in
     let entered = c.enter.ensures in
-    lists_grown g.E.Extract.has_key order g.E.Extract.hash_of g.met.E.Extract.order_total now c.add.new.self c.enter.new.self c.reserve_one.new.slots.items c.args.at c.in_ok-node.node c.args.entry c.reserve_one.ensures.linked
+    lists_grown g.E.Extract.has_key order (marks_of g.E.Extract) g.met.E.Extract.order_total now c.add.new.self c.enter.new.self c.reserve_one.new.slots.items c.args.at c.in_ok-node.node c.args.entry c.reserve_one.ensures.linked
     added.same added.lists added.added added.number added.count entered.same entered.lists entered.contents slot
     ∙ (λ i. entered_from (order (same.keys i).keys) (entries i) c.args.at c.args.entry.row c.args.entry.handle 0 (same.specs i) (handles i))
 

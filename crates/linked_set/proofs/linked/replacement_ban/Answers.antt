@@ -1,3 +1,4 @@
+use Rattle.any_index.specs.Keyed.{marks_of}
 use Rattle.std.proofs.Common.{◌∙◌, ap, refl, sym, subst, Some}
 use Rattle.std.specs.Prelude.{option_map}
 use Rattle.std.proofs.lemmas.Cmp.{on_total}
@@ -8,7 +9,7 @@ use Rattle.index_set.specs.Set.{store_of, keys_of, specs_of, contents, record_of
 use Rattle.index_set.proofs.Kept.{agrees_where, free_beside}
 use Rattle.index_set.proofs.Members.{nodes_held}
 use Rattle.modify_ops.proofs.Held.{node_of_all}
-use Rattle.linked_set.specs.ByRow.{order_by_row, hash_by_row}
+use Rattle.linked_set.specs.ByRow.{order_by_row, marks_by_row}
 use Rattle.linked_set.specs.Linked.{handle_of, entries_in}
 use Rattle.linked_set.proofs.Bans.{ban_known, ban_of}
 use Rattle.linked_set.proofs.Contents.{has_record}
@@ -24,7 +25,7 @@ bans_changed-requires-clause-except g c m e =
     subst (IsNodeOf (store_of c.args.set.now)) (same_Some c.args.node m e) (node_of_all c.args.set.now c.args.node c.requires.linked.sound c.requires.held)
 
 pub bans_changed-requires-clause-keyed : goal.bans_changed-requires-clause-keyed
-bans_changed-requires-clause-keyed g c = keyed_except (order_by_row g.E.Extract.order_of) c.args.set.now (hash_by_row g.E.Extract.hash_of) (Some c.args.node) c.requires.linked.keyed
+bans_changed-requires-clause-keyed g c = keyed_except (order_by_row g.E.Extract.order_of) c.args.set.now (marks_by_row (marks_of g.E.Extract)) (Some c.args.node) c.requires.linked.keyed
 
 pub bans_changed-requires-clause-unique : goal.bans_changed-requires-clause-unique
 bans_changed-requires-clause-unique g c = unique_but (order_by_row g.E.Extract.order_of) c.args.set.now (Some c.args.node) c.requires.linked.sound c.requires.linked.unique

@@ -1,3 +1,4 @@
+use Rattle.any_index.specs.Keyed.{marks_of}
 use Rattle.std.proofs.Common.{◌≡◌, ◌≢◌, ◌∙◌, Some, None, sym, ap, subst}
 use Rattle.std.specs.Prelude.{option_map}
 use Rattle.std.specs.List.{AllByRecursion}
@@ -17,13 +18,14 @@ use Rattle.index_set.proofs.Members.{nodes_held}
 use Rattle.index_set.proofs.StaysUnique.{unique_after_write}
 use Rattle.index_set.proofs.Written.{lists_written, sound_written, keyed_but_written, record_written, node_written}
 use Rattle.modify_ops.proofs.Held.{node_of_all}
-use Rattle.linked_set.specs.ByRow.{has_by_row, order_by_row, hash_by_row}
+use Rattle.linked_set.specs.ByRow.{has_by_row, order_by_row, marks_by_row}
 use Rattle.linked_set.specs.Linked.{handle_of}
 use Rattle.linked_set.specs.Modified.{told}
 use Rattle.linked_set.specs.declared.modify.Modified.TheVariants.{Erased}
 use Rattle.linked_set.specs.Seen.{seen, IsLinked}
 use Rattle.linked_set.proofs.Bans.{ban_of}
 use Rattle.linked_set.proofs.Changed.{changed_set, settled_then, taken_then, ban_changed, count_changed, handle_changed, record_changed, seen_settled, IsLinked_changed, there_mid, is_mid, slot_taken, seen_taken, IsLinked_taken}
+use Rattle.index_set.proofs.MarksKept.{same_marks}
 use Rattle.linked_set.proofs.modify.change.Goals as goal
 
 pub get_mut-requires : goal.get_mut-requires
@@ -35,8 +37,8 @@ settle_or_leave_changed-requires-clause-filed g c = record {
   keyed =
       let set = c.args.set.now in
       let is = node_of_all set c.args.node c.requires.linked.sound c.requires.held in
-      keyed_but_written set c.args.node (record { handle = c.get_mut.result.now.handle; row = c.apply.new.row }) is (order_by_row g.E.Extract.order_of) (hash_by_row g.E.Extract.hash_of)
-      (but_from (order_by_row g.E.Extract.order_of) (hash_by_row g.E.Extract.hash_of) set c.args.node c.requires.linked.keyed);
+      keyed_but_written set c.args.node (record { handle = c.get_mut.result.now.handle; row = c.apply.new.row }) is (order_by_row g.E.Extract.order_of) (marks_by_row (marks_of g.E.Extract))
+      (but_from (order_by_row g.E.Extract.order_of) (marks_by_row (marks_of g.E.Extract)) set c.args.node c.requires.linked.keyed);
   unique =
       let set = c.args.set.now in
       unique_after_write (order_by_row g.E.Extract.order_of) set c.requires.linked.sound c.args.node (record { handle = c.get_mut.result.now.handle; row = c.apply.new.row })
@@ -61,7 +63,7 @@ settle_or_leave_changed-requires-clause-beside g c =
     let is = node_of_all set c.args.node c.requires.linked.sound c.requires.held in
     let agrees : AgreesBeside (order_by_row g.E.Extract.order_of) set c.changed_rows-changed.result (record { handle = c.get_mut.result.now.handle; row = c.apply.new.row }) c.get_mut.result.now =
     record { equal = (c.changed_rows-changed.ensures c.get_mut.result.now (record { handle = c.get_mut.result.now.handle; row = c.apply.new.row }) (λ before kept. c.replaced.ensures.was c.args.edit.now c.get_mut.result.now.row before c.apply.ensures.edit kept) (record_written set.store c.args.node (record { handle = c.get_mut.result.now.handle; row = c.apply.new.row }) is)).equal } in
-    keyed_beside (order_by_row g.E.Extract.order_of) (λ keys index has. on_total (λ (x : Entry _). x.row) (g.met.E.Extract.order_total keys.keys index has)) set c.requires.linked.sound c.args.node c.get_mut.result.now (record { handle = c.get_mut.result.now.handle; row = c.apply.new.row }) c.get_mut.ensures.value c.changed_rows-changed.result agrees is (hash_by_row g.E.Extract.hash_of) (λ keys index a b. g.met.E.Extract.same_hash keys.keys index a.row b.row) c.requires.linked.keyed
+    keyed_beside (order_by_row g.E.Extract.order_of) (λ keys index has. on_total (λ (x : Entry _). x.row) (g.met.E.Extract.order_total keys.keys index has)) set c.requires.linked.sound c.args.node c.get_mut.result.now (record { handle = c.get_mut.result.now.handle; row = c.apply.new.row }) c.get_mut.ensures.value c.changed_rows-changed.result agrees is (marks_by_row (marks_of g.E.Extract)) (λ keys index a b. same_marks g.E.Extract.has_key g.E.Extract.order_of g.E.Extract.hash_of g.E.Extract.digest_of g.met.E.Extract.order_total g.met.E.Extract.same_hash g.met.E.Extract.digest_order keys.keys index a.row b.row) c.requires.linked.keyed
 
 pub settle_or_leave_changed-requires-clause-free : goal.settle_or_leave_changed-requires-clause-free
 settle_or_leave_changed-requires-clause-free g c =
@@ -152,7 +154,7 @@ returns-clause-linked g c =
     let taken = taken_then w c.settle_or_leave_changed.result made.lists (c.in-Some.index, c.in-Some.by) c.in-Some.is in
     let removed = c.remove-entry.ensures in
     let is = same_Some _ _ (sym (record_changed w) ∙ removed.value) in
-    subst (λ slots. IsLinked g.E.Extract.has_key g.E.Extract.order_of g.E.Extract.hash_of c.remove-entry.new.self slots)
+    subst (λ slots. IsLinked g.E.Extract.has_key g.E.Extract.order_of (marks_of g.E.Extract) c.remove-entry.new.self slots)
     (ap (λ (e : Entry _). with_item c.args.slots.now.items e.handle.slot None) is ∙ sym c.release.ensures.items)
     (IsLinked_taken w c.remove-entry.new.self taken made.sound removed.same removed.lists removed.removed removed.count removed.sound (removed.keyed made.keyed) made.unique)
 

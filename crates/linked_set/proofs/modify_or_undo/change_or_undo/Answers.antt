@@ -1,3 +1,4 @@
+use Rattle.any_index.specs.Keyed.{marks_of}
 use Rattle.std.proofs.Common.{◌≡◌, ℕ, ◌<◌, length, Some, refl, sym, ap, ◌∙◌, subst}
 use Rattle.std.specs.Prelude.{option_map, IsTrue}
 use Rattle.std.specs.Option.{option_map_or}
@@ -19,11 +20,12 @@ use Rattle.index_set.proofs.StaysUnique.{unique_after_write, unique_after_settle
 use Rattle.index_set.proofs.Written.{lists_written, sound_written, keyed_but_written, record_written, node_written}
 use Rattle.modify_ops.proofs.Held.{node_of_all}
 use Rattle.modify_ops.proofs.Undone.{keys_undone, restored_undone, unique_before}
-use Rattle.linked_set.specs.ByRow.{has_by_row, order_by_row, hash_by_row}
+use Rattle.linked_set.specs.ByRow.{has_by_row, order_by_row, marks_by_row}
 use Rattle.linked_set.specs.Linked.{entries_in}
 use Rattle.linked_set.specs.Seen.{seen}
 use Rattle.linked_set.proofs.Changed.{changed_set, count_changed, seen_settled, IsLinked_changed}
 use Rattle.linked_set.proofs.Undoing.{undone_set, none_bans, why_changed, seen_undone}
+use Rattle.index_set.proofs.MarksKept.{same_marks}
 use Rattle.linked_set.proofs.modify_or_undo.change_or_undo.Goals as goal
 
 pub get_mut-requires : goal.get_mut-requires
@@ -41,8 +43,8 @@ pub changed_refusal-requires-clause-keyed : goal.changed_refusal-requires-clause
 changed_refusal-requires-clause-keyed g c =
     let set = c.args.set.now in
     keyed_but_written set c.args.node (record { handle = c.get_mut.result.now.handle; row = c.apply.new.row }) (node_of_all set c.args.node c.requires.linked.sound c.requires.held)
-    (order_by_row g.E.Extract.order_of) (hash_by_row g.E.Extract.hash_of)
-    (but_from (order_by_row g.E.Extract.order_of) (hash_by_row g.E.Extract.hash_of) set c.args.node c.requires.linked.keyed)
+    (order_by_row g.E.Extract.order_of) (marks_by_row (marks_of g.E.Extract))
+    (but_from (order_by_row g.E.Extract.order_of) (marks_by_row (marks_of g.E.Extract)) set c.args.node c.requires.linked.keyed)
 
 pub changed_refusal-requires-clause-unique : goal.changed_refusal-requires-clause-unique
 changed_refusal-requires-clause-unique g c =
@@ -60,8 +62,8 @@ pub settle_changed-requires-clause-keyed : goal.settle_changed-requires-clause-k
 settle_changed-requires-clause-keyed g c =
     let set = c.args.set.now in
     keyed_but_written set c.args.node (record { handle = c.get_mut.result.now.handle; row = c.apply.new.row }) (node_of_all set c.args.node c.requires.linked.sound c.requires.held)
-    (order_by_row g.E.Extract.order_of) (hash_by_row g.E.Extract.hash_of)
-    (but_from (order_by_row g.E.Extract.order_of) (hash_by_row g.E.Extract.hash_of) set c.args.node c.requires.linked.keyed)
+    (order_by_row g.E.Extract.order_of) (marks_by_row (marks_of g.E.Extract))
+    (but_from (order_by_row g.E.Extract.order_of) (marks_by_row (marks_of g.E.Extract)) set c.args.node c.requires.linked.keyed)
 
 pub changed_rows-changed-requires-clause-sound : goal.changed_rows-changed-requires-clause-sound
 changed_rows-changed-requires-clause-sound g c =
@@ -85,7 +87,7 @@ settle_changed-requires-clause-beside g c =
     let is = node_of_all set c.args.node c.requires.linked.sound c.requires.held in
     let agrees : AgreesBeside (order_by_row g.E.Extract.order_of) set c.changed_rows-changed.result (record { handle = c.get_mut.result.now.handle; row = c.apply.new.row }) c.get_mut.result.now =
     record { equal = (c.changed_rows-changed.ensures c.get_mut.result.now (record { handle = c.get_mut.result.now.handle; row = c.apply.new.row }) (λ before kept. c.replaced.ensures.was c.args.edit.now c.get_mut.result.now.row before c.apply.ensures.edit kept) (record_written set.store c.args.node (record { handle = c.get_mut.result.now.handle; row = c.apply.new.row }) is)).equal } in
-    keyed_beside (order_by_row g.E.Extract.order_of) (λ keys index has. on_total (λ (x : Entry _). x.row) (g.met.E.Extract.order_total keys.keys index has)) set c.requires.linked.sound c.args.node c.get_mut.result.now (record { handle = c.get_mut.result.now.handle; row = c.apply.new.row }) c.get_mut.ensures.value c.changed_rows-changed.result agrees is (hash_by_row g.E.Extract.hash_of) (λ keys index a b. g.met.E.Extract.same_hash keys.keys index a.row b.row) c.requires.linked.keyed
+    keyed_beside (order_by_row g.E.Extract.order_of) (λ keys index has. on_total (λ (x : Entry _). x.row) (g.met.E.Extract.order_total keys.keys index has)) set c.requires.linked.sound c.args.node c.get_mut.result.now (record { handle = c.get_mut.result.now.handle; row = c.apply.new.row }) c.get_mut.ensures.value c.changed_rows-changed.result agrees is (marks_by_row (marks_of g.E.Extract)) (λ keys index a b. same_marks g.E.Extract.has_key g.E.Extract.order_of g.E.Extract.hash_of g.E.Extract.digest_of g.met.E.Extract.order_total g.met.E.Extract.same_hash g.met.E.Extract.digest_order keys.keys index a.row b.row) c.requires.linked.keyed
 
 pub returns-in_default-clause-linked : goal.returns-in_default-clause-linked
 returns-in_default-clause-linked g c =
@@ -154,7 +156,7 @@ put_back-requires-clause-restored g c =
     let undone = c.undo.ensures.row ∙ (λ i. g.T.Edit.undone (c.apply.ensures.edit i) ((ap (λ (e : Entry _). e.row) again ∙ c.apply.ensures.row) i)) in
     restored_undone set node (record { handle = c.get_mut.result.now.handle; row = c.apply.new.row }) (record { handle = c.get_mut-2.result.now.handle; row = c.undo.new.row }) c.get_mut.result.now had is (order_by_row g.E.Extract.order_of)
     (λ index lt key. ap (λ u. g.E.Extract.order_of (keys_of set).keys index u c.get_mut.result.now.row) undone ∙ c.requires.undone index c.get_mut.result.now.row lt key (ap (option_map (λ (e : Entry _). e.row)) had))
-    (hash_by_row g.E.Extract.hash_of) c.requires.linked.keyed
+    (marks_by_row (marks_of g.E.Extract)) c.requires.linked.keyed
 
 pub returns-clause-linked : goal.returns-clause-linked
 returns-clause-linked g c =

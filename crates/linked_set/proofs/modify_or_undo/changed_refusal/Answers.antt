@@ -1,3 +1,4 @@
+use Rattle.any_index.specs.Keyed.{marks_of}
 use Rattle.std.proofs.Common.{◌-◌, ◌^◌, ◌==◌, cond, Some, None, eq-eqb, ne_eqb, sym, ap, ◌∙◌, subst}
 use Rattle.std.proofs.lemmas.Option.{same_Some}
 use Rattle.node_store.specs.Store.{IsNodeOf}
@@ -7,7 +8,7 @@ use Rattle.index_set.specs.Lists.{ban_from}
 use Rattle.index_set.specs.Set.{store_of, keys_of, specs_of, record_of, lists_of}
 use Rattle.index_set.proofs.Keys.{except_some}
 use Rattle.index_set.proofs.Members.{nodes_held}
-use Rattle.linked_set.specs.ByRow.{order_by_row, hash_by_row}
+use Rattle.linked_set.specs.ByRow.{order_by_row, marks_by_row}
 use Rattle.linked_set.specs.Linked.{handle_of}
 use Rattle.linked_set.proofs.Bans.{ban_of}
 use Rattle.linked_set.proofs.Undoing.{refused_by}
@@ -18,7 +19,7 @@ bans_changed-requires-clause-except g c m e = subst (IsNodeOf (store_of c.args.s
 
 pub bans_changed-requires-clause-keyed : goal.bans_changed-requires-clause-keyed
 bans_changed-requires-clause-keyed g c =
-    except_some (order_by_row g.E.Extract.order_of) (hash_by_row g.E.Extract.hash_of) c.args.set.now c.args.node c.requires.keyed
+    except_some (order_by_row g.E.Extract.order_of) (marks_by_row (marks_of g.E.Extract)) c.args.set.now c.args.node c.requires.keyed
 
 pub bans_changed-requires-clause-free : goal.bans_changed-requires-clause-free
 bans_changed-requires-clause-free g c = c.requires.free c.get.result.now c.get.ensures

@@ -1,3 +1,4 @@
+use Rattle.any_index.specs.Keyed.{marks_of}
 use Rattle.std.proofs.Common.{Some, sym, ap, ◌∙◌, subst}
 use Rattle.std.specs.Option.{option_map_or}
 use Rattle.std.proofs.lemmas.Option.{same_Some}
@@ -25,8 +26,8 @@ settle_or_leave-requires-clause-filed g c = record {
   keyed =
       let set = c.args.set.now in
       let order = g.E.Extract.order_of in
-      let hash = g.E.Extract.hash_of in
-      keyed_but_written set c.args.node c.apply.new.row (node_of_all set c.args.node c.requires.filed.sound c.requires.held) order hash (but_from order hash set c.args.node c.requires.filed.keyed);
+      let marks = marks_of g.E.Extract in
+      keyed_but_written set c.args.node c.apply.new.row (node_of_all set c.args.node c.requires.filed.sound c.requires.held) order marks (but_from order marks set c.args.node c.requires.filed.keyed);
   unique =
       let set = c.args.set.now in
       unique_after_write g.E.Extract.order_of set c.requires.filed.sound c.args.node c.apply.new.row (node_of_all set c.args.node c.requires.filed.sound c.requires.held) c.requires.filed.unique;

@@ -1,3 +1,4 @@
+use Rattle.any_index.specs.Keyed.{marks_of}
 use Rattle.std.proofs.Common.{◌≡◌, ℕ, ◌<◌, length, Some, None, sym, ap, ◌∙◌, subst}
 use Rattle.std.specs.Prelude.{IsTrue}
 use Rattle.std.specs.declared.cmp.Ordering.TheVariants.{Equal}
@@ -36,9 +37,9 @@ pub bans-requires-clause-keyed : goal.bans-requires-clause-keyed
 bans-requires-clause-keyed g c =
     let set = c.args.set.now in
     let order = g.E.Extract.order_of in
-    let hash = g.E.Extract.hash_of in
-    except_some order hash (with_record set c.args.node c.apply.new.row) c.args.node
-    (keyed_but_written set c.args.node c.apply.new.row (node_of_all set c.args.node c.requires.filed.sound c.requires.held) order hash (but_from order hash set c.args.node c.requires.filed.keyed))
+    let marks = marks_of g.E.Extract in
+    except_some order marks (with_record set c.args.node c.apply.new.row) c.args.node
+    (keyed_but_written set c.args.node c.apply.new.row (node_of_all set c.args.node c.requires.filed.sound c.requires.held) order marks (but_from order marks set c.args.node c.requires.filed.keyed))
 
 pub bans-requires-clause-unique : goal.bans-requires-clause-unique
 bans-requires-clause-unique g c =
@@ -55,8 +56,8 @@ pub settle-requires-clause-keyed : goal.settle-requires-clause-keyed
 settle-requires-clause-keyed g c =
     let set = c.args.set.now in
     let order = g.E.Extract.order_of in
-    let hash = g.E.Extract.hash_of in
-    keyed_but_written set c.args.node c.apply.new.row (node_of_all set c.args.node c.requires.filed.sound c.requires.held) order hash (but_from order hash set c.args.node c.requires.filed.keyed)
+    let marks = marks_of g.E.Extract in
+    keyed_but_written set c.args.node c.apply.new.row (node_of_all set c.args.node c.requires.filed.sound c.requires.held) order marks (but_from order marks set c.args.node c.requires.filed.keyed)
 
 pub returns-in_default-clause-ban : goal.returns-in_default-clause-ban
 returns-in_default-clause-ban g c r has =
@@ -117,7 +118,7 @@ put_back-requires-clause-restored g c =
     let again = same_Some c.get_mut-2.result.now c.apply.new.row (sym c.get_mut-2.ensures.value ∙ record_written set.store node c.apply.new.row is) in
     let undone = c.undo.ensures.row ∙ (λ i. g.T.Edit.undone (c.apply.ensures.edit i) ((again ∙ c.apply.ensures.row) i)) in
     restored_undone set node c.apply.new.row c.undo.new.row c.get_mut.result.now had is order
-    (λ index lt key. ap (λ u. order (keys_of set) index u c.get_mut.result.now) undone ∙ c.requires.undone index c.get_mut.result.now lt key had) g.E.Extract.hash_of c.requires.filed.keyed
+    (λ index lt key. ap (λ u. order (keys_of set) index u c.get_mut.result.now) undone ∙ c.requires.undone index c.get_mut.result.now lt key had) (marks_of g.E.Extract) c.requires.filed.keyed
 
 pub returns-clause-edit : goal.returns-clause-edit
 returns-clause-edit g c r has =

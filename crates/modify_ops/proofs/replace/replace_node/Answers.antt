@@ -1,3 +1,4 @@
+use Rattle.any_index.specs.Keyed.{marks_of}
 use Rattle.std.proofs.Common.{◌≡◌, None, Some, sym, ap, ◌∙◌, subst}
 use Rattle.node_store.proofs.ByNode.{records_kept}
 use Rattle.index_set.specs.Changed.{differs}
@@ -11,6 +12,7 @@ use Rattle.index_set.proofs.StaysUnique.{unique_after_settle, unique_after_write
 use Rattle.index_set.proofs.Written.{lists_written, sound_written, keyed_but_written, record_written}
 use Rattle.modify_ops.proofs.Held.{node_of_all}
 use Rattle.modify_ops.proofs.Others.{ban_written}
+use Rattle.index_set.proofs.MarksKept.{same_marks}
 use Rattle.modify_ops.proofs.replace.replace_node.Goals as goal
 
 pub changed_by-changed-requires-clause-node : goal.changed_by-changed-requires-clause-node
@@ -29,9 +31,9 @@ pub settle_changed-requires-clause-keyed : goal.settle_changed-requires-clause-k
 settle_changed-requires-clause-keyed g c =
     let set = c.args.set.now in
     let order = g.E.Extract.order_of in
-    let hash = g.E.Extract.hash_of in
+    let marks = marks_of g.E.Extract in
     let is = node_of_all set c.args.node c.requires.filed.sound c.requires.held in
-    keyed_but_written set c.args.node c.replace-old.new.dest is order hash (but_from order hash set c.args.node c.requires.filed.keyed)
+    keyed_but_written set c.args.node c.replace-old.new.dest is order marks (but_from order marks set c.args.node c.requires.filed.keyed)
 
 pub settle_changed-requires-clause-beside : goal.settle_changed-requires-clause-beside
 settle_changed-requires-clause-beside g c =
@@ -41,7 +43,7 @@ settle_changed-requires-clause-beside g c =
     let had = c.get_mut.ensures.value in
     keyed_beside order g.met.E.Extract.order_total set c.requires.filed.sound c.args.node before c.replace-old.new.dest had c.changed_by-changed.result (agrees_where order set c.changed_by-changed.result c.replace-old.new.dest before
     (λ j. c.changed_by-changed.ensures before j had ∙ ap (λ v. differs (order (keys_of set)) (specs_of set) v before j) (sym c.replace-old.ensures.after)))
-    (node_of_all set c.args.node c.requires.filed.sound c.requires.held) g.E.Extract.hash_of g.met.E.Extract.same_hash c.requires.filed.keyed
+    (node_of_all set c.args.node c.requires.filed.sound c.requires.held) (marks_of g.E.Extract) (same_marks g.E.Extract.has_key g.E.Extract.order_of g.E.Extract.hash_of g.E.Extract.digest_of g.met.E.Extract.order_total g.met.E.Extract.same_hash g.met.E.Extract.digest_order) c.requires.filed.keyed
 
 pub returns-clause-lists : goal.returns-clause-lists
 returns-clause-lists g c =

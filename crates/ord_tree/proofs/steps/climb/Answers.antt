@@ -9,6 +9,7 @@ loop-link-init g c = record {
   carried = λ path was now h k. Carried-start g.T.Tally.of _ path was now _ _ _ h k;
   old = c.requires.old;
   nodes = λ m h. h;
+  digests = λ m. refl;
   others = λ j h. refl;
   contents = refl;
 }
@@ -60,6 +61,7 @@ loop-link-preserved g c = record {
       (turn g.T.Tally.of _ _ _ path now _ _ _ _ _ c.link-above.result c.lift-top.result k c.in-Some.is c.link-above.ensures (c.lift-top.ensures.tree k.path k.was k.now s)).carried;
   old = c.lift-top.ensures.nodes _ (at_node g.T.Tally.of _ _ _ _ _ _ _ _ (c.loop-link.invariant.carried c.requires.hung.path c.requires.hung.was c.requires.hung.now c.requires.hung.is c.requires.hung.hangs) c.in-Some.n c.in-Some.is);
   nodes = λ m h. c.lift-top.ensures.nodes m (c.loop-link.invariant.nodes m h);
+  digests = λ m. c.lift-top.ensures.digests m ∙ c.loop-link.invariant.digests m;
   others = λ j h. c.lift-top.ensures.others j h ∙ c.loop-link.invariant.others j h;
   contents = c.lift-top.ensures.contents ∙ c.loop-link.invariant.contents;
 }

@@ -1,6 +1,5 @@
 use Rattle.std.proofs.Common.{◌∙◌}
 use Rattle.node_store.specs.ByNode.{column_of, record_of}
-use Rattle.node_store.proofs.ByNode.{records_kept}
 use Rattle.ord_tree.specs.Spelled as trees
 use Rattle.rank_tree.specs.Spelled as ranked
 use Rattle.hash_index.specs.Spelled as buckets
@@ -9,7 +8,8 @@ use Rattle.row_index.proofs.Laws as row
 use Rattle.ord_tree.proofs.Laws as ord
 use Rattle.rank_tree.proofs.Laws as rank
 use Rattle.ord_tree.proofs.Ordered.{IsInOrder_placed}
-use Rattle.ord_tree.proofs.Settling.{IsInOrder_same}
+use Rattle.any_index.specs.Keyed.{marks_of}
+use Rattle.any_index.proofs.InTrees.{ordered_at}
 use Rattle.any_index.proofs.ByNumber.{Lacks_moved, moved_by_number, moved_back}
 use Rattle.any_index.proofs.Hashed.{list_entered, hashed_at}
 use Rattle.hash_index.proofs.Laws.{IsHashed_moved}
@@ -46,10 +46,10 @@ pub returns-in-None-at-clause-list : goal.returns-in-None-at-clause-list
 returns-in-None-at-clause-list g c = rw (c.in-Random.is, c.in-None-at.is) (row.spelled_is _ _ _ c.push-in-None-at.ensures.list ∙ insert_last _ c.args.n)
 
 pub returns-in-Ordered-clause-sound : goal.returns-in-Ordered-clause-sound
-returns-in-Ordered-clause-sound g c = ord.IsSound_from _ _ _ c.link.ensures.list
+returns-in-Ordered-clause-sound g c = ord.IsSound_from _ _ _ c.link.ensures.tree.list
 
 pub returns-in-Ordered-clause-list : goal.returns-in-Ordered-clause-list
-returns-in-Ordered-clause-list g c = rw c.in-Ordered.is (ord.spelled_is _ _ _ c.link.ensures.list)
+returns-in-Ordered-clause-list g c = rw c.in-Ordered.is (ord.spelled_is _ _ _ c.link.ensures.tree.list)
 
 pub returns-in-Ordered-clause-keyed : goal.returns-in-Ordered-clause-keyed
 returns-in-Ordered-clause-keyed g c =
@@ -59,14 +59,14 @@ returns-in-Ordered-clause-keyed g c =
     let index = trees.index_of c.in-Ordered.tree in
     let xs = trees.spelled (column_of c.args.store.now) c.in-Ordered.tree in
     let total = g.met.E.Extract.order_total c.args.keys.now index key in
-    IsInOrder_same _ _ compare _ _ _ _ (records_kept c.args.store.now _ c.link.ensures.contents) c.link.ensures.index (ord.spelled_is _ _ _ c.link.ensures.list)
-    (IsInOrder_placed (record_of c.args.store.now) (compare index) total c.args.n xs keyed)
+    ordered_at compare (marks_of g.E.Extract c.args.keys.now) c.args.store.now c.link.new.store c.link.ensures.tree.contents _ index _ (trees.col_of c.in-Ordered.tree) c.link.ensures.tree.index c.link.ensures.tree.col _ _ (ord.spelled_is _ _ _ c.link.ensures.tree.list)
+    (IsInOrder_placed (record_of c.args.store.now) (compare index) total c.args.n xs keyed.in_order) c.link.ensures.digested
 
 pub returns-in-Ranked-clause-sound : goal.returns-in-Ranked-clause-sound
-returns-in-Ranked-clause-sound g c = rank.IsSound_from _ _ _ c.link-in-Ranked.ensures.list
+returns-in-Ranked-clause-sound g c = rank.IsSound_from _ _ _ c.link-in-Ranked.ensures.tree.list
 
 pub returns-in-Ranked-clause-list : goal.returns-in-Ranked-clause-list
-returns-in-Ranked-clause-list g c = rw c.in-Ranked.is (rank.spelled_is _ _ _ c.link-in-Ranked.ensures.list)
+returns-in-Ranked-clause-list g c = rw c.in-Ranked.is (rank.spelled_is _ _ _ c.link-in-Ranked.ensures.tree.list)
 
 pub returns-in-Ranked-clause-keyed : goal.returns-in-Ranked-clause-keyed
 returns-in-Ranked-clause-keyed g c =
@@ -76,8 +76,8 @@ returns-in-Ranked-clause-keyed g c =
     let index = ranked.index_of c.in-Ranked.tree in
     let xs = ranked.spelled (column_of c.args.store.now) c.in-Ranked.tree in
     let total = g.met.E.Extract.order_total c.args.keys.now index key in
-    IsInOrder_same _ _ compare _ _ _ _ (records_kept c.args.store.now _ c.link-in-Ranked.ensures.contents) c.link-in-Ranked.ensures.index (rank.spelled_is _ _ _ c.link-in-Ranked.ensures.list)
-    (IsInOrder_placed (record_of c.args.store.now) (compare index) total c.args.n xs keyed)
+    ordered_at compare (marks_of g.E.Extract c.args.keys.now) c.args.store.now c.link-in-Ranked.new.store c.link-in-Ranked.ensures.tree.contents _ index _ (ranked.col_of c.in-Ranked.tree) c.link-in-Ranked.ensures.tree.index c.link-in-Ranked.ensures.tree.col _ _ (rank.spelled_is _ _ _ c.link-in-Ranked.ensures.tree.list)
+    (IsInOrder_placed (record_of c.args.store.now) (compare index) total c.args.n xs keyed.in_order) c.link-in-Ranked.ensures.digested
 
 pub returns-in-Hashed-clause-list : goal.returns-in-Hashed-clause-list
 returns-in-Hashed-clause-list g c = rw c.in-Hashed.is (list_entered c.link-in-Hashed.new.store c.link-in-Hashed.new.self c.args.n _ c.link-in-Hashed.ensures.chain c.link-in-Hashed.ensures.list)

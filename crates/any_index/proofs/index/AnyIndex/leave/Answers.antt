@@ -1,11 +1,11 @@
 use Rattle.std.proofs.Common.{ap, ◌∙◌}
-use Rattle.node_store.proofs.ByNode.{records_kept}
 use Rattle.seq_index.proofs.Laws as seq
 use Rattle.row_index.proofs.Laws as row
 use Rattle.ord_tree.proofs.Laws as ord
 use Rattle.rank_tree.proofs.Laws as rank
 use Rattle.hash_index.proofs.Laws as hash
-use Rattle.ord_tree.proofs.Settling.{IsInOrder_same}
+use Rattle.any_index.specs.Keyed.{hash_by}
+use Rattle.any_index.proofs.InTrees.{ordered_left}
 use Rattle.any_index.specs.Spelled.{by_number}
 use Rattle.any_index.proofs.ByNumber.{Holds_moved, moved_back}
 use Rattle.any_index.proofs.Hashed.{list_left, keeps_hashed_list}
@@ -35,9 +35,9 @@ pub returns-in-Ordered-clause-list : goal.returns-in-Ordered-clause-list
 returns-in-Ordered-clause-list g c = rw c.in-Ordered.is (ord.spelled_is _ _ _ c.unlink-in-Ordered.ensures.tree.list)
 
 pub returns-in-Ordered-clause-keyed : goal.returns-in-Ordered-clause-keyed
-returns-in-Ordered-clause-keyed g c = λ order hash_of h.
+returns-in-Ordered-clause-keyed g c = λ order marks h.
     let keyed = rw c.in-Ordered.is at h in
-    IsInOrder_same _ _ order _ _ _ _ (records_kept c.args.store.now _ c.unlink-in-Ordered.ensures.tree.contents) c.unlink-in-Ordered.ensures.tree.index (ord.spelled_is _ _ _ c.unlink-in-Ordered.ensures.tree.list) keyed
+    ordered_left order marks c.args.store.now c.unlink-in-Ordered.new.store c.unlink-in-Ordered.ensures.tree.contents _ _ _ _ c.unlink-in-Ordered.ensures.tree.index c.unlink-in-Ordered.ensures.tree.col _ _ (ord.spelled_is _ _ _ c.unlink-in-Ordered.ensures.tree.list) c.args.n c.unlink-in-Ordered.ensures.digests (hash.Lacks_without _ c.args.n) keyed
 
 pub returns-in-Ranked-clause-sound : goal.returns-in-Ranked-clause-sound
 returns-in-Ranked-clause-sound g c = rank.IsSound_from _ _ _ c.unlink-in-Ranked.ensures.tree.list
@@ -46,9 +46,9 @@ pub returns-in-Ranked-clause-list : goal.returns-in-Ranked-clause-list
 returns-in-Ranked-clause-list g c = rw c.in-Ranked.is (rank.spelled_is _ _ _ c.unlink-in-Ranked.ensures.tree.list)
 
 pub returns-in-Ranked-clause-keyed : goal.returns-in-Ranked-clause-keyed
-returns-in-Ranked-clause-keyed g c = λ order hash_of h.
+returns-in-Ranked-clause-keyed g c = λ order marks h.
     let keyed = rw c.in-Ranked.is at h in
-    IsInOrder_same _ _ order _ _ _ _ (records_kept c.args.store.now _ c.unlink-in-Ranked.ensures.tree.contents) c.unlink-in-Ranked.ensures.tree.index (rank.spelled_is _ _ _ c.unlink-in-Ranked.ensures.tree.list) keyed
+    ordered_left order marks c.args.store.now c.unlink-in-Ranked.new.store c.unlink-in-Ranked.ensures.tree.contents _ _ _ _ c.unlink-in-Ranked.ensures.tree.index c.unlink-in-Ranked.ensures.tree.col _ _ (rank.spelled_is _ _ _ c.unlink-in-Ranked.ensures.tree.list) c.args.n c.unlink-in-Ranked.ensures.digests (hash.Lacks_without _ c.args.n) keyed
 
 pub returns-in-Hashed-clause-list : goal.returns-in-Hashed-clause-list
 returns-in-Hashed-clause-list g c =
@@ -56,8 +56,8 @@ returns-in-Hashed-clause-list g c =
     rw c.in-Hashed.is (ap by_number (hash.spelled_is _ _ _ c.unlink-in-Hashed.ensures.list) ∙ list_left c.args.store.now c.in-Hashed.buckets c.args.n sound)
 
 pub returns-in-Hashed-clause-keyed : goal.returns-in-Hashed-clause-keyed
-returns-in-Hashed-clause-keyed g c = λ order hash_of h.
+returns-in-Hashed-clause-keyed g c = λ order marks h.
     let sound = rw c.in-Hashed.is at c.requires.sound in
     let keyed = rw c.in-Hashed.is at h in
-    keeps_hashed_list hash_of c.args.store.now c.unlink-in-Hashed.new.store c.in-Hashed.buckets c.unlink-in-Hashed.new.self _ _ c.unlink-in-Hashed.ensures.rest.index c.unlink-in-Hashed.ensures.rest.col c.unlink-in-Hashed.ensures.tags c.unlink-in-Hashed.ensures.rest.contents
+    keeps_hashed_list (λ k. hash_by (marks k)) c.args.store.now c.unlink-in-Hashed.new.store c.in-Hashed.buckets c.unlink-in-Hashed.new.self _ _ c.unlink-in-Hashed.ensures.rest.index c.unlink-in-Hashed.ensures.rest.col c.unlink-in-Hashed.ensures.tags c.unlink-in-Hashed.ensures.rest.contents
     (ap by_number (hash.spelled_is _ _ _ c.unlink-in-Hashed.ensures.list) ∙ list_left c.args.store.now c.in-Hashed.buckets c.args.n sound) keyed

@@ -1,3 +1,4 @@
+use Rattle.any_index.specs.Keyed.{hash_by}
 use Rattle.any_index.proofs.Hashed.{list_moved, keeps_hashed}
 use Rattle.any_index.proofs.index.AnyIndex.reserve_one.Goals as goal
 
@@ -7,6 +8,6 @@ returns-in-Hashed-clause-list g c =
     rw c.in-Hashed.is (list_moved c.args.store.now c.in-Hashed.buckets _ sound c.reserve_one-in-Hashed.ensures.list)
 
 pub returns-in-Hashed-clause-keyed : goal.returns-in-Hashed-clause-keyed
-returns-in-Hashed-clause-keyed g c = λ order hash_of h.
+returns-in-Hashed-clause-keyed g c = λ order marks h.
     let keyed = rw c.in-Hashed.is at h in
-    keeps_hashed hash_of c.args.store.now c.reserve_one-in-Hashed.new.store c.in-Hashed.buckets c.reserve_one-in-Hashed.new.self c.reserve_one-in-Hashed.ensures.rest.index c.reserve_one-in-Hashed.ensures.rest.col c.reserve_one-in-Hashed.ensures.tags c.reserve_one-in-Hashed.ensures.rest.contents c.reserve_one-in-Hashed.ensures.list keyed
+    keeps_hashed (λ k. hash_by (marks k)) c.args.store.now c.reserve_one-in-Hashed.new.store c.in-Hashed.buckets c.reserve_one-in-Hashed.new.self c.reserve_one-in-Hashed.ensures.rest.index c.reserve_one-in-Hashed.ensures.rest.col c.reserve_one-in-Hashed.ensures.tags c.reserve_one-in-Hashed.ensures.rest.contents c.reserve_one-in-Hashed.ensures.list keyed

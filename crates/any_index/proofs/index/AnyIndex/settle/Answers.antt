@@ -1,5 +1,4 @@
 use Rattle.node_store.specs.ByNode.{column_of, record_of}
-use Rattle.node_store.proofs.ByNode.{records_kept}
 use Rattle.ord_tree.specs.Spelled as trees
 use Rattle.rank_tree.specs.Spelled as ranked
 use Rattle.hash_index.specs.Spelled as buckets
@@ -7,7 +6,8 @@ use Rattle.ord_tree.proofs.Laws as ord
 use Rattle.rank_tree.proofs.Laws as rank
 use Rattle.hash_index.proofs.Laws.{IsHashed_moved}
 use Rattle.ord_tree.proofs.Ordered.{IsInOrder_settled}
-use Rattle.ord_tree.proofs.Settling.{IsInOrder_same}
+use Rattle.any_index.specs.Keyed.{marks_of}
+use Rattle.any_index.proofs.InTrees.{ordered_at}
 use Rattle.any_index.proofs.ByNumber.{Holds_moved, moved_by_number, moved_back, without_moved}
 use Rattle.any_index.proofs.Hashed.{list_moved, hashed_at}
 use Rattle.any_index.proofs.index.AnyIndex.settle.Goals as goal
@@ -18,10 +18,10 @@ settle-requires-in-Hashed-clause-node g c =
     record { chain = node.sound; held = Holds_moved _ _ c.args.n (moved_back _) node.held }
 
 pub returns-in-Ordered-clause-sound : goal.returns-in-Ordered-clause-sound
-returns-in-Ordered-clause-sound g c = ord.IsSound_from _ _ _ c.settle.ensures.list
+returns-in-Ordered-clause-sound g c = ord.IsSound_from _ _ _ c.settle.ensures.tree.list
 
 pub returns-in-Ordered-clause-list : goal.returns-in-Ordered-clause-list
-returns-in-Ordered-clause-list g c = rw c.in-Ordered.is (ord.spelled_is _ _ _ c.settle.ensures.list)
+returns-in-Ordered-clause-list g c = rw c.in-Ordered.is (ord.spelled_is _ _ _ c.settle.ensures.tree.list)
 
 pub returns-in-Ordered-clause-keyed : goal.returns-in-Ordered-clause-keyed
 returns-in-Ordered-clause-keyed g c =
@@ -33,14 +33,14 @@ returns-in-Ordered-clause-keyed g c =
     let index = trees.index_of c.in-Ordered.tree in
     let xs = trees.spelled (column_of c.args.store.now) c.in-Ordered.tree in
     let total = g.met.E.Extract.order_total c.args.keys.now index key in
-    IsInOrder_same _ _ compare _ _ _ _ (records_kept c.args.store.now _ c.settle.ensures.contents) c.settle.ensures.index (ord.spelled_is _ _ _ c.settle.ensures.list)
-    (IsInOrder_settled (record_of c.args.store.now) (compare index) total c.args.n xs held (ord.Spells_distinct _ _ _ sound) keyed)
+    ordered_at compare (marks_of g.E.Extract c.args.keys.now) c.args.store.now c.settle.new.store c.settle.ensures.tree.contents _ index _ (trees.col_of c.in-Ordered.tree) c.settle.ensures.tree.index c.settle.ensures.tree.col _ _ (ord.spelled_is _ _ _ c.settle.ensures.tree.list)
+    (IsInOrder_settled (record_of c.args.store.now) (compare index) total c.args.n xs held (ord.Spells_distinct _ _ _ sound) keyed.in_order) c.settle.ensures.digested
 
 pub returns-in-Ranked-clause-sound : goal.returns-in-Ranked-clause-sound
-returns-in-Ranked-clause-sound g c = rank.IsSound_from _ _ _ c.settle-in-Ranked.ensures.list
+returns-in-Ranked-clause-sound g c = rank.IsSound_from _ _ _ c.settle-in-Ranked.ensures.tree.list
 
 pub returns-in-Ranked-clause-list : goal.returns-in-Ranked-clause-list
-returns-in-Ranked-clause-list g c = rw c.in-Ranked.is (rank.spelled_is _ _ _ c.settle-in-Ranked.ensures.list)
+returns-in-Ranked-clause-list g c = rw c.in-Ranked.is (rank.spelled_is _ _ _ c.settle-in-Ranked.ensures.tree.list)
 
 pub returns-in-Ranked-clause-keyed : goal.returns-in-Ranked-clause-keyed
 returns-in-Ranked-clause-keyed g c =
@@ -52,8 +52,8 @@ returns-in-Ranked-clause-keyed g c =
     let index = ranked.index_of c.in-Ranked.tree in
     let xs = ranked.spelled (column_of c.args.store.now) c.in-Ranked.tree in
     let total = g.met.E.Extract.order_total c.args.keys.now index key in
-    IsInOrder_same _ _ compare _ _ _ _ (records_kept c.args.store.now _ c.settle-in-Ranked.ensures.contents) c.settle-in-Ranked.ensures.index (rank.spelled_is _ _ _ c.settle-in-Ranked.ensures.list)
-    (IsInOrder_settled (record_of c.args.store.now) (compare index) total c.args.n xs held (rank.Spells_distinct _ _ _ sound) keyed)
+    ordered_at compare (marks_of g.E.Extract c.args.keys.now) c.args.store.now c.settle-in-Ranked.new.store c.settle-in-Ranked.ensures.tree.contents _ index _ (ranked.col_of c.in-Ranked.tree) c.settle-in-Ranked.ensures.tree.index c.settle-in-Ranked.ensures.tree.col _ _ (rank.spelled_is _ _ _ c.settle-in-Ranked.ensures.tree.list)
+    (IsInOrder_settled (record_of c.args.store.now) (compare index) total c.args.n xs held (rank.Spells_distinct _ _ _ sound) keyed.in_order) c.settle-in-Ranked.ensures.digested
 
 pub returns-in-Hashed-clause-list : goal.returns-in-Hashed-clause-list
 returns-in-Hashed-clause-list g c =

@@ -9,7 +9,7 @@ pub link-requires-clause-ordered : goal.link-requires-clause-ordered
 link-requires-clause-ordered c =
     let h = subst (λ z. IsSorted c.args.store.now z.tree) (sym c.reserve_one.ensures.same) c.requires in
     let added = sorted_added c.args.store.now c.add.new.self c.in-Ok.n c.args.word c.reserve_one.new.self.tree c.in-Ok.ensures.added h in
-    record { tree = added.sound; key = refl; order = added.order }
+    record { tree = added.sound; key = refl; order = added.order; digested = added.digested }
 
 pub link-requires-clause-node : goal.link-requires-clause-node
 link-requires-clause-node c =
@@ -26,7 +26,7 @@ pub returns : goal.returns
 returns c =
     let h = subst (λ z. IsSorted c.args.store.now z.tree) (sym c.reserve_one.ensures.same) c.requires in
     sorted_linked c.add.new.self c.link.new.store c.reserve_one.new.self.tree c.link.new.self.tree c.in-Ok.n
-    (sorted_added c.args.store.now c.add.new.self c.in-Ok.n c.args.word c.reserve_one.new.self.tree c.in-Ok.ensures.added h) c.link.ensures.col c.link.ensures.contents c.link.ensures.list
+    (sorted_added c.args.store.now c.add.new.self c.in-Ok.n c.args.word c.reserve_one.new.self.tree c.in-Ok.ensures.added h) c.link.ensures.tree.col c.link.ensures.tree.contents c.link.ensures.tree.list c.link.ensures.digested
 
 pub returns-in_default : goal.returns-in_default
 returns-in_default c =

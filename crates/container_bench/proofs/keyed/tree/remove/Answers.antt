@@ -8,4 +8,4 @@ pub returns : goal.returns
 returns c =
     sorted_removed c.unlink.new.store c.remove.new.self c.unlink.new.self c.in_ok-n.n c.remove.ensures.removed
     (unlinked_lacks c.args.store.now c.unlink.new.store c.args.tree.now c.unlink.new.self c.in_ok-n.n c.requires.sound (c.find.ensures c.in_ok-n.n c.in_ok-n.was) c.unlink.ensures.tree.list)
-    (sorted_unlinked c.args.store.now c.unlink.new.store c.args.tree.now c.unlink.new.self c.in_ok-n.n c.requires c.unlink.ensures.tree.col c.unlink.ensures.tree.contents c.unlink.ensures.tree.list)
+    (sorted_unlinked c.args.store.now c.unlink.new.store c.args.tree.now c.unlink.new.self c.in_ok-n.n c.requires c.unlink.ensures.tree.col c.unlink.ensures.tree.contents c.unlink.ensures.tree.list c.unlink.ensures.digests)

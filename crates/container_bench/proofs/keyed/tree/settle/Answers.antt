@@ -1,6 +1,6 @@
 use Rattle.std.proofs.Common.{refl}
 use Rattle.ord_tree.proofs.Laws.{node_held}
-use Rattle.container_bench.proofs.Trees.{sound_rewritten, held_rewritten, others_sorted, sorted_settled}
+use Rattle.container_bench.proofs.Trees.{sound_rewritten, held_rewritten, others_sorted, others_digested, sorted_settled}
 use Rattle.container_bench.proofs.keyed.tree.settle.Goals as goal
 
 pub get_mut-requires : goal.get_mut-requires
@@ -21,7 +21,8 @@ settle-requires-clause-others c =
       tree = sound_rewritten c.args.store.now c.args.tree.now c.in_ok-n.n c.args.changed c.requires held;
       key = refl;
       order = others_sorted c.args.store.now c.args.tree.now c.in_ok-n.n c.args.changed c.requires held;
+      digested = others_digested c.args.store.now c.args.tree.now c.in_ok-n.n c.args.changed c.requires held;
     }
 
 pub returns : goal.returns
-returns c = sorted_settled c.args.store.now c.args.tree.now c.in_ok-n.n c.args.changed c.requires (c.find.ensures c.in_ok-n.n c.in_ok-n.was) c.settle.new.store c.settle.new.self c.settle.ensures.col c.settle.ensures.contents c.settle.ensures.list
+returns c = sorted_settled c.args.store.now c.args.tree.now c.in_ok-n.n c.args.changed c.requires (c.find.ensures c.in_ok-n.n c.in_ok-n.was) c.settle.new.store c.settle.new.self c.settle.ensures.tree.col c.settle.ensures.tree.contents c.settle.ensures.tree.list c.settle.ensures.digested

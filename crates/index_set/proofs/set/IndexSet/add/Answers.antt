@@ -1,3 +1,4 @@
+use Rattle.any_index.specs.Keyed.{marks_of}
 use Rattle.std.proofs.Common.{arith}
 use Rattle.index_set.proofs.Coming.{placed_after, lists_after, lacks_after, keyed_after}
 use Rattle.index_set.proofs.Stores.{IsStore_after, width_after}
@@ -27,4 +28,4 @@ returns-clause-loose g c = lacks_after c.args.self.now.store c.add.new.self c.ar
 pub returns-clause-keyed : goal.returns-clause-keyed
 returns-clause-keyed g c =
     keyed_after c.args.self.now.store c.add.new.self c.args.value c.args.self.now.specs.items c.args.self.now.indices.items c.requires.sound.placed c.add.result c.add.ensures.added c.add.ensures.unchanged
-    (g.E.Extract.order_of c.args.self.now.keys) (g.E.Extract.hash_of c.args.self.now.keys)
+    (g.E.Extract.order_of c.args.self.now.keys) (marks_of g.E.Extract c.args.self.now.keys)

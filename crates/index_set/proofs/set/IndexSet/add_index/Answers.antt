@@ -1,3 +1,4 @@
+use Rattle.any_index.specs.Keyed.{marks_of}
 use Rattle.std.proofs.Common.{◌≡◌, false, ◌∙◌, sym, ap, subst, arith, length, get_or, ◌++◌, ◌∷◌, [], None}
 use Rattle.std.specs.declared.cmp.Ordering.{Ordering}
 use Rattle.std.proofs.lemmas.List.{length_push, length-map, map_push}
@@ -14,6 +15,7 @@ use Rattle.index_set.specs.Added.{HasEachKeyOnce}
 use Rattle.index_set.specs.Indices.{ArePlaced, AreWithin, AreKeyed, lists_in}
 use Rattle.index_set.specs.Lists.{AreUniqueFrom}
 use Rattle.index_set.proofs.Joining.{placed_next, within_next, keyed_next, unique_next}
+use Rattle.index_set.proofs.MarksKept.{marks_each}
 use Rattle.index_set.proofs.Rekeyed.{rekeyed}
 use Rattle.index_set.proofs.StaysUnique.{unique_kept}
 use Rattle.index_set.proofs.Uniques.{unique_at}
@@ -49,13 +51,14 @@ returns-in-Ok-clause-keyed g c =
     let m = c.made_index.new.self in
     let e = c.in-Ok.ensures in
     let order = g.E.Extract.order_of in
-    let hash = g.E.Extract.hash_of in
+    let marks = marks_of g.E.Extract in
     let orders = subst (λ ds. KeepsEach (order m.keys) (order c.args.keys) ds) (sym e.same.specs) (subst (λ k. KeepsEach (order k) (order c.args.keys) c.args.self.now.specs.items) (sym e.same.keys) c.requires.orders) in
-    let hashes = subst (λ ds. KeepsEach (hash m.keys) (hash c.args.keys) ds) (sym e.same.specs) (subst (λ k. KeepsEach (hash k) (hash c.args.keys) c.args.self.now.specs.items) (sym e.same.keys) c.requires.hashes) in
-    subst (λ ds. AreKeyed (order c.args.keys) (hash c.args.keys) m.store ds c.push_reserved-in-Ok.new.self.items) (sym c.push_reserved.ensures.items)
-    (subst (λ is. AreKeyed (order c.args.keys) (hash c.args.keys) m.store (m.specs.items ++ c.args.spec ∷ []) is) (sym c.push_reserved-in-Ok.ensures.items)
-    (keyed_next m.specs.items m.indices.items c.args.spec c.in-Ok.made e.sound.placed.one_each (order c.args.keys) (hash c.args.keys) m.store e.next.keyed
-    (rekeyed (order m.keys) (order c.args.keys) (hash m.keys) (hash c.args.keys) m.store m.specs.items m.indices.items e.sound.placed orders hashes e.keyed)))
+    let each = marks_each order g.E.Extract.hash_of g.E.Extract.digest_of g.met.E.Extract.one_digest c.args.self.now.keys c.args.keys c.args.self.now.specs.items c.requires.orders c.requires.hashes in
+    let marked = subst (λ ds. KeepsEach (marks m.keys) (marks c.args.keys) ds) (sym e.same.specs) (subst (λ k. KeepsEach (marks k) (marks c.args.keys) c.args.self.now.specs.items) (sym e.same.keys) each) in
+    subst (λ ds. AreKeyed (order c.args.keys) (marks c.args.keys) m.store ds c.push_reserved-in-Ok.new.self.items) (sym c.push_reserved.ensures.items)
+    (subst (λ is. AreKeyed (order c.args.keys) (marks c.args.keys) m.store (m.specs.items ++ c.args.spec ∷ []) is) (sym c.push_reserved-in-Ok.ensures.items)
+    (keyed_next m.specs.items m.indices.items c.args.spec c.in-Ok.made e.sound.placed.one_each (order c.args.keys) (marks c.args.keys) m.store e.next.keyed
+    (rekeyed (order m.keys) (order c.args.keys) (marks m.keys) (marks c.args.keys) m.store m.specs.items m.indices.items e.sound.placed orders marked e.keyed)))
 
 pub returns-in-Ok-clause-unique : goal.returns-in-Ok-clause-unique
 returns-in-Ok-clause-unique g c =

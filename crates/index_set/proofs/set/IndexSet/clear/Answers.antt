@@ -1,3 +1,4 @@
+use Rattle.any_index.specs.Keyed.{marks_of}
 use Rattle.std.proofs.Common.{arith, rules}
 use Rattle.index_set.proofs.Emptied.{no_nodes, no_length, emptied_placed, emptied_within, emptied_lists, emptied_keyed, emptied_unique}
 use Rattle.index_set.proofs.set.IndexSet.clear.Goals as goal
@@ -27,7 +28,7 @@ returns-clause-len g c = no_length c.remove_all.new.store c.remove_all.ensures.s
 pub returns-clause-keyed : goal.returns-clause-keyed
 returns-clause-keyed g c =
     emptied_keyed c.remove_all.new.store c.args.self.now.specs.items c.deref.result.now c.deref.ensures.value c.args.self.now.indices.len c.args.self.now.indices.items c.empty_each.new.indices (search rules) c.requires.placed.one_each c.empty_each.ensures.placed c.empty_each.ensures.empty
-    (g.E.Extract.order_of c.args.self.now.keys) (g.E.Extract.hash_of c.args.self.now.keys)
+    (g.E.Extract.order_of c.args.self.now.keys) (marks_of g.E.Extract c.args.self.now.keys)
 
 pub returns-clause-unique : goal.returns-clause-unique
 returns-clause-unique g c =

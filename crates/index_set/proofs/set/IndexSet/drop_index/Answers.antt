@@ -1,3 +1,4 @@
+use Rattle.any_index.specs.Keyed.{marks_of}
 use Rattle.std.proofs.Common.{◌∙◌, sym, ap, subst, arith, length, None}
 use Rattle.std.specs.Prelude.{remove}
 use Rattle.std.proofs.lemmas.List.{length-map}
@@ -9,6 +10,7 @@ use Rattle.index_set.specs.Indices.{ArePlaced, AreWithin, AreKeyed, HaveRoom, li
 use Rattle.index_set.specs.Lists.{AreUniqueFrom}
 use Rattle.index_set.specs.Set.{lists_of}
 use Rattle.index_set.proofs.Dropping.{left, sound_left, dropped_placed, dropped_within, dropped_room, dropped_lists, dropped_keyed, dropped_unique}
+use Rattle.index_set.proofs.MarksKept.{marks_rest}
 use Rattle.index_set.proofs.set.IndexSet.drop_index.Goals as goal
 
 pub renumber_each-requires : goal.renumber_each-requires
@@ -46,10 +48,11 @@ returns-clause-keyed g c =
     let fin = c.renumber_each.new.indices.items in
     let each = subst (λ is. AreRenumbered s.store is fin) c.remove-2.ensures.items r.each in
     let order = g.E.Extract.order_of in
-    let hash = g.E.Extract.hash_of in
-    subst (λ ds. AreKeyed (order c.args.keys) (hash c.args.keys) s.store ds fin) (sym c.remove.ensures.items)
+    let marks = marks_of g.E.Extract in
+    subst (λ ds. AreKeyed (order c.args.keys) (marks c.args.keys) s.store ds fin) (sym c.remove.ensures.items)
     (dropped_keyed s.store s.specs.items s.indices.items fin c.args.index c.requires.index c.requires.filed.sound.placed (r.count ∙ ap length c.remove-2.ensures.items) each
-    (order s.keys) (order c.args.keys) c.requires.orders (hash s.keys) (hash c.args.keys) c.requires.hashes c.requires.filed.keyed)
+    (order s.keys) (order c.args.keys) c.requires.orders (marks s.keys) (marks c.args.keys)
+    (marks_rest order g.E.Extract.hash_of g.E.Extract.digest_of g.met.E.Extract.one_digest s.keys c.args.keys s.specs.items c.args.index c.requires.orders c.requires.hashes) c.requires.filed.keyed)
 
 pub returns-clause-lists : goal.returns-clause-lists
 returns-clause-lists g c =

@@ -1,3 +1,4 @@
+use Rattle.any_index.specs.Keyed.{marks_of}
 use Rattle.std.proofs.Common.{rules, ◌≡◌, ◌∙◌, ap, sym, subst, length}
 use Rattle.node_store.specs.ByNode.{column_of}
 use Rattle.index_set.specs.Indices.{ArePlaced, AreWithin, AreKeyed, AreKeyedBut}
@@ -29,10 +30,10 @@ returns-clause-sound g c =
 pub returns-clause-keyed : goal.returns-clause-keyed
 returns-clause-keyed g c h =
     let order = g.E.Extract.order_of c.args.self.now.keys in
-    let hash_of = g.E.Extract.hash_of c.args.self.now.keys in
-    let was : AreKeyedBut order hash_of c.args.self.now.store c.deref.result.now c.deref_mut.result.now c.args.n = search rules in
-    let now = subst (λ ds. AreKeyed order hash_of c.leave_each.new.store ds c.leave_each.new.indices) c.deref.ensures.value (c.leave_each.ensures.keyed order hash_of was) in
+    let marks = marks_of g.E.Extract c.args.self.now.keys in
+    let was : AreKeyedBut order marks c.args.self.now.store c.deref.result.now c.deref_mut.result.now c.args.n = search rules in
+    let now = subst (λ ds. AreKeyed order marks c.leave_each.new.store ds c.leave_each.new.indices) c.deref.ensures.value (c.leave_each.ensures.keyed order marks was) in
     let same : length c.leave_each.new.indices ≡ length c.args.self.now.indices.items =
     c.leave_each.ensures.placed.one_each ∙ (ap length c.deref.ensures.value ∙ sym c.requires.sound.placed.one_each) in
     let held : c.args.self.now.indices.len ≡ length c.args.self.now.indices.items = search rules in
-    subst (λ z. AreKeyed order hash_of c.leave_each.new.store c.args.self.now.specs.items z) (sym (refilled c.args.self.now.indices.len c.args.self.now.indices.items c.leave_each.new.indices held same)) now
+    subst (λ z. AreKeyed order marks c.leave_each.new.store c.args.self.now.specs.items z) (sym (refilled c.args.self.now.indices.len c.args.self.now.indices.items c.leave_each.new.indices held same)) now

@@ -1,3 +1,4 @@
+use Rattle.any_index.specs.Keyed.{marks_of}
 use Rattle.std.proofs.Common.{◌≡◌, ◌==◌, false, length, ap, ◌∙◌, subst, arith}
 use Rattle.std.specs.List.{list_any}
 use Rattle.node_store.specs.ByNode.{column_of}
@@ -45,4 +46,4 @@ returns-clause-keyed g c =
     let r = c.in-Ok.ensures in
     let free = subst (λ xs. list_any (λ i. col_of i == c.free_column-column.result) xs ≡ false) c.deref.ensures.value c.free_column-column.ensures.free in
     keyed_beside t.store c.build.new.store t.specs.items t.indices.items c.free_column-column.result r.sound.placed (λ j d lt. unused t.indices.items c.free_column-column.result free j d (omega (arith, lt, r.sound.placed.one_each))) c.build.ensures.others
-    c.build.ensures.contents (g.E.Extract.order_of t.keys) (g.E.Extract.hash_of t.keys) (r.keyed c.requires.filed.keyed)
+    c.build.ensures.contents (g.E.Extract.order_of t.keys) (marks_of g.E.Extract t.keys) (r.keyed c.requires.filed.keyed)

@@ -1,3 +1,4 @@
+use Rattle.any_index.specs.Keyed.{marks_of}
 use Rattle.std.proofs.Common.{◌∙◌, ap}
 use Rattle.list_model.specs.Walk.{relocated}
 use Rattle.node_store.specs.ByNode.{same_node}
@@ -35,4 +36,4 @@ returns-clause-room g c =
 pub returns-clause-keyed : goal.returns-clause-keyed
 returns-clause-keyed g c =
     keyed_moved c.args.self.now c.requires.at.sound c.args.index c.requires.at.index c.index_mut.result.now c.move_to.new.self c.index_mut.ensures.value c.move_to.new.store (steps_of c.move_to.ensures.sound c.move_to.ensures.rest.kind c.move_to.ensures.rest.col c.move_to.ensures.rest.index c.move_to.ensures.rest.others)
-    c.requires.kind c.move_to.ensures.rest.contents (g.E.Extract.order_of c.args.self.now.keys) (g.E.Extract.hash_of c.args.self.now.keys)
+    c.requires.kind c.move_to.ensures.rest.contents (g.E.Extract.order_of c.args.self.now.keys) (marks_of g.E.Extract c.args.self.now.keys)

@@ -1,3 +1,4 @@
+use Rattle.any_index.specs.Keyed.{marks_of}
 use Rattle.std.proofs.Common.{ap, sym, ◌∙◌, subst, length, map, [], arith}
 use Rattle.node_store.specs.Store.{IsStore, width_of}
 use Rattle.node_store.specs.ByNode.{column_of}
@@ -25,7 +26,7 @@ returns-clause-sound g c = record {
 
 pub returns-clause-keyed : goal.returns-clause-keyed
 returns-clause-keyed g c =
-    keyed_empty (g.E.Extract.order_of c.args.keys) (g.E.Extract.hash_of c.args.keys) c.new.result c.args.specs.items c.in_ok-indices.indices.items
+    keyed_empty (g.E.Extract.order_of c.args.keys) (marks_of g.E.Extract c.args.keys) c.new.result c.args.specs.items c.in_ok-indices.indices.items
     ((c.in_ok-indices.ensures.placed (column_of c.new.result)).one_each ∙ ap length c.deref.ensures.value)
     (c.in_ok-indices.ensures.empty (column_of c.new.result) ∙ ap (map (λ _. [])) c.deref.ensures.value)
 

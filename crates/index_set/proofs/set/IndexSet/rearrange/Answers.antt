@@ -1,3 +1,4 @@
+use Rattle.any_index.specs.Keyed.{marks_of}
 use Rattle.index_set.proofs.Frame.{steps_of}
 use Rattle.index_set.proofs.Moving.{placed_moved, within_moved, lists_moved, room_moved, keyed_moved}
 use Rattle.index_set.proofs.Stores.{IsStore_kept, columns_kept}
@@ -31,4 +32,4 @@ returns-clause-room g c =
 pub returns-clause-keyed : goal.returns-clause-keyed
 returns-clause-keyed g c =
     keyed_moved c.args.self.now c.requires.at.sound c.args.index c.requires.at.index c.index_mut.result.now c.rearrange.new.self c.index_mut.ensures.value c.rearrange.new.store (steps_of c.rearrange.ensures.sound c.rearrange.ensures.rest.kind c.rearrange.ensures.rest.col c.rearrange.ensures.rest.index c.rearrange.ensures.rest.others)
-    c.requires.kind c.rearrange.ensures.rest.contents (g.E.Extract.order_of c.args.self.now.keys) (g.E.Extract.hash_of c.args.self.now.keys)
+    c.requires.kind c.rearrange.ensures.rest.contents (g.E.Extract.order_of c.args.self.now.keys) (marks_of g.E.Extract c.args.self.now.keys)

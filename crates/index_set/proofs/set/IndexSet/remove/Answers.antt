@@ -1,3 +1,4 @@
+use Rattle.any_index.specs.Keyed.{marks_of}
 use Rattle.std.proofs.Common.{arith}
 use Rattle.index_set.proofs.Coming.{placed_removed, lists_removed, keyed_removed}
 use Rattle.index_set.proofs.Stores.{IsStore_removed}
@@ -24,4 +25,4 @@ returns-clause-lists g c = lists_removed c.args.self.now.store c.remove.new.self
 pub returns-clause-keyed : goal.returns-clause-keyed
 returns-clause-keyed g c =
     keyed_removed c.args.self.now.store c.remove.new.self c.args.n c.args.self.now.specs.items c.args.self.now.indices.items c.remove.ensures.removed c.requires.sound.placed c.requires.loose
-    (g.E.Extract.order_of c.args.self.now.keys) (g.E.Extract.hash_of c.args.self.now.keys)
+    (g.E.Extract.order_of c.args.self.now.keys) (marks_of g.E.Extract c.args.self.now.keys)

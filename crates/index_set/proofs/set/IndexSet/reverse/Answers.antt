@@ -1,3 +1,4 @@
+use Rattle.any_index.specs.Keyed.{marks_of}
 use Rattle.std.proofs.Common.{◌∙◌, ap}
 use Rattle.std.specs.Prelude.{reverse}
 use Rattle.index_set.proofs.Frame.{steps_of}
@@ -34,4 +35,4 @@ returns-clause-room g c =
 pub returns-clause-keyed : goal.returns-clause-keyed
 returns-clause-keyed g c =
     keyed_moved c.args.self.now c.requires.at.sound c.args.index c.requires.at.index c.index_mut.result.now c.reverse.new.self c.index_mut.ensures.value c.reverse.new.store (steps_of c.reverse.ensures.sound c.reverse.ensures.rest.kind c.reverse.ensures.rest.col c.reverse.ensures.rest.index c.reverse.ensures.rest.others)
-    c.requires.kind c.reverse.ensures.rest.contents (g.E.Extract.order_of c.args.self.now.keys) (g.E.Extract.hash_of c.args.self.now.keys)
+    c.requires.kind c.reverse.ensures.rest.contents (g.E.Extract.order_of c.args.self.now.keys) (marks_of g.E.Extract c.args.self.now.keys)

@@ -1,3 +1,5 @@
+use Rattle.key_extract.specs.Digests.{Marks}
+use Rattle.any_index.specs.Keyed.{marks_of}
 use Rattle.std.proofs.Common.{arith, subst, sym, refl, ap, ◌∙◌}
 use Rattle.std.specs.Prelude.{IsTrue}
 use Rattle.node_store.specs.Nodes.{Holds}
@@ -67,7 +69,7 @@ returns-clause-keyed g c =
     c.mark_key-low.ensures.others (steps_of c.close_up.ensures.sound c.close_up.ensures.rest.kind c.close_up.ensures.rest.col c.close_up.ensures.rest.index c.close_up.ensures.rest.others) in
     let kept = c.close_up.ensures.rest.contents ∙ c.mark_key-low.ensures.contents in
     keyed_moved set c.requires.at.sound c.args.row c.requires.at.index c.index_mut.result.now c.close_up.new.self c.index_mut.ensures.value c.close_up.new.store step
-    (subst (λ kind. IsTrue (is_sequence_kind kind)) (sym c.requires.kind) refl) kept (g.E.Extract.order_of set.keys) (g.E.Extract.hash_of set.keys) c.requires.key.keyed
+    (subst (λ kind. IsTrue (is_sequence_kind kind)) (sym c.requires.kind) refl) kept (g.E.Extract.order_of set.keys) (marks_of g.E.Extract set.keys) c.requires.key.keyed
 
 pub returns-clause-lists : goal.returns-clause-lists
 returns-clause-lists g c =

@@ -1,3 +1,4 @@
+use Rattle.any_index.specs.Keyed.{marks_of}
 use Rattle.std.proofs.Common.{◌≡◌, ◌+◌, ◌<◌, ◌≤◌, ◌∙◌, false, length, ap, sym, subst, arith, rules}
 use Rattle.std.specs.Prelude.{filter}
 use Rattle.std.specs.Option.{option_map_or}
@@ -36,7 +37,7 @@ invariant_of-self g c =
     let s = seen inside.set inside.max inside.writes in
     let next = next_number inside.writes c.self.invariant.numbered (key_allowed s c.args.index (ap (λ t. erase_key_refusal t c.args.index) c.self.view_is ∙ (sym c.erase_key_refusal.ensures ∙ c.in_default.is))) in
     IsContainer_only inside.set c.take_key-count.new.set (has_other_key g.E.Extract.probe_order_of inside.set c.args.index c.args.probe.now) inside.max inside.writes taken.same taken.entries taken.lists
-    g.E.Extract.has_key g.E.Extract.order_of g.E.Extract.hash_of inside.slots.items c.take_key-count.new.slots.items taken.added next c.self.invariant taken.linked
+    g.E.Extract.has_key g.E.Extract.order_of (marks_of g.E.Extract) inside.slots.items c.take_key-count.new.slots.items taken.added next c.self.invariant taken.linked
 
 pub returns-clause-count : goal.returns-clause-count
 returns-clause-count g c =

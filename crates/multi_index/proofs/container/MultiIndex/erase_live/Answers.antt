@@ -1,3 +1,4 @@
+use Rattle.any_index.specs.Keyed.{marks_of}
 use Rattle.std.proofs.Common.{◌≡◌, ◌<◌, ◌-◌, ◌^◌, ◌==◌, ◌∙◌, length, ap, sym, subst}
 use Rattle.std.specs.Prelude.{IfSome, not, option_and_then}
 use Rattle.container_model.specs.State.{is_handle, row_of}
@@ -35,7 +36,7 @@ invariant_of-self g c =
     let more = ap (λ s. s.writes) c.self.view_is in
     let next = next_number c.self.inside.writes c.self.invariant.numbered (ap (λ n. n == 2 ^ 64 - 1) more ∙ (live_allowed c.args.self.now c.args.handle c.args.index c.requires.allowed).1) in
     IsContainer_only c.self.inside.set c.take_out-entry.new.set (λ g. not (is_handle c.take_out-entry.result.handle g)) c.self.inside.max c.self.inside.writes taken.same taken.entries taken.lists
-    g.E.Extract.has_key g.E.Extract.order_of g.E.Extract.hash_of c.self.inside.slots.items c.take_out-entry.new.slots.items taken.count next c.self.invariant taken.linked
+    g.E.Extract.has_key g.E.Extract.order_of (marks_of g.E.Extract) c.self.inside.slots.items c.take_out-entry.new.slots.items taken.count next c.self.invariant taken.linked
 
 pub returns-clause-row : goal.returns-clause-row
 returns-clause-row g c =

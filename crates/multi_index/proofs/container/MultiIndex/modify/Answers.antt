@@ -1,3 +1,4 @@
+use Rattle.any_index.specs.Keyed.{marks_of}
 use Rattle.std.proofs.Common.{◌∙◌, ◌-◌, ◌^◌, true, false, eq-eqb, ne_eqb, Some, ap, sym}
 use Rattle.std.specs.Prelude.{option_map}
 use Rattle.container_model.specs.declared.handle.Entry.{Entry}
@@ -35,7 +36,7 @@ invariant_of-self g c =
     let name = named c.self.inside.set c.self.inside.slots.items c.self.invariant.linked c.args.handle c.in-Some.node (c.node_at.ensures.found c.in-Some.node c.in-Some.is) in
     let row = g.T.Edit.applied c.args.edit.now name.entry.row in
     let left = c.change.ensures.left name.entry.row c.self.inside.max c.self.inside.writes (ap (option_map (λ (e : Entry _). e.row)) name.has) in
-    IsContainer_modified g.E.Extract.has_key order g.E.Extract.hash_of g.met.E.Extract.order_total c.self.inside.set c.change.new.set c.self.inside.slots.items c.change.new.slots.items c.args.handle row name.entry.row
+    IsContainer_modified g.E.Extract.has_key order (marks_of g.E.Extract) g.met.E.Extract.order_total c.self.inside.set c.change.new.set c.self.inside.slots.items c.change.new.slots.items c.args.handle row name.entry.row
     c.self.inside.max c.self.inside.writes (left ∙ ap (λ h. with_modified order s h row) name.own) name.row c.change.ensures.count (next_number c.self.inside.writes c.self.invariant.numbered (ne_eqb c.self.inside.writes (2 ^ 64 - 1) c.if-self.false)) c.self.invariant c.change.ensures.linked
 
 pub returns-clause-allowed : goal.returns-clause-allowed

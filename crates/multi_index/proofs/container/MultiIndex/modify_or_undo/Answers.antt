@@ -1,3 +1,4 @@
+use Rattle.any_index.specs.Keyed.{marks_of}
 use Rattle.std.proofs.Common.{◌∙◌, ◌+◌, ap, sym, subst, arith}
 use Rattle.std.specs.Prelude.{option_map}
 use Rattle.std.specs.Option.{option_map_or}
@@ -47,7 +48,7 @@ invariant_of-self g c =
     let name = named c.self.inside.set c.self.inside.slots.items c.self.invariant.linked c.args.handle c.in-Some.node (c.node_at.ensures.found c.in-Some.node c.in-Some.is) in
     let had = ap (option_map (λ (e : Entry _). e.row)) name.has in
     let made = c.change_or_undo.ensures in
-    IsContainer_undone g.E.Extract.has_key g.E.Extract.order_of g.E.Extract.hash_of g.met.E.Extract.order_total c.self.inside.set c.change_or_undo.new.set c.self.inside.slots.items c.args.handle
+    IsContainer_undone g.E.Extract.has_key g.E.Extract.order_of (marks_of g.E.Extract) g.met.E.Extract.order_total c.self.inside.set c.change_or_undo.new.set c.self.inside.slots.items c.args.handle
     (g.T.Edit.undone (g.T.Edit.after_apply c.args.edit.now name.entry.row) (g.T.Edit.applied c.args.edit.now name.entry.row)) name.entry.row c.self.inside.max c.self.inside.writes
     (was_undone g.E.Extract.order_of c.self.inside.set c.change_or_undo.new.set c.self.inside.max c.self.inside.writes c.args.handle (handle_of (record_of c.self.inside.set) c.in-Some.node) name.own (g.T.Edit.applied c.args.edit.now)
     (λ r. g.T.Edit.undone (g.T.Edit.after_apply c.args.edit.now r) (g.T.Edit.applied c.args.edit.now r)) name.entry.row name.row c.change_or_undo.result
@@ -109,7 +110,7 @@ invariant_of-self-2 g c =
     let name = named c.self.inside.set c.self.inside.slots.items c.self.invariant.linked c.args.handle c.in-Some.node (c.node_at.ensures.found c.in-Some.node c.in-Some.is) in
     let had = ap (option_map (λ (e : Entry _). e.row)) name.has in
     let made = c.change_or_undo.ensures in
-    IsContainer_modified g.E.Extract.has_key g.E.Extract.order_of g.E.Extract.hash_of g.met.E.Extract.order_total c.self.inside.set c.change_or_undo.new.set c.self.inside.slots.items c.self.inside.slots.items c.args.handle
+    IsContainer_modified g.E.Extract.has_key g.E.Extract.order_of (marks_of g.E.Extract) g.met.E.Extract.order_total c.self.inside.set c.change_or_undo.new.set c.self.inside.slots.items c.self.inside.slots.items c.args.handle
     (g.T.Edit.applied c.args.edit.now name.entry.row) name.entry.row c.self.inside.max c.self.inside.writes
     (was_kept g.E.Extract.order_of c.self.inside.set c.change_or_undo.new.set c.self.inside.max c.self.inside.writes c.args.handle (handle_of (record_of c.self.inside.set) c.in-Some.node) name.own (g.T.Edit.applied c.args.edit.now)
     (λ r. g.T.Edit.undone (g.T.Edit.after_apply c.args.edit.now r) (g.T.Edit.applied c.args.edit.now r)) name.entry.row name.row c.change_or_undo.result

@@ -1,3 +1,4 @@
+use Rattle.any_index.specs.Keyed.{marks_of}
 use Rattle.std.proofs.Common.{◌≡◌, ◌<◌, ◌⊎◌, Some, length, map, ◌∙◌, ap, sym, subst}
 use Rattle.std.specs.Prelude.{IsPermutation, IsTrue}
 use Rattle.container_model.specs.Sequence.{rearrange_refusal, with_list}
@@ -30,7 +31,7 @@ invariant_of-self g c =
     let moved = c.rearrange.ensures in
     let handles = ap (map (handle_of (record_of inside.set))) c.deref.ensures.value ∙ c.in-Ok.ensures.handles in
     IsContainer_listed inside.set c.rearrange.new.self c.args.index inside.max inside.writes c.deref.result.now c.args.handles.now handles
-    moved.same moved.lists moved.contents has_key order g.E.Extract.hash_of inside.slots.items c.self.invariant within may.sequence may.more
+    moved.same moved.lists moved.contents has_key order (marks_of g.E.Extract) inside.slots.items c.self.invariant within may.sequence may.more
     (IsState-rearranged has_key order s c.args.index may.sequence c.self.invariant.state c.args.handles.now within may.once) moved.sound (moved.keyed c.self.invariant.linked.keyed)
 
 pub returns-in-Ok-clause-ok : goal.returns-in-Ok-clause-ok

@@ -1,3 +1,4 @@
+use Rattle.any_index.specs.Keyed.{marks_of}
 use Rattle.std.proofs.Common.{◌<◌, length, ◌∙◌, ap, sym, subst, arith}
 use Rattle.container_model.specs.Sequence.{with_relocated}
 use Rattle.container_model.proofs.Moved.{IsState-relocated}
@@ -34,7 +35,7 @@ invariant_of-self g c =
     let moved = c.move_to.ensures in
     let handles = relocated_seen inside.set inside.slots.items inside.max inside.writes c.self.invariant c.args.index within c.in-Ok.node c.args.handle c.in-Ok.ensures.node c.in-Ok.ensures.handle c.args.place in
     IsContainer_listed inside.set c.move_to.new.self c.args.index inside.max inside.writes (relocated (same_node c.in-Ok.node) c.in-Ok.node c.args.place (list_of inside.set c.args.index)) _ handles
-    moved.same moved.lists moved.contents has_key order g.E.Extract.hash_of inside.slots.items c.self.invariant within may.sequence may.more
+    moved.same moved.lists moved.contents has_key order (marks_of g.E.Extract) inside.slots.items c.self.invariant within may.sequence may.more
     (IsState-relocated has_key order s c.args.index may.sequence c.self.invariant.state c.args.handle c.args.place within may.live) moved.sound (moved.keyed c.self.invariant.linked.keyed)
 
 pub returns-in-Ok-clause-ok : goal.returns-in-Ok-clause-ok

@@ -1,3 +1,4 @@
+use Rattle.any_index.specs.Keyed.{marks_of}
 use Rattle.std.proofs.Common.{◌∙◌, ap, sym}
 use Rattle.std.specs.Prelude.{option_map}
 use Rattle.container_model.specs.declared.handle.Entry.{Entry}
@@ -48,7 +49,7 @@ invariant_of-self g c =
     let free = not_banned _ _ (sym c.keeps_out.ensures ∙ c.in_default-keeps_out.is) in
     let put = c.rewrite.ensures in
     IsContainer_replaced g.E.Extract.order_of set c.rewrite.new.set c.args.handle c.args.row c.self.inside.max c.self.inside.writes put.same put.entries put.lists
-    g.E.Extract.has_key g.E.Extract.hash_of c.self.inside.slots.items g.met.E.Extract.order_total name.entry.row name.row free.0 put.count
+    g.E.Extract.has_key (marks_of g.E.Extract) c.self.inside.slots.items g.met.E.Extract.order_total name.entry.row name.row free.0 put.count
     (next_number c.self.inside.writes c.self.invariant.numbered (not_spent _ free.1)) c.self.invariant put.linked
 
 pub returns-clause-old : goal.returns-clause-old

@@ -1,3 +1,4 @@
+use Rattle.any_index.specs.Keyed.{marks_of}
 use Rattle.std.proofs.Common.{◌<◌, length, reverse, ◌∙◌, ap, sym, subst}
 use Rattle.container_model.specs.Sequence.{sequence_refusal, with_reversed}
 use Rattle.container_model.proofs.Moved.{IsState-reversed}
@@ -19,7 +20,7 @@ invariant_of-self g c =
     let turned = c.reverse.ensures in
     let handles = map-reverse (handle_of (record_of inside.set)) (list_of inside.set c.args.index) ∙ ap reverse (list_seen inside.set inside.slots.items c.self.invariant.linked c.args.index within) in
     IsContainer_listed inside.set c.reverse.new.self c.args.index inside.max inside.writes (reverse (list_of inside.set c.args.index)) _ handles
-    turned.same turned.lists turned.contents has_key order g.E.Extract.hash_of inside.slots.items c.self.invariant within may.0 may.1
+    turned.same turned.lists turned.contents has_key order (marks_of g.E.Extract) inside.slots.items c.self.invariant within may.0 may.1
     (IsState-reversed has_key order s c.args.index may.0 c.self.invariant.state) turned.sound (turned.keyed c.self.invariant.linked.keyed)
 
 pub returns-clause-ok : goal.returns-clause-ok

@@ -1,3 +1,4 @@
+use Rattle.any_index.specs.Keyed.{marks_of}
 use Rattle.std.proofs.Common.{◌<◌, length, ◌∙◌, ap, sym, subst}
 use Rattle.std.specs.Prelude.{IsPermutation}
 use Rattle.list_model.proofs.Moved.{IsPermutation-stable_sorted}
@@ -28,7 +29,7 @@ invariant_of-self g c =
     let moved = c.rearrange.ensures in
     let handles = sorted_seen compare inside.set inside.slots.items c.self.invariant.linked c.args.index within c.deref.result.now (c.deref.ensures.value ∙ c.in-Ok.ensures) in
     IsContainer_listed inside.set c.rearrange.new.self c.args.index inside.max inside.writes c.deref.result.now _ handles
-    moved.same moved.lists moved.contents has_key order g.E.Extract.hash_of inside.slots.items c.self.invariant within may.0 may.1
+    moved.same moved.lists moved.contents has_key order (marks_of g.E.Extract) inside.slots.items c.self.invariant within may.0 may.1
     (IsState-sorted has_key order s c.args.index may.0 c.self.invariant.state compare) moved.sound (moved.keyed c.self.invariant.linked.keyed)
 
 pub returns-clause-ok : goal.returns-clause-ok

@@ -10,6 +10,8 @@ use Rattle.ord_tree.proofs.Descent.{low}
 use Rattle.ord_tree.proofs.Heights.{height-bound}
 use Rattle.ord_tree.proofs.TreeLinks.{stored_height-is}
 use Rattle.ord_tree.proofs.KeySides.{Rises-from, side_of-is}
+use Rattle.ord_tree.proofs.Below.{all_below, parted}
+use Rattle.ord_tree.proofs.Digested.{own_is}
 use Rattle.ord_tree.proofs.Nearing.{Nears-start, Nears-node, Nears-end, Opens-from}
 use Rattle.ord_tree.proofs.Sought.{sought_right, sought_here, sought_left}
 use Rattle.ord_tree.proofs.tree.OrdTree.descend.Goals as goal
@@ -23,6 +25,7 @@ loop-at-init g c =
     ap (stored_height (column_of c.args.store.now c.args.self.now.col)) s.root_is ∙ stored_height-is g.T.Tally.of _ _ _ s.hangs in
     record {
       nears = Nears-start g.T.Tally.of _ _ _ _ _ s.hangs s.root_is (Rises-from (record_of c.args.store.now) (g.E.Extract.order_of c.args.keys.now index) (λ a. g.E.Extract.probe_order_of c.args.keys.now index a c.args.probe.now) _ cuts c.requires.order);
+      below = all_below g.T.Tally.of _ _ _ _ s.hangs s.root_is c.requires.digested;
       few = omega (arith, high);
     }
 
@@ -31,6 +34,11 @@ link-link-requires g c = Nears-node g.T.Tally.of _ _ _ _ _ _ c.loop-at.invariant
 
 pub get-requires : goal.get-requires
 get-requires g c = node_of_column c.args.store.now c.args.self.now.col c.in-Some.n (record { block = c.link-link.result; is = c.link-link.ensures })
+
+pub order_to_probe-order-requires-clause-own : goal.order_to_probe-order-requires-clause-own
+order_to_probe-order-requires-clause-own g c =
+    let p = parted g.T.Tally.of _ _ _ c.in-Some.n c.link-link.result c.loop-at.invariant.below c.in-Some.is c.link-link.ensures in
+    own_is (g.E.Extract.digest_of c.args.keys.now c.args.self.now.index) c.args.store.now c.args.self.now.col c.in-Some.n c.link-link.result _ p.node c.link-link.ensures c.get.ensures
 
 pub overflow_add-comparisons : goal.overflow_add-comparisons
 overflow_add-comparisons g c =
@@ -48,27 +56,30 @@ turned comparisons c at n below high h e k = lower_still comparisons (stored_hei
 pub loop-at-preserved-then-comes_after : goal.loop-at-preserved-then-comes_after
 loop-at-preserved-then-comes_after g c =
     let o = Opens-from g.T.Tally.of _ _ _ _ _ c.in-Some.n c.link-link.result _ c.loop-at.invariant.nears c.in-Some.is c.link-link.ensures in
-    let is = side_of-is (record_of c.args.store.now) (λ a. g.E.Extract.probe_order_of c.args.keys.now c.args.self.now.index a c.args.probe.now) c.in-Some.n _ c.get.ensures ∙ sym c.order_probe-order.ensures in
+    let is = side_of-is (record_of c.args.store.now) (λ a. g.E.Extract.probe_order_of c.args.keys.now c.args.self.now.index a c.args.probe.now) c.in-Some.n _ c.get.ensures ∙ sym c.order_to_probe-order.ensures in
     record {
-      nears = sought_right g.T.Tally.of _ _ c.args.sought _ c.in-Some.n c.link-link.result _ o c.order_probe-order.result is (sym c.comes_after.ensures ∙ c.if-comes_after.true);
+      nears = sought_right g.T.Tally.of _ _ c.args.sought _ c.in-Some.n c.link-link.result _ o c.order_to_probe-order.result is (sym c.comes_after.ensures ∙ c.if-comes_after.true);
+      below = (parted g.T.Tally.of _ _ _ c.in-Some.n c.link-link.result c.loop-at.invariant.below c.in-Some.is c.link-link.ensures).right;
       few = turned c.loop-at.comparisons (column_of c.args.store.now c.args.self.now.col) c.loop-at.at c.in-Some.n c.link-link.result.b _ c.loop-at.invariant.few c.in-Some.is o.lower_right;
     }
 
 pub loop-at-preserved-then-is : goal.loop-at-preserved-then-is
 loop-at-preserved-then-is g c =
     let o = Opens-from g.T.Tally.of _ _ _ _ _ c.in-Some.n c.link-link.result _ c.loop-at.invariant.nears c.in-Some.is c.link-link.ensures in
-    let is = side_of-is (record_of c.args.store.now) (λ a. g.E.Extract.probe_order_of c.args.keys.now c.args.self.now.index a c.args.probe.now) c.in-Some.n _ c.get.ensures ∙ sym c.order_probe-order.ensures in
+    let is = side_of-is (record_of c.args.store.now) (λ a. g.E.Extract.probe_order_of c.args.keys.now c.args.self.now.index a c.args.probe.now) c.in-Some.n _ c.get.ensures ∙ sym c.order_to_probe-order.ensures in
     record {
-      nears = sought_here g.T.Tally.of _ _ c.args.sought _ c.in-Some.n c.link-link.result _ o c.order_probe-order.result is (sym c.is.ensures ∙ c.if-is.true);
+      nears = sought_here g.T.Tally.of _ _ c.args.sought _ c.in-Some.n c.link-link.result _ o c.order_to_probe-order.result is (sym c.is.ensures ∙ c.if-is.true);
+      below = (parted g.T.Tally.of _ _ _ c.in-Some.n c.link-link.result c.loop-at.invariant.below c.in-Some.is c.link-link.ensures).left;
       few = turned c.loop-at.comparisons (column_of c.args.store.now c.args.self.now.col) c.loop-at.at c.in-Some.n c.link-link.result.a _ c.loop-at.invariant.few c.in-Some.is o.lower_left;
     }
 
 pub loop-at-preserved : goal.loop-at-preserved
 loop-at-preserved g c =
     let o = Opens-from g.T.Tally.of _ _ _ _ _ c.in-Some.n c.link-link.result _ c.loop-at.invariant.nears c.in-Some.is c.link-link.ensures in
-    let is = side_of-is (record_of c.args.store.now) (λ a. g.E.Extract.probe_order_of c.args.keys.now c.args.self.now.index a c.args.probe.now) c.in-Some.n _ c.get.ensures ∙ sym c.order_probe-order.ensures in
+    let is = side_of-is (record_of c.args.store.now) (λ a. g.E.Extract.probe_order_of c.args.keys.now c.args.self.now.index a c.args.probe.now) c.in-Some.n _ c.get.ensures ∙ sym c.order_to_probe-order.ensures in
     record {
-      nears = sought_left g.T.Tally.of _ _ c.args.sought _ c.in-Some.n c.link-link.result _ o c.order_probe-order.result is (sym c.comes_after.ensures ∙ c.if-comes_after.false) (sym c.is.ensures ∙ c.if-is.false);
+      nears = sought_left g.T.Tally.of _ _ c.args.sought _ c.in-Some.n c.link-link.result _ o c.order_to_probe-order.result is (sym c.comes_after.ensures ∙ c.if-comes_after.false) (sym c.is.ensures ∙ c.if-is.false);
+      below = (parted g.T.Tally.of _ _ _ c.in-Some.n c.link-link.result c.loop-at.invariant.below c.in-Some.is c.link-link.ensures).left;
       few = turned c.loop-at.comparisons (column_of c.args.store.now c.args.self.now.col) c.loop-at.at c.in-Some.n c.link-link.result.a _ c.loop-at.invariant.few c.in-Some.is o.lower_left;
     }
 

@@ -4,6 +4,8 @@ use Rattle.ord_tree.specs.Side.{side_of}
 use Rattle.ord_tree.specs.Seek.{is_sought}
 use Rattle.ord_tree.specs.Tree.{height, stored_height}
 use Rattle.ord_tree.specs.Spelled.{tree_of}
+use Rattle.ord_tree.specs.Digests.{KeepsDigest}
+use Rattle.ord_tree.proofs.Below.{AllBelow}
 use Rattle.ord_tree.proofs.Nearing.{Nears}
 use Rattle.ord_tree.proofs.KeySides.{Rises}
 use Rattle.ord_tree.proofs.tree.OrdTree.descend.Given as goal
@@ -13,6 +15,7 @@ invariant-loop-at g l =
     let side = side_of (record_of l.store) (λ a. g.E.Extract.probe_order_of l.keys l.self.index a l.probe) in
     record {
       nears : Nears g.T.Tally.of (column_of l.store l.self.col) (Rises side) (λ n. is_sought l.sought (side n)) (tree_of (column_of l.store) l.self) l.at l.found;
+      below : AllBelow g.T.Tally.of (column_of l.store l.self.col) (KeepsDigest (g.E.Extract.digest_of l.keys l.self.index) l.store l.self.col) l.at;
       few : l.comparisons + stored_height (column_of l.store l.self.col) l.at ≤ height (tree_of (column_of l.store) l.self);
     }
 

@@ -4,21 +4,30 @@ use Rattle.node_store.specs.ByNode.{record_of}
 use Rattle.node_store.proofs.ByNode.{node_of_column}
 use Rattle.ord_tree.specs.Side.{order_at}
 use Rattle.ord_tree.proofs.Laws.{the_tree}
+use Rattle.ord_tree.proofs.Below.{all_below, parted}
+use Rattle.ord_tree.proofs.Digested.{own_is}
 use Rattle.ord_tree.proofs.Seeking.{Seeks-start, Seeks-node, Turns-from, Place-from}
 use Rattle.ord_tree.proofs.Sides.{order_at_total, order_at_both, IsCut_at}
 use Rattle.ord_tree.proofs.tree.OrdTree.place_of.Goals as goal
 
 pub loop-at-init : goal.loop-at-init
-loop-at-init g c = let s = the_tree _ _ c.requires.ordered.tree in Seeks-start g.T.Tally.of _ _ _ _ _ s.hangs s.root_is
+loop-at-init g c =
+    let s = the_tree _ _ c.requires.ordered.tree in
+    record { seeks = Seeks-start g.T.Tally.of _ _ _ _ _ s.hangs s.root_is; below = all_below g.T.Tally.of _ _ _ _ s.hangs s.root_is c.requires.ordered.digested }
 
 pub link-link-requires : goal.link-link-requires
-link-link-requires g c = Seeks-node g.T.Tally.of _ _ _ _ _ _ c.loop-at.invariant c.in-Some.m c.in-Some.is
+link-link-requires g c = Seeks-node g.T.Tally.of _ _ _ _ _ _ c.loop-at.invariant.seeks c.in-Some.m c.in-Some.is
 
 pub get-requires : goal.get-requires
 get-requires g c = node_of_column c.args.store.now c.args.self.now.col c.in-Some.m (record { block = c.link-link.result; is = c.link-link.ensures })
 
+pub order_to_record-order-requires-clause-own : goal.order_to_record-order-requires-clause-own
+order_to_record-order-requires-clause-own g c =
+    let p = parted g.T.Tally.of _ _ _ c.in-Some.m c.link-link.result c.loop-at.invariant.below c.in-Some.is c.link-link.ensures in
+    own_is (g.E.Extract.digest_of c.args.keys.now c.args.self.now.index) c.args.store.now c.args.self.now.col c.in-Some.m c.link-link.result _ p.node c.link-link.ensures c.get.ensures
+
 pub returns : goal.returns
-returns g c = Place-from g.T.Tally.of _ _ _ _ _ _ c.loop-at.invariant c.in_default.is
+returns g c = Place-from g.T.Tally.of _ _ _ _ _ _ c.loop-at.invariant.seeks c.in_default.is
 
 pub loop-at-preserved-then-on_right : goal.loop-at-preserved-then-on_right
 loop-at-preserved-then-on_right g c =
@@ -26,10 +35,10 @@ loop-at-preserved-then-on_right g c =
     let compare = g.E.Extract.order_of c.args.keys.now c.args.self.now.index in
     let total = order_at_total records compare (g.met.E.Extract.order_total c.args.keys.now c.args.self.now.index c.requires.ordered.key) in
     let cut = IsCut_at (order_at records compare) total c.args.n _ c.requires.ordered.order in
-    let t = Turns-from g.T.Tally.of _ _ _ _ _ _ c.in-Some.m c.link-link.result cut c.loop-at.invariant c.in-Some.is c.link-link.ensures in
+    let t = Turns-from g.T.Tally.of _ _ _ _ _ _ c.in-Some.m c.link-link.result cut c.loop-at.invariant.seeks c.in-Some.is c.link-link.ensures in
     let passes : c.is_le-on_right.result ≡ true = c.if-on_right.true in
-    let same = ap is_le (order_at_both records compare c.in-Some.m c.args.n c.get.result.now c.get-own.result.now c.get.ensures c.get-own.ensures ∙ sym c.order.ensures) ∙ sym c.is_le-on_right.ensures in
-    rw passes (t.right (same ∙ passes))
+    let same = ap is_le (order_at_both records compare c.in-Some.m c.args.n c.get.result.now c.get-own.result.now c.get.ensures c.get-own.ensures ∙ sym c.order_to_record-order.ensures) ∙ sym c.is_le-on_right.ensures in
+    record { seeks = rw passes (t.right (same ∙ passes)); below = (parted g.T.Tally.of _ _ _ c.in-Some.m c.link-link.result c.loop-at.invariant.below c.in-Some.is c.link-link.ensures).right }
 
 pub loop-at-preserved : goal.loop-at-preserved
 loop-at-preserved g c =
@@ -37,7 +46,7 @@ loop-at-preserved g c =
     let compare = g.E.Extract.order_of c.args.keys.now c.args.self.now.index in
     let total = order_at_total records compare (g.met.E.Extract.order_total c.args.keys.now c.args.self.now.index c.requires.ordered.key) in
     let cut = IsCut_at (order_at records compare) total c.args.n _ c.requires.ordered.order in
-    let t = Turns-from g.T.Tally.of _ _ _ _ _ _ c.in-Some.m c.link-link.result cut c.loop-at.invariant c.in-Some.is c.link-link.ensures in
+    let t = Turns-from g.T.Tally.of _ _ _ _ _ _ c.in-Some.m c.link-link.result cut c.loop-at.invariant.seeks c.in-Some.is c.link-link.ensures in
     let passes : c.is_le-on_right.result ≡ false = c.if-on_right.false in
-    let same = ap is_le (order_at_both records compare c.in-Some.m c.args.n c.get.result.now c.get-own.result.now c.get.ensures c.get-own.ensures ∙ sym c.order.ensures) ∙ sym c.is_le-on_right.ensures in
-    rw passes (t.left (same ∙ passes))
+    let same = ap is_le (order_at_both records compare c.in-Some.m c.args.n c.get.result.now c.get-own.result.now c.get.ensures c.get-own.ensures ∙ sym c.order_to_record-order.ensures) ∙ sym c.is_le-on_right.ensures in
+    record { seeks = rw passes (t.left (same ∙ passes)); below = (parted g.T.Tally.of _ _ _ c.in-Some.m c.link-link.result c.loop-at.invariant.below c.in-Some.is c.link-link.ensures).left }

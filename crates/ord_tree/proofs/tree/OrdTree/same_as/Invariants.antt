@@ -3,6 +3,9 @@ use Rattle.ord_tree.specs.Side.{side_of}
 use Rattle.ord_tree.specs.Same.{is_kept}
 use Rattle.ord_tree.specs.Tree.{stored_height}
 use Rattle.ord_tree.specs.Spelled.{tree_of}
+use Rattle.std.proofs.Common.{◌≡◌, true}
+use Rattle.ord_tree.specs.Digests.{KeepsDigest}
+use Rattle.ord_tree.proofs.Below.{AllBelow}
 use Rattle.ord_tree.proofs.Nearing.{Nears}
 use Rattle.ord_tree.proofs.Excepting.{Beside, passes}
 use Rattle.ord_tree.proofs.tree.OrdTree.same_as.Given as goal
@@ -10,7 +13,10 @@ use Rattle.ord_tree.proofs.tree.OrdTree.same_as.Given as goal
 abbrev pub invariant-loop-at : goal.invariant-loop-at
 invariant-loop-at g l =
     let side = side_of (record_of l.store) (λ a. g.E.Extract.order_of l.keys l.self.index a l.row) in
-    Nears g.T.Tally.of (column_of l.store l.self.col) (Beside (is_kept l.except) side) (passes (is_kept l.except) side) (tree_of (column_of l.store) l.self) l.at l.found
+    record {
+      nears : Nears g.T.Tally.of (column_of l.store l.self.col) (Beside (is_kept l.except) side) (passes (is_kept l.except) side) (tree_of (column_of l.store) l.self) l.at l.found;
+      below : AllBelow g.T.Tally.of (column_of l.store l.self.col) (λ x. is_kept l.except x ≡ true → KeepsDigest (g.E.Extract.digest_of l.keys l.self.index) l.store l.self.col x) l.at;
+    }
 
 abbrev pub decreases-loop-at : goal.decreases-loop-at
 decreases-loop-at g l = stored_height (column_of l.store l.self.col) l.at

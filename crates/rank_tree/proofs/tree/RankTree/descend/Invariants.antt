@@ -3,11 +3,17 @@ use Rattle.ord_tree.specs.Side.{side_of}
 use Rattle.ord_tree.specs.Spelled.{tree_of}
 use Rattle.ord_tree.specs.Tree.{stored_height}
 use Rattle.rank_tree.specs.Spelled.{index_of}
+use Rattle.ord_tree.specs.Digests.{KeepsDigest}
+use Rattle.ord_tree.proofs.Below.{AllBelow}
+use Rattle.rank_tree.specs.Subtrees.{size_tally}
 use Rattle.rank_tree.proofs.KeyRanks.{Ranks}
 use Rattle.rank_tree.proofs.tree.RankTree.descend.Given as goal
 
 abbrev pub invariant-loop-at : goal.invariant-loop-at
-invariant-loop-at g l = Ranks (column_of l.store l.col) (side_of (record_of l.store) (λ a. g.E.Extract.probe_order_of l.keys (index_of l.self) a l.probe)) l.after_equals (tree_of (column_of l.store) l.self.tree) l.at l.rank l.met
+invariant-loop-at g l = record {
+  ranks : Ranks (column_of l.store l.col) (side_of (record_of l.store) (λ a. g.E.Extract.probe_order_of l.keys (index_of l.self) a l.probe)) l.after_equals (tree_of (column_of l.store) l.self.tree) l.at l.rank l.met;
+  below : AllBelow size_tally (column_of l.store l.col) (KeepsDigest (g.E.Extract.digest_of l.keys l.index) l.store l.col) l.at;
+}
 
 abbrev pub decreases-loop-at : goal.decreases-loop-at
 decreases-loop-at g l = stored_height (column_of l.store l.col) l.at
