@@ -146,7 +146,7 @@ pub(crate) fn are_sizes() -> bool {
     let two_neighbours_and_a_record = 2 * size_of::<Option<Node>>() + size_of::<u64>();
     size_of::<Node>() == 16
         && size_of::<Option<Node>>() == 24
-        && size_of::<Link>() == 88
+        && size_of::<Link>() == 96
         && (BLOCK_BYTES - two_neighbours_and_a_record) / COLUMNS == 64
         && BLOCK_BYTES == 568
         && LEAST_BLOCK_BYTES == two_neighbours_and_a_record + 64
