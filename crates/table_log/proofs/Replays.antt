@@ -1,0 +1,162 @@
+-- The tables that lines leave.
+use Rattle.std.proofs.Common.{◌≡◌, ℕ, ◌==◌, ◌≤◌, true, false, List, [], ◌∷◌, ◌++◌, length, take, drop, Some, None, Ok, refl, sym, ap, subst, ◌∙◌, append_assoc, arith}
+use Rattle.std.specs.Prelude.{Option, Result, Err, IfOk, is_err, option_and_then, replicate, IsSome, codes}
+use Rattle.std.specs.Io.KnownBytes.{append_known}
+use Rattle.std.proofs.lemmas.List.{take-append-le, take-append-drop}
+use Rattle.std.proofs.lemmas.List.Elements.{recursion_from_All}
+use Rattle.command_lines.specs.Fits.{CommandFits}
+use Rattle.command_text.specs.Text.{command_text}
+use Rattle.command_text.proofs.Law.{command_text_line, meaning-command_text}
+use Rattle.table_cmd.specs.declared.command.Command.{Command}
+use Rattle.table_engine.specs.Devices.{IsFront}
+use Rattle.table_schema.specs.Shape.{TableShape}
+use Rattle.table_step.specs.Step.{TableState, Took, new_table, step_of}
+use Rattle.table_terms.specs.declared.outcome.Outcome.TheVariants as outcomes
+use Rattle.table_log.specs.Log.{IsLoaded, IsLog, after_command, after_line, after_lines, after_meaning, begun, if_write, replayed, whole_lines}
+use Rattle.table_log.specs.Logged.{log_line}
+use Rattle.table_log.specs.Disk.{AppendsAll}
+use Rattle.table_log.specs.Crash.{KeepsSynced, MayLeave}
+use Rattle.table_log.proofs.Lines.{IsWhole, begun-line, begun-newline, front_lines, keeps, no_newline, whole-line, whole-newline}
+
+more_by : (o : Option TableState) (lines : List (List ℕ)) (line : List ℕ) (u v : TableState)
+    → ((t : TableState) → after_lines t lines ≡ Some u → after_line u line ≡ Some v → after_lines t (lines ++ line ∷ []) ≡ Some v)
+    → option_and_then (λ next. after_lines next lines) o ≡ Some u → after_line u line ≡ Some v → option_and_then (λ next. after_lines next (lines ++ line ∷ [])) o ≡ Some v
+more_by None lines line u v go h e = cc
+more_by (Some t) lines line u v go h e = go t h e
+
+last_by : (o : Option TableState) (v : TableState) → o ≡ Some v → option_and_then (λ next. after_lines next []) o ≡ Some v
+last_by None v e = cc
+last_by (Some t) v e = e
+
+-- one line more
+pub after_more : (lines : List (List ℕ)) (line : List ℕ) (t u v : TableState) → after_lines t lines ≡ Some u → after_line u line ≡ Some v → after_lines t (lines ++ line ∷ []) ≡ Some v
+after_more [] line t u v h e =
+    let same : t ≡ u = cc in
+    last_by (after_line t line) v (ap (λ x. after_line x line) same ∙ e)
+after_more (l ∷ ls) line t u v h e = more_by (after_line t l) ls line u v (λ x. after_more ls line x u v) h e
+
+first_by : (o : Option TableState) (lines later : List (List ℕ)) (v : TableState)
+    → ((t : TableState) → after_lines t (lines ++ later) ≡ Some v → (u : TableState) × (after_lines t lines ≡ Some u))
+    → option_and_then (λ next. after_lines next (lines ++ later)) o ≡ Some v → (u : TableState) × (option_and_then (λ next. after_lines next lines) o ≡ Some u)
+first_by None lines later v go h = absurd (cc)
+first_by (Some t) lines later v go h = go t h
+
+-- the first lines alone
+pub after_first : (lines later : List (List ℕ)) (t v : TableState) → after_lines t (lines ++ later) ≡ Some v → (u : TableState) × (after_lines t lines ≡ Some u)
+after_first [] later t v h = (t, refl)
+after_first (l ∷ ls) later t v h = first_by (after_line t l) ls later v (λ x. after_first ls later x v) h
+
+some_by : (o : Option TableState) → IsSome o → (t : TableState) × (o ≡ Some t)
+some_by None h = absurd (cc)
+some_by (Some t) h = (t, refl)
+
+-- a front loads
+pub replays_front : (shape : TableShape) (front lost : List ℕ) → IsSome (replayed shape (front ++ lost)) → (t : TableState) × (replayed shape front ≡ Some t)
+replays_front shape front lost h =
+    let all = some_by (replayed shape (front ++ lost)) h in
+    let first = front_lines front lost in
+    after_first (whole_lines front) first.0 (new_table shape) all.0 (ap (after_lines (new_table shape)) first.1 ∙ all.1)
+
+is_some : (o : Option TableState) (t : TableState) → o ≡ Some t → IsSome o
+is_some o t e = rw e refl
+
+pub front_is_some : (shape : TableShape) (front lost : List ℕ) → IsSome (replayed shape (front ++ lost)) → IsSome (replayed shape front)
+front_is_some shape front lost h = let r = replays_front shape front lost h in is_some (replayed shape front) r.0 r.1
+
+pub log_is_some : (shape : TableShape) (bytes : List ℕ) (t : TableState) → IsLog shape bytes t → IsSome (replayed shape bytes)
+log_is_some shape bytes t h = is_some (replayed shape bytes) t h.leaves
+
+-- bytes whose lines are accepted load
+pub loads : (shape : TableShape) (bytes kept : List ℕ) (t : TableState) → IsWhole bytes kept → replayed shape bytes ≡ Some t → IsLoaded shape bytes kept t
+loads shape bytes kept t k h =
+    record {
+      cuts = k.cuts;
+      lines = k.lines;
+      log = record { whole = k.whole; leaves = ap (after_lines (new_table shape)) k.lines ∙ h };
+    }
+
+-- ---- a write's line
+
+pub text_line : (t : TableState) (command : Command) → CommandFits command → after_line t (command_text command) ≡ after_command t command
+text_line t command fits = ap (after_meaning t) (meaning-command_text command fits)
+
+-- the log with the line of an accepted write
+pub log_more : (shape : TableShape) (bytes : List ℕ) (t v : TableState) (command : Command) → CommandFits command → IsLog shape bytes t → after_command t command ≡ Some v
+    → IsLog shape (bytes ++ log_line command) v
+log_more shape bytes t v command fits h e =
+    let text = command_text command in
+    let none = recursion_from_All (λ b. (b == 10) ≡ false) text (command_text_line command fits) in
+    let same : (bytes ++ text) ++ codes "\n" ≡ bytes ++ log_line command = append_assoc bytes text (codes "\n") in
+    let lines : whole_lines (bytes ++ log_line command) ≡ whole_lines bytes ++ text ∷ [] =
+    ap whole_lines (sym same) ∙ whole-newline (bytes ++ text) 10 refl ∙ (λ i. whole-line text bytes none i ++ (begun-line text bytes none ∙ ap (λ xs. xs ++ text) h.whole) i ∷ []) in
+    record {
+      whole = ap begun (sym same) ∙ begun-newline (bytes ++ text) 10 refl;
+      leaves = ap (after_lines (new_table shape)) lines
+          ∙ after_more (whole_lines bytes) text (new_table shape) t v h.leaves (text_line t command fits ∙ e);
+    }
+
+-- ---- a crash
+
+pub crash : (shape : TableShape) (bytes : List ℕ) (synced : ℕ) (left : List ℕ) → IsSome (replayed shape bytes) → MayLeave bytes synced left → KeepsSynced shape bytes synced left
+crash shape bytes synced left some h =
+    let r = replays_front shape h.front h.lost (subst (λ xs. IsSome (replayed shape xs)) (sym h.whole) some) in
+    let lines : whole_lines left ≡ whole_lines h.front = ap whole_lines h.is_left ∙ whole-line (replicate h.zeros 0) h.front (no_newline h.zeros) in
+    let k = keeps left in
+    record {
+      kept = k.0;
+      table = r.0;
+      loaded = loads shape left k.0 r.0 k.1 (ap (after_lines (new_table shape)) lines ∙ r.1);
+      invents_none = subst (λ xs. IsFront xs (whole_lines bytes)) (sym lines)
+          (subst (λ xs. IsFront (whole_lines h.front) (whole_lines xs)) h.whole (front_lines h.front h.lost));
+      loses_none = λ n within.
+          let few : n ≤ length h.front = omega (arith, within, h.has_synced) in
+          let first : take n bytes ≡ take n h.front = ap (take n) (sym h.whole) ∙ take-append-le n h.front h.lost few in
+          subst (λ xs. IsFront (whole_lines (take n bytes)) xs) (sym lines)
+          (subst (λ xs. IsFront (whole_lines xs) (whole_lines h.front)) (sym first)
+          (subst (λ xs. IsFront (whole_lines (take n h.front)) (whole_lines xs)) (take-append-drop n h.front) (front_lines (take n h.front) (drop n h.front))));
+    }
+
+-- ---- a call
+
+pub write_left : (told_before told : List ℕ) (t v : TableState) (command : Command) → Took outcomes.Write told_before told v (step_of t command) → after_command t command ≡ Some v
+write_left told_before told t v command took =
+    let step = step_of t command in
+    ap (λ o. if_write o step.table) took.kind ∙ ap Some (sym took.table)
+
+-- the log after an accepted write whose line was appended
+pub stands_more : (shape : TableShape) (t v : TableState) (old new : Option (List ℕ)) (command : Command) → CommandFits command → after_command t command ≡ Some v
+    → ((bytes : List ℕ) → old ≡ Some bytes → IsLog shape bytes t) → new ≡ append_known old (log_line command) → (bytes : List ℕ) → new ≡ Some bytes → IsLog shape bytes v
+stands_more shape t v None new command fits e go added bytes is = absurd (cc)
+stands_more shape t v (Some b) new command fits e go added bytes is =
+    let same : b ++ log_line command ≡ bytes = cc in
+    subst (λ xs. IsLog shape xs v) same (log_more shape b t v command fits (go b refl) e)
+
+-- the same of a front of the line
+pub loads_front : (shape : TableShape) (t v : TableState) (old new : Option (List ℕ)) (command : Command) (front : List ℕ) → CommandFits command → after_command t command ≡ Some v
+    → ((bytes : List ℕ) → old ≡ Some bytes → IsLog shape bytes t) → IsFront front (log_line command) → new ≡ append_known old front
+    → (bytes : List ℕ) → new ≡ Some bytes → IsSome (replayed shape bytes)
+loads_front shape t v None new command front fits e go part added bytes is = absurd (cc)
+loads_front shape t v (Some b) new command front fits e go part added bytes is =
+    let same : b ++ front ≡ bytes = cc in
+    let whole : (b ++ front) ++ part.0 ≡ b ++ log_line command = append_assoc b front part.0 ∙ ap (λ xs. b ++ xs) part.1 in
+    let all = log_is_some shape (b ++ log_line command) v (log_more shape b t v command fits (go b refl) e) in
+    subst (λ xs. IsSome (replayed shape xs)) same
+    (front_is_some shape (b ++ front) part.0 (subst (λ xs. IsSome (replayed shape xs)) (sym whole) all))
+
+pub loads_log : (shape : TableShape) (t : TableState) (bytes : List ℕ) → IsLog shape bytes t → IsSome (replayed shape bytes)
+loads_log shape t bytes h = log_is_some shape bytes t h
+
+-- ---- results
+
+pub done : {E P : Type 0} (r : Result (Unit {0}) E) → IfOk r (λ x. P) → is_err r ≡ false → P
+done (Ok x) p h = p
+done (Err e) p h = absurd (cc)
+
+pub append_done : {E : Type 0} (r : Result (Unit {0}) E) (old new : Option (List ℕ)) (bytes : List ℕ) → AppendsAll r old new bytes → is_err r ≡ false → new ≡ append_known old bytes
+append_done (Ok x) old new bytes p h = p
+append_done (Err e) old new bytes p h = absurd (cc)
+
+pub append_failed : {E : Type 0} (r : Result (Unit {0}) E) (old new : Option (List ℕ)) (bytes : List ℕ) → AppendsAll r old new bytes → is_err r ≡ true
+    → (front : List ℕ) × IsFront front bytes × (new ≡ append_known old front)
+append_failed (Ok x) old new bytes p h = absurd (cc)
+append_failed (Err e) old new bytes p h = p

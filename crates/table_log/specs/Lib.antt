@@ -1,0 +1,5 @@
+pub mod Log
+pub mod Crash
+pub mod Disk
+pub mod Logged
+pub mod Loading

@@ -1,0 +1,109 @@
+-- A table with its log.
+use Rattle.std.specs.Prelude.{◌≡◌, ◌⊎◌, ℕ, ◌+◌, List, ◌++◌, codes, length, Bool, true, false, IsSome, Option, Some}
+use Rattle.std.specs.Io.KnownBytes.{append_known}
+use Rattle.std.specs.Option.{option_map_or}
+use Rattle.command_text.specs.Text.{command_text}
+use Rattle.table_cmd.specs.declared.command.Command.{Command}
+use Rattle.table_engine.specs.Devices.{IsFront, raised}
+use Rattle.table_reply.specs.Answer.{answer_text}
+use Rattle.table_schema.specs.Shape.{TableShape}
+use Rattle.table_step.specs.Step.{TableState, memory_line, step_of}
+use Rattle.table_log.specs.declared.fault.OpenWhy.{OpenWhy}
+use Rattle.table_log.specs.declared.fault.OpenWhy.TheVariants as whys
+use Rattle.table_log.specs.Log.{IsLoaded, IsLog, IsRefused, after_command, replayed}
+
+-- what a clause sees of it: the declaration that the log begins with, the table, the log's bytes where they are known, how
+-- many they are and how many of them are synced, how often the disk failed, and whether the log is over
+pub record LogData : Type 0 where
+  pub shape : TableShape
+  pub table : TableState
+  pub bytes : Option (List ℕ)
+  pub size : ℕ
+  pub synced : ℕ
+  pub failures : ℕ
+  pub is_over : Bool
+
+-- The table is what the log leaves, until the log is over. What the log has then still loads.
+pub record IsKept (log : LogData) : Type 0 where
+  pub stands : (bytes : List ℕ) → log.bytes ≡ Some bytes → log.is_over ≡ false → IsLog log.shape bytes log.table
+  pub loads : (bytes : List ℕ) → log.bytes ≡ Some bytes → IsSome (replayed log.shape bytes)
+
+-- ---- opening
+
+-- The whole lines are kept and leave the table, and so many bytes behind them were cut off.
+pub record IsOpened (shape : TableShape) (bytes : List ℕ) (torn : ℕ) (new : Option (List ℕ)) (table : TableState) : Type 0 where
+  pub kept : List ℕ
+  pub is_kept : new ≡ Some kept
+  pub loaded : IsLoaded shape bytes kept table
+  pub cut_off : length bytes ≡ length kept + torn
+
+-- it is of this declaration, all of it is synced, and it is not over
+pub record IsSettled (shape : TableShape) (failures : ℕ) (log : LogData) : Type 0 where
+  pub is_of : log.shape ≡ shape
+  pub synced : log.synced ≡ log.size
+  pub works : log.failures ≡ failures
+  pub stands : log.is_over ≡ false
+
+-- why a log was not opened, and its bytes then
+abbrev pub IsUnopened : TableShape → List ℕ → OpenWhy → Option (List ℕ) → Type 0
+IsUnopened shape old (whys.Line number) new = IsRefused shape old number × (new ≡ Some old)
+IsUnopened shape old whys.Memory new = new ≡ Some old
+IsUnopened shape old whys.Disk new = (new ≡ Some old) ⊎ ((kept : List ℕ) × (table : TableState) × (new ≡ Some kept) × IsLoaded shape old kept table)
+
+-- the failures of the disk after that
+abbrev pub failures_after_open : OpenWhy → ℕ → ℕ
+failures_after_open (whys.Line number) count = count
+failures_after_open whys.Memory count = count
+failures_after_open whys.Disk count = raised count
+
+-- ---- calls
+
+-- the line of a write: its canonical text, and a newline
+abbrev pub log_line : Command → List ℕ
+log_line command = command_text command ++ codes "\n"
+
+-- a log that has a further line, and the table that it leaves
+abbrev pub with_line : LogData → List ℕ → TableState → LogData
+with_line log line table =
+    record { shape = log.shape; table = table; bytes = append_known log.bytes line; size = log.size + length line; synced = log.synced; failures = log.failures; is_over = log.is_over }
+
+-- the log after a command: an accepted write is a line more
+abbrev pub log_after : LogData → Command → LogData
+log_after log command = option_map_or (with_line log (log_line command)) (after_command log.table command) log
+
+-- the line of the answer, after which the log has the write; or the memory line, and nothing changed
+abbrev pub Answers : LogData → Command → List ℕ → LogData → Type 0
+Answers old command text new =
+    ((text ≡ memory_line) × (new ≡ old)) ⊎ ((text ≡ answer_text (step_of old.table command).answer) × (new ≡ log_after old command))
+
+-- the same, appended to what was told before
+abbrev pub Told : LogData → Command → List ℕ → List ℕ → LogData → Type 0
+Told old command told_before told new = (text : List ℕ) × (told ≡ told_before ++ text) × Answers old command text new
+
+-- the line of a read's answer, or the memory line, appended to what was told before
+abbrev pub Tells : LogData → Command → List ℕ → List ℕ → Type 0
+Tells log command told_before told = (told ≡ told_before ++ memory_line) ⊎ (told ≡ told_before ++ answer_text (step_of log.table command).answer)
+
+-- The command is an accepted write, and the disk failed before its line was appended whole.
+pub record Fails (old : LogData) (command : Command) (new : LogData) : Type 0 where
+  pub front : List ℕ
+  pub is_front : IsFront front (log_line command)
+  pub write : after_command old.table command ≡ Some new.table
+  pub shape : new.shape ≡ old.shape
+  pub bytes : new.bytes ≡ append_known old.bytes front
+  pub synced : new.synced ≡ old.synced
+  pub failures : new.failures ≡ raised old.failures
+  pub over : new.is_over ≡ true
+
+-- A log that is over stays as it is. Otherwise the disk failed.
+abbrev pub Stops : LogData → Command → LogData → Type 0
+Stops old command new = ((old.is_over ≡ true) × (new ≡ old)) ⊎ Fails old command new
+
+-- the log after a sync, and after one that failed
+abbrev pub synced_log : LogData → LogData
+synced_log log =
+    record { shape = log.shape; table = log.table; bytes = log.bytes; size = log.size; synced = log.size; failures = log.failures; is_over = log.is_over }
+
+abbrev pub failed_log : LogData → LogData
+failed_log log =
+    record { shape = log.shape; table = log.table; bytes = log.bytes; size = log.size; synced = log.synced; failures = raised log.failures; is_over = true }

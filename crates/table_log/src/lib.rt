@@ -1,0 +1,15 @@
+//! A table with the log of its accepted writes on a disk: what is loaded of it, what is appended, and what a crash leaves.
+#![tactic(auto)]
+
+mod disk;
+mod fault;
+mod law;
+mod loading;
+mod logged;
+mod memory;
+
+pub use disk::Disk;
+pub use fault::{DiskFailed, OpenFault, OpenWhy, Over};
+pub use law::crash_keeps_synced;
+pub use logged::{LoggedTable, Mark, Opened};
+pub use memory::MemoryDisk;

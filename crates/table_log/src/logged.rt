@@ -1,0 +1,224 @@
+//! A table with its log.
+
+ghost use Rattle.std.specs.Prelude.{◌≡◌, ◌≤◌, ◌↔◌, false, true, if◌then◌else◌, ℕ, List, Some, IfErr, IfOk, IsTrue, OnErr, OnOk};
+ghost use Rattle.command_lines.specs.Fits.{CommandFits};
+ghost use Rattle.table_changes.specs.Change.{is_change};
+ghost use Rattle.table_reply.specs.Buffer.{Keeps};
+ghost use Rattle.table_log.specs.Loading.{failures_after_load};
+ghost use Rattle.table_log.specs.Log.{IsLog};
+ghost use Rattle.table_log.specs.Logged.{IsKept, IsOpened, IsSettled, IsUnopened, Stops, Tells, Told, failed_log, failures_after_open, log_line, synced_log};
+
+use crate::disk::Disk;
+use crate::fault::{OpenFault, OpenWhy, Over};
+use crate::loading::load;
+use command_text::write_command;
+use std::alloc::Global;
+use std::marker::Model;
+use table_cmd::Command;
+use table_reply::{Out, OutOfRoom, READY_ROOM};
+use table_schema::TableSpec;
+use table_step::{Outcome, Table, is_change, refuse_memory};
+
+/// A table, and on a disk the log of its accepted writes. The table is what the log's lines leave of an empty one.
+#[derive(Drop)]
+pub struct LoggedTable<D: Disk> {
+    spec: TableSpec,
+    table: Table,
+    disk: D,
+    line: Out,
+    is_over: bool,
+}
+
+impl<D: Disk> Model for LoggedTable<D> {
+    ghost use Rattle.table_log.specs.Logged.{IsKept, LogData};
+
+    ghost Value = { LogData };
+
+    ghost view = { λ l. record { shape = l.spec; table = l.table; bytes = D.contents l.disk; size = D.size l.disk; synced = D.synced l.disk; failures = D.failures l.disk; is_over = l.is_over } };
+
+    ghost invariant = { λ l. IsKept (record { shape = l.spec; table = l.table; bytes = D.contents l.disk; size = D.size l.disk; synced = D.synced l.disk; failures = D.failures l.disk; is_over = l.is_over }) };
+}
+
+/// A log that was opened, and how many bytes were cut off at its end.
+#[derive(Drop)]
+pub struct Opened<D: Disk> {
+    pub logged: LoggedTable<D>,
+    pub torn: u64,
+}
+
+/// How long a log was when an answer was given.
+#[derive(Clone, Copy, Debug, PartialEq, Eq)]
+pub struct Mark {
+    bytes: u64,
+}
+
+// Puts the line of a write into a buffer, in place of what stands there.
+fn set_line(command: &Command, line: &mut Out) -> Result<(), OutOfRoom>
+    ensures { OnOk result (line.new.bytes ≡ log_line command.now) }
+{
+    line.clear();
+    write_command(command, line)?;
+    line.try_push(b"\n")
+}
+
+// A declaration, the table that a log leaves, and how many bytes were cut off.
+#[derive(Drop)]
+struct Prepared {
+    spec: TableSpec,
+    table: Table,
+    torn: u64,
+}
+
+// Loads a disk's log, and cuts off what stands behind its whole lines.
+fn prepare<D: Disk>(alloc: Global, spec: &TableSpec, disk: &mut D) -> Result<Prepared, OpenWhy>
+    ensures spec { IfOk result (λ prepared. prepared.spec ≡ spec.now) }
+    ensures opened { IfOk result (λ prepared. (bytes : List ℕ) → D.contents disk.old ≡ Some bytes
+        → IsOpened spec.now bytes prepared.torn (D.contents disk.new) prepared.table) }
+    ensures log { IfOk result (λ prepared. (bytes : List ℕ) → D.contents disk.new ≡ Some bytes → IsLog spec.now bytes prepared.table) }
+    ensures synced { OnOk result (D.synced disk.new ≡ D.size disk.new) }
+    ensures unopened { IfErr result (λ why. (bytes : List ℕ) → D.contents disk.old ≡ Some bytes → IsUnopened spec.now bytes why (D.contents disk.new)) }
+    ensures failures { D.failures disk.new ≡ failures_after_load result (D.failures disk.old) }
+{
+    let copy = spec.copy()?;
+    let loader = match load(alloc, spec, disk) {
+        Ok(loader) => loader,
+        Err(why) => return Err(why),
+    };
+    let end = disk.size();
+    let torn = loader.line.len() as u64;
+    match disk.cut(end - torn) {
+        Ok(()) => Ok(Prepared {
+            spec: copy,
+            table: loader.table,
+            torn,
+        }),
+        Err(_) => Err(OpenWhy::Disk),
+    }
+}
+
+impl<D: Disk> LoggedTable<D> {
+    /// Loads a disk's log into an empty table of this declaration. What stands behind the last newline, as a crash leaves it, is
+    /// cut off, and the rest is synced. A whole line that is no accepted write refuses it, with its number, and nothing is
+    /// changed. A log that is refused hands its disk back. O(bytes), and what the commands cost.
+    pub fn open(alloc: Global, spec: &TableSpec, disk: D) -> Result<Opened<D>, OpenFault<D>>
+        ensures opened { IfOk result (λ opened. (bytes : List ℕ) → D.contents disk ≡ Some bytes → IsOpened spec.now bytes opened.torn opened.logged.bytes opened.logged.table) }
+        ensures settled { IfOk result (λ opened. IsSettled spec.now (D.failures disk) opened.logged) }
+        ensures unopened { IfErr result (λ fault. (bytes : List ℕ) → D.contents disk ≡ Some bytes → IsUnopened spec.now bytes fault.why (D.contents fault.disk)) }
+        ensures failures { IfErr result (λ fault. D.failures fault.disk ≡ failures_after_open fault.why (D.failures disk)) }
+    {
+        let mut disk = disk;
+        match prepare(alloc, spec, &mut disk) {
+            Ok(prepared) => Ok(Opened {
+                logged: LoggedTable {
+                    spec: prepared.spec,
+                    table: prepared.table,
+                    disk,
+                    line: Out::new(alloc),
+                    is_over: false,
+                },
+                torn: prepared.torn,
+            }),
+            Err(why) => Err(OpenFault { disk, why }),
+        }
+    }
+
+    /// Carries out a command and appends the line of its answer, or else the memory line. The canonical text of an accepted
+    /// write, and a newline, is in the log before it is answered. It is not synced yet.
+    ///
+    /// Where the disk fails, nothing is answered, and the log is over: from then on nothing is answered. What was answered
+    /// before is in the log. O(length of the command), and what the command costs.
+    pub fn call(&mut self, command: &Command, out: &mut Out) -> Result<(), Over>
+        requires ready { READY_ROOM ≤ out.old.room }
+        requires fits { CommandFits command.now }
+        ensures answered { OnOk result ((self.old.is_over ≡ false) × Told self.old command.now out.old.bytes out.new.bytes self.new) }
+        ensures stopped { OnErr result ((out.new.bytes ≡ out.old.bytes) × Stops self.old command.now self.new) }
+        ensures kept { Keeps out.old out.new }
+    {
+        if self.is_over {
+            return Err(Over);
+        }
+        if set_line(command, &mut self.line).is_err() {
+            refuse_memory(out);
+            return Ok(());
+        }
+        let start = out.bytes().len();
+        if let Outcome::Write = self.table.step(command, out) {
+            if self.disk.append(self.line.bytes()).is_err() {
+                self.is_over = true;
+                out.truncate(start);
+                return Err(Over);
+            }
+        }
+        Ok(())
+    }
+
+    /// Carries out a command that changes no table, as `call` does. O(what the read costs).
+    pub fn read(&self, command: &Command, out: &mut Out) -> Result<(), Over>
+        requires ready { READY_ROOM ≤ out.old.room }
+        requires reads { is_change command.now ≡ false }
+        ensures answered { OnOk result ((self.now.is_over ≡ false) × Tells self.now command.now out.old.bytes out.new.bytes) }
+        ensures over { OnErr result ((self.now.is_over ≡ true) × (out.new ≡ out.old)) }
+        ensures kept { Keeps out.old out.new }
+    {
+        if self.is_over {
+            return Err(Over);
+        }
+        let _outcome = self.table.read(command, out);
+        Ok(())
+    }
+
+    /// Makes sure of all writes so far. Where the disk fails the log is over. O(what the disk takes).
+    pub fn sync(&mut self) -> Result<(), Over>
+        ensures synced { OnOk result ((self.old.is_over ≡ false) × (self.new ≡ synced_log self.old)) }
+        ensures over { OnErr result (self.new ≡ (if self.old.is_over then self.old else failed_log self.old)) }
+    {
+        if self.is_over {
+            return Err(Over);
+        }
+        if self.disk.sync().is_err() {
+            self.is_over = true;
+            return Err(Over);
+        }
+        Ok(())
+    }
+
+    /// How long the log is: what was answered until now rests on so much of it. O(1).
+    pub fn mark(&self) -> Mark
+        ensures size { result.bytes ≡ self.now.size }
+        ensures kept { IsKept self.now }
+    {
+        Mark {
+            bytes: self.disk.size(),
+        }
+    }
+
+    /// Whether the answers that were given until the mark rest on synced bytes alone, which no crash loses. O(1).
+    pub fn is_synced(&self, mark: Mark) -> bool
+        ensures { IsTrue result ↔ mark.bytes ≤ self.now.synced }
+    {
+        mark.bytes <= self.disk.synced()
+    }
+
+    /// The table's name. O(1).
+    pub fn name(&self) -> &str
+        ensures { result.now ≡ self.now.table.shape.name }
+    {
+        self.table.name()
+    }
+
+    /// The disk alone. O(records).
+    pub fn into_disk(self) -> D
+        ensures contents { D.contents result ≡ self.bytes }
+        ensures synced { D.synced result ≡ self.synced }
+        ensures failures { D.failures result ≡ self.failures }
+    {
+        let LoggedTable {
+            spec: _,
+            table: _,
+            disk: kept,
+            line: _,
+            is_over: _,
+        } = self;
+        kept
+    }
+}
