@@ -23,7 +23,8 @@ const INDICES: &[Index] = &[
 ];
 
 impl Fields for Bid {
-    ghost use Rattle.indexed.specs.Row.{◌∷◌, [], unsigned};
+    ghost use Rattle.std.specs.Prelude.{◌∷◌, []};
+    ghost use Rattle.indexed.specs.Row.{unsigned};
     ghost use Rattle.indexed.specs.Kinds.{ordered, unique_hashed};
 
     ghost row_of = { λ bid. unsigned bid.number ∷ unsigned bid.price ∷ [] };

@@ -21,7 +21,8 @@ const INDICES: &[Index] = &[
 ];
 
 impl Fields for Page {
-    ghost use Rattle.indexed.specs.Row.{◌∷◌, [], unsigned};
+    ghost use Rattle.std.specs.Prelude.{◌∷◌, []};
+    ghost use Rattle.indexed.specs.Row.{unsigned};
     ghost use Rattle.indexed.specs.Kinds.{sequenced, unique_hashed};
 
     ghost row_of = { λ page. unsigned page.number ∷ [] };

@@ -22,7 +22,8 @@ const INDICES: &[Index] = &[
 ];
 
 impl Fields for Session {
-    ghost use Rattle.indexed.specs.Row.{◌∷◌, [], unsigned};
+    ghost use Rattle.std.specs.Prelude.{◌∷◌, []};
+    ghost use Rattle.indexed.specs.Row.{unsigned};
     ghost use Rattle.indexed.specs.Kinds.{ordered, unique_hashed};
 
     ghost row_of = { λ session. unsigned session.number ∷ unsigned session.end ∷ [] };

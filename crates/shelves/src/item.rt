@@ -18,7 +18,8 @@ pub const INDICES: &[Index] = &[
 ];
 
 impl Fields for Item {
-    ghost use Rattle.indexed.specs.Row.{◌∷◌, [], unsigned};
+    ghost use Rattle.std.specs.Prelude.{◌∷◌, []};
+    ghost use Rattle.indexed.specs.Row.{unsigned};
     ghost use Rattle.indexed.specs.Kinds.{ordered, ranked, unique_hashed};
 
     ghost row_of = { λ item. unsigned item.sku ∷ unsigned item.shelf ∷ unsigned item.due ∷ [] };

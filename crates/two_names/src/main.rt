@@ -20,7 +20,8 @@ const INDICES: &[Index] = &[
 ];
 
 impl Fields for Word {
-    ghost use Rattle.indexed.specs.Row.{◌∷◌, [], text};
+    ghost use Rattle.std.specs.Prelude.{◌∷◌, []};
+    ghost use Rattle.indexed.specs.Row.{text};
     ghost use Rattle.indexed.specs.Kinds.{unique_hashed};
 
     ghost row_of = { λ word. text word.english.now ∷ text word.spanish.now ∷ [] };
