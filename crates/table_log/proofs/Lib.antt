@@ -1,3 +1,4 @@
+pub mod Splits
 pub mod Lines
 pub mod Replays
 pub mod Feeding

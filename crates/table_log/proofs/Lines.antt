@@ -8,7 +8,7 @@ use Rattle.std.proofs.Math.Seq.{take-append_seam}
 use Rattle.table_engine.specs.Devices.{IsFront}
 use Rattle.table_engine.specs.Whole.{lines_of}
 use Rattle.table_log.specs.Log.{all_but_last, begun, last_part, whole_lines}
-use Rattle.shared_tables.proofs.Splits.{grows, ends}
+use Rattle.table_log.proofs.Splits.{grows, ends}
 
 abbrev newline : ℕ → Bool
 newline b = b == 10
