@@ -1,11 +1,11 @@
 //! A table with its log.
 
-ghost use Rattle.std.specs.Prelude.{◌≡◌, ◌≤◌, ◌↔◌, false, true, if◌then◌else◌, ℕ, List, Some, IfErr, IfOk, IsTrue, OnErr, OnOk};
+ghost use Rattle.std.specs.Prelude.{◌≡◌, ◌+◌, ◌≤◌, ◌↔◌, false, true, if◌then◌else◌, ℕ, List, Some, IfErr, IfOk, IsSome, IsTrue, OnErr, OnOk, length};
 ghost use Rattle.command_lines.specs.Fits.{CommandFits};
 ghost use Rattle.table_changes.specs.Change.{is_change};
 ghost use Rattle.table_reply.specs.Buffer.{Keeps};
 ghost use Rattle.table_log.specs.Loading.{failures_after_load};
-ghost use Rattle.table_log.specs.Log.{IsLog};
+ghost use Rattle.table_log.specs.Log.{IsLog, after_command};
 ghost use Rattle.table_log.specs.Logged.{IsKept, IsOpened, IsSettled, IsUnopened, Stops, Tells, Told, failed_log, failures_after_open, log_line, synced_log};
 
 use crate::disk::Disk;
@@ -126,12 +126,15 @@ impl<D: Disk> LoggedTable<D> {
     /// write, and a newline, is in the log before it is answered. It is not synced yet.
     ///
     /// Where the disk fails, nothing is answered, and the log is over: from then on nothing is answered. What was answered
-    /// before is in the log. O(length of the command), and what the command costs.
+    /// before is in the log. The answer to an accepted write has at most 256 bytes. O(length of the command), and what the command
+    /// costs.
     pub fn call(&mut self, command: &Command, out: &mut Out) -> Result<(), Over>
         requires ready { READY_ROOM ≤ out.old.room }
         requires fits { CommandFits command.now }
         ensures answered { OnOk result ((self.old.is_over ≡ false) × Told self.old command.now out.old.bytes out.new.bytes self.new) }
+        ensures short { OnOk result (IsSome (after_command self.old.table command.now) → length out.new.bytes ≤ length out.old.bytes + 256) }
         ensures stopped { OnErr result ((out.new.bytes ≡ out.old.bytes) × Stops self.old command.now self.new) }
+        ensures stands { IsKept self.old }
         ensures kept { Keeps out.old out.new }
     {
         if self.is_over {
@@ -158,6 +161,7 @@ impl<D: Disk> LoggedTable<D> {
         requires reads { is_change command.now ≡ false }
         ensures answered { OnOk result ((self.now.is_over ≡ false) × Tells self.now command.now out.old.bytes out.new.bytes) }
         ensures over { OnErr result ((self.now.is_over ≡ true) × (out.new ≡ out.old)) }
+        ensures stands { IsKept self.now }
         ensures kept { Keeps out.old out.new }
     {
         if self.is_over {
