@@ -1,0 +1,28 @@
+-- What a call on a table tells.
+use Rattle.std.proofs.Common.{◌≡◌, inl, inr, ℕ, Bool, true, false, List, [], ◌++◌, not, refl, sym, ap, subst, ◌∙◌, Some}
+use Rattle.std.specs.Prelude.{MatchBool}
+use Rattle.table_changes.specs.Change.{is_change}
+use Rattle.table_cmd.specs.Command.{table_in}
+use Rattle.table_cmd.specs.declared.command.Command.{Command}
+use Rattle.table_reply.specs.Answer.{answer_text}
+use Rattle.table_step.specs.Step.{memory_line, step_of}
+use Rattle.table_log.specs.Logged.{IsKept, LogData, Tells, Told}
+use Rattle.logged_tables.specs.Hears.{HearsAt, HearsCommand, place_of}
+use Rattle.logged_tables.specs.Standing.{Carries}
+
+pub not-false : (b : Bool) → not b ≡ false → b ≡ true
+not-false true e = refl
+not-false false e = absurd (cc)
+
+told_by : (b : Bool) (old new : LogData) (command : Command) (before told : List ℕ) → MatchBool b (Told old command before told new) ((new ≡ old) × Tells old command before told)
+    → (x : List ℕ) × (told ≡ before ++ x) × MatchBool b (Told old command [] x new) ((new ≡ old) × Tells old command [] x)
+told_by true old new command before told h = (h.0, h.1, (h.0, refl, h.2))
+told_by false old new command before told (same, inl e) = (memory_line, e, (same, inl refl))
+told_by false old new command before told (same, inr e) = (answer_text (step_of old.table command).answer, e, (same, inr refl))
+
+-- a table that was found under its lock tells what a call may tell
+pub heard : (names : List (List ℕ)) (place : ℕ) (old new : LogData) (command : Command) (before told : List ℕ) → place_of names (table_in command) ≡ Some place → IsKept old
+    → old.table.shape.name ≡ table_in command → (old.is_over ≡ false) × Carries old command before told new → (x : List ℕ) × (told ≡ before ++ x) × HearsCommand names command x
+heard names place old new command before told at kept named h =
+    let k = told_by (is_change command) old new command before told h.1 in
+    (k.0, k.1, inr (subst (λ p. HearsAt p command k.0) (sym at) (record { old = old; new = new; kept = kept; named = named; works = h.0; carried = k.2 })))

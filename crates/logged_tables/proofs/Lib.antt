@@ -1,0 +1,4 @@
+pub mod Hears
+pub mod Ends
+pub mod Marks
+pub mod Calls

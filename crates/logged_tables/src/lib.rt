@@ -1,0 +1,16 @@
+//! Several tables with their logs, each behind a lock of its own, and streams of lines that are served on them.
+#![tactic(auto)]
+
+mod fault;
+mod seat;
+mod serve;
+mod standing;
+mod synced;
+mod syncing;
+mod tables;
+
+pub use fault::{OverAt, ServeFault};
+pub use seat::Seat;
+pub use serve::Served;
+pub use syncing::Syncing;
+pub use tables::LoggedTables;

@@ -1,0 +1,150 @@
+//! The place of a session.
+
+ghost use Rattle.std.specs.Prelude.{◌≡◌, ◌≤◌, ◌<◌, ◌++◌, List, ℕ, None, All, IfErr, IfOk, OnErr, OnOk, length, slice_set};
+ghost use Rattle.command_lines.specs.Fits.{CommandFits};
+ghost use Rattle.table_reply.specs.Buffer.{Keeps};
+ghost use Rattle.logged_tables.specs.Hears.{HearsCommand, IsOver};
+
+use crate::fault::OverAt;
+use crate::standing::Standing;
+use crate::syncing::Syncing;
+use crate::tables::LoggedTables;
+use std::alloc::{AllocError, Global};
+use std::marker::Model;
+use std::sync::{Mutex, MutexGuard, Wait};
+use table_cmd::Command;
+use table_log::{Disk, Over};
+use table_reply::{Fault, Out, READY_ROOM};
+use table_step::{refuse, refuse_memory};
+
+/// The place of a session, which serves one stream after another.
+#[derive(Drop)]
+pub struct Seat<'a, D: Disk, T: Wait> {
+    pub(crate) tables: &'a LoggedTables<D>,
+    pub(crate) rt: &'a T,
+    syncing: Syncing,
+    standing: Mutex<Standing>,
+    over: Mutex<Option<OverAt>>,
+}
+
+impl<'a, D: Disk, T: Wait> Model for Seat<'a, D, T> {
+    ghost use Rattle.std.specs.Prelude.{List, ℕ};
+
+    ghost Value = { List (List ℕ) };
+
+    ghost view = { λ s. s.tables.now };
+}
+
+impl<'a, D: Disk, T: Wait> Seat<'a, D, T> {
+    /// The place of a session on these tables. O(tables).
+    pub fn new(
+        alloc: Global,
+        tables: &'a LoggedTables<D>,
+        rt: &'a T,
+        syncing: Syncing,
+    ) -> Result<Seat<'a, D, T>, AllocError>
+        ensures { IfOk result (λ seat. seat ≡ tables.now) }
+    {
+        let standing = Standing::new(alloc, tables.len())?;
+        Ok(Seat {
+            tables,
+            rt,
+            syncing,
+            standing: Mutex::new(standing),
+            over: Mutex::new(None),
+        })
+    }
+
+    // The allocator of the tables.
+    pub(crate) fn alloc(&self) -> Global {
+        let tables = self.tables;
+        tables.alloc()
+    }
+
+    // Locks what stands.
+    pub(crate) fn lock(&self) -> MutexGuard<'_, Standing> {
+        self.standing.lock(self.rt)
+    }
+
+    // Keeps that a table's log was over when bytes were to go to the peer.
+    pub(crate) fn keep(&self, at: OverAt) {
+        *self.over.lock(self.rt) = Some(at);
+    }
+
+    // Forgets what stands, and what was over.
+    pub(crate) fn begin(&self) {
+        self.standing.lock(self.rt).forget();
+        *self.over.lock(self.rt) = None;
+    }
+
+    // The table whose log was over when bytes were to go to the peer.
+    pub(crate) fn over(&self) -> Option<OverAt> {
+        *self.over.lock(self.rt)
+    }
+
+    // Carries out a command under the lock of the table that it names, and appends the line of its answer, or else the memory
+    // line. Where no table has the name, the line says so, and no lock is taken. Where the table's log is over nothing is appended.
+    pub(crate) fn call(&self, command: &Command, out: &mut Out) -> Result<(), OverAt>
+        requires ready { READY_ROOM ≤ out.old.room }
+        requires fits { CommandFits command.now }
+        ensures answered { OnOk result ((text : List ℕ) × (out.new.bytes ≡ out.old.bytes ++ text) × HearsCommand self.now command.now text) }
+        ensures refused { IfErr result (λ at. IsOver self.now command.now at) }
+        ensures unchanged { OnErr result (out.new ≡ out.old) }
+        ensures kept { Keeps out.old out.new }
+    {
+        let tables = self.tables;
+        let Some(place) = tables.place_of(command.table()) else {
+            refuse(Fault::Table, out);
+            return Ok(());
+        };
+        let mut standing = self.standing.lock(self.rt);
+        let Some(lock) = tables.at(place) else {
+            refuse_memory(out);
+            return Ok(());
+        };
+        let mut table = lock.lock(self.rt);
+        // They always fit, but of what a lock holds only its type is known.
+        if table.name() != command.table() || place >= standing.len() {
+            refuse_memory(out);
+            return Ok(());
+        }
+        let is_each = self.syncing == Syncing::Each;
+        match standing.call(&mut table, place, is_each, command, out) {
+            Ok(()) => Ok(()),
+            Err(Over) => Err(OverAt { table: place }),
+        }
+    }
+
+    // Sees to it that no mark stands of a table.
+    fn settle(&self, standing: &mut Standing, place: usize) -> Result<(), OverAt>
+        requires { place < length standing.old }
+        ensures taken { OnOk result (standing.new ≡ slice_set standing.old place None) }
+        ensures count { length standing.new ≡ length standing.old }
+    {
+        if !standing.stands(place) {
+            return Ok(());
+        }
+        let tables = self.tables;
+        let Some(lock) = tables.at(place) else {
+            return Err(OverAt { table: place });
+        };
+        let mut table = lock.lock(self.rt);
+        if standing.settle(&mut table, place).is_err() {
+            return Err(OverAt { table: place });
+        }
+        Ok(())
+    }
+
+    // Sees to it that no mark stands.
+    pub(crate) fn settle_all(&self, standing: &mut Standing) -> Result<(), OverAt>
+        ensures { OnOk result (All (λ mark. mark ≡ None) standing.new) }
+    {
+        for place in 0..standing.len() {
+            match self.settle(standing, place) {
+                Ok(()) => {}
+                Err(at) => return Err(at),
+            }
+        }
+        Ok(())
+    }
+}

@@ -1,0 +1,155 @@
+//! What stands until bytes go to a session's peer: how far the log of each table has to be synced before.
+
+ghost use Rattle.std.specs.Prelude.{◌≡◌, ◌⊎◌, ◌≤◌, ◌<◌, ◌++◌, false, Some, None, IfOk, IsFalse, OnErr, OnOk, length, slice_get, slice_set, replicate};
+ghost use Rattle.command_lines.specs.Fits.{CommandFits};
+ghost use Rattle.table_reply.specs.Buffer.{Keeps};
+ghost use Rattle.table_log.specs.Logged.{IsKept, Stops, Told};
+ghost use Rattle.table_step.specs.Step.{memory_line};
+ghost use Rattle.table_log.specs.declared.logged.Mark.{Mark};
+ghost use Rattle.logged_tables.specs.Standing.{Carries, IsSettled, StopsSync, marked};
+
+use crate::syncing::sync_to;
+use std::alloc::{AllocError, Global};
+use std::marker::Model;
+use table_cmd::Command;
+use table_log::{Disk, LoggedTable, Mark, Over};
+use table_reply::{Out, READY_ROOM};
+use table_step::{is_change, refuse_memory};
+
+/// For each table how far its log has to be synced before bytes go to the peer; and room for the answer to a change.
+#[derive(Drop)]
+pub(crate) struct Standing {
+    marks: Vec<Option<Mark>>,
+    reply: Out,
+}
+
+impl Model for Standing {
+    ghost use Rattle.std.specs.Prelude.{◌≤◌, ◌+◌, List, Option, length};
+    ghost use Rattle.table_log.specs.declared.logged.Mark.{Mark};
+
+    ghost Value = { List (Option Mark) };
+
+    ghost view = { λ s. s.marks.items };
+
+    ghost invariant = { λ s. 512 ≤ s.reply.room + length s.reply.bytes };
+}
+
+impl Standing {
+    /// No mark stands, of so many tables.
+    pub(crate) fn new(alloc: Global, tables: usize) -> Result<Standing, AllocError>
+        ensures { IfOk result (λ standing. standing ≡ replicate tables None) }
+    {
+        let marks = vec![in alloc; None; tables]?;
+        let mut reply = Out::new(alloc);
+        reply.ready().map_err(|_| AllocError)?;
+        Ok(Standing { marks, reply })
+    }
+
+    /// The number of tables. O(1).
+    pub(crate) fn len(&self) -> usize
+        ensures { result ≡ length self.now }
+    {
+        self.marks.len()
+    }
+
+    /// Whether a mark stands of the table of this number. O(1).
+    pub(crate) fn stands(&self, place: usize) -> bool
+        requires { place < length self.now }
+        ensures { IsFalse result → slice_get self.now place ≡ Some None }
+    {
+        self.marks[place].is_some()
+    }
+
+    // Carries out a command that may change a table.
+    fn change<D: Disk>(
+        &mut self,
+        table: &mut LoggedTable<D>,
+        command: &Command,
+        out: &mut Out,
+    ) -> Result<(), Over>
+        requires ready { READY_ROOM ≤ out.old.room }
+        requires fits { CommandFits command.now }
+        ensures answered { OnOk result ((table.old.is_over ≡ false) × Told table.old command.now out.old.bytes out.new.bytes table.new) }
+        ensures stopped { OnErr result ((out.new ≡ out.old) × Stops table.old command.now table.new) }
+        ensures stands { IsKept table.old }
+        ensures kept { Keeps out.old out.new }
+        ensures marks { self.new ≡ self.old }
+    {
+        self.reply.clear();
+        match table.call(command, &mut self.reply) {
+            Ok(()) => {}
+            Err(over) => return Err(over),
+        }
+        hand_over(self.reply.bytes(), out);
+        Ok(())
+    }
+
+    /// Carries out a command on the table of this number, which is lent, and keeps how far its log has to be synced before the
+    /// answer leaves, where it has to be. Where the log is over, nothing is answered.
+    pub(crate) fn call<D: Disk>(
+        &mut self,
+        table: &mut LoggedTable<D>,
+        place: usize,
+        is_each: bool,
+        command: &Command,
+        out: &mut Out,
+    ) -> Result<(), Over>
+        requires ready { READY_ROOM ≤ out.old.room }
+        requires fits { CommandFits command.now }
+        requires place { place < length self.old }
+        ensures answered { OnOk result ((table.old.is_over ≡ false) × Carries table.old command.now out.old.bytes out.new.bytes table.new) }
+        ensures marked { OnOk result (self.new ≡ marked is_each place table.new self.old) }
+        ensures stopped { OnErr result ((out.new ≡ out.old) × (self.new ≡ self.old) × Stops table.old command.now table.new) }
+        ensures stands { IsKept table.old }
+        ensures kept { Keeps out.old out.new }
+    {
+        if is_change(command) {
+            self.change(table, command, out)?;
+        } else {
+            table.read(command, out)?;
+        }
+        if is_each {
+            self.marks[place] = Some(table.mark());
+        }
+        Ok(())
+    }
+
+    /// Sees to it that the log of the table of this number, which is lent, is synced as far as its mark says, and takes the mark
+    /// away. Where it is synced so far, nothing is done.
+    pub(crate) fn settle<D: Disk>(
+        &mut self,
+        table: &mut LoggedTable<D>,
+        place: usize,
+    ) -> Result<(), Over>
+        requires place { place < length self.old }
+        ensures settled { OnOk result ((self.new ≡ slice_set self.old place None) × IsSettled (slice_get self.old place) table.old table.new) }
+        ensures stopped { OnErr result ((self.new ≡ self.old) × ((mark : Mark) × (slice_get self.old place ≡ Some (Some mark)) × StopsSync mark table.old table.new)) }
+    {
+        if let Some(mark) = self.marks[place] {
+            match sync_to(table, mark) {
+                Ok(()) => {}
+                Err(over) => return Err(over),
+            }
+        }
+        self.marks[place] = None;
+        Ok(())
+    }
+
+    /// Forgets all marks. O(tables).
+    pub(crate) fn forget(&mut self)
+        ensures { self.new ≡ replicate (length self.old) None }
+    {
+        self.marks.fill(None);
+    }
+}
+
+// Appends the line of an answer. One of more than 512 bytes may find no room: then it is the memory line.
+fn hand_over(line: &[u8], out: &mut Out)
+    requires { READY_ROOM ≤ out.old.room }
+    ensures told { (out.new.bytes ≡ out.old.bytes ++ line.now) ⊎ ((READY_ROOM < length line.now) × (out.new.bytes ≡ out.old.bytes ++ memory_line)) }
+    ensures kept { Keeps out.old out.new }
+{
+    if out.try_push(line).is_err() {
+        refuse_memory(out);
+    }
+}

@@ -1,0 +1,120 @@
+//! Tables with their logs, each behind a lock of its own.
+
+ghost use Rattle.std.specs.Prelude.{◌≡◌, ◌≤◌, IfNone, IfOk, IfSome, Some, length, map, slice_get};
+ghost use Rattle.logged_tables.specs.Hears.{place_of};
+
+use crate::fault::OverAt;
+use crate::syncing::sync_to;
+use key_extract::Text;
+use std::alloc::{AllocError, Global};
+use std::marker::Model;
+use std::sync::{Mutex, Wait};
+use table_log::{Disk, LoggedTable};
+
+/// Tables with their logs, each behind a lock of its own, which several sessions call. A clause sees their names.
+#[derive(Drop)]
+pub struct LoggedTables<D: Disk> {
+    alloc: Global,
+    names: Vec<Text>,
+    locks: Vec<Mutex<LoggedTable<D>>>,
+}
+
+impl<D: Disk> Model for LoggedTables<D> {
+    ghost use Rattle.std.specs.Prelude.{List, ℕ};
+
+    ghost Value = { List (List ℕ) };
+
+    ghost view = { λ t. t.names.items };
+}
+
+// The names of tables.
+fn names_of<D: Disk>(alloc: Global, tables: &[LoggedTable<D>]) -> Result<Vec<Text>, AllocError>
+    ensures { IfOk result (λ names. names.items ≡ map (λ t. t.table.shape.name) tables.now) }
+{
+    let mut names = Vec::with_capacity(alloc, tables.len())?;
+    for table in tables {
+        names.push(Text::copy_of(alloc, table.name())?)?;
+    }
+    Ok(names)
+}
+
+impl<D: Disk> LoggedTables<D> {
+    /// Puts tables behind locks. They are numbered from 0, as they stand in the list. O(tables).
+    pub fn new(alloc: Global, tables: Vec<LoggedTable<D>>) -> Result<LoggedTables<D>, AllocError>
+        ensures { IfOk result (λ made. made ≡ map (λ t. t.table.shape.name) tables.items) }
+    {
+        let names = names_of(alloc, &tables)?;
+        let mut locks = Vec::with_capacity(alloc, tables.len())?;
+        for table in tables {
+            locks.push(Mutex::new(table))?;
+        }
+        Ok(LoggedTables {
+            alloc,
+            names,
+            locks,
+        })
+    }
+
+    /// The number of tables. O(1).
+    pub fn len(&self) -> usize
+        ensures { result ≡ length self.now }
+    {
+        self.names.len()
+    }
+
+    /// The name of the table of a number. O(1).
+    pub fn name(&self, table: usize) -> Option<&str>
+        ensures some { IfSome result (λ name. slice_get self.now table ≡ Some name.now) }
+        ensures none { IfNone result (length self.now ≤ table) }
+    {
+        match self.names.get(table) {
+            Some(name) => Some(name.as_str()),
+            None => None,
+        }
+    }
+
+    // The number of the first table of a name.
+    pub(crate) fn place_of(&self, name: &str) -> Option<usize>
+        ensures { result ≡ place_of self.now name.now }
+    {
+        self.names.iter().position(|other| other.as_str() == name)
+    }
+
+    // The lock of the table of a number.
+    pub(crate) fn at(&self, place: usize) -> Option<&Mutex<LoggedTable<D>>> {
+        self.locks.get(place)
+    }
+
+    // What gives memory to a session's calls.
+    pub(crate) fn alloc(&self) -> Global {
+        self.alloc
+    }
+
+    /// Syncs each log that has bytes that are not synced. All are tried, and the first table whose log is over is told. It waits
+    /// for each table. O(tables), and what the disks take.
+    pub fn sync_all(&self, rt: &impl Wait) -> Result<(), OverAt> {
+        let mut first = Ok(());
+        for (place, lock) in self.locks.iter().enumerate() {
+            let mut table = lock.lock(rt);
+            let mark = table.mark();
+            if sync_to(&mut table, mark).is_err() && first.is_ok() {
+                first = Err(OverAt { table: place });
+            }
+        }
+        first
+    }
+
+    /// The tables, out of their locks and in the order of their numbers. O(tables).
+    pub fn into_tables(self, alloc: Global) -> Result<Vec<LoggedTable<D>>, AllocError> {
+        let LoggedTables {
+            alloc: _,
+            names: _,
+            locks,
+        } = self;
+        let mut tables = Vec::with_capacity(alloc, locks.len())?;
+        for lock in locks {
+            tables.push(lock.into_inner())?;
+        }
+        Ok(tables)
+    }
+}
