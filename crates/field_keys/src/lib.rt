@@ -20,5 +20,6 @@ pub use index::{
 pub use key_extract::Text;
 pub use keys::FieldKeys;
 pub use part::KeyPart;
+pub use part::KeyPart::{Falling, Rising};
 pub use row::{pick, signed, text, truth, unsigned};
 pub use search::{Search, Value};

@@ -1,13 +1,12 @@
 -- What declared indices are.
-use Rattle.std.specs.Prelude.{◌≡◌, ℕ, ◌≤◌, Bool, true, false, List, length, slice_get}
+use Rattle.std.specs.Prelude.{ℕ, Bool, true, false, not, cond, ◌&&◌, List, length, nat_le, slice_get}
+use Rattle.std.specs.List.{list_all}
 use Rattle.std.specs.Option.{option_map_or}
 use Rattle.container_model.specs.declared.handle.Kind.{Kind}
 use Rattle.container_model.specs.declared.handle.Kind.TheVariants.{Sequenced, Random, Ordered, Ranked, Hashed}
 use Rattle.container_model.specs.declared.handle.Spec.{Spec}
-use Rattle.container_model.specs.State.{KeysMatch}
+use Rattle.container_model.specs.State.{has_key_kind}
 use Rattle.field_keys.specs.declared.index.Index.{Index}
-use Rattle.field_keys.specs.Indices.{declared_specs, declared_keys}
-use Rattle.indexed.specs.Orders.{has_key}
 
 abbrev pub sequenced : Spec
 sequenced = record { kind = Sequenced; unique = false }
@@ -37,8 +36,10 @@ unique_hashed = record { kind = Hashed; unique = true }
 abbrev pub kind_of : List Spec → ℕ → Kind
 kind_of indices number = option_map_or (λ spec. spec.kind) (slice_get indices number) Sequenced
 
--- indices that a container can have: one to eight, of which those that compare records have a key and may be unique, and no other
-pub record AreValid (indices : List Index) : Type 0 where
-  pub some : 1 ≤ length indices
-  pub few : length indices ≤ 8
-  pub keys : KeysMatch (has_key (declared_keys indices)) (declared_specs indices)
+-- whether a container can have the index: one that compares records has a key and may be unique, and no other is either
+abbrev pub is_index : Index → Bool
+is_index index = cond (has_key_kind index.0.kind) (nat_le 1 (length index.1.now)) (nat_le (length index.1.now) 0 && not index.0.unique)
+
+-- whether a container can have the indices: there are one to eight
+abbrev pub are_valid : List Index → Bool
+are_valid indices = nat_le 1 (length indices) && (nat_le (length indices) 8 && list_all is_index indices)

@@ -1,3 +1,4 @@
+pub mod Declaration
 pub mod Kinds
 pub mod Orders
 pub mod Viewed

@@ -3,7 +3,7 @@ ghost use Rattle.std.specs.Prelude.{◌≡◌, ◌<◌, Err, IfErr, IfOk, IsTrue
 ghost use Rattle.std.specs.Fn.{FnOnceReturnsAtMut};
 ghost use Rattle.std.specs.Result.{MatchResult};
 ghost use Rattle.container_model.specs.State.{has_key_kind, is_hashed_kind, row_of};
-ghost use Rattle.container_model.specs.Change.{cleared, erased_count, modify_refusal, replace_refusal, spent, with_key_erased, with_modified, with_replaced};
+ghost use Rattle.container_model.specs.Change.{cleared, erase_refusal, erased_count, modify_refusal, next_in, replace_refusal, spent, with_erased, with_key_erased, with_modified, with_replaced};
 ghost use Rattle.container_model.specs.Insert.{ban};
 ghost use Rattle.linked_set.specs.Modified.{told};
 ghost use Rattle.indexed.specs.Kinds.{kind_of};
@@ -11,7 +11,7 @@ ghost use Rattle.indexed.specs.Orders.{by_key, to_search};
 
 use crate::container::Indexed;
 use field_keys::{Fields, Search};
-use multi_index::{Handle, Modified, Refused, Why};
+use multi_index::{Erased, Handle, Modified, Refused, Why};
 
 impl<R: Fields + Drop> Indexed<R> {
     /// Gives a record another row, and hands out the old one; its handle stays. Refused are, in this order: `Stale`; `Banned`,
@@ -28,6 +28,25 @@ impl<R: Fields + Drop> Indexed<R> {
         ensures unchanged { OnErr result (self.new ≡ self.old) }
     {
         self.records.replace(handle, row)
+    }
+
+    /// Takes a record out of every index, and hands it over with the handle of the record after it in an index that is not
+    /// hashed. `Stale` and `Spent` are refused, in this order, and change nothing. O(log n) for each index, but O(the records
+    /// behind it) in one whose places can be counted.
+    pub fn erase_at(&mut self, number: usize, handle: Handle) -> Result<Erased<R>, Why>
+        requires kind { IsTrue (not (is_hashed_kind (kind_of R.indices number))) }
+        requires within { number < length R.indices }
+        ensures row { IfOk result (λ erased. row_of self.old.entries handle ≡ Some erased.row) }
+        ensures next { IfOk result (λ erased. erased.next ≡ next_in self.old number handle) }
+        ensures allowed { OnOk result (erase_refusal self.old handle (Some number) ≡ None) }
+        ensures ok { OnOk result (self.new ≡ with_erased self.old handle) }
+        ensures why { IfErr result (λ why. Some why ≡ erase_refusal self.old handle (Some number)) }
+        ensures unchanged { OnErr result (self.new ≡ self.old) }
+    {
+        match self.records.erase(handle, Some(number)) {
+            Ok(erased) => Ok(erased),
+            Err(refused) => Err(refused.why),
+        }
     }
 
     /// Takes out every record that has the key at the index, also a leading part of one, and answers how many there were.

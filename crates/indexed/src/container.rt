@@ -1,10 +1,10 @@
 //! The container.
 ghost use Rattle.std.specs.Prelude.{◌≡◌, ◌↔◌, ◌<◌, IsTrue, false, length, [], None, unwrap_or, Some, IfOk, IfErr, OnOk, OnErr};
-ghost use Rattle.container_model.specs.State.{empty, row_of};
+ghost use Rattle.container_model.specs.State.{empty_with_most, row_of};
 ghost use Rattle.container_model.specs.Insert.{insert_refusal, new_handle, with_inserted};
 ghost use Rattle.container_model.specs.Change.{erase_refusal, with_erased};
 ghost use Rattle.field_keys.specs.Indices.{declared_keys, declared_specs};
-ghost use Rattle.indexed.specs.Kinds.{AreValid};
+ghost use Rattle.indexed.specs.Kinds.{are_valid};
 ghost use Rattle.indexed.specs.Orders.{by_key};
 
 use crate::view::View;
@@ -35,14 +35,14 @@ impl<R: Fields + Drop> Indexed<R> {
     /// A container without records, for at most `max`, under the indices that they declare. O(indices).
     pub fn new(alloc: Global, indices: &'static [Index], max: u32) -> Result<Indexed<R>, AllocError>
         requires declared { declared_specs indices.now ≡ R.indices }
-        requires valid { AreValid indices.now }
-        ensures { IfOk result (λ made. made ≡
-            empty (declared_keys indices.now) R.indices max 0) }
+        requires valid { IsTrue (are_valid indices.now) }
+        ensures { IfOk result (λ made. made ≡ empty_with_most (length R.indices)
+            (declared_keys indices.now) R.indices max 0) }
     {
         let specs = specs_of(alloc, indices)?;
         let keys = FieldKeys::declared(indices);
         Ok(Indexed {
-            records: MultiIndex::new(alloc, specs, keys, max, 0)?,
+            records: MultiIndex::with_most(alloc, specs, keys, indices.len(), max, 0)?,
         })
     }
 
@@ -58,6 +58,13 @@ impl<R: Fields + Drop> Indexed<R> {
         ensures { IsTrue result ↔ (self.now.entries ≡ []) }
     {
         self.records.is_empty()
+    }
+
+    /// The number of the last accepted write; refused ones are not counted. O(1).
+    pub fn writes(&self) -> u64
+        ensures { result ≡ self.now.writes }
+    {
+        self.records.writes()
     }
 
     /// One index, to look records up in. O(1).

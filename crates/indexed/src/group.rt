@@ -42,4 +42,15 @@ impl<'a, R: Fields + Drop> View<'a, R> {
     {
         self.records.iter_range(self.number, low, high)
     }
+
+    /// The records from the low key up to the high one, those that have either among them, in the order of the index and with
+    /// their handles; none where the high key comes before the low one. O(log n).
+    pub fn between(&self, low: &Search, high: &Search) -> Iter<'a, R, FieldKeys>
+        requires { IsTrue (is_sorted_kind (kind_of R.indices self.now.number)) }
+        ensures { result ≡ with_rows self.now.all
+            (range (edge_of (side R.row_of self.now) (Bound.Included low.now))
+            (edge_of (side R.row_of self.now) (Bound.Included high.now)) (members self.now)) }
+    {
+        self.range(Bound::Included(low), Bound::Included(high))
+    }
 }

@@ -1,8 +1,10 @@
 //! A container under indices that its records declare, each borrowed by its number.
 #![tactic(auto)]
 
+mod arrange;
 mod change;
 mod container;
+mod edit;
 mod group;
 mod places;
 mod ranks;
@@ -11,8 +13,10 @@ mod view;
 
 pub use container::Indexed;
 pub use field_keys::{
-    Field, FieldKeys, Fields, HASHED, Index, KeyPart, ORDERED, RANDOM, RANKED, SEQUENCED, Search,
-    Text, UNIQUE_HASHED, UNIQUE_ORDERED, UNIQUE_RANKED, Value, pick, signed, text, truth, unsigned,
+    Falling, Field, FieldKeys, Fields, HASHED, Index, KeyPart, ORDERED, RANDOM, RANKED, Rising,
+    SEQUENCED, Search, Text, UNIQUE_HASHED, UNIQUE_ORDERED, UNIQUE_RANKED, Value, pick, signed,
+    text, truth, unsigned,
 };
-pub use multi_index::{Handle, Iter, Modified, MultiIndex, Refused, Why};
+pub use key_extract::RowOrder;
+pub use multi_index::{Edit, Erased, Handle, Iter, Modified, MultiIndex, Refused, RowEdit, Why};
 pub use view::View;

@@ -2,10 +2,9 @@
 #![tactic(auto)]
 
 use indexed::{
-    Field, Fields, Index, Indexed, KeyPart, ORDERED, Search, UNIQUE_HASHED, pick, unsigned,
+    Falling, Field, Fields, Index, Indexed, ORDERED, Rising, Search, UNIQUE_HASHED, pick, unsigned,
 };
 use std::io;
-use std::ops::Bound;
 
 #[derive(Clone, Copy, Debug)]
 struct Bid {
@@ -18,14 +17,12 @@ const BY_NUMBER: usize = 0;
 const BY_PRICE: usize = 1;
 
 const INDICES: &[Index] = &[
-    Index(UNIQUE_HASHED, &[KeyPart::Rising(0)]),
-    Index(ORDERED, &[KeyPart::Falling(1)]),
+    Index(UNIQUE_HASHED, &[Rising(0)]),
+    Index(ORDERED, &[Falling(1)]),
 ];
 
 impl Fields for Bid {
-    ghost use Rattle.std.specs.Prelude.{◌∷◌, []};
-    ghost use Rattle.indexed.specs.Row.{unsigned};
-    ghost use Rattle.indexed.specs.Kinds.{ordered, unique_hashed};
+    ghost use Rattle.indexed.specs.Declaration.{◌∷◌, [], ordered, unique_hashed, unsigned};
 
     ghost row_of = { λ bid. unsigned bid.number ∷ unsigned bid.price ∷ [] };
 
@@ -39,16 +36,12 @@ impl Fields for Bid {
 fn main(rt: HostRuntime) -> io::Result<()> {
     let mut bids: Indexed<Bid> = Indexed::new(rt.alloc(), INDICES, 1000)?;
     for (number, price) in [(1, 250), (2, 310), (3, 250), (4, 180), (5, 330)] {
-        println!(&rt;
-            "bid {number}: {}",
-            bids.insert(Bid { number, price }).is_ok()
-        )?;
+        let is_in = bids.insert(Bid { number, price }).is_ok();
+        println!(&rt; "bid {number}: {is_in}")?;
     }
     if let Some(bid) = bids.index(BY_NUMBER).find(&Search::unsigned(3)) {
-        println!(&rt;
-            "raised: {}",
-            bids.modify_with(bid, |bid| bid.price = 320).is_ok()
-        )?;
+        let is_raised = bids.modify_with(bid, |bid| bid.price = 320).is_ok();
+        println!(&rt; "raised: {is_raised}")?;
     }
     if let Some(bid) = bids.index(BY_NUMBER).find(&Search::unsigned(4)) {
         println!(&rt; "cancelled: {}", bids.erase(bid).is_ok())?;
@@ -56,10 +49,7 @@ fn main(rt: HostRuntime) -> io::Result<()> {
     }
     println!(&rt; "from 320 to 250:")?;
     let (high, low) = (Search::unsigned(320), Search::unsigned(250));
-    for (_, bid) in bids
-        .index(BY_PRICE)
-        .range(Bound::Included(&high), Bound::Included(&low))
-    {
+    for (_, bid) in bids.index(BY_PRICE).between(&high, &low) {
         println!(&rt; "  {} for {}", bid.number, bid.price)?;
     }
     Ok(())

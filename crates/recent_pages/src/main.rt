@@ -2,7 +2,7 @@
 #![tactic(auto)]
 
 use indexed::{
-    Field, Fields, Index, Indexed, KeyPart, SEQUENCED, Search, UNIQUE_HASHED, Why, pick, unsigned,
+    Field, Fields, Index, Indexed, Rising, SEQUENCED, Search, UNIQUE_HASHED, Why, pick, unsigned,
 };
 use std::io;
 
@@ -15,15 +15,10 @@ const LATEST: usize = 0;
 
 const BY_NUMBER: usize = 1;
 
-const INDICES: &[Index] = &[
-    Index(SEQUENCED, &[]),
-    Index(UNIQUE_HASHED, &[KeyPart::Rising(0)]),
-];
+const INDICES: &[Index] = &[Index(SEQUENCED, &[]), Index(UNIQUE_HASHED, &[Rising(0)])];
 
 impl Fields for Page {
-    ghost use Rattle.std.specs.Prelude.{◌∷◌, []};
-    ghost use Rattle.indexed.specs.Row.{unsigned};
-    ghost use Rattle.indexed.specs.Kinds.{sequenced, unique_hashed};
+    ghost use Rattle.indexed.specs.Declaration.{◌∷◌, [], sequenced, unique_hashed, unsigned};
 
     ghost row_of = { λ page. unsigned page.number ∷ [] };
 

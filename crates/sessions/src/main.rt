@@ -2,7 +2,7 @@
 #![tactic(auto)]
 
 use indexed::{
-    Field, Fields, Index, Indexed, KeyPart, ORDERED, Search, UNIQUE_HASHED, pick, unsigned,
+    Field, Fields, Index, Indexed, RANKED, Rising, Search, UNIQUE_HASHED, pick, unsigned,
 };
 use std::io;
 
@@ -17,18 +17,16 @@ const BY_NUMBER: usize = 0;
 const BY_END: usize = 1;
 
 const INDICES: &[Index] = &[
-    Index(UNIQUE_HASHED, &[KeyPart::Rising(0)]),
-    Index(ORDERED, &[KeyPart::Rising(1)]),
+    Index(UNIQUE_HASHED, &[Rising(0)]),
+    Index(RANKED, &[Rising(1)]),
 ];
 
 impl Fields for Session {
-    ghost use Rattle.std.specs.Prelude.{◌∷◌, []};
-    ghost use Rattle.indexed.specs.Row.{unsigned};
-    ghost use Rattle.indexed.specs.Kinds.{ordered, unique_hashed};
+    ghost use Rattle.indexed.specs.Declaration.{◌∷◌, [], ranked, unique_hashed, unsigned};
 
     ghost row_of = { λ session. unsigned session.number ∷ unsigned session.end ∷ [] };
 
-    ghost indices = { unique_hashed ∷ ordered ∷ [] };
+    ghost indices = { unique_hashed ∷ ranked ∷ [] };
 
     fn field(&self, column: usize) -> Option<Field<'_>> {
         pick(column, &[unsigned(self.number), unsigned(self.end)])
@@ -38,9 +36,7 @@ impl Fields for Session {
 // A session that was heard of lives until this time.
 fn hear(live: &mut Indexed<Session>, number: u64, end: u64) -> bool {
     match live.index(BY_NUMBER).find(&Search::unsigned(number)) {
-        Some(handle) => live
-            .modify_with(handle, |session| session.end = end)
-            .is_ok(),
+        Some(heard) => live.modify_with(heard, |session| session.end = end).is_ok(),
         None => live.insert(Session { number, end }).is_ok(),
     }
 }
@@ -50,13 +46,10 @@ fn main(rt: HostRuntime) -> io::Result<()> {
     for (number, end) in [(1, 40), (2, 30), (3, 35), (2, 50)] {
         println!(&rt; "heard of {number}: {}", hear(&mut live, number, end))?;
     }
-    for _ in 0..live.len() {
-        match live.index(BY_END).iter().next() {
-            Some((ended, session)) if session.end < 45 => {
-                println!(&rt; "session {} ended at {}", session.number, session.end)?;
-                println!(&rt; "taken out: {}", live.erase(ended).is_ok())?;
-            }
-            _ => break,
+    for _ in 0..live.index(BY_END).lower_rank(&Search::unsigned(45)) {
+        if let Some((handle, session)) = live.index(BY_END).iter().next() {
+            println!(&rt; "session {} ended at {}", session.number, session.end)?;
+            println!(&rt; "taken out: {}", live.erase(handle).is_ok())?;
         }
     }
     for (_, session) in live.index(BY_END).iter() {

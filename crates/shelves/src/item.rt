@@ -1,6 +1,8 @@
 //! Items on shelves, and the indices that they stand under.
 
-use indexed::{Field, Fields, Index, KeyPart, ORDERED, RANKED, UNIQUE_HASHED, pick, unsigned};
+use indexed::{
+    Falling, Field, Fields, Index, ORDERED, RANKED, Rising, UNIQUE_HASHED, pick, unsigned,
+};
 
 /// An item on a shelf.
 #[derive(Clone, Copy, Debug)]
@@ -12,15 +14,13 @@ pub struct Item {
 
 /// By number; by shelf, and on each the latest day first; by day.
 pub const INDICES: &[Index] = &[
-    Index(UNIQUE_HASHED, &[KeyPart::Rising(0)]),
-    Index(ORDERED, &[KeyPart::Rising(1), KeyPart::Falling(2)]),
-    Index(RANKED, &[KeyPart::Rising(2)]),
+    Index(UNIQUE_HASHED, &[Rising(0)]),
+    Index(ORDERED, &[Rising(1), Falling(2)]),
+    Index(RANKED, &[Rising(2)]),
 ];
 
 impl Fields for Item {
-    ghost use Rattle.std.specs.Prelude.{◌∷◌, []};
-    ghost use Rattle.indexed.specs.Row.{unsigned};
-    ghost use Rattle.indexed.specs.Kinds.{ordered, ranked, unique_hashed};
+    ghost use Rattle.indexed.specs.Declaration.{◌∷◌, [], ordered, ranked, unique_hashed, unsigned};
 
     ghost row_of = { λ item. unsigned item.sku ∷ unsigned item.shelf ∷ unsigned item.due ∷ [] };
 

@@ -1,7 +1,7 @@
 //! Words that are found under either of two names: two hashed indices, both unique.
 #![tactic(auto)]
 
-use indexed::{Field, Fields, Index, Indexed, KeyPart, Search, UNIQUE_HASHED, pick, text};
+use indexed::{Field, Fields, Index, Indexed, Rising, Search, UNIQUE_HASHED, pick, text};
 use std::io;
 
 #[derive(Clone, Copy, Debug)]
@@ -15,14 +15,12 @@ const ENGLISH: usize = 0;
 const SPANISH: usize = 1;
 
 const INDICES: &[Index] = &[
-    Index(UNIQUE_HASHED, &[KeyPart::Rising(0)]),
-    Index(UNIQUE_HASHED, &[KeyPart::Rising(1)]),
+    Index(UNIQUE_HASHED, &[Rising(0)]),
+    Index(UNIQUE_HASHED, &[Rising(1)]),
 ];
 
 impl Fields for Word {
-    ghost use Rattle.std.specs.Prelude.{◌∷◌, []};
-    ghost use Rattle.indexed.specs.Row.{text};
-    ghost use Rattle.indexed.specs.Kinds.{unique_hashed};
+    ghost use Rattle.indexed.specs.Declaration.{◌∷◌, [], text, unique_hashed};
 
     ghost row_of = { λ word. text word.english.now ∷ text word.spanish.now ∷ [] };
 
