@@ -5,8 +5,10 @@ use Rattle.indexed.proofs.container.Indexed.modify_or_undo.Goals as goal
 use Rattle.indexed.proofs.container.Indexed.modify_or_undo.Goals.{in-Ok, in-Err+in-Some-1, in-Err+in-None-1}
 
 pub modify_or_undo-requires : goal.modify_or_undo-requires
-modify_or_undo-requires g c = record { undone =
-    subst (λ s. KeepsKeys (by_key g.R.Fields.row_of) s c.args.handle (λ r. g.T.Edit.undone (g.T.Edit.after_apply c.args.edit.now r) (g.T.Edit.applied c.args.edit.now r))) (sym c.self.view_is) c.requires.undone }
+modify_or_undo-requires g c = record {
+  undone =
+      subst (λ s. KeepsKeys (by_key g.R.Fields.row_of) s c.args.handle (λ r. g.T.Edit.undone (g.T.Edit.after_apply c.args.edit.now r) (g.T.Edit.applied c.args.edit.now r))) (sym c.self.view_is) c.requires.undone;
+}
 
 pub returns-clause-allowed : goal.returns-clause-allowed
 returns-clause-allowed g c =
