@@ -1,9 +1,10 @@
-// The calls of `container_bench times`, `times short` and `times indices` on a container of Boost.MultiIndex, with lines of the same form;
+// The calls of `container_bench times`, `times short`, `times walks` and `times indices` on a container of Boost.MultiIndex, with lines of the same form;
 // tools/bench_peer builds it.
 //
-// boost_peer answers [KEY ..]    sums of what insert, find and the short calls answer at 100 records
+// boost_peer answers [KEY ..]    sums of what insert, find, the short calls and the walks answer at 100 records
 // boost_peer times [KEY ..]      the bytes of a record, and the nanoseconds of processor time that each call takes
 // boost_peer short [KEY ..]      the same times of calls by an iterator or a place, and on groups of equal keys
+// boost_peer walks [KEY ..]      the same times of steps of iterators
 // boost_peer indices [KEY ..]    the same times of an insertion into a container of one index, by its kind
 //
 // With five KEYs (price id owner id owner-price) each index has an extractor that reads at run time which key it takes, as the keys of
@@ -324,6 +325,13 @@ static uint64_t move_on(Row& row, uint64_t place)
 }
 
 template <class Kept>
+static uint64_t replace(Kept& kept, typename Kept::iterator handle, const Record& record)
+{
+    uint64_t price = handle->price;
+    return kept.replace(handle, record) ? price : 0;
+}
+
+template <class Kept>
 static uint64_t erase(Kept& kept, typename Kept::iterator handle)
 {
     uint64_t price = handle->price;
@@ -363,7 +371,23 @@ static void time_marked(Report& report, uint64_t count)
     time("next: ranked", count, [&](At handle, uint64_t) { return next_of<2>(kept, handle); });
     time("count: hashed, four records a key", count,
          [&](At, uint64_t place) { return by_owner.count(Keys::template probe<2>(looked_for(place, count))); });
+    time("lower: ordered, unique", count,
+         [&](At, uint64_t place) { return by_id.lower_bound(Keys::template probe<1>(looked_for(place, count)))->number; });
+    time("upper: ordered, unique", count, [&](At, uint64_t place) {
+        auto above = by_id.upper_bound(Keys::template probe<1>(looked_for(place, count)));
+        return above == by_id.end() ? 0 : above->number;
+    });
     time("nth and a move one place on: random access", count, [&](At, uint64_t place) { return move_on(row, place); });
+    time("replace by its equal: 7 indices", count, [&](At handle, uint64_t) { return replace(kept, handle, nth_record(handle->number - 1, count)); });
+    time("modify of one key: 7 indices", count,
+         [&](At handle, uint64_t place) { return kept.modify(handle, [&](Record& record) { record.price = place; }); });
+    time("modify of all keys: 7 indices", count, [&](At handle, uint64_t place) {
+        return kept.modify(handle, [&](Record& record) {
+            uint64_t number = record.number;
+            record = nth_record(count + place, count);
+            record.number = number;
+        });
+    });
     time("erase: 7 indices", std::min<uint64_t>(count, 100), [&](At handle, uint64_t) { return erase(kept, handle); });
 }
 
@@ -433,6 +457,59 @@ static void time_short(Report& report, uint64_t count)
     time_groups<Keys, oldest>(report, count);
 }
 
+// Walks.
+
+template <class From, class To>
+static uint64_t prices(From at, To end)
+{
+    uint64_t met = 0;
+    for (; at != end; ++at)
+        met += at->price;
+    return met;
+}
+
+template <class Index>
+static uint64_t walk(const Index& index) { return prices(index.begin(), index.end()); }
+
+// Records of so many owners, in the order of these.
+template <class Keys>
+using Grouped = mi::multi_index_container<
+    Record, mi::indexed_by<mi::hashed_non_unique<typename Keys::Owner, typename Keys::Hash>, mi::ordered_non_unique<typename Keys::Owner>>>;
+
+template <class Keys>
+static void time_walks(Report& report, uint64_t count)
+{
+    {
+        Seven<Keys> kept;
+        insert_each(kept, count);
+        report.time("step: sequenced", count, [&] { return walk(kept.template get<0>()); });
+        report.time("step: random access", count, [&] { return walk(kept.template get<1>()); });
+        report.time("step: ordered, unique", count, [&] { return walk(kept.template get<3>()); });
+        report.time("step: ordered, two parts", count, [&] { return walk(kept.template get<6>()); });
+        report.time("step: ranked", count, [&] { return walk(kept.template get<2>()); });
+        auto& by_id = kept.template get<3>();
+        report.time("step in a range: ordered, unique", count / 2, [&] {
+            Record low{uint64_t(1) << 62, 0, 0, 0}, high{uint64_t(3) << 62, 0, 0, 0};
+            return prices(by_id.lower_bound(Keys::template probe<1>(low)), by_id.lower_bound(Keys::template probe<1>(high)));
+        });
+    }
+    Grouped<Keys> grouped;
+    uint64_t owners = std::max<uint64_t>(count / 1000, 1);
+    for (uint64_t number = 0; number < count; number++) {
+        Record record = nth_record(number, count);
+        record.owner = number % owners;
+        grouped.insert(record);
+    }
+    report.time("step in a group: ordered", count, [&] {
+        uint64_t met = 0;
+        for (uint64_t owner = 0; owner < owners; owner++) {
+            auto [at, end] = grouped.template get<1>().equal_range(Keys::template probe<2>({0, 0, owner, 0}));
+            met += prices(at, end);
+        }
+        return met;
+    });
+}
+
 static uint64_t resident()
 {
     unsigned long all = 0, pages = 0;
@@ -475,9 +552,11 @@ static void print_answers(uint64_t count)
     std::printf("hashed, by owner: %lu\n", (unsigned long)find_each<Keys, 4, 2>(kept, count));
     std::printf("hashed and unique, by id: %lu\n", (unsigned long)find_each<Keys, 5, 3>(kept, count));
     std::printf("ordered, by owner and price: %lu\n", (unsigned long)find_each<Keys, 6, 4>(kept, count));
-    Report report;
-    time_short<Keys, true>(report, count);
-    std::printf("sum of the answers at %lu that are asked for: %lu\n", (unsigned long)count, (unsigned long)report.met);
+    Report asked, walked;
+    time_short<Keys, true>(asked, count);
+    std::printf("sum of the answers at %lu that are asked for: %lu\n", (unsigned long)count, (unsigned long)asked.met);
+    time_walks<Keys>(walked, count);
+    std::printf("sum of the answers at %lu that are walked: %lu\n", (unsigned long)count, (unsigned long)walked.met);
 }
 
 template <class Keys>
@@ -490,6 +569,8 @@ static int run(const std::string& word)
         print_times(time_short<Keys>);
     else if (word == "indices")
         print_times(time_indices<Keys>);
+    else if (word == "walks")
+        print_times(time_walks<Keys>);
     else if (word == "answers")
         print_answers<Keys>(100);
     else

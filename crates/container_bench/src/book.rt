@@ -1,7 +1,7 @@
 //! The container with its indices.
-ghost use Rattle.std.specs.Prelude.{◌≡◌, ◌<◌, IsTrue, length};
-ghost use Rattle.container_model.specs.State.{KeysMatch, has_key_kind};
-ghost use Rattle.container_bench.specs.Keys.{has_key};
+ghost use Rattle.std.specs.Prelude.{◌≡◌, ◌<◌, IsTrue, length, not};
+ghost use Rattle.container_model.specs.State.{KeysMatch, has_key_kind, is_hashed_kind, is_sorted_kind};
+ghost use Rattle.container_model.specs.Find.{kind_at};
 
 use crate::keys::{Key, Keys};
 use crate::record::Record;
@@ -10,11 +10,13 @@ use key_extract::Extract;
 use multi_index::MultiIndex;
 use std::alloc::{AllocError, Global};
 use std::marker::Model;
+use std::ops::Bound;
 
 /// Seven indices, each with whether it is unique and what it compares. The fourth alone, and the third to the fifth, are
-/// the smaller containers. Behind them stand two that are a container of their own. The first seven are also added, one by one, to a
+/// the smaller containers. Behind them stand two that are a container of their own, as are
+/// the last of these and the one behind it. The first seven are also added, one by one, to a
 /// container of the first.
-pub(crate) const INDICES: [(Kind, bool, Key); 9] = [
+pub(crate) const INDICES: [(Kind, bool, Key); 10] = [
     (Kind::Sequenced, false, Key::Nothing),
     (Kind::Random, false, Key::Nothing),
     (Kind::Ranked, false, Key::Price),
@@ -24,6 +26,7 @@ pub(crate) const INDICES: [(Kind, bool, Key); 9] = [
     (Kind::Ordered, false, Key::OwnerAndPrice),
     (Kind::Random, false, Key::Nothing),
     (Kind::Hashed, false, Key::Owner),
+    (Kind::Ordered, false, Key::Owner),
 ];
 
 /// Records under some indices. `insert` and `find` answer the number of the write that put the record in, or 0.
@@ -59,8 +62,8 @@ fn agrees(has_key: bool, spec: Spec) -> bool
 }
 
 // Whether all indices do.
-fn keys_match(keys: &Keys, specs: &[Spec]) -> bool
-    ensures { IsTrue result → KeysMatch (has_key keys.now) specs.now }
+pub(crate) fn keys_match<E: Extract<Record>>(keys: &E, specs: &[Spec]) -> bool
+    ensures { IsTrue result → KeysMatch (E.has_key keys.now) specs.now }
 {
     for index in 0..specs.len() {
         if !agrees(keys.has(index), specs[index]) {
@@ -289,5 +292,107 @@ impl Book {
             Ok(handles) => handles.len() as u64,
             Err(_) => 0,
         }
+    }
+
+    /// The number of the write of the first record of an index that does not come before a key, or 0.
+    pub(crate) fn lower(&self, index: usize, probe: (u64, u64)) -> u64 {
+        if index >= self.specs.len() {
+            return 0;
+        }
+        match self.records.lower(index, &probe) {
+            Ok(Some(handle)) => handle.stamp,
+            _ => 0,
+        }
+    }
+
+    /// That of the first one that comes after it, or 0.
+    pub(crate) fn upper(&self, index: usize, probe: (u64, u64)) -> u64 {
+        if index >= self.specs.len() {
+            return 0;
+        }
+        match self.records.upper(index, &probe) {
+            Ok(Some(handle)) => handle.stamp,
+            _ => 0,
+        }
+    }
+
+    /// Puts another record in the place of one. Answers its price, or 0.
+    pub(crate) fn replace(&mut self, handle: Handle, record: Record) -> u64 {
+        match self.records.replace(handle, record) {
+            Ok(old) => old.price,
+            Err(_) => 0,
+        }
+    }
+
+    /// Gives a record another price. Answers 1, or 0.
+    pub(crate) fn reprice(&mut self, handle: Handle, price: u64) -> u64 {
+        match self
+            .records
+            .modify_with(handle, |record| record.price = price)
+        {
+            Ok(_) => 1,
+            Err(_) => 0,
+        }
+    }
+
+    /// Gives a record another id, price and owner. Answers 1, or 0.
+    pub(crate) fn rekey(&mut self, handle: Handle, record: Record) -> u64 {
+        match self.records.modify_with(handle, |old| *old = record) {
+            Ok(_) => 1,
+            Err(_) => 0,
+        }
+    }
+
+    /// The sum of the prices of the records along an index, or 0 where it has no order.
+    pub(crate) fn walk(&self, index: usize) -> u64 {
+        if !self.is_walked(index) {
+            return 0;
+        }
+        let mut met = 0u64;
+        for (_, record) in self.records.iter(index) {
+            met = met.wrapping_add(record.price);
+        }
+        met
+    }
+
+    /// That of the records from one key up to another, or 0 where the index is in no order of a key.
+    pub(crate) fn walk_range(&self, index: usize, low: (u64, u64), high: (u64, u64)) -> u64 {
+        if !self.is_sorted(index) {
+            return 0;
+        }
+        let (low, high) = (Bound::Included(&low), Bound::Excluded(&high));
+        let mut met = 0u64;
+        for (_, record) in self.records.iter_range(index, low, high) {
+            met = met.wrapping_add(record.price);
+        }
+        met
+    }
+
+    /// That of the records that have a key, or 0 where the index is in no order of a key.
+    pub(crate) fn walk_equal(&self, index: usize, key: (u64, u64)) -> u64 {
+        if !self.is_sorted(index) {
+            return 0;
+        }
+        let mut met = 0u64;
+        for (_, record) in self.records.iter_equal(index, &key) {
+            met = met.wrapping_add(record.price);
+        }
+        met
+    }
+
+    // Whether the records stand in an order along an index.
+    fn is_walked(&self, index: usize) -> bool
+        ensures within { IsTrue result → index < length self.now.specs }
+        ensures kind { IsTrue result → IsTrue (not (is_hashed_kind (kind_at self.now index))) }
+    {
+        index < self.specs.len() && !matches!(self.specs[index].kind, Kind::Hashed)
+    }
+
+    // Whether they stand in the order of a key.
+    fn is_sorted(&self, index: usize) -> bool
+        ensures within { IsTrue result → index < length self.now.specs }
+        ensures kind { IsTrue result → IsTrue (is_sorted_kind (kind_at self.now index)) }
+    {
+        index < self.specs.len() && matches!(self.specs[index].kind, Kind::Ordered | Kind::Ranked)
     }
 }

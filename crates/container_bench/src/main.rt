@@ -1,15 +1,22 @@
 //! Prints what the container and std's collections kept by hand answer to some finds, which is the same, the sizes of nodes
-//! and links, and sums of what the calls of the indices answer. With the words `times`, `times sequences`, `times keys`,
-//! `times growth`, `times indices` or `times short` it prints the nanoseconds that each call takes in their place: of the
-//! container and of the collections, with the bytes of a record; of the store, a sequence and a row; of the indices that have
-//! keys, beside std's maps; of the calls that must not take longer with every record that is there; of the calls that add and
-//! drop an index, beside insertions, with the bytes of a record by how many indices there may be; of the container's calls by
-//! a handle or a place, and on groups of equal keys.
+//! and links, and sums of what the calls of the indices answer. With the word `times`, and one of these behind it or none, it
+//! prints the nanoseconds that each call takes in their place:
+//!
+//! - `times`: of the container and of the collections, with the bytes of a record
+//! - `times sequences`: of the store, a sequence and a row
+//! - `times keys`: of the indices that have keys, beside std's maps
+//! - `times growth`: of the calls that must not take longer with every record that is there
+//! - `times indices`: of the calls that add and drop an index, beside insertions, with the bytes of a record by how many
+//!   indices there may be
+//! - `times short`: of the container's calls by a handle or a place, and on groups of equal keys
+//! - `times walks`: of the steps of walks
+//! - `times adapted`: of the same calls under keys by hand and under keys from plain functions
 //!
 //! A line has the call, the size, the least time of several rounds, and its growth since the size before. Where a line
 //! names several calls, the time is that of all; lines for the first ones alone stand beside it.
 #![tactic(auto)]
 
+mod adapted;
 mod answers;
 mod book;
 mod by_hand;
@@ -23,9 +30,11 @@ mod keyed;
 mod keys;
 mod measured;
 mod memory;
+mod plain_keys;
 mod record;
 mod sequences;
 mod short_times;
+mod steps;
 
 use bench_report::Report;
 use std::alloc::Global;
@@ -48,6 +57,8 @@ enum Part {
     Growth,
     Indices,
     Short,
+    Adapted,
+    Walks,
 }
 
 impl Part {
@@ -59,6 +70,8 @@ impl Part {
             Some("growth") => Part::Growth,
             Some("indices") => Part::Indices,
             Some("short") => Part::Short,
+            Some("adapted") => Part::Adapted,
+            Some("walks") => Part::Walks,
             _ => Part::Container,
         }
     }
@@ -66,7 +79,12 @@ impl Part {
     // The sizes at which it is.
     fn sizes(self) -> &'static [(u64, u64)] {
         match self {
-            Part::Container | Part::Keys | Part::Indices | Part::Short => &UP_TO_A_MILLION,
+            Part::Container
+            | Part::Keys
+            | Part::Indices
+            | Part::Short
+            | Part::Adapted
+            | Part::Walks => &UP_TO_A_MILLION,
             Part::Sequences => &UP_TO_100_000,
             Part::Growth => &GROWING,
         }
@@ -90,6 +108,8 @@ fn times<R: Runtime>(
         Part::Keys => keyed::times(rt, alloc, report, count),
         Part::Growth => growth::times(rt, alloc, report, count),
         Part::Indices => indexing::times(rt, alloc, report, count),
+        Part::Adapted => adapted::times(rt, alloc, report, count),
+        Part::Walks => steps::times(rt, alloc, report, count),
         Part::Short => {
             short_times::times(rt, alloc, report, count)?;
             group_times::times(rt, alloc, report, count)
@@ -118,7 +138,7 @@ fn print_bytes<R: Runtime>(rt: &R, alloc: Global, part: Part) -> io::Result<()> 
         Part::Container => memory::record_bytes(rt, alloc, 100_000),
         Part::Sequences => sequences::record_bytes(rt, alloc, 100_000),
         Part::Indices => memory::bytes_by_most(rt, alloc, 100_000),
-        Part::Keys | Part::Growth | Part::Short => Ok(()),
+        Part::Keys | Part::Growth | Part::Short | Part::Adapted | Part::Walks => Ok(()),
     }
 }
 
@@ -156,7 +176,9 @@ fn print_answers<R: Runtime>(rt: &R, alloc: Global) -> io::Result<()> {
     print_sum(rt, alloc, Part::Keys, "words")?;
     print_sum(rt, alloc, Part::Growth, "that grow")?;
     print_sum(rt, alloc, Part::Indices, "that are indexed anew")?;
-    print_sum(rt, alloc, Part::Short, "that are asked for")
+    print_sum(rt, alloc, Part::Short, "that are asked for")?;
+    print_sum(rt, alloc, Part::Walks, "that are walked")?;
+    adapted::print_sums(rt, alloc, 100)
 }
 
 fn main(rt: HostRuntime) -> io::Result<()> {

@@ -4,7 +4,7 @@ use crate::book::Book;
 use crate::container_times::insert_each;
 use crate::keys::Key;
 use crate::measured::{Measured, Span, time_calls};
-use crate::record::looked_for;
+use crate::record::{Record, looked_for, nth_record};
 use bench_report::Report;
 use container_model::Handle;
 use std::alloc::Global;
@@ -19,11 +19,16 @@ enum Call {
     Rank(usize),
     Next(usize),
     Count(usize, Key),
+    Lower(usize, Key),
+    Upper(usize, Key),
     MoveOn(usize),
+    Replace,
+    Reprice,
+    Rekey,
     Erase,
 }
 
-const CALLS: [(&str, Call, Span); 12] = [
+const CALLS: [(&str, Call, Span); 17] = [
     ("get", Call::Get, Span::All),
     ("nth: random access", Call::Nth(1), Span::All),
     ("place_of: random access", Call::Place(1), Span::All),
@@ -38,11 +43,16 @@ const CALLS: [(&str, Call, Span); 12] = [
         Call::Count(4, Key::Owner),
         Span::All,
     ),
+    ("lower: ordered, unique", Call::Lower(3, Key::Id), Span::All),
+    ("upper: ordered, unique", Call::Upper(3, Key::Id), Span::All),
     (
         "nth and a move one place on: random access",
         Call::MoveOn(1),
         Span::All,
     ),
+    ("replace by its equal: 7 indices", Call::Replace, Span::All),
+    ("modify of one key: 7 indices", Call::Reprice, Span::All),
+    ("modify of all keys: 7 indices", Call::Rekey, Span::All),
     ("erase: 7 indices", Call::Erase, Span::First(100)),
 ];
 
@@ -89,6 +99,11 @@ fn each(book: &mut Book, handles: &[Handle], call: Call, count: u64) -> u64 {
     met
 }
 
+// The record that a write put in, of so many.
+fn written(handle: Handle, count: u64) -> Record {
+    nth_record(handle.stamp.saturating_sub(1), count)
+}
+
 // What the call answers.
 fn made(book: &mut Book, call: Call, place: u64, handle: Handle, count: u64) -> u64 {
     match call {
@@ -98,7 +113,12 @@ fn made(book: &mut Book, call: Call, place: u64, handle: Handle, count: u64) -> 
         Call::Rank(index) => book.rank(index, handle),
         Call::Next(index) => book.next(index, handle),
         Call::Count(index, key) => book.count(index, key.numbers(&looked_for(place, count))),
+        Call::Lower(index, key) => book.lower(index, key.numbers(&looked_for(place, count))),
+        Call::Upper(index, key) => book.upper(index, key.numbers(&looked_for(place, count))),
         Call::MoveOn(index) => book.move_on(index, place),
+        Call::Replace => book.replace(handle, written(handle, count)),
+        Call::Reprice => book.reprice(handle, place),
+        Call::Rekey => book.rekey(handle, nth_record(count.saturating_add(place), count)),
         Call::Erase => book.erase(handle),
     }
 }
