@@ -5,7 +5,7 @@ use Rattle.command_lines.specs.declared.fault.CommandFault.{CommandFault}
 use Rattle.command_lines.specs.declared.fault.CommandFault.TheVariants as command_faults
 use Rattle.table_cmd.specs.declared.command.Command.{Command}
 use Rattle.table_engine.specs.Lines.{Unfinished}
-use Rattle.table_engine.specs.Stream.{RefusesLine, TellsLine}
+use Rattle.table_engine.specs.Stream.{RefusesLine}
 use Rattle.table_engine.specs.Whole.{TellsLines, as_line, lines_of}
 use Rattle.table_reply.specs.Answer.{answer_text, fault}
 use Rattle.table_reply.specs.declared.fault.Fault.{Fault}
@@ -35,10 +35,6 @@ MayHear shared pass means text pass' = ((text ≡ memory_line) × (pass' ≡ pas
 -- the same, of what the line means
 abbrev pub HearsText : SharedData → PassData → List ℕ → List ℕ → PassData → Type 0
 HearsText shared pass line text pass' = MayHear shared pass (meaning line) text pass'
-
--- what any line may be told
-abbrev pub HearsWhole : SharedData → PassData → Unfinished → List ℕ → PassData → Type 0
-HearsWhole shared = TellsLine (HearsText shared)
 
 -- the call of the command that a line means is refused
 abbrev pub RefusesMeaning : SharedData → PassData → Result Command CommandFault → CallFault → Type 0

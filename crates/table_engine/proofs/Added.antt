@@ -1,7 +1,7 @@
 -- Bytes that complete no line, taken at once.
-use Rattle.std.proofs.Common.{◌≡◌, ◌⊎◌, inl, inr, ℕ, ◌+◌, ◌<◌, ◌≤◌, leb, Bool, true, false, not, List, [], ◌∷◌, ◌++◌, length, refl, sym, ap, subst, ◌∙◌, append-nil, append_assoc, length-append, arith, if◌then◌else◌}
+use Rattle.std.proofs.Common.{◌≡◌, ◌⊎◌, inl, inr, ℕ, ◌+◌, ◌<◌, ◌≤◌, leb, Bool, true, false, List, [], ◌∷◌, ◌++◌, length, refl, sym, ap, subst, ◌∙◌, append-nil, append_assoc, length-append, arith, if◌then◌else◌}
 use Rattle.std.proofs.lemmas.Bool.Decides.{leb_tells}
-use Rattle.table_engine.specs.Lines.{Unfinished, short, long, added, has_answer, is_empty, is_blank}
+use Rattle.table_engine.specs.Lines.{Unfinished, short, long, added, is_empty, is_blank}
 use Rattle.table_engine.specs.Stream.{RefusesLine, TellsLine}
 use Rattle.table_engine.specs.Whole.{as_line}
 use Rattle.table_engine.proofs.Whole.{add-as_line}
@@ -65,10 +65,6 @@ begins long e = let bad : false ≡ true = e in cc
 pub whole_line : (before : Unfinished) (line : List ℕ) → is_empty before ≡ true → length line ≤ 65536 → added line before ≡ short line
 whole_line before line empty within = ap (added line) (begins before empty) ∙ added-short line [] (omega (arith, within))
 
-blank_by : {S : Type 0} (tells : S → List ℕ → List ℕ → S → Type 0) (old : S) (line : List ℕ) (b : Bool) → is_blank line ≡ b → not b ≡ false → TellsLine tells old (short line) [] old
-blank_by tells old line true e none = rw e (refl, refl)
-blank_by tells old line false e none = let bad : true ≡ false = none in cc
-
 pub tells_whole : {S : Type 0} (tells : S → List ℕ → List ℕ → S → Type 0) (old new : S) (before : Unfinished) (line text : List ℕ) → is_empty before ≡ true → length line ≤ 65536
     → is_blank line ≡ false → tells old line text new → TellsLine tells old (added line before) text new
 tells_whole tells old new before line text empty within none told =
@@ -83,8 +79,3 @@ pub refuses_whole : {S F : Type 0} (refuses : S → List ℕ → F → Type 0) (
     → is_blank line ≡ false → refuses old line why → RefusesLine refuses old (added line before) why
 refuses_whole refuses old before line why empty within none refused =
     subst (λ u. RefusesLine refuses old u why) (sym (whole_line before line empty within)) (none, refused)
-
--- a line that ends where it would have no answer
-pub no_answer : {S : Type 0} (tells : S → List ℕ → List ℕ → S → Type 0) (old : S) (line : Unfinished) → has_answer line ≡ false → TellsLine tells old line [] old
-no_answer tells old (short line) none = blank_by tells old line (is_blank line) refl none
-no_answer tells old long none = let bad : true ≡ false = none in cc

@@ -43,12 +43,6 @@ one_end n size count none some =
 pub passes_nothing : (known : Option (List ℕ)) (waits : List ℕ) → Passes known known waits [] waits
 passes_nothing known waits = ([], Appends-nil known, sym (append-nil waits))
 
--- a part of what waited is written, and more is told
-pub passes_after : (old new : Option (List ℕ)) (waits left told waits' text : List ℕ) → Appends old new text → text ++ left ≡ waits → waits' ≡ left ++ told
-    → Passes old new waits told waits'
-passes_after old new waits left told waits' text written split e =
-    (text, written, ap (λ t. text ++ t) e ∙ sym (append_assoc text left told) ∙ ap (λ t. t ++ told) split)
-
 -- the same, one part after another
 pub passes_then : (a b c : Option (List ℕ)) (told more w x : List ℕ) → Passes a b [] told w → Passes b c w more x → Passes a c [] (told ++ more) x
 passes_then a b c told more w x first then = (
