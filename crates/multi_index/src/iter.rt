@@ -42,6 +42,7 @@ impl<'a, R: Drop, E: Extract<R> + Drop> Iterator for Iter<'a, R, E> {
 
     ghost remaining = { item_count (λ rest. rest) };
 
+    #[inline(always)]
     fn next(&mut self) -> Option<(Handle, &'a R)> {
         let Some(node) = self.next else {
             return None;
@@ -61,6 +62,7 @@ impl<'a, R: Drop, E: Extract<R> + Drop> Iterator for Iter<'a, R, E> {
 }
 
 // Whether the two nodes have one number.
+#[inline(always)]
 fn has_number_of(end: Option<Node>, node: Node) -> bool
     ensures { result ≡ is_numbered end node }
 {
