@@ -1,0 +1,120 @@
+//! The program's words as `clap` knows them.
+ghost use Rattle.std.specs.Prelude.{◌≡◌, ◌≢◌, ◌∷◌, [], IfOk, Some, codes, false, pos};
+ghost use Rattle.clap.specs.Words.{app_of, kind_of, rule_of};
+ghost use Rattle.clap.specs.declared.builder.value_parser.ValueParser.TheVariants.{Signed};
+ghost use Rattle.clap.specs.declared.error.kind.ErrorKind.TheVariants.{OutOfMemory};
+ghost use Rattle.program_words.specs.Asked.{SaysWords};
+ghost use Rattle.program_words.specs.Program.{option_named, required_named};
+ghost use Rattle.keeper_words.specs.Keeper.{ShowsTexts, default_named, keeper, number_named};
+
+use crate::help::{EXAMPLES, USAGE, VERSION};
+use clap::error::ErrorKind;
+use clap::{Arg, Command, Error, value_parser};
+use program_words::WordsFault;
+use std::alloc::{AllocError, Global};
+
+/// The program's words, which begin behind its name.
+pub(crate) fn command<'a>(alloc: Global) -> Result<Command<'a>, AllocError>
+    ensures words { IfOk result (λ c. app_of c ≡ keeper) }
+    ensures texts { IfOk result (λ c. ShowsTexts (app_of c)) }
+{
+    Command::new(alloc, "table_keeper")
+        .bin_name("table_keeper")?
+        .about("Keep tables in a folder, and answer commands on them as lines of JSON")
+        .version(VERSION)
+        .override_usage(USAGE)
+        .after_help(EXAMPLES)
+        .no_binary_name(true)
+        .arg(required(alloc, "schema", "FILE", "Schema file of the tables"))?
+        .arg(required(
+            alloc,
+            "listen",
+            "ADDRESS",
+            "Where to listen: unix:PATH or tcp:IP:PORT",
+        ))?
+        .arg(required(
+            alloc,
+            "data",
+            "FOLDER",
+            "Folder of the logs, made where it is absent",
+        ))?
+        .arg(workers(alloc))?
+        .arg(sync(alloc))?
+        .arg(idle(alloc))
+}
+
+/// The option of the number of threads.
+fn workers<'a>(alloc: Global) -> Arg<'a>
+    ensures rule { rule_of result ≡ number_named (codes "workers") (codes "16") 1 256 }
+    ensures local { result.global ≡ false }
+{
+    option(
+        alloc,
+        "workers",
+        "NUMBER",
+        "Connections that are served at a time, from 1 to 256",
+    )
+    .value_parser(value_parser!(u32).range(1..=256))
+    .default_value("16")
+}
+
+/// The option of when logs are synced.
+fn sync<'a>(alloc: Global) -> Arg<'a>
+    ensures rule { rule_of result ≡ default_named (codes "sync") (codes "each") }
+    ensures local { result.global ≡ false }
+{
+    option(
+        alloc,
+        "sync",
+        "WHEN",
+        "When the logs are synced: each (before answers leave), second (once a second) or never",
+    )
+    .default_value("each")
+}
+
+/// The option of the time after which silent connections are closed.
+fn idle<'a>(alloc: Global) -> Arg<'a>
+    ensures rule { rule_of result ≡ number_named (codes "idle") (codes "0") 0 1000000 }
+    ensures local { result.global ≡ false }
+{
+    option(
+        alloc,
+        "idle",
+        "SECONDS",
+        "After how many silent seconds a connection is closed, up to 1000000; 0 for never",
+    )
+    .value_parser(value_parser!(u32).range(0..=1_000_000))
+    .default_value("0")
+}
+
+/// An option with one value, which has to be there.
+fn required<'a>(alloc: Global, name: &'a str, value: &'a str, help: &'a str) -> Arg<'a>
+    ensures rule { rule_of result ≡ required_named name.entry.now }
+    ensures local { result.global ≡ false }
+{
+    option(alloc, name, value, help).required(true)
+}
+
+/// An option with one value.
+fn option<'a>(alloc: Global, name: &'a str, value: &'a str, help: &'a str) -> Arg<'a>
+    ensures rule { rule_of result ≡ option_named name.entry.now }
+    ensures local { result.global ≡ false }
+{
+    Arg::new(alloc, name)
+        .long(name)
+        .value_name(value)
+        .help(help)
+}
+
+/// The fault that stands for an error of `clap`.
+pub(crate) fn fault_of(alloc: Global, error: &Error) -> WordsFault
+    ensures { SaysWords (kind_of error.now ≢ OutOfMemory) result }
+{
+    if error.kind() == ErrorKind::OutOfMemory {
+        return WordsFault::Memory;
+    }
+    match format!(in alloc; "{error}") {
+        Ok(text) => WordsFault::Words(text),
+        Err(_) => WordsFault::Memory,
+    }
+}

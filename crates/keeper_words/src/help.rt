@@ -1,0 +1,19 @@
+//! The texts that `--help` and `--version` show beside the names of the words.
+
+/// The version of the program.
+pub(crate) const VERSION: &str = "0.1.0";
+
+/// How the program is called.
+pub(crate) const USAGE: &str = "\
+table_keeper --schema FILE --listen unix:PATH|tcp:IP:PORT --data FOLDER [--workers 1..256]
+                    [--sync each|second|never] [--idle SECONDS]";
+
+/// What stands at the end of the program's help.
+pub(crate) const EXAMPLES: &str = "\
+Examples:
+  Serve the tables of a schema, and keep them in the folder 'data':
+    table_keeper --schema tables.toml --listen unix:tables.socket --data data
+  Serve up to 64 connections at a time, sync once a second, and close connections that are silent for 10 minutes:
+    table_keeper --schema tables.toml --listen tcp:127.0.0.1:7000 --data data --workers 64 --sync second --idle 600
+
+It serves until it is ended by a signal. Every signal will do. The same words start it again with what was answered.";

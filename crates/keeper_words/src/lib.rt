@@ -1,0 +1,10 @@
+//! What the words of the program that keeps its tables ask for.
+#![tactic(auto)]
+
+mod asked;
+mod command;
+mod help;
+mod read;
+
+pub use asked::{Keeping, When};
+pub use read::read_words;
