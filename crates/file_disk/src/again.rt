@@ -1,7 +1,8 @@
 //! Calls of a file that are made again where a signal interrupts them.
 
-ghost use Rattle.std.specs.Prelude.{◌≡◌, IfOk, length};
+ghost use Rattle.std.specs.Prelude.{◌≡◌, ◌≢◌, IfErr, IfOk, length};
 ghost use Rattle.std.specs.Io.{ReadsAtMost, WritesAtMost};
+ghost use Rattle.std.specs.IoError.{error_kind};
 ghost use Rattle.file_disk.specs.File.{ReadsFrom, written};
 
 use crate::file::LogFile;
@@ -15,6 +16,7 @@ pub(crate) fn read<F: LogFile>(file: &mut F, at: u64, piece: &mut [u8]) -> io::R
     ensures room { length piece.new ≡ length piece.old }
     ensures bytes { IfOk result (λ count. ReadsFrom (F.contents file.old) at piece.new count) }
     ensures kept { F.contents file.new ≡ F.contents file.old }
+    ensures again { IfErr result (λ error. error_kind error ≢ ErrorKind.Interrupted) }
 {
     for _ in 0..MOST_TRIES {
         match file.read_from(at, piece) {
@@ -29,6 +31,7 @@ pub(crate) fn read<F: LogFile>(file: &mut F, at: u64, piece: &mut [u8]) -> io::R
 pub(crate) fn write<F: LogFile>(file: &mut F, bytes: &[u8]) -> io::Result<usize>
     ensures bound { WritesAtMost result bytes.now }
     ensures bytes { F.contents file.new ≡ written result bytes.now (F.contents file.old) }
+    ensures again { IfErr result (λ error. error_kind error ≢ ErrorKind.Interrupted) }
 {
     for _ in 0..MOST_TRIES {
         match file.write_behind(bytes) {
