@@ -22,7 +22,8 @@ const INDICES: &[Index] = &[
 ];
 
 impl Fields for Bid {
-    ghost use Rattle.indexed.specs.Declaration.{◌∷◌, [], ordered, unique_hashed, unsigned};
+    ghost use Rattle.std.specs.Prelude.{◌∷◌, []};
+    ghost use Rattle.indexed.specs.Declaration.{ordered, unique_hashed, unsigned};
 
     ghost row_of = { λ bid. unsigned bid.number ∷ unsigned bid.price ∷ [] };
 

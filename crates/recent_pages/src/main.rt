@@ -18,7 +18,8 @@ const BY_NUMBER: usize = 1;
 const INDICES: &[Index] = &[Index(SEQUENCED, &[]), Index(UNIQUE_HASHED, &[Rising(0)])];
 
 impl Fields for Page {
-    ghost use Rattle.indexed.specs.Declaration.{◌∷◌, [], sequenced, unique_hashed, unsigned};
+    ghost use Rattle.std.specs.Prelude.{◌∷◌, []};
+    ghost use Rattle.indexed.specs.Declaration.{sequenced, unique_hashed, unsigned};
 
     ghost row_of = { λ page. unsigned page.number ∷ [] };
 

@@ -22,7 +22,8 @@ const INDICES: &[Index] = &[
 ];
 
 impl Fields for Session {
-    ghost use Rattle.indexed.specs.Declaration.{◌∷◌, [], ranked, unique_hashed, unsigned};
+    ghost use Rattle.std.specs.Prelude.{◌∷◌, []};
+    ghost use Rattle.indexed.specs.Declaration.{ranked, unique_hashed, unsigned};
 
     ghost row_of = { λ session. unsigned session.number ∷ unsigned session.end ∷ [] };
 
@@ -33,7 +34,6 @@ impl Fields for Session {
     }
 }
 
-// A session that was heard of lives until this time.
 fn hear(live: &mut Indexed<Session>, number: u64, end: u64) -> bool {
     match live.index(BY_NUMBER).find(&Search::unsigned(number)) {
         Some(heard) => live.modify_with(heard, |session| session.end = end).is_ok(),

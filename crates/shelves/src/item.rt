@@ -20,7 +20,8 @@ pub const INDICES: &[Index] = &[
 ];
 
 impl Fields for Item {
-    ghost use Rattle.indexed.specs.Declaration.{◌∷◌, [], ordered, ranked, unique_hashed, unsigned};
+    ghost use Rattle.std.specs.Prelude.{◌∷◌, []};
+    ghost use Rattle.indexed.specs.Declaration.{ordered, ranked, unique_hashed, unsigned};
 
     ghost row_of = { λ item. unsigned item.sku ∷ unsigned item.shelf ∷ unsigned item.due ∷ [] };
 

@@ -20,7 +20,8 @@ const INDICES: &[Index] = &[
 ];
 
 impl Fields for Word {
-    ghost use Rattle.indexed.specs.Declaration.{◌∷◌, [], text, unique_hashed};
+    ghost use Rattle.std.specs.Prelude.{◌∷◌, []};
+    ghost use Rattle.indexed.specs.Declaration.{text, unique_hashed};
 
     ghost row_of = { λ word. text word.english.now ∷ text word.spanish.now ∷ [] };
 
