@@ -2,6 +2,7 @@
 import contextlib
 import os
 import select
+import shutil
 import socket
 import stat
 import subprocess
@@ -86,16 +87,19 @@ class Ending:
     """The running server, with one connection, or so many for each of its workers."""
 
     def __init__(self, room, words=(), *, listen=None, workers=1, each=1, program=(SERVER,), environment=None, **how):
+        if os.path.exists(listen or f"{room}/socket") and stat.S_ISSOCK(os.stat(listen or f"{room}/socket").st_mode):
+            os.remove(listen or f"{room}/socket")
+        self.start(room, listen, [*program, "serve"], ["--workers", str(workers), "--each", str(each), *words], environment, how)
+
+    def start(self, room, listen, program, words, environment, how):
+        """Starts the program with a schema, an address and these words."""
         self.room, self.address = room, listen or f"{room}/socket"
-        if os.path.exists(self.address) and stat.S_ISSOCK(os.stat(self.address).st_mode):
-            os.remove(self.address)
         if not os.path.exists(f"{room}/schema"):
             with open(f"{room}/schema", "w", encoding="utf-8") as file:
                 file.write(SCHEMA)
         how = {"stdout": subprocess.PIPE, "stderr": subprocess.PIPE, "stdin": subprocess.DEVNULL, **how}
-        serve = ["serve", "--schema", f"{room}/schema", "--listen", f"unix:{self.address}" if self.address.startswith("/") else self.address]
-        serve += ["--workers", str(workers), "--each", str(each), *words]
-        self.process = subprocess.Popen([*program, *serve], env={**os.environ, **(environment or {})}, **how)
+        place = ["--schema", f"{room}/schema", "--listen", f"unix:{self.address}" if self.address.startswith("/") else self.address]
+        self.process = subprocess.Popen([*program, *place, *words], env={**os.environ, **(environment or {})}, **how)
 
     def __enter__(self):
         return self
@@ -138,6 +142,27 @@ class Ending:
         except subprocess.TimeoutExpired as why:
             raise Wrong("the server does not end") from why
         wants("status, text and output", (self.process.returncode, complained, printed), (status, said, out))
+
+
+class Mounted:
+    """A folder that is mounted for the programs that this starts, and for no others."""
+
+    def __init__(self, folder, command):
+        self.is_there, self.holder = False, None
+        if not all(map(shutil.which, ("unshare", "nsenter"))):
+            return
+        words = ["unshare", "-rm", "sh", "-c", f"{command} && echo mounted && exec cat", folder]
+        self.holder = subprocess.Popen(words, stdin=subprocess.PIPE, stdout=subprocess.PIPE, stderr=subprocess.PIPE)
+        self.is_there = self.holder.stdout.readline() == b"mounted\n"
+        self.folder = f"/proc/{self.holder.pid}/root{folder}"
+        self.entered = ["nsenter", "-U", "--preserve-credentials", "-m", "-t", str(self.holder.pid)]
+
+    def __enter__(self):
+        return self
+
+    def __exit__(self, *_):
+        if self.holder:
+            self.holder.communicate()
 
 
 def ask(connection, lines, pieces=200):

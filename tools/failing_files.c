@@ -1,6 +1,6 @@
 /* A disk that fails: preloaded. ROOM_LEFT=N: once N bytes are written to regular files, writes of them are refused as on a full disk.
-   FAILING=sync, or FAILING=rename: those calls fail. CALLS_FILE names a file that gets a line for each sync and rename, and one for
-   each run of writes of regular files. */
+   FAILING=sync, or FAILING=rename: those calls fail, but for the first CALLS_BEFORE. CALLS_FILE names a file that gets a line for each sync and
+   rename, and one for each run of writes of regular files; with TELL_ANSWERS also one for each piece that is sent by a socket. */
 #define _GNU_SOURCE
 #include <dlfcn.h>
 #include <errno.h>
@@ -8,19 +8,21 @@
 #include <stdio.h>
 #include <stdlib.h>
 #include <string.h>
+#include <sys/socket.h>
 #include <sys/stat.h>
 #include <unistd.h>
 
 static int log_file = -1, is_writing;
-static long room_left = -1;
+static long room_left = -1, calls_before;
 static const char *failing = "";
 
 __attribute__((constructor)) static void begin(void)
 {
-    char *name = getenv("CALLS_FILE"), *room = getenv("ROOM_LEFT"), *fails = getenv("FAILING");
+    char *name = getenv("CALLS_FILE"), *room = getenv("ROOM_LEFT"), *fails = getenv("FAILING"), *before = getenv("CALLS_BEFORE");
     log_file = name ? open(name, O_CREAT | O_WRONLY | O_APPEND | O_CLOEXEC, 0600) : -1;
     room_left = room ? atol(room) : -1;
     failing = fails ? fails : "";
+    calls_before = before ? atol(before) : 0;
 }
 
 static void tell(const char *call)
@@ -34,7 +36,7 @@ static int fails(const char *call)
     is_writing = 0;
     tell(call);
     errno = EIO;
-    return strcmp(failing, call) == 0;
+    return strcmp(failing, call) == 0 && calls_before-- <= 0;
 }
 
 static int is_regular(int file)
@@ -64,6 +66,18 @@ ssize_t write(int file, const void *bytes, size_t count)
     if (room_left > 0 && written > 0)
         room_left -= written;
     return written;
+}
+
+ssize_t send(int file, const void *bytes, size_t count, int flags)
+{
+    static ssize_t (*real)(int, const void *, size_t, int);
+    if (!real)
+        real = dlsym(RTLD_NEXT, "send");
+    if (getenv("TELL_ANSWERS")) {
+        is_writing = 0;
+        tell("answer");
+    }
+    return real(file, bytes, count, flags);
 }
 
 int fsync(int file)

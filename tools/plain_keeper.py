@@ -1,0 +1,314 @@
+#!/usr/bin/env python3
+"""The program table_keeper in Python over the plain machine, as it is to be or with one fault.
+
+plain_keeper.py FAULT WORDS ..    FAULT is one of FAULTS, or `none`; the words are those of table_keeper
+"""
+import argparse
+import contextlib
+import fcntl
+import os
+import socket
+import sys
+import threading
+import time
+import tomllib
+
+from command_texts import command_text
+from plain_machine import MEMORY, Fault, Machine, read
+
+FAULTS = """
+starts empty, a torn line is carried out, a torn line stays, a torn line is not told, a whole line goes with a torn one, zeros are a line, a bad line is passed over,
+lines are counted from 0, the wrong file is told, a log is cut before all are read, two keepers at once, any schema will do, an old socket keeps it out,
+appends what was sent, appends reads, appends refused writes, answers before it appends, answers before it syncs, answers while another syncs,
+never syncs, goes on after a failed append, tells no file, ends with status 0, nobody is idle, busy ones are idle, half a line is carried out,
+a connection too many is closed, a worker ends with its connection, a failed accept ends a worker, appends without its lock, keeps each write,
+a refused start empties a log, a refused line is carried out, a refused line has no answer, a refused connection ends a worker
+"""
+
+
+class Stop(Exception):
+    """The end of the program: its status and its text."""
+
+
+def has_fault(name):
+    return sys.argv[1] == name
+
+
+def stop(status, text):
+    """Ends the program from any thread."""
+    os.write(2, text.encode())
+    os._exit(status)
+
+
+def append(file, text):
+    while text:
+        text = text[os.write(file, text) :]
+
+
+class Memory:
+    """Memory that is refused as refusing_malloc.c refuses it: here each start, each connection and each line asks for some once."""
+
+    def __init__(self):
+        self.refuse_at, self.refuses_on = int(os.environ.get("REFUSE_AT", 0)), "REFUSE_ON" in os.environ
+        self.count, self.lock = 0, threading.Lock()
+
+    def is_armed(self):
+        if "ARMED_FILE" not in os.environ:
+            return True
+        with open(os.environ["ARMED_FILE"], "rb") as file:
+            return file.read(1) != b"\0"
+
+    def is_refused(self):
+        if not self.refuse_at or not self.is_armed():
+            return False
+        with self.lock:
+            self.count += 1
+            if self.count == self.refuse_at:
+                open(os.environ["REFUSED_FILE"], "wb").close()
+            return self.count == self.refuse_at or self.refuses_on and self.count > self.refuse_at
+
+
+class Log:
+    """A table and the log of its accepted writes."""
+
+    def __init__(self, folder, table):
+        self.name, self.table, self.lock, self.torn, self.kept = table.name, table, threading.Lock(), b"", []
+        self.path = f"{folder}/{'x' if has_fault('the wrong file is told') else self.name}.jsonl"
+        try:
+            self.file = os.open(f"{folder}/{self.name}.jsonl", os.O_RDWR | os.O_CREAT | os.O_APPEND, 0o644)
+        except OSError:
+            raise Stop(1, f"device: file: {self.path}\n") from None
+        self.is_synced = True
+
+    def load(self, machine):
+        """Carries out the whole lines; what stands behind them is torn."""
+        text = b"" if has_fault("starts empty") else os.pread(self.file, os.fstat(self.file).st_size, 0)
+        *lines, self.torn = text.split(b"\n")
+        if has_fault("a torn line is carried out") and self.torn or has_fault("zeros are a line") and self.torn.startswith(b"\0"):
+            lines, self.torn = [*lines, self.torn], b""
+        if has_fault("a whole line goes with a torn one") and self.torn and lines:
+            self.torn = lines.pop() + b"\n" + self.torn
+        for number, line in enumerate(lines, 0 if has_fault("lines are counted from 0") else 1):
+            change = machine.answer(line)[1]
+            if change and read(line)["t"] == self.name:
+                machine.keep(change)
+            elif not has_fault("a bad line is passed over"):
+                raise Stop(6, f"line: {self.path}: {number}\n")
+        if has_fault("a log is cut before all are read"):
+            self.cut()
+
+    def cut(self):
+        """Cuts off what is torn, and tells it."""
+        if not self.torn:
+            return
+        if not has_fault("a torn line stays"):
+            os.ftruncate(self.file, os.fstat(self.file).st_size - len(self.torn))
+        if not has_fault("a torn line is not told"):
+            os.write(2, f"torn: {self.path}: {len(self.torn)} bytes were cut off\n".encode())
+        self.torn = b""
+
+    def keep(self, line, change):
+        """Carries out a write, once its line is in the log."""
+        text = line if has_fault("appends what was sent") else command_text(read(line)).encode()
+        if has_fault("keeps each write"):
+            self.kept.append(text)
+        try:
+            if has_fault("answers before it appends"):
+                threading.Timer(0.02, append, (self.file, text + b"\n")).start()
+            elif has_fault("appends without its lock"):
+                threading.Timer(0.002 * (len(text) % 3), append, (self.file, text + b"\n")).start()
+            else:
+                append(self.file, text + b"\n")
+        except OSError:
+            self.fail()
+        self.is_synced = False
+        change()
+
+    def sync(self):
+        """Syncs what was appended, or waits for who does."""
+        with contextlib.nullcontext() if has_fault("answers while another syncs") else self.lock:
+            if self.is_synced or has_fault("never syncs"):
+                return
+            self.is_synced = True
+            try:
+                os.fdatasync(self.file)
+            except OSError:
+                self.fail()
+
+    def fail(self):
+        if not has_fault("goes on after a failed append"):
+            stop(0 if has_fault("ends with status 0") else 5, "log\n" if has_fault("tells no file") else f"log: {self.path}\n")
+
+
+class Keeper:
+    """The tables of a schema with their logs."""
+
+    def __init__(self, given):
+        self.given, self.folder, self.memory = given, given.data, Memory()
+        try:
+            with open(given.schema, encoding="utf-8") as file:
+                schema = file.read()
+        except OSError:
+            raise Stop(1, f"device: file: {given.schema}\n") from None
+        self.machine = Machine(schema)
+        self.hold(schema)
+        self.logs = {name: Log(self.folder, table) for name, table in self.machine.tables.items()}
+        for log in self.logs.values():
+            log.load(self.machine)
+        if self.memory.is_refused():
+            if has_fault("a refused start empties a log"):
+                os.ftruncate(log.file, 0)
+            raise Stop(1, "memory\n")
+        for log in self.logs.values():
+            log.cut()
+
+    def hold(self, schema):
+        """Takes the folder, and compares the declaration beside the logs."""
+        try:
+            if not os.path.isdir(self.folder):
+                os.mkdir(self.folder)
+            self.lock = open(f"{self.folder}/lock", "w", encoding="utf-8")
+            fcntl.flock(self.lock, fcntl.LOCK_EX | fcntl.LOCK_NB)
+        except BlockingIOError:
+            if not has_fault("two keepers at once"):
+                raise Stop(7, f"taken: {self.folder}\n") from None
+        except OSError:
+            raise Stop(1, f"device: file: {self.folder}\n") from None
+        beside = f"{self.folder}/{next(iter(self.machine.tables))}.schema"
+        if not os.path.exists(beside):
+            with open(beside, "w", encoding="utf-8") as file:
+                file.write(schema)
+        with open(beside, encoding="utf-8") as file:
+            if tomllib.loads(file.read()) != tomllib.loads(schema) and not has_fault("any schema will do"):
+                raise Stop(3, f"schema: other: {beside}\n")
+
+    def answer(self, line):
+        """The answer to a line, behind what it leaves in its table and its log."""
+        is_refused = self.memory.is_refused()
+        if is_refused and not has_fault("a refused line is carried out"):
+            return b"" if has_fault("a refused line has no answer") else MEMORY
+        try:
+            log = self.logs[read(line)["t"]]
+        except (Fault, KeyError):
+            return self.machine.answer(line)[0]
+        with log.lock:
+            answer, change = self.machine.answer(line)
+            if has_fault("appends reads") and b'"size"' in line or has_fault("appends refused writes") and b'"banned"' in answer:
+                log.keep(line, lambda: None)
+            if change:
+                log.keep(line, change)
+        return MEMORY if is_refused else answer
+
+    def settle(self):
+        """Syncs what was appended, as it is asked for."""
+        if has_fault("answers while another syncs"):
+            time.sleep(0.002)
+        if self.given.sync == "each" and not has_fault("answers before it syncs"):
+            for log in self.logs.values():
+                log.sync()
+
+    def receive(self, connection, rest):
+        try:
+            return connection.recv(4096)
+        except TimeoutError:
+            if has_fault("half a line is carried out"):
+                self.answer(rest)
+            return None
+
+    def serve(self, connection):
+        rest = b""
+        connection.settimeout(None if has_fault("nobody is idle") else self.given.idle or None)
+        begun = time.monotonic()
+        while piece := self.receive(connection, rest):
+            *lines, rest = (rest + piece).split(b"\n")
+            answers = [self.answer(it) + b"\n" for it in lines if it.strip()]
+            self.settle()
+            connection.sendall(b"".join(answers))
+            if has_fault("busy ones are idle") and self.given.idle and time.monotonic() - begun > self.given.idle:
+                return
+        if piece is not None and rest.strip():
+            connection.sendall(self.answer(rest) + b"\n")
+
+    def work(self, listener):
+        """Serves connections, one after the other."""
+        while True:
+            try:
+                connection, _ = listener.accept()
+            except OSError:
+                if has_fault("a failed accept ends a worker"):
+                    return
+                time.sleep(0.01)
+                continue
+            with contextlib.suppress(OSError), connection:
+                is_refused = self.memory.is_refused()
+                if not is_refused:
+                    self.serve(connection)
+            if has_fault("a worker ends with its connection") or is_refused and has_fault("a refused connection ends a worker"):
+                return
+
+    def sync_each_second(self):
+        while True:
+            time.sleep(0.1 if has_fault("answers before it syncs") else 1)
+            for log in self.logs.values():
+                log.sync()
+
+
+def listening(address):
+    """The listener at an address. A socket file that nobody listens at is taken away."""
+    kind, _, place = address.partition(":")
+    if kind == "tcp":
+        host, _, port = place.rpartition(":")
+        return socket.create_server((host, int(port)))
+    listener = socket.socket(socket.AF_UNIX)
+    if os.path.exists(place) and not has_fault("an old socket keeps it out"):
+        with socket.socket(socket.AF_UNIX) as other:
+            if other.connect_ex(place):
+                os.remove(place)
+    try:
+        listener.bind(place)
+    except OSError:
+        raise Stop(1, "device: listen\n") from None
+    listener.listen(128)
+    return listener
+
+
+def between(low, high):
+    def number(text):
+        if not low <= int(text) <= high:
+            raise argparse.ArgumentTypeError(f"{text} is not from {low} to {high}")
+        return int(text)
+
+    return number
+
+
+def words():
+    reader = argparse.ArgumentParser()
+    for name in ("--schema", "--listen", "--data"):
+        reader.add_argument(name, required=True)
+    reader.add_argument("--workers", type=between(1, 256), default=16)
+    reader.add_argument("--sync", choices=("each", "second", "never"), default="each")
+    reader.add_argument("--idle", type=between(0, 10**6), default=0)
+    return reader.parse_args(sys.argv[2:])
+
+
+def main():
+    given = words()
+    if not given.listen.startswith(("unix:/", "tcp:127.")):
+        stop(2, "listen\n")
+    try:
+        keeper = Keeper(given)
+        listener = listening(given.listen)
+    except Stop as why:
+        stop(*why.args)
+    print("listening", flush=True)
+    if has_fault("a connection too many is closed"):
+        threading.Thread(target=lambda: [it[0].close() for it in iter(listener.accept, None)]).start()
+    threads = [threading.Thread(target=keeper.work, args=(listener,)) for _ in range(given.workers)]
+    if given.sync == "second" or has_fault("answers before it syncs"):
+        threads.append(threading.Thread(target=keeper.sync_each_second, daemon=True))
+    for it in threads:
+        it.start()
+
+
+if __name__ == "__main__":
+    main()
