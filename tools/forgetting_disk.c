@@ -1,4 +1,4 @@
-/* A disk that forgets at a power cut what was not synced: preloaded. What is written to regular files is held back until they are synced, and a front of
+/* A disk that forgets at a power cut what was not synced: preloaded. What is written to regular files is held back until they are synced or closed, and a front of
    it, of a drawn length, now and then goes to the disk before. Killing the program is the power cut. A new file is on the disk once its folder is
    synced: until then FORGOTTEN_FILE has its path, a line for each, for whoever kills the program to take away. SEED=N begins the draws. */
 #define _GNU_SOURCE
@@ -15,7 +15,8 @@
 #define FILES 64
 #define MOST (1 << 20)
 
-static struct { char *bytes; size_t count; } held[FILES];
+/* What is held back of a file, and how much was not. */
+static struct { char *bytes; size_t count, done; } held[FILES];
 static pthread_mutex_t lock = PTHREAD_MUTEX_INITIALIZER;
 static unsigned seed;
 static ssize_t (*real_write)(int, const void *, size_t);
@@ -47,6 +48,7 @@ static int put(int file, size_t count)
     }
     memmove(held[file].bytes, held[file].bytes + count, held[file].count - count);
     held[file].count -= count;
+    held[file].done += count;
     return 0;
 }
 
@@ -62,20 +64,24 @@ ssize_t write(int file, const void *bytes, size_t count)
     count = count < MOST ? count : MOST;
     memcpy(held[file].bytes + held[file].count, bytes, count);
     held[file].count += count;
-    if (rand_r(&seed) % 2 == 0)
+    if (rand_r(&seed) % 8 == 0)
         put(file, rand_r(&seed) % (held[file].count + 1));
     pthread_mutex_unlock(&lock);
     return count;
 }
 
-/* A sync takes a while, and what it makes sure of may be on the disk at its end alone. */
+/* A sync takes a while, and makes sure of what was written before it began. */
 static int settle(int file)
 {
+    size_t end;
     int done = 0;
+    pthread_mutex_lock(&lock);
+    end = file < FILES ? held[file].done + held[file].count : 0;
+    pthread_mutex_unlock(&lock);
     usleep(5000);
     pthread_mutex_lock(&lock);
-    if (file < FILES && held[file].count)
-        done = put(file, held[file].count);
+    if (file < FILES && held[file].done < end)
+        done = put(file, end - held[file].done);
     if (is_a(file, S_IFDIR) && getenv("FORGOTTEN_FILE"))
         close(real_open(getenv("FORGOTTEN_FILE"), O_WRONLY | O_CREAT | O_TRUNC, 0600));
     pthread_mutex_unlock(&lock);
@@ -103,8 +109,10 @@ int close(int file)
     static int (*real)(int);
     if (!real)
         real = dlsym(RTLD_NEXT, "close");
-    if (file >= 0 && file < FILES)
-        held[file].count = 0;
+    if (file >= 0 && file < FILES) {
+        put(file, held[file].count);
+        held[file].done = 0;
+    }
     return real(file);
 }
 

@@ -20,7 +20,7 @@ FAULTS = """
 starts empty, a torn line is carried out, a torn line stays, a torn line is not told, a whole line goes with a torn one, zeros are a line, a bad line is passed over,
 lines are counted from 0, the wrong file is told, a log is cut before all are read, two keepers at once, any schema will do, an old socket keeps it out,
 appends what was sent, appends reads, appends refused writes, answers before it appends, answers before it syncs, answers while another syncs,
-never syncs, goes on after a failed append, tells no file, ends with status 0, nobody is idle, busy ones are idle, half a line is carried out,
+never syncs, its folder is never synced, goes on after a failed append, tells no file, ends with status 0, nobody is idle, busy ones are idle, half a line is carried out,
 a connection too many is closed, a worker ends with its connection, a failed accept ends a worker, appends without its lock, keeps each write,
 a refused start empties a log, a refused line is carried out, a refused line has no answer, a refused connection ends a worker
 """
@@ -126,7 +126,9 @@ class Log:
 
     def sync(self):
         """Syncs what was appended, or waits for who does."""
-        with contextlib.nullcontext() if has_fault("answers while another syncs") else self.lock:
+        if has_fault("answers while another syncs") and self.lock.locked():
+            return
+        with self.lock:
             if self.is_synced or has_fault("never syncs"):
                 return
             self.is_synced = True
@@ -161,6 +163,10 @@ class Keeper:
             raise Stop(1, "memory\n")
         for log in self.logs.values():
             log.cut()
+        folder = os.open(self.folder, os.O_RDONLY)
+        if not has_fault("its folder is never synced"):
+            os.fsync(folder)
+        os.close(folder)
 
     def hold(self, schema):
         """Takes the folder, and compares the declaration beside the logs."""
@@ -202,7 +208,7 @@ class Keeper:
     def settle(self):
         """Syncs what was appended, as it is asked for."""
         if has_fault("answers while another syncs"):
-            time.sleep(0.002)
+            time.sleep(0.001)
         if self.given.sync == "each" and not has_fault("answers before it syncs"):
             for log in self.logs.values():
                 log.sync()
