@@ -11,6 +11,7 @@ from built_program import TOP, built_program
 from command_texts import command_text
 from endings import SCHEMA, SECONDS, Ending, ask, look, wants
 from histories import Wrong, views
+from plain_keeper import FAULTS
 from plain_machine import Machine, read
 
 # A tool's word that is no number names the program that it tries.
@@ -29,6 +30,8 @@ def found_program():
 
 def plain_keeper(fault="none"):
     """How the plain keeper is started, with a fault or none."""
+    if fault not in FAULTS:
+        sys.exit(f"the plain keeper has no such fault: {fault}")
     return sys.executable, "-B", f"{TOP}/tools/plain_keeper.py", fault
 
 

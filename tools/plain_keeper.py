@@ -16,14 +16,17 @@ import tomllib
 from command_texts import command_text
 from plain_machine import MEMORY, Fault, Machine, read
 
-FAULTS = """
-starts empty, a torn line is carried out, a torn line stays, a torn line is not told, a whole line goes with a torn one, zeros are a line, a bad line is passed over,
-lines are counted from 0, the wrong file is told, a log is cut before all are read, two keepers at once, any schema will do, an old socket keeps it out,
-appends what was sent, appends reads, appends refused writes, answers before it appends, answers before it syncs, answers while another syncs,
-never syncs, its folder is never synced, goes on after a failed append, tells no file, ends with status 0, nobody is idle, busy ones are idle, half a line is carried out,
-a connection too many is closed, a worker ends with its connection, a failed accept ends a worker, appends without its lock, keeps each write,
-a refused start empties a log, a refused line is carried out, a refused line has no answer, a refused connection ends a worker
-"""
+FAULTS = {
+    "none",
+    "starts empty", "a torn line is carried out", "a torn line stays", "a torn line is not told", "a whole line goes with a torn one",
+    "zeros are a line", "a bad line is passed over", "lines are counted from 0", "the wrong file is told", "a log is cut before all are read",
+    "two keepers at once", "any schema will do", "an old socket keeps it out", "appends what was sent", "appends reads", "appends refused writes",
+    "answers before it appends", "answers before it syncs", "answers while another syncs", "never syncs", "its folder is never synced",
+    "goes on after a failed append", "tells no file", "ends with status 0", "nobody is idle", "busy ones are idle", "half a line is carried out",
+    "a connection too many is closed", "a worker ends with its connection", "a failed accept ends a worker", "appends without its lock",
+    "keeps each write", "a refused start empties a log", "a refused line is carried out", "a refused line has no answer",
+    "a refused connection ends a worker",
+}
 
 
 class Stop(Exception):
