@@ -1,0 +1,135 @@
+//! Why the program ends.
+ghost use Rattle.std.specs.Prelude.{◌≡◌};
+ghost use Rattle.table_keeper.specs.Fault.{of_schema, of_words, status_of};
+
+use program_words::WordsFault;
+use std::alloc::{AllocError, AllocFailed};
+use std::io;
+use std::io::{ErrorKind, Write};
+use table_schema::SchemaFault;
+
+/// Why the program ends.
+#[derive(Debug, Drop)]
+pub enum Fault {
+    /// The words are wrong, or ask for help; with the text for the user.
+    Words(String),
+    /// The address to listen at is of neither form.
+    Address,
+    /// A file can't be opened, read or made. The path.
+    File(String),
+    /// What is printed can't be written.
+    Output,
+    /// The program can't listen.
+    Listen,
+    /// Memory was refused, or a thread.
+    Memory,
+    /// The schema is refused.
+    Schema(SchemaFault),
+    /// Another program has the folder. The path.
+    Taken(String),
+    /// A log can't be written or synced. The path.
+    Log(String),
+    /// A line of a log is no accepted write. The path, and the line's number.
+    Line(String, u64),
+    /// A log is of another declaration than the schema's. The path of the declaration.
+    Declared(String),
+}
+
+impl Fault {
+    /// Writes the fault's text, as far as the writer takes it, and gives the exit status.
+    pub fn report<E: Write>(&self, faults: &mut E) -> u8
+        ensures { result ≡ status_of self.now }
+    {
+        let _ = match self {
+            Fault::Words(text) => write!(faults, "{text}"),
+            Fault::Address => write!(faults, "listen\n"),
+            Fault::File(path) => write!(faults, "device: file: {path}\n"),
+            Fault::Output => write!(faults, "device: write\n"),
+            Fault::Listen => write!(faults, "device: listen\n"),
+            Fault::Memory => write!(faults, "memory\n"),
+            Fault::Schema(fault) => write!(faults, "{}\n", schema_text(*fault)),
+            Fault::Taken(path) => write!(faults, "taken: {path}\n"),
+            Fault::Log(path) => write!(faults, "log: {path}\n"),
+            Fault::Line(path, number) => write!(faults, "line: {path}: {number}\n"),
+            Fault::Declared(path) => write!(faults, "schema: other: {path}\n"),
+        };
+        self.status()
+    }
+
+    /// The exit status.
+    pub(crate) fn status(&self) -> u8
+        ensures { result ≡ status_of self.now }
+    {
+        match self {
+            Fault::File(_) | Fault::Output | Fault::Listen | Fault::Memory => 1,
+            Fault::Words(_) | Fault::Address => 2,
+            Fault::Schema(_) | Fault::Declared(_) => 3,
+            Fault::Log(_) => 5,
+            Fault::Line(_, _) => 6,
+            Fault::Taken(_) => 7,
+        }
+    }
+
+    /// The fault of a file, at this path.
+    pub(crate) fn of_file(error: &io::Error, path: String) -> Fault {
+        match error.kind() {
+            ErrorKind::OutOfMemory => Fault::Memory,
+            _ => Fault::File(path),
+        }
+    }
+}
+
+// The text of a schema's fault.
+fn schema_text(fault: SchemaFault) -> &'static str {
+    match fault {
+        SchemaFault::Toml => "schema: toml",
+        SchemaFault::Shape => "schema: shape",
+        SchemaFault::Limit => "schema: limit",
+        SchemaFault::Name => "schema: name",
+        SchemaFault::Key => "schema: key",
+        SchemaFault::Memory => "memory",
+    }
+}
+
+impl From<AllocError> for Fault {
+    ghost use Rattle.table_keeper.specs.declared.fault.Fault.TheVariants.{Memory};
+
+    ghost from_gives = { λ _ fault. fault ≡ Memory };
+
+    fn from(_error: AllocError) -> Fault {
+        Fault::Memory
+    }
+}
+
+impl<T: Drop> From<AllocFailed<T>> for Fault {
+    ghost use Rattle.table_keeper.specs.declared.fault.Fault.TheVariants.{Memory};
+
+    ghost from_gives = { λ _ fault. fault ≡ Memory };
+
+    fn from(_error: AllocFailed<T>) -> Fault {
+        Fault::Memory
+    }
+}
+
+impl From<WordsFault> for Fault {
+    ghost from_gives = { λ given fault. fault ≡ of_words given };
+
+    fn from(fault: WordsFault) -> Fault {
+        match fault {
+            WordsFault::Words(text) => Fault::Words(text),
+            WordsFault::Listen => Fault::Address,
+            WordsFault::Memory => Fault::Memory,
+        }
+    }
+}
+
+impl From<SchemaFault> for Fault {
+    ghost from_gives = { λ given fault. fault ≡ of_schema given };
+
+    fn from(fault: SchemaFault) -> Fault {
+        match fault {
+            SchemaFault::Memory => Fault::Memory,
+            refused => Fault::Schema(refused),
+        }
+    }
+}

@@ -1,0 +1,150 @@
+//! The folder of the logs.
+
+use crate::declaration::write_table;
+use crate::fault::Fault;
+use std::alloc::Global;
+use std::fs::{File, OpenOptions, TryLockError};
+use std::io::{ErrorKind, Read, Write};
+use std::time::Duration;
+use std::{fs, io, thread};
+use table_reply::Out;
+use table_schema::{Schema, TableSpec};
+
+/// How often a lock is tried, 20 milliseconds apart.
+const LOCK_TRIES: u32 = 50;
+
+/// A folder that this program has for itself. The lock goes with the file, however the program ends.
+#[derive(Drop)]
+pub(crate) struct Folder {
+    path: String,
+    lock: File,
+}
+
+impl Folder {
+    /// Takes the folder at a path, and makes it where nothing stands there.
+    pub(crate) fn take(rt: &HostRuntime, path: &str) -> Result<Folder, Fault> {
+        if let Err(error) = make(rt, path) {
+            return Err(Fault::of_file(&error, String::from_str(rt.alloc(), path)?));
+        }
+        let name = format!(in rt.alloc(); "{path}/lock")?;
+        let opened = OpenOptions::new()
+            .read(true)
+            .write(true)
+            .create(true)
+            .open(rt, name.as_str());
+        let lock = match opened {
+            Ok(lock) => lock,
+            Err(error) => return Err(Fault::of_file(&error, name)),
+        };
+        let path = String::from_str(rt.alloc(), path)?;
+        match try_lock(rt, &lock) {
+            Ok(()) => Ok(Folder { path, lock }),
+            Err(TryLockError::WouldBlock) => Err(Fault::Taken(path)),
+            Err(TryLockError::Error(error)) => Err(Fault::of_file(&error, name)),
+        }
+    }
+
+    /// The path of a table's log.
+    pub(crate) fn log_of(&self, alloc: Global, table: &str) -> Result<String, Fault> {
+        let path = self.path.as_str();
+        Ok(format!(in alloc; "{path}/{table}.jsonl")?)
+    }
+
+    // The path of a table's declaration.
+    fn declaration_of(&self, alloc: Global, table: &str) -> Result<String, Fault> {
+        let path = self.path.as_str();
+        Ok(format!(in alloc; "{path}/{table}.schema")?)
+    }
+
+    /// Refuses the declarations in the folder that are others than those of the schema.
+    pub(crate) fn check(&self, rt: &HostRuntime, schema: &Schema) -> Result<(), Fault> {
+        for table in schema.tables() {
+            self.check_table(rt, table)?;
+        }
+        Ok(())
+    }
+
+    // Whether the table's declaration is there. Another one is refused.
+    fn check_table(&self, rt: &HostRuntime, table: &TableSpec) -> Result<bool, Fault> {
+        let name = self.declaration_of(rt.alloc(), table.name())?;
+        let mut wanted = Out::new(rt.alloc());
+        if write_table(rt.alloc(), table, &mut wanted).is_err() {
+            return Err(Fault::Memory);
+        }
+        match fs::read(rt, name.as_str()) {
+            Ok(found) if found.as_slice() == wanted.bytes() => Ok(true),
+            Ok(_) => Err(Fault::Declared(name)),
+            Err(error) if error.kind() == ErrorKind::NotFound => Ok(false),
+            Err(error) => Err(Fault::of_file(&error, name)),
+        }
+    }
+
+    /// Writes the declarations that are not there, and syncs the folder.
+    pub(crate) fn declare(&self, rt: &HostRuntime, schema: &Schema) -> Result<(), Fault> {
+        for table in schema.tables() {
+            if !self.check_table(rt, table)? {
+                self.declare_table(rt, table)?;
+            }
+        }
+        match sync_folder(rt, self.path.as_str()) {
+            Ok(()) => Ok(()),
+            Err(error) => Err(Fault::of_file(
+                &error,
+                String::from_str(rt.alloc(), self.path.as_str())?,
+            )),
+        }
+    }
+
+    // Writes a table's declaration.
+    fn declare_table(&self, rt: &HostRuntime, table: &TableSpec) -> Result<(), Fault> {
+        let name = self.declaration_of(rt.alloc(), table.name())?;
+        let mut text = Out::new(rt.alloc());
+        if write_table(rt.alloc(), table, &mut text).is_err() {
+            return Err(Fault::Memory);
+        }
+        let part = format!(in rt.alloc(); "{name}.part")?;
+        match put(rt, part.as_str(), name.as_str(), text.bytes()) {
+            Ok(()) => Ok(()),
+            Err(error) => Err(Fault::of_file(&error, name)),
+        }
+    }
+}
+
+// Locks a file. A program that was killed has its lock for a moment longer, so it is tried again for a second.
+fn try_lock(rt: &HostRuntime, lock: &File) -> Result<(), TryLockError> {
+    for _ in 0..LOCK_TRIES {
+        match lock.try_lock() {
+            Err(TryLockError::WouldBlock) => thread::sleep(rt, Duration::from_millis(20)),
+            done => return done,
+        }
+    }
+    lock.try_lock()
+}
+
+// Makes a folder where nothing stands. The one that it is in is synced as far as that succeeds.
+fn make(rt: &HostRuntime, path: &str) -> io::Result<()> {
+    match fs::metadata(rt, path) {
+        Ok(found) if found.is_dir() => Ok(()),
+        Ok(_) => Err(io::Error::from(ErrorKind::NotADirectory)),
+        Err(error) if error.kind() == ErrorKind::NotFound => {
+            fs::create_dir(rt, path)?;
+            let above = format!(in rt.alloc(); "{path}/..")?;
+            let _ = sync_folder(rt, above.as_str());
+            Ok(())
+        }
+        Err(error) => Err(error),
+    }
+}
+
+// Waits until the system has a folder's names where a crash leaves them.
+fn sync_folder(rt: &HostRuntime, path: &str) -> io::Result<()> {
+    File::open(rt, path)?.sync_all()
+}
+
+// Writes a file under another name, and puts it at its own once the system has it.
+fn put(rt: &HostRuntime, part: &str, name: &str, bytes: &[u8]) -> io::Result<()> {
+    let mut file = File::create(rt, part)?;
+    file.write_all(bytes)?;
+    file.sync_all()?;
+    fs::rename(rt, part, name)
+}
