@@ -36,11 +36,11 @@ returns-clause-over g c = λ at is.
     let inner = ap (λ s. s.inner) (sym c.into_inner.ensures) ∙ sym c.into_inner-2.ensures in
     ⊎_elim
     (λ e. inl (unwritten_within g.R.Read.remaining g.W.Write.contents (λ v. v.inner) c.args.source.now c.serve_lines-served.new.source c.new-sink.result c.serve_lines-served.new.sink c.args.writer c.into_inner-2.result
-        (ap (λ s. s.inner.inner) c.new-sink.ensures) inner _ _
-        (λ bytes text told. heard_front names bytes text (subst (λ line. Breaks (TellsText names) tt line bytes text tt) c.new-cutter.ensures told.0))
-        (c.serve_lines-served.ensures.write e)))
+    (ap (λ s. s.inner.inner) c.new-sink.ensures) inner _ _
+    (λ bytes text told. heard_front names bytes text (subst (λ line. Breaks (TellsText names) tt line bytes text tt) c.new-cutter.ensures told.0))
+    (c.serve_lines-served.ensures.write e)))
     (λ e. inr (refused_within g.R.Read.remaining g.W.Write.contents (λ v. v.inner) c.args.source.now c.serve_lines-served.new.source c.new-sink.result c.serve_lines-served.new.sink c.args.writer c.into_inner-2.result
-        (ap (λ s. s.inner.inner) c.new-sink.ensures) inner _ _
-        (λ bytes text told. heard_stop names bytes text at (subst (λ line. Meets (TellsText names) (RefusesTold names) tt line bytes text tt at) c.new-cutter.ensures told.0))
-        (c.serve_lines-served.ensures.refused at e)))
+    (ap (λ s. s.inner.inner) c.new-sink.ensures) inner _ _
+    (λ bytes text told. heard_stop names bytes text at (subst (λ line. Meets (TellsText names) (RefusesTold names) tt line bytes text tt at) c.new-cutter.ensures told.0))
+    (c.serve_lines-served.ensures.refused at e)))
     (was_over c.serve_lines-served.result c.end_of.result at c.end_of.ensures is)
