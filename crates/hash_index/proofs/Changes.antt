@@ -1,4 +1,4 @@
--- A node goes into a bucket, and out of it.
+-- A node goes into a chain, and out of it.
 use Rattle.std.proofs.Common.{◌≡◌, ◌≢◌, ℕ, Bool, true, false, ◌+◌, ◌-◌, ◌*◌, ◌<◌, ◌≤◌, List, [], ◌∷◌, ◌++◌, length, map, get_or, set, Option, Some, None, option_and_then, refl, sym, ap, ◌∙◌, subst, arith, append_assoc}
 use Rattle.std.specs.Prelude.{IsPermutation}
 use Rattle.std.proofs.lemmas.List.Sorted.{IsPermutation-sym, IsPermutation-middle}
@@ -14,7 +14,7 @@ use Rattle.node_store.specs.ByNode.{same_node, column_of}
 use Rattle.list_model.specs.Walk.{without}
 use Rattle.seq_index.proofs.Walks.{without_at}
 use Rattle.hash_index.specs.declared.HashIndex.{HashIndex}
-use Rattle.hash_index.specs.Buckets.{bucket_of}
+use Rattle.hash_index.specs.LinearHashing.{chain_of}
 use Rattle.hash_index.specs.declared.head.Head.{Head}
 use Rattle.hash_index.specs.Heads.{first_in, IsRight, AreRight}
 use Rattle.hash_index.specs.Oldest.{IsOldestOf, IsOldest, AreOldest}
@@ -34,7 +34,7 @@ use Rattle.hash_index.specs.Chains.{untagged_link, untagged, tag_at, KeepsTags, 
 use Rattle.node_store.specs.Store.{Store, number_of}
 use Rattle.hash_index.proofs.Untagged.{same_all, put_untagged, tag_put, tag_other, tagged_node}
 use Rattle.hash_index.proofs.Heads.{first_has, last_has, others_of, one_chain, right_at, right_set, right_up, slice_first}
-use Rattle.hash_index.proofs.OneBucket.{Focus, Hangs, IsElsewhere}
+use Rattle.hash_index.proofs.OneChain.{Focus, Hangs, IsElsewhere}
 use Rattle.std.specs.Prelude.{nat_lt}
 use Rattle.std.proofs.lemmas.Bool.{ltb-true, ltb-false}
 use Rattle.hash_index.specs.Rising.{Rises, known_last, up_at, KeepsUps, IsRising, top_beside, IsBefore, IsBehind, IsLast}
@@ -61,7 +61,7 @@ apart_of front chain back dist =
 
 pub put_hangs : (c d f : Column) (to : ℕ → ℕ) (b : ℕ) (heads : List (Option Node)) (xs : List Node) (n : Node) (hash : ℕ) (head up : Option Node) (at : Focus c to 0 b b heads xs) → IsDistinct xs → Lacks xs n → to hash ≡ b → head ≡ get_or heads b None → IsBefore at.chain n up
     → IsPut c d n (record { a = None; b = head; up = up; tag = hash; height = 0; digest = no_digest }) → SetsPrev (untagged d) (untagged f) head (Some n) → KeepsTags d f → KeepsOtherNodes d f head → Hangs f to 0 (set heads b (Some n)) (at.front ++ (n ∷ at.chain ++ at.back))
-put_hangs c d f to b heads xs n hash head up at dist new bucket first before put prev tags same =
+put_hangs c d f to b heads xs n hash head up at dist new chain first before put prev tags same =
     let e : head ≡ first_or at.chain None = first ∙ at.here.first in
     let put2 : IsPut (untagged c) (untagged d) n (chain_link None (first_or at.chain None)) = subst (λ o. IsPut (untagged c) (untagged d) n (chain_link None o)) e (put_untagged c d n (record { a = None; b = head; up = up; tag = hash; height = 0; digest = no_digest }) put) in
     let prev2 = subst (λ o. SetsPrev (untagged d) (untagged f) o (Some n)) e prev in
@@ -79,7 +79,7 @@ put_hangs c d f to b heads xs n hash head up at dist new bucket first before put
       first = refl;
       runs = Runs-insert (untagged c) (untagged d) (untagged d) (untagged f) [] n at.chain p.chain_distinct lacks_chain put2 (SetsNext-none (untagged d) (Some n)) prev2 at.here.runs;
       members = (
-        ap (option_map to) (tags n ∙ tag_put c d n (record { a = None; b = head; up = up; tag = hash; height = 0; digest = no_digest }) put) ∙ ap Some bucket,
+        ap (option_map to) (tags n ∙ tag_put c d n (record { a = None; b = head; up = up; tag = hash; height = 0; digest = no_digest }) put) ∙ ap Some chain,
         in_tags c f to b n at.chain (λ m ne. tags m ∙ tag_other c d n m (record { a = None; b = head; up = up; tag = hash; height = 0; digest = no_digest }) put ne) lacks_chain at.here.members,
       );
       rising = rising_before f n at.chain up (ap (option_and_then (λ (l : Link). l.up)) (same2 n (Lacks-first at.chain n lacks_chain) ∙ put.at)) before;
@@ -126,7 +126,7 @@ out_hangs c d e f to b heads xs n link ps qs at dist is link_is next same_next p
 
 -- ---- the same for an index
 
--- the first node of a bucket
+-- the first node of a chain
 pub head_node : (c : Column) (to : ℕ → ℕ) (b : ℕ) (heads : List (Option Node)) (xs : List Node) (at : Focus c to 0 b b heads xs) (m : Node) → get_or heads b None ≡ Some m → IsNode c m
 head_node c to b heads xs at m e = tagged_node c m (AreNodes-first (untagged c) None [] at.chain None at.here.runs m (sym at.here.first ∙ e))
 
@@ -139,7 +139,7 @@ head_lacks c to b heads xs at m lacks = λ e.
 pub record PutsHead (i j : HashIndex) (b : ℕ) (head : Head) : Type 0 where
   pub col : j.col ≡ i.col
   pub level : j.level ≡ i.level
-  pub count : j.buckets.len ≡ i.buckets.len
+  pub count : j.chains.len ≡ i.chains.len
   pub heads : all_of j ≡ set (all_of i) b head
 
 firsts_put : (i j : HashIndex) (b : ℕ) (head : Head) → PutsHead i j b head → heads_of j ≡ set (heads_of i) b (first_in head)
@@ -148,7 +148,7 @@ firsts_put i j b head puts = ap (map first_in) puts.heads ∙ map-set first_in (
 hangs_kept : (ds : ℕ → Column) (i j : HashIndex) (b : ℕ) (head : Head) (ys : List Node) → PutsHead i j b head → Hangs (ds i.col) (leads_to i) 0 (set (heads_of i) b (first_in head)) ys → Hangs (ds j.col) (leads_to j) 0 (heads_of j) ys
 hangs_kept ds i j b head ys puts h =
     subst (λ c. Hangs (ds c) (leads_to j) 0 (heads_of j) ys) (sym puts.col) (subst (λ z. Hangs (ds i.col) (leads_to j) 0 z ys) (sym (firsts_put i j b head puts))
-    (subst (λ l. Hangs (ds i.col) (bucket_of l j.buckets.len) 0 (set (heads_of i) b (first_in head)) ys) (sym puts.level) (subst (λ k. Hangs (ds i.col) (bucket_of i.level k) 0 (set (heads_of i) b (first_in head)) ys) (sym puts.count) h)))
+    (subst (λ l. Hangs (ds i.col) (chain_of l j.chains.len) 0 (set (heads_of i) b (first_in head)) ys) (sym puts.level) (subst (λ k. Hangs (ds i.col) (chain_of i.level k) 0 (set (heads_of i) b (first_in head)) ys) (sym puts.count) h)))
 
 -- a node that others follow is not alone
 some_first : (xs : List Node) (n : Node) (ys : List Node) → first_or (xs ++ n ∷ ys) None ≡ None → ⊥
@@ -181,30 +181,30 @@ old_beside c hs xs b head (Some m) old kept plain = oldest_at c hs xs b head old
 -- where a node comes, the oldest of other hashes stay that
 old_put : (cs ds : ℕ → Column) (i j : HashIndex) (b : ℕ) (head : Head) (n : Node) (hash : ℕ) (front back : List Node) → IsSound cs i → PutsHead i j b head → spelled cs i ≡ front ++ back → Lacks (spelled cs i) n → leads_to i hash ≡ b → tag_at (ds i.col) n ≡ Some hash → ((m : Node) → m ≢ n → tag_at (ds i.col) m ≡ tag_at (cs i.col) m)
     → IsOldest (ds i.col) (front ++ n ∷ back) head → AreOldest (ds j.col) (front ++ n ∷ back) (all_of j)
-old_put cs ds i j b head n hash front back h puts whole new bucket tag kept is =
+old_put cs ds i j b head n hash front back h puts whole new chain tag kept is =
     let k = hangs_of cs i (spelled cs i) h in
     let lacks = subst (λ z. Lacks z n) whole new in
     let change : (q : ℕ) (m : Node) → q ≢ b → m ≢ n → IsIn (cs i.col) (leads_to i) q m → IsOldestOf (cs i.col) (spelled cs i) m → IsOldestOf (ds i.col) (front ++ n ∷ back) m = λ q m ne other there old.
     let apart : tag_at (ds i.col) n ≢ tag_at (ds i.col) m = λ e.
-    let same : Some b ≡ Some q = ap Some (sym bucket) ∙ (ap (option_map (leads_to i)) (sym tag ∙ (e ∙ kept m other)) ∙ there) in
+    let same : Some b ≡ Some q = ap Some (sym chain) ∙ (ap (option_map (leads_to i)) (sym tag ∙ (e ∙ kept m other)) ∙ there) in
     ne (cc) in
     old_more (cs i.col) (ds i.col) front n back m kept other lacks (λ e ne. absurd (apart e)) (subst (λ z. IsOldestOf (cs i.col) z m) whole old) in
     subst (λ c. AreOldest (ds c) (front ++ n ∷ back) (all_of j)) (sym puts.col) (subst (AreOldest (ds i.col) (front ++ n ∷ back)) (sym puts.heads)
     (oldest_set (cs i.col) (ds i.col) (leads_to i) (λ m. m ≢ n) (spelled cs i) (front ++ n ∷ back) 0 b (all_of i) k.chains head k.are (subst (AllByRecursion (λ m. m ≢ n)) (sym k.whole) (others_of (spelled cs i) n new)) (λ q m ne. change q m (λ e. ne (omega (arith, e)))) is h.oldest))
 
-module _ (cs ds : ℕ → Column) (d : Column) (i j : HashIndex) (n : Node) (b : ℕ) (h : IsSound cs i) (within : b < i.buckets.len) where
-  module _ (hash : ℕ) (head up : Option Node) (begins : Head) (puts : PutsHead i j b begins) (begin : first_in begins ≡ Some n) (right : IsRight (ds i.col) begins) (plain : begins.mark < 192) (len : j.len ≡ i.len + 1) (load : j.len * 4 ≤ j.buckets.len) (new : Lacks (spelled cs i) n) (bucket : b ≡ leads_to i hash) (first : head ≡ get_or (heads_of i) b None) (before : IsBefore (rest_of cs i (get_or (heads_of i) b None)) n up)
+module _ (cs ds : ℕ → Column) (d : Column) (i j : HashIndex) (n : Node) (b : ℕ) (h : IsSound cs i) (within : b < i.chains.len) where
+  module _ (hash : ℕ) (head up : Option Node) (begins : Head) (puts : PutsHead i j b begins) (begin : first_in begins ≡ Some n) (right : IsRight (ds i.col) begins) (plain : begins.mark < 192) (len : j.len ≡ i.len + 1) (load : j.len * 4 ≤ j.chains.len) (new : Lacks (spelled cs i) n) (chain : b ≡ leads_to i hash) (first : head ≡ get_or (heads_of i) b None) (before : IsBefore (rest_of cs i (get_or (heads_of i) b None)) n up)
       (put : IsPut (cs i.col) d n (record { a = None; b = head; up = up; tag = hash; height = 0; digest = no_digest })) (prev : SetsPrev (untagged d) (untagged (ds i.col)) head (Some n)) (tags : KeepsTags d (ds i.col)) (same : KeepsOtherNodes d (ds i.col) head) where
     put_both : IsSound ds j × IsPermutation (n ∷ spelled cs i) (spelled ds j)
     put_both =
         let f = focus_of cs i (spelled cs i) b within h in
         let ys : List Node = f.front ++ n ∷ (f.chain ++ f.back) in
-        let hangs = hangs_kept ds i j b begins ys puts (subst (λ o. Hangs (ds i.col) (leads_to i) 0 (set (heads_of i) b o) ys) (sym begin) (put_hangs (cs i.col) d (ds i.col) (leads_to i) b (heads_of i) (spelled cs i) n hash head up f h.distinct new (sym bucket) first (subst (λ z. IsBefore z n up) (rest_is cs i (spelled cs i) b f h.len).1 before) put prev tags same)) in
+        let hangs = hangs_kept ds i j b begins ys puts (subst (λ o. Hangs (ds i.col) (leads_to i) 0 (set (heads_of i) b o) ys) (sym begin) (put_hangs (cs i.col) d (ds i.col) (leads_to i) b (heads_of i) (spelled cs i) n hash head up f h.distinct new (sym chain) first (subst (λ z. IsBefore z n up) (rest_is cs i (spelled cs i) b f h.len).1 before) put prev tags same)) in
         let here : (m : Node) → head ≡ Some m → IsIn (cs i.col) (leads_to i) b m = λ m e. first_has (IsIn (cs i.col) (leads_to i) b) f.chain m f.here.members (sym f.here.first ∙ (sym first ∙ e)) in
         let are = right_put cs ds i j b begins (λ m. m ≢ n) h puts (others_of (spelled cs i) n new)
         (λ k m ne other is. same m (λ e. ne (one_chain (cs i.col) (leads_to i) b k m (here m e) is)) ∙ put.others m other) right in
         let link : Link = record { a = None; b = head; up = up; tag = hash; height = 0; digest = no_digest } in
-        let old = old_put cs ds i j b begins n hash f.front (f.chain ++ f.back) h puts f.whole new (sym bucket) (tags n ∙ tag_put (cs i.col) d n link put) (λ m ne. tags m ∙ tag_other (cs i.col) d n m link put ne) (λ says m begin. absurd (omega (arith, says, plain))) in
+        let old = old_put cs ds i j b begins n hash f.front (f.chain ++ f.back) h puts f.whole new (sym chain) (tags n ∙ tag_put (cs i.col) d n link put) (λ m ne. tags m ∙ tag_other (cs i.col) d n m link put ne) (λ says m begin. absurd (omega (arith, says, plain))) in
         let dist = Distinct-insert f.front n (f.chain ++ f.back) (subst IsDistinct f.whole h.distinct) (subst (λ z. Lacks z n) f.whole new) in
         let s = Spells_from ds j ys hangs dist (len ∙ (ap (λ k. k + 1) (h.len ∙ ap length f.whole) ∙ length-insert f.front n (f.chain ++ f.back))) load are old in
         let moved : IsPermutation (n ∷ (f.front ++ (f.chain ++ f.back))) ys = IsPermutation-sym _ _ (IsPermutation-middle f.front n (f.chain ++ f.back)) in
@@ -216,13 +216,13 @@ module _ (cs ds : ℕ → Column) (d : Column) (i j : HashIndex) (n : Node) (b :
     pub put_moved : IsPermutation (n ∷ spelled cs i) (spelled ds j)
     put_moved = put_both.1
 
-  pub out_done : (e : Column) (link : Link) (head : Head) → PutsHead i j b head → first_in head ≡ end_beside link.a (get_or (heads_of i) b None) link.b → ((m : Node) → link.a ≡ Some m → slice_get (all_of i) b ≡ Some head) → (link.a ≡ None → IsRight e head) → (link.a ≡ None → head.mark < 192) → j.len + 1 ≡ i.len → j.len * 4 ≤ j.buckets.len → Holds (spelled cs i) n → b ≡ leads_to i link.tag → cs i.col n ≡ Some link
+  pub out_done : (e : Column) (link : Link) (head : Head) → PutsHead i j b head → first_in head ≡ end_beside link.a (get_or (heads_of i) b None) link.b → ((m : Node) → link.a ≡ Some m → slice_get (all_of i) b ≡ Some head) → (link.a ≡ None → IsRight e head) → (link.a ≡ None → head.mark < 192) → j.len + 1 ≡ i.len → j.len * 4 ≤ j.chains.len → Holds (spelled cs i) n → b ≡ leads_to i link.tag → cs i.col n ≡ Some link
       → SetsNext (untagged (cs i.col)) (untagged d) link.a link.b → KeepsOtherNodes (cs i.col) d link.a → SetsPrev (untagged d) (untagged e) link.b link.a → KeepsOtherNodes d e link.b → KeepsTags (cs i.col) e → KeepsUps (cs i.col) e
       → ((m : Node) → untagged (ds i.col) m ≡ untagged e m) → KeepsTags e (ds i.col) → KeepsOtherNodes e (ds i.col) (first_in head) → ((m : Node) → first_in head ≡ Some m → up_at (ds i.col) m ≡ top_beside link.a link.b link.up (up_at e m)) → Spells ds j (without (same_node n) (spelled cs i))
-  out_done e link head puts first kept right plain len load held bucket is next same_next prev same_prev tags_e ups links tags_f same_top tops =
+  out_done e link head puts first kept right plain len load held chain is next same_next prev same_prev tags_e ups links tags_f same_top tops =
       let tags : KeepsTags (cs i.col) (ds i.col) = λ m. tags_f m ∙ tags_e m in
       let f = focus_of cs i (spelled cs i) b within h in
-      let here : IsIn (cs i.col) (leads_to i) b n = subst (λ k. IsIn (cs i.col) (leads_to i) k n) (sym bucket) (is_in (cs i.col) (leads_to i) n link is) in
+      let here : IsIn (cs i.col) (leads_to i) b n = subst (λ k. IsIn (cs i.col) (leads_to i) k n) (sym chain) (is_in (cs i.col) (leads_to i) n link is) in
       let k = held_chain (cs i.col) (leads_to i) 0 b b (heads_of i) (spelled cs i) n f here held in
       let split = split_at (spelled cs i) f.front f.chain f.back k.before n k.after f.whole k.is in
       let ys : List Node = (f.front ++ k.before) ++ (k.after ++ f.back) in
@@ -260,11 +260,11 @@ first_split [] n e = absurd (cc)
 first_split (x ∷ xs) n e = let is : x ≡ n = cc in (xs, ap (λ z. z ∷ xs) is)
 
 -- the node of a head is one of the column
-pub head_there : {R : Type 0} (s : Store R) (i : HashIndex) (b : ℕ) (head : Head) → b < i.buckets.len → slice_get (all_of i) b ≡ Some head → IsSound (column_of s) i → (n : Node) → first_in head ≡ Some n → IsNode (column_of s i.col) n
+pub head_there : {R : Type 0} (s : Store R) (i : HashIndex) (b : ℕ) (head : Head) → b < i.chains.len → slice_get (all_of i) b ≡ Some head → IsSound (column_of s) i → (n : Node) → first_in head ≡ Some n → IsNode (column_of s i.col) n
 head_there s i b head within at h n begin = head_node _ _ _ _ _ (focus_of (column_of s) i (spelled (column_of s) i) b within h) n (sym (slice_first (heads_of i) (all_of i) b refl head at) ∙ begin)
 
 -- the first node of a chain is one of all
-pub began_held : (cs : ℕ → Column) (i : HashIndex) (b : ℕ) (first : Node) → b < i.buckets.len → get_or (heads_of i) b None ≡ Some first → IsSound cs i → Holds (spelled cs i) first
+pub began_held : (cs : ℕ → Column) (i : HashIndex) (b : ℕ) (first : Node) → b < i.chains.len → get_or (heads_of i) b None ≡ Some first → IsSound cs i → Holds (spelled cs i) first
 began_held cs i b first within began h =
     let f = focus_of cs i (spelled cs i) b within h in
     let tail = first_split f.chain first (sym f.here.first ∙ began) in
@@ -275,7 +275,7 @@ none_first [] e = refl
 none_first (x ∷ xs) e = absurd (cc)
 
 -- a node that is alone is the only one of its hash
-alone_oldest : (cs : ℕ → Column) (i : HashIndex) (b : ℕ) (head : Head) (first : Node) (link : Link) → b < i.buckets.len → slice_get (all_of i) b ≡ Some head → first_in head ≡ Some first → cs i.col first ≡ Some link → IsSound cs i → head.mark < 128 → IsOldestOf (cs i.col) (spelled cs i) first
+alone_oldest : (cs : ℕ → Column) (i : HashIndex) (b : ℕ) (head : Head) (first : Node) (link : Link) → b < i.chains.len → slice_get (all_of i) b ≡ Some head → first_in head ≡ Some first → cs i.col first ≡ Some link → IsSound cs i → head.mark < 128 → IsOldestOf (cs i.col) (spelled cs i) first
 alone_oldest cs i b head first link within at begin is h alone =
     let c = cs i.col in
     let f = focus_of cs i (spelled cs i) b within h in
@@ -295,12 +295,12 @@ oldest_by c hs xs b head new first true is old at begin alone says big = alone (
 oldest_by c hs xs b head new first false is old at begin alone says big = oldest_at c hs xs b head old at (says big (ltb-false head.mark 128 is)) first begin
 
 -- where another node comes behind the first of a chain, it stays the oldest
-pub joined_oldest : (cs : ℕ → Column) (i : HashIndex) (b : ℕ) (head new : Head) (first : Node) (link : Link) → b < i.buckets.len → slice_get (all_of i) b ≡ Some head → first_in head ≡ Some first → cs i.col first ≡ Some link → IsSound cs i → (192 ≤ new.mark → 128 ≤ head.mark → 192 ≤ head.mark) → 192 ≤ new.mark → IsOldestOf (cs i.col) (spelled cs i) first
+pub joined_oldest : (cs : ℕ → Column) (i : HashIndex) (b : ℕ) (head new : Head) (first : Node) (link : Link) → b < i.chains.len → slice_get (all_of i) b ≡ Some head → first_in head ≡ Some first → cs i.col first ≡ Some link → IsSound cs i → (192 ≤ new.mark → 128 ≤ head.mark → 192 ≤ head.mark) → 192 ≤ new.mark → IsOldestOf (cs i.col) (spelled cs i) first
 joined_oldest cs i b head new first link within at begin is h says =
     oldest_by (cs i.col) (all_of i) (spelled cs i) b head new first (nat_lt head.mark 128) refl h.oldest at begin (alone_oldest cs i b head first link within at begin is h) says
 
 -- the first node of a chain once one has gone is one of the column
-pub new_first : (cs : ℕ → Column) (i : HashIndex) (b : ℕ) (link : Link) (m : Node) → b < i.buckets.len → IsSound cs i → HasNeighbours (cs i.col) link → end_beside link.a (get_or (heads_of i) b None) link.b ≡ Some m → IsNode (cs i.col) m
+pub new_first : (cs : ℕ → Column) (i : HashIndex) (b : ℕ) (link : Link) (m : Node) → b < i.chains.len → IsSound cs i → HasNeighbours (cs i.col) link → end_beside link.a (get_or (heads_of i) b None) link.b ≡ Some m → IsNode (cs i.col) m
 new_first cs i b link m within h near e = by_side link.a refl e
   where
     by_side : (o : Option Node) → link.a ≡ o → end_beside o (get_or (heads_of i) b None) link.b ≡ Some m → IsNode (cs i.col) m
@@ -313,11 +313,11 @@ first_front : (xs : List Node) (n : Node) (ys : List Node) → first_or (xs ++ n
 first_front [] n ys = refl
 first_front (x ∷ xs) n ys = refl
 
-pub chain_rest : (cs : ℕ → Column) (i : HashIndex) (b : ℕ) (first : Node) (h : IsSound cs i) (within : b < i.buckets.len) → get_or (heads_of i) b None ≡ Some first → rest_of cs i (Some first) ≡ (focus_of cs i (spelled cs i) b within h).chain
+pub chain_rest : (cs : ℕ → Column) (i : HashIndex) (b : ℕ) (first : Node) (h : IsSound cs i) (within : b < i.chains.len) → get_or (heads_of i) b None ≡ Some first → rest_of cs i (Some first) ≡ (focus_of cs i (spelled cs i) b within h).chain
 chain_rest cs i b first h within began = ap (λ o. rest_of cs i o) (sym began) ∙ (rest_is cs i (spelled cs i) b (focus_of cs i (spelled cs i) b within h) h.len).1
 
 -- where the last node of a chain is known, the chain rises to it
-pub known_rising : (cs : ℕ → Column) (i : HashIndex) (b : ℕ) (first : Node) (link : Link) (h : IsSound cs i) (within : b < i.buckets.len) → get_or (heads_of i) b None ≡ Some first → cs i.col first ≡ Some link → (m : Node) → known_last first link.b link.up ≡ Some m → (last_or (rest_of cs i (Some first)) None ≡ Some m) × Rises (rest_of cs i (Some first))
+pub known_rising : (cs : ℕ → Column) (i : HashIndex) (b : ℕ) (first : Node) (link : Link) (h : IsSound cs i) (within : b < i.chains.len) → get_or (heads_of i) b None ≡ Some first → cs i.col first ≡ Some link → (m : Node) → known_last first link.b link.up ≡ Some m → (last_or (rest_of cs i (Some first)) None ≡ Some m) × Rises (rest_of cs i (Some first))
 known_rising cs i b first link h within began is m known =
     let at = focus_of cs i (spelled cs i) b within h in
     let c = cs i.col in
@@ -337,7 +337,7 @@ pub rising_rest : (cs : ℕ → Column) (i : HashIndex) (hash : ℕ) (head : Hea
 rising_rest cs i hash head None h is there known = absurd (cc)
 rising_rest cs i hash head (Some n) h is there known =
     let at = there (λ none. let bad : Some n ≡ None = is ∙ none in cc) in
-    let within : leads_to i hash < i.buckets.len = omega (arith, slice_get_within (all_of i) (leads_to i hash) head at, i.buckets.ok) in
+    let within : leads_to i hash < i.chains.len = omega (arith, slice_get_within (all_of i) (leads_to i hash) head at, i.chains.ok) in
     let began : get_or (heads_of i) (leads_to i hash) None ≡ Some n = sym (slice_first (heads_of i) (all_of i) (leads_to i hash) refl head at) ∙ sym is in
     let f = focus_of cs i (spelled cs i) (leads_to i hash) within h in
     let top : option_and_then (up_at (cs i.col)) (first_or f.chain None) ≡ up_at (cs i.col) n = ap (option_and_then (up_at (cs i.col))) (sym f.here.first ∙ began) in
@@ -349,17 +349,17 @@ rising_rest cs i hash head (Some n) h is there known =
     some_of (Some m) e = (m, refl)
 
 -- an index that has room has chains
-pub some_room : (i : HashIndex) → HasRoom i → 0 < i.buckets.len
+pub some_room : (i : HashIndex) → HasRoom i → 0 < i.chains.len
 some_room i room = omega (arith, room)
 
 -- the chain from its first node on
-pub chain_begins : (cs : ℕ → Column) (i : HashIndex) (b : ℕ) (first : Node) (h : IsSound cs i) (within : b < i.buckets.len) → get_or (heads_of i) b None ≡ Some first → first_or (rest_of cs i (Some first)) None ≡ Some first
+pub chain_begins : (cs : ℕ → Column) (i : HashIndex) (b : ℕ) (first : Node) (h : IsSound cs i) (within : b < i.chains.len) → get_or (heads_of i) b None ≡ Some first → first_or (rest_of cs i (Some first)) None ≡ Some first
 chain_begins cs i b first h within began = ap (λ z. first_or z None) (chain_rest cs i b first h within began) ∙ (sym (focus_of cs i (spelled cs i) b within h).here.first ∙ began)
 
-pub chain_runs : (cs : ℕ → Column) (i : HashIndex) (b : ℕ) (first : Node) (h : IsSound cs i) (within : b < i.buckets.len) → get_or (heads_of i) b None ≡ Some first → Runs (untagged (cs i.col)) None (rest_of cs i (Some first)) None
+pub chain_runs : (cs : ℕ → Column) (i : HashIndex) (b : ℕ) (first : Node) (h : IsSound cs i) (within : b < i.chains.len) → get_or (heads_of i) b None ≡ Some first → Runs (untagged (cs i.col)) None (rest_of cs i (Some first)) None
 chain_runs cs i b first h within began = subst (λ z. Runs (untagged (cs i.col)) None z None) (sym (chain_rest cs i b first h within began)) (focus_of cs i (spelled cs i) b within h).here.runs
 
-pub chain_lacks : (cs : ℕ → Column) (i : HashIndex) (b : ℕ) (first : Node) (h : IsSound cs i) (within : b < i.buckets.len) → get_or (heads_of i) b None ≡ Some first → (n : Node) → Lacks (spelled cs i) n → Lacks (rest_of cs i (Some first)) n
+pub chain_lacks : (cs : ℕ → Column) (i : HashIndex) (b : ℕ) (first : Node) (h : IsSound cs i) (within : b < i.chains.len) → get_or (heads_of i) b None ≡ Some first → (n : Node) → Lacks (spelled cs i) n → Lacks (rest_of cs i (Some first)) n
 chain_lacks cs i b first h within began n new =
     let at = focus_of cs i (spelled cs i) b within h in
     subst (λ z. Lacks z n) (sym (chain_rest cs i b first h within began)) (Lacks-front at.chain at.back n (Lacks-back at.front (at.chain ++ at.back) n (subst (λ z. Lacks z n) at.whole new)))
@@ -373,7 +373,7 @@ older_by (x ∷ xs) first n m begin same lacks later last rises =
     let lt : number_of n < number_of x = omega (arith, differ, later, ap number_of is) in
     (last, rises_below x n xs lt rises)
 
-pub older_first : {R : Type 0} (s : Store R) (i : HashIndex) (b : ℕ) (first n : Node) (h : IsSound (column_of s) i) (within : b < i.buckets.len) → get_or (heads_of i) b None ≡ Some first → IsNode (column_of s i.col) first → IsNode (column_of s i.col) n → Lacks (spelled (column_of s) i) n → ¬ (number_of first < number_of n)
+pub older_first : {R : Type 0} (s : Store R) (i : HashIndex) (b : ℕ) (first n : Node) (h : IsSound (column_of s) i) (within : b < i.chains.len) → get_or (heads_of i) b None ≡ Some first → IsNode (column_of s i.col) first → IsNode (column_of s i.col) n → Lacks (spelled (column_of s) i) n → ¬ (number_of first < number_of n)
     → (up : Option Node) → IsLast (rest_of (column_of s) i (Some first)) up → IsBefore (rest_of (column_of s) i (Some first)) n up
 older_first s i b first n h within began there node new later up known = λ m e.
     let rises = known m e in
@@ -381,7 +381,7 @@ older_first s i b first n h within began there node new later up known = λ m e.
     (chain_lacks (column_of s) i b first h within began n new) later rises.0 rises.1
 
 -- a node of a chain is one of all
-pub stands_held : (cs : ℕ → Column) (i : HashIndex) (b : ℕ) (first by : Node) (h : IsSound cs i) (within : b < i.buckets.len) → get_or (heads_of i) b None ≡ Some first → Holds (rest_of cs i (Some first)) by → Holds (spelled cs i) by
+pub stands_held : (cs : ℕ → Column) (i : HashIndex) (b : ℕ) (first by : Node) (h : IsSound cs i) (within : b < i.chains.len) → get_or (heads_of i) b None ≡ Some first → Holds (rest_of cs i (Some first)) by → Holds (spelled cs i) by
 stands_held cs i b first by h within began stands =
     let f = focus_of cs i (spelled cs i) b within h in
     let k = subst (λ z. Holds z by) (chain_rest cs i b first h within began) stands in
@@ -392,7 +392,7 @@ pub behind_stands : (xs : List Node) (at n : Node) (up : Option Node) → IsBehi
 behind_stands xs at n up h = record { before = h.front; after = h.back; is = h.is }
 
 -- the links of a node that is not there stay
-pub behind_same : (cs : ℕ → Column) (i : HashIndex) (b : ℕ) (first by : Node) (link : Link) (h : IsSound cs i) (within : b < i.buckets.len) → get_or (heads_of i) b None ≡ Some first → Holds (rest_of cs i (Some first)) by → cs i.col by ≡ Some link → (m : Node) → Lacks (spelled cs i) m → (g f e d : Column) → KeepsOtherNodes f g (Some first) → KeepsOtherNodes e f link.b → KeepsOtherNodes d e (Some by) → g m ≡ d m
+pub behind_same : (cs : ℕ → Column) (i : HashIndex) (b : ℕ) (first by : Node) (link : Link) (h : IsSound cs i) (within : b < i.chains.len) → get_or (heads_of i) b None ≡ Some first → Holds (rest_of cs i (Some first)) by → cs i.col by ≡ Some link → (m : Node) → Lacks (spelled cs i) m → (g f e d : Column) → KeepsOtherNodes f g (Some first) → KeepsOtherNodes e f link.b → KeepsOtherNodes d e (Some by) → g m ≡ d m
 behind_same cs i b first by link h within began stands is m lacks g f e d same_up same_prev same_next =
     let at = focus_of cs i (spelled cs i) b within h in
     let k = subst (λ z. Holds z by) (chain_rest cs i b first h within began) stands in
@@ -405,7 +405,7 @@ behind_same cs i b first by link h within began stands is m lacks g f e d same_u
 behind_hangs : (c d e f g : Column) (to : ℕ → ℕ) (b : ℕ) (heads : List (Option Node)) (xs : List Node) (n first by : Node) (hash : ℕ) (after up : Option Node) (us qs : List Node) (at : Focus c to 0 b b heads xs) → IsDistinct xs → Lacks xs n → to hash ≡ b → at.chain ≡ us ++ qs → last_or us None ≡ Some by → first_or us None ≡ Some first → after ≡ first_or qs None → ((m : Node) → up ≡ Some m → (last_or (us ++ n ∷ qs) None ≡ Some m) × Rises (us ++ n ∷ qs))
     → IsPut c d n (record { a = Some by; b = after; up = None; tag = hash; height = 0; digest = no_digest }) → SetsNext (untagged d) (untagged e) (Some by) (Some n) → KeepsOtherNodes d e (Some by) → SetsPrev (untagged e) (untagged f) after (Some n) → KeepsOtherNodes e f after
     → ((m : Node) → untagged g m ≡ untagged f m) → KeepsOtherNodes f g (Some first) → up_at g first ≡ up → KeepsTags d g → Hangs g to 0 (set heads b (Some first)) (at.front ++ ((us ++ n ∷ qs) ++ at.back))
-behind_hangs c d e f g to b heads xs n first by hash after up us qs at dist new bucket is last start near rises put next same_next prev same_prev links same_up up_is tags =
+behind_hangs c d e f g to b heads xs n first by hash after up us qs at dist new chain is last start near rises put next same_next prev same_prev links same_up up_is tags =
     let link : Link = record { a = Some by; b = after; up = None; tag = hash; height = 0; digest = no_digest } in
     let put2 : IsPut (untagged c) (untagged d) n (chain_link (last_or us None) (first_or qs None)) = subst (λ o. IsPut (untagged c) (untagged d) n (chain_link o (first_or qs None))) (sym last) (subst (λ o. IsPut (untagged c) (untagged d) n (chain_link (Some by) o)) near (put_untagged c d n link put)) in
     let next2 = subst (λ o. SetsNext (untagged d) (untagged e) o (Some n)) (sym last) next in
@@ -433,11 +433,11 @@ behind_hangs c d e f g to b heads xs n first by hash after up us qs at dist new 
     (record {
       first = sym begin;
       runs = Runs-same (untagged f) (untagged g) None (us ++ n ∷ qs) None (same_all (untagged f) (untagged g) links (us ++ n ∷ qs)) runs;
-      members = All-join (IsIn g to b) us (n ∷ qs) members.0 (ap (option_map to) (tags n ∙ tag_put c d n link put) ∙ ap Some bucket, members.1);
+      members = All-join (IsIn g to b) us (n ∷ qs) members.0 (ap (option_map to) (tags n ∙ tag_put c d n link put) ∙ ap Some chain, members.1);
       rising = rising_behind g (us ++ n ∷ qs) up rises (λ k z. let both : Some first ≡ Some k = sym begin ∙ z in let same : first ≡ k = cc in subst (λ m. up_at g m ≡ up) same up_is);
     })
 
-module _ (cs ds : ℕ → Column) (d e f : Column) (i j : HashIndex) (n first by : Node) (b hash : ℕ) (link : Link) (up : Option Node) (head : Head) (h : IsSound cs i) (within : b < i.buckets.len) (puts : PutsHead i j b head) (begin : first_in head ≡ Some first) (followed : 128 ≤ head.mark) (len : j.len ≡ i.len + 1) (load : j.len * 4 ≤ j.buckets.len) (new : Lacks (spelled cs i) n) (bucket : b ≡ leads_to i hash)
+module _ (cs ds : ℕ → Column) (d e f : Column) (i j : HashIndex) (n first by : Node) (b hash : ℕ) (link : Link) (up : Option Node) (head : Head) (h : IsSound cs i) (within : b < i.chains.len) (puts : PutsHead i j b head) (begin : first_in head ≡ Some first) (followed : 128 ≤ head.mark) (len : j.len ≡ i.len + 1) (load : j.len * 4 ≤ j.chains.len) (new : Lacks (spelled cs i) n) (chain : b ≡ leads_to i hash)
     (began : get_or (heads_of i) b None ≡ Some first) (place : IsBehind (rest_of cs i (Some first)) by n up) (is : cs i.col by ≡ Some link) (put : IsPut (cs i.col) d n (record { a = Some by; b = link.b; up = None; tag = hash; height = 0; digest = no_digest })) (next : SetsNext (untagged d) (untagged e) (Some by) (Some n)) (same_next : KeepsOtherNodes d e (Some by)) (prev : SetsPrev (untagged e) (untagged f) link.b (Some n)) (same_prev : KeepsOtherNodes e f link.b)
     (links : (m : Node) → untagged (ds i.col) m ≡ untagged f m) (same_up : KeepsOtherNodes f (ds i.col) (Some first)) (up_is : up_at (ds i.col) first ≡ up) (tags : KeepsTags d (ds i.col)) (oldest : 192 ≤ head.mark → IsOldestOf (cs i.col) (spelled cs i) first) (later : tag_at (cs i.col) first ≡ Some hash → number_of first < number_of n) where
   behind_both : IsSound ds j × IsPermutation (n ∷ spelled cs i) (spelled ds j)
@@ -461,7 +461,7 @@ module _ (cs ds : ℕ → Column) (d e f : Column) (i j : HashIndex) (n first by
       let whole : spelled cs i ≡ front ++ back = at.whole ∙ (ap (λ z. at.front ++ (z ++ at.back)) split ∙ (ap (λ z. at.front ++ z) (append_assoc us qs at.back) ∙ sym (append_assoc at.front us back))) in
       let lacks = subst (λ z. Lacks z n) whole new in
       let hangs = hangs_kept ds i j b head ys puts (subst (λ o. Hangs (ds i.col) (leads_to i) 0 (set (heads_of i) b o) ys) (sym begin) (subst (λ z. Hangs (ds i.col) (leads_to i) 0 (set (heads_of i) b (Some first)) z) joins
-      (behind_hangs c d e f (ds i.col) (leads_to i) b (heads_of i) (spelled cs i) n first by hash link.b up us qs at h.distinct new (sym bucket) split last start near.b (λ m e. subst (λ z. (last_or z None ≡ Some m) × Rises z) (sym (append_assoc k.front (by ∷ []) (n ∷ qs))) (k.rises m e)) put next same_next prev same_prev links same_up up_is tags))) in
+      (behind_hangs c d e f (ds i.col) (leads_to i) b (heads_of i) (spelled cs i) n first by hash link.b up us qs at h.distinct new (sym chain) split last start near.b (λ m e. subst (λ z. (last_or z None ≡ Some m) × Rises z) (sym (append_assoc k.front (by ∷ []) (n ∷ qs))) (k.rises m e)) put next same_next prev same_prev links same_up up_is tags))) in
       let are = right_put cs ds i j b head (λ m. m ≢ n) h puts (others_of (spelled cs i) n new)
       (λ q m ne other there.
       same_up m (λ z. ne (one_chain c (leads_to i) b q m (first_has (IsIn c (leads_to i) b) at.chain m at.here.members (sym at.here.first ∙ (began ∙ z))) there))
@@ -473,7 +473,7 @@ module _ (cs ds : ℕ → Column) (d e f : Column) (i j : HashIndex) (n first by
       let held = began_held cs i b first within began h in
       let apart : first ≢ n = held_in (λ m. m ≢ n) (spelled cs i) first (others_of (spelled cs i) n new) held in
       let comes : tag_at (ds i.col) n ≡ tag_at (ds i.col) first → n ≢ first → number_of first < number_of n = λ same ne. later (sym (kept first apart) ∙ (sym same ∙ tag)) in
-      let old = old_put cs ds i j b head n hash front back h puts whole new (sym bucket) tag kept
+      let old = old_put cs ds i j b head n hash front back h puts whole new (sym chain) tag kept
       (λ says m z. let same : first ≡ m = cc in subst (IsOldestOf (ds i.col) ys) same (old_more c (ds i.col) front n back first kept apart lacks comes (subst (λ y. IsOldestOf c y first) whole (oldest says)))) in
       let dist = Distinct-insert front n back (subst IsDistinct whole h.distinct) lacks in
       let s = Spells_from ds j ys hangs dist (len ∙ (ap (λ q. q + 1) (h.len ∙ ap length whole) ∙ length-insert front n back)) load are old in

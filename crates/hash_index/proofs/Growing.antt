@@ -1,4 +1,4 @@
--- One bucket more, with the nodes that go there.
+-- One chain more, with the nodes that go there.
 use Rattle.std.proofs.Common.{◌≡◌, ◌≢◌, ℕ, Bool, true, false, cond, not, ◌+◌, ◌-◌, ◌*◌, ◌%◌, ◌<◌, ◌≤◌, List, [], ◌∷◌, ◌++◌, length, map, get_or, set, Option, Some, None, refl, sym, ap, ◌∙◌, subst, arith, append_assoc, ⊎_elim}
 use Rattle.std.specs.Prelude.{filter, IsPermutation, ◌==◌}
 use Rattle.std.specs.List.{AllByRecursion}
@@ -19,7 +19,7 @@ use Rattle.hash_index.specs.declared.HashIndex.{HashIndex}
 use Rattle.hash_index.specs.declared.chain.Chain.{Chain}
 use Rattle.hash_index.specs.declared.head.Head.{Head}
 use Rattle.hash_index.specs.Heads.{first_in, IsRight, AreRight}
-use Rattle.hash_index.specs.Buckets.{bucket_of}
+use Rattle.hash_index.specs.LinearHashing.{chain_of}
 use Rattle.hash_index.specs.Oldest.{IsOldestOf, IsOldest, AreOldest}
 use Rattle.hash_index.proofs.Oldest.{old_tags, old_cut, oldest_set}
 use Rattle.hash_index.specs.Chains.{tag_at, leads, members, IsIn, IsChain, AreChains, joined, KeepsTags}
@@ -29,24 +29,24 @@ use Rattle.hash_index.specs.Walks.{rest_of}
 use Rattle.hash_index.specs.Split.{Builds, IsSame, goes, left, taken}
 use Rattle.hash_index.proofs.Untagged.{leads_tag, leads_there, leads_elsewhere, in_tag}
 use Rattle.hash_index.proofs.Heads.{lacks_other, right_set}
-use Rattle.hash_index.proofs.OneBucket.{chains_same, Hangs, Focus, IsElsewhere, KeepsOtherBuckets}
+use Rattle.hash_index.proofs.OneChain.{chains_same, Hangs, Focus, IsElsewhere, KeepsOtherChains}
 use Rattle.hash_index.proofs.Levels.{goes as goes_there, went, stays, leads_within}
 use Rattle.hash_index.proofs.Spelling.{Spells_from, IsSound_from, spelled_is, hangs_of, heads_count, Spells_nodes, focus_of, rest_is, none_long, empty_sound}
 use Rattle.hash_index.proofs.Matching.{filter_none, filter_middle}
 use Rattle.hash_index.proofs.Changes.{apart_of}
 use Rattle.hash_index.proofs.Cutting.{Distinct_filter, filters_apart, never_both}
 
--- ---- an index with the same buckets
+-- ---- an index with the same chains
 
 pub same_spells : (cs : ℕ → Column) (i j : HashIndex) (xs : List Node) → IsSame i j → Spells cs i xs → Spells cs j xs
 same_spells cs i j xs same h =
     let k = hangs_of cs i xs h in
     let into = chains_same (cs i.col) (cs i.col) (leads_to i) (leads_to j) 0 (λ b le hash e. same.leads hash ∙ e) (heads_of i) k.chains (IsSameAt-refl (cs i.col) (joined k.chains)) k.are in
     let hangs : Hangs (cs i.col) (leads_to j) 0 (heads_of i) xs = record { chains = k.chains; are = into; whole = k.whole } in
-    Spells_from cs j xs (subst (λ b. Hangs (cs b) (leads_to j) 0 (heads_of j) xs) (sym same.col) (subst (λ z. Hangs (cs i.col) (leads_to j) 0 z xs) (sym (ap (map first_in) same.buckets)) hangs))
-    h.distinct (same.len ∙ h.len) (omega (arith, same.len, h.load, i.buckets.ok, j.buckets.ok, ap length same.buckets))
-    (subst (λ b. AreRight (cs b) (all_of j)) (sym same.col) (subst (AreRight (cs i.col)) (sym same.buckets) h.right))
-    (subst (λ b. AreOldest (cs b) xs (all_of j)) (sym same.col) (subst (AreOldest (cs i.col) xs) (sym same.buckets) h.oldest))
+    Spells_from cs j xs (subst (λ b. Hangs (cs b) (leads_to j) 0 (heads_of j) xs) (sym same.col) (subst (λ z. Hangs (cs i.col) (leads_to j) 0 z xs) (sym (ap (map first_in) same.chains)) hangs))
+    h.distinct (same.len ∙ h.len) (omega (arith, same.len, h.load, i.chains.ok, j.chains.ok, ap length same.chains))
+    (subst (λ b. AreRight (cs b) (all_of j)) (sym same.col) (subst (AreRight (cs i.col)) (sym same.chains) h.right))
+    (subst (λ b. AreOldest (cs b) xs (all_of j)) (sym same.col) (subst (AreOldest (cs i.col) xs) (sym same.chains) h.oldest))
 
 pub same_sound : (cs : ℕ → Column) (i j : HashIndex) → IsSame i j → IsSound cs i → IsSound cs j
 same_sound cs i j same h = IsSound_from cs j (spelled cs i) (same_spells cs i j (spelled cs i) same h)
@@ -54,10 +54,10 @@ same_sound cs i j same h = IsSound_from cs j (spelled cs i) (same_spells cs i j 
 pub same_spelled : (cs : ℕ → Column) (i j : HashIndex) → IsSame i j → IsSound cs i → spelled cs j ≡ spelled cs i
 same_spelled cs i j same h = spelled_is cs j (spelled cs i) (same_spells cs i j (spelled cs i) same h)
 
--- the first bucket of all
-pub first_bucket : (cs : ℕ → Column) (i j : HashIndex) (first : Head) → i.buckets.len ≡ 0 → first_in first ≡ None → all_of j ≡ all_of i ++ first ∷ [] → j.len ≡ 0 → IsSound cs j
-first_bucket cs i j first none empty items len =
-    let one = ap (λ z. z ++ first ∷ []) (none_long (all_of i) (omega (arith, i.buckets.ok, none))) in
+-- the first chain of all
+pub first_chain : (cs : ℕ → Column) (i j : HashIndex) (first : Head) → i.chains.len ≡ 0 → first_in first ≡ None → all_of j ≡ all_of i ++ first ∷ [] → j.len ≡ 0 → IsSound cs j
+first_chain cs i j first none empty items len =
+    let one = ap (λ z. z ++ first ∷ []) (none_long (all_of i) (omega (arith, i.chains.ok, none))) in
     empty_sound cs j (subst (λ hs. AllByRecursion (λ o. o ≡ None) (map first_in hs)) (sym (items ∙ one)) (empty, tt)) len
 
 -- ---- a chain behind the others
@@ -174,7 +174,7 @@ module _ (c : Column) (before after : ℕ → ℕ) (comes : (hash : ℕ) → bef
       sym (members_tags c d after b new tags) ∙ (second ∙ (members_tags c d after b mid tags
       ∙ (sym (members_finer mid) ∙ (ap (members c after b) first ∙ members_finer old))))
 
--- ---- an index with one bucket more
+-- ---- an index with one chain more
 
 -- the heads of its chains, by those of the two that another became
 pub record CutsHeads (i j : HashIndex) (from : ℕ) (stay moved : Option Node) : Type 0 where
@@ -190,30 +190,30 @@ cut_firsts i j from stay moved cuts =
     ∙ (ap (λ z. z ++ first_in cuts.goes ∷ []) (map-set first_in (all_of i) from cuts.stays)
     ∙ (ap (λ o. set (heads_of i) from o ++ first_in cuts.goes ∷ []) cuts.stay_is ∙ ap (λ o. set (heads_of i) from stay ++ o ∷ []) cuts.moved_is)))
 
-module _ (i j : HashIndex) (level : j.level ≡ i.level) (count : j.buckets.len ≡ i.buckets.len + 1) (some : 0 < i.buckets.len) where
-  into_is : (hash : ℕ) → leads_to j hash ≡ bucket_of i.level (i.buckets.len + 1) hash
-  into_is hash = ap (λ l. bucket_of l (j.buckets.len) hash) level ∙ ap (λ k. bucket_of i.level k hash) count
+module _ (i j : HashIndex) (level : j.level ≡ i.level) (count : j.chains.len ≡ i.chains.len + 1) (some : 0 < i.chains.len) where
+  into_is : (hash : ℕ) → leads_to j hash ≡ chain_of i.level (i.chains.len + 1) hash
+  into_is hash = ap (λ l. chain_of l (j.chains.len) hash) level ∙ ap (λ k. chain_of i.level k hash) count
 
-  into_goes : (hash : ℕ) → hash % (i.level * 2) ≡ i.buckets.len → leads_to j hash ≡ i.buckets.len
-  into_goes hash e = into_is hash ∙ goes_there i.level i.buckets.len hash e
+  into_goes : (hash : ℕ) → hash % (i.level * 2) ≡ i.chains.len → leads_to j hash ≡ i.chains.len
+  into_goes hash e = into_is hash ∙ goes_there i.level i.chains.len hash e
 
-  into_stays : (hash : ℕ) → hash % (i.level * 2) ≢ i.buckets.len → leads_to j hash ≡ leads_to i hash
-  into_stays hash ne = into_is hash ∙ stays i.level i.buckets.len hash ne
+  into_stays : (hash : ℕ) → hash % (i.level * 2) ≢ i.chains.len → leads_to j hash ≡ leads_to i hash
+  into_stays hash ne = into_is hash ∙ stays i.level i.chains.len hash ne
 
-  from_goes : (hash : ℕ) → hash % (i.level * 2) ≡ i.buckets.len → leads_to i hash ≡ i.buckets.len - i.level
-  from_goes hash e = let le : i.level ≤ i.buckets.len = omega (arith, i.reached, some) in went i.level i.buckets.len hash i.some_level le e
+  from_goes : (hash : ℕ) → hash % (i.level * 2) ≡ i.chains.len → leads_to i hash ≡ i.chains.len - i.level
+  from_goes hash e = let le : i.level ≤ i.chains.len = omega (arith, i.reached, some) in went i.level i.chains.len hash i.some_level le e
 
-  others_stay : KeepsOtherBuckets (leads_to i) (leads_to j) (i.buckets.len - i.level)
+  others_stay : KeepsOtherChains (leads_to i) (leads_to j) (i.chains.len - i.level)
   others_stay hash ne = into_stays hash (λ e. ne (from_goes hash e))
 
-  -- the new bucket is the one that no hash led to
-  goes_only : (hash : ℕ) → leads_to j hash ≡ i.buckets.len → hash % (i.level * 2) ≢ i.buckets.len → ⊥
+  -- the new chain is the one that no hash led to
+  goes_only : (hash : ℕ) → leads_to j hash ≡ i.chains.len → hash % (i.level * 2) ≢ i.chains.len → ⊥
   goes_only hash e ne =
       let lt = leads_within i hash some in
-      let bad : leads_to i hash ≡ i.buckets.len = sym (into_stays hash ne) ∙ e in
+      let bad : leads_to i hash ≡ i.chains.len = sym (into_stays hash ne) ∙ e in
       omega (arith, lt, bad)
 
-  module _ (cs ds : ℕ → Column) (stay moved : Chain) (head : Option Node) (from : ℕ) (h : IsSound cs i) (from_is : from ≡ i.buckets.len - i.level) (at : head ≡ get_or (heads_of i) from None)
+  module _ (cs ds : ℕ → Column) (stay moved : Chain) (head : Option Node) (from : ℕ) (h : IsSound cs i) (from_is : from ≡ i.chains.len - i.level) (at : head ≡ get_or (heads_of i) from None)
       (stay_is : Builds (ds i.col) stay (left (cs i.col) i (rest_of cs i head))) (moved_is : Builds (ds i.col) moved (taken (cs i.col) i (rest_of cs i head))) (stay_rising : IsRising (ds i.col) (left (cs i.col) i (rest_of cs i head))) (moved_rising : IsRising (ds i.col) (taken (cs i.col) i (rest_of cs i head))) (tags : KeepsTags (cs i.col) (ds i.col)) (same : (m : Node) → Lacks (rest_of cs i head) m → ds i.col m ≡ cs i.col m)
       (col : j.col ≡ i.col) (len : j.len ≡ i.len) (cuts : CutsHeads i j from stay.first moved.first) (stay_right : IsRight (ds i.col) cuts.stays) (moved_right : IsRight (ds i.col) cuts.goes)
       (stay_old : 192 ≤ cuts.stays.mark → (n : Node) → first_in cuts.stays ≡ Some n → IsOldestOf (cs i.col) (spelled cs i) n) (moved_old : 192 ≤ cuts.goes.mark → (n : Node) → first_in cuts.goes ≡ Some n → IsOldestOf (cs i.col) (spelled cs i) n) where
@@ -224,7 +224,7 @@ module _ (i j : HashIndex) (level : j.level ≡ i.level) (count : j.buckets.len 
     d = ds i.col
 
     abbrev last : ℕ
-    last = i.buckets.len
+    last = i.chains.len
 
     abbrev remainder : ℕ → ℕ
     remainder hash = hash % (i.level * 2)
@@ -238,7 +238,7 @@ module _ (i j : HashIndex) (level : j.level ≡ i.level) (count : j.buckets.len 
     stays_in : (n : Node) → IsIn c (leads_to i) from n → not (goes c i n) ≡ true → IsIn d (leads_to j) from n
     stays_in n inside kept =
         let t = in_tag c (leads_to i) from n inside in
-        let ne : t.0 % (i.level * 2) ≢ i.buckets.len = λ e. never_both (goes c i) n (leads_there c remainder last n t.0 t.1.0 e) kept in
+        let ne : t.0 % (i.level * 2) ≢ i.chains.len = λ e. never_both (goes c i) n (leads_there c remainder last n t.0 t.1.0 e) kept in
         ap (option_map (leads_to j)) (tags n ∙ t.1.0) ∙ ap Some (into_stays t.0 ne ∙ t.1.1)
 
     goes_in : (n : Node) → goes c i n ≡ true → IsIn d (leads_to j) last n
@@ -275,7 +275,7 @@ module _ (i j : HashIndex) (level : j.level ≡ i.level) (count : j.buckets.len 
     grown_hangs : Hangs d (leads_to j) 0 (set (heads_of i) from stay.first ++ moved.first ∷ []) new_list
     grown_hangs =
         let a = apart_of focused.front focused.chain focused.back (subst IsDistinct focused.whole h.distinct) in
-        let keeps = subst (KeepsOtherBuckets (leads_to i) (leads_to j)) (sym from_is) others_stay in
+        let keeps = subst (KeepsOtherChains (leads_to i) (leads_to j)) (sym from_is) others_stay in
         let one = focused.with_chain d (leads_to j) keeps stay.first (left c i focused.chain) (same_apart focused.front (AreApart-sym focused.chain focused.front a.before)) (same_apart focused.back (AreApart-sym focused.chain focused.back a.after)) stay_chain in
         let place : last ≡ length (set (heads_of i) from stay.first) = omega (arith, heads_count i, length-set (heads_of i) from stay.first) in
         hangs_last d (leads_to j) (set (heads_of i) from stay.first) (focused.front ++ (left c i focused.chain ++ focused.back)) moved.first (taken c i focused.chain) (subst (λ b. IsChain d (leads_to j) b moved.first (taken c i focused.chain)) place moved_chain) one
@@ -315,10 +315,10 @@ module _ (i j : HashIndex) (level : j.level ≡ i.level) (count : j.buckets.len 
 
     -- ---- order
 
-    gone_hash : (n : Node) → leads c (leads_to j) last n ≡ true → (hash : ℕ) × ((tag_at c n ≡ Some hash) × (hash % (i.level * 2) ≡ i.buckets.len))
+    gone_hash : (n : Node) → leads c (leads_to j) last n ≡ true → (hash : ℕ) × ((tag_at c n ≡ Some hash) × (hash % (i.level * 2) ≡ i.chains.len))
     gone_hash n there =
         let t = leads_tag c (leads_to j) last n there in
-        ⊎_elim (λ (e : t.0 % (i.level * 2) ≡ i.buckets.len). (t.0, (t.1.0, e))) (λ (ne : t.0 % (i.level * 2) ≢ i.buckets.len). absurd (goes_only t.0 t.1.1 ne)) (cases_eq (t.0 % (i.level * 2)) i.buckets.len)
+        ⊎_elim (λ (e : t.0 % (i.level * 2) ≡ i.chains.len). (t.0, (t.1.0, e))) (λ (ne : t.0 % (i.level * 2) ≢ i.chains.len). absurd (goes_only t.0 t.1.1 ne)) (cases_eq (t.0 % (i.level * 2)) i.chains.len)
 
     order_gone : members c (leads_to j) last new_list ≡ members c (leads_to j) last (focused.front ++ (focused.chain ++ focused.back))
     order_gone =

@@ -1,4 +1,4 @@
--- Buckets in segments: where each stands, and what changes one, adds one or adds a segment.
+-- Chains in segments: where each stands, and what changes one, adds one or adds a segment.
 use Rattle.std.proofs.Common.{◌≡◌, ◌⊎◌, inl, inr, ℕ, zero, suc, ◌+◌, ◌-◌, ◌*◌, ◌<◌, ◌≤◌, List, [], ◌∷◌, ◌++◌, length, get_or, set, Some, refl, sym, ap, ◌∙◌, subst, arith, append_assoc, length-append}
 use Rattle.std.specs.List.{slice_get}
 use Rattle.std.proofs.lemmas.List.{append-nil, set-append_left, set-append_right}
@@ -96,7 +96,7 @@ module _ (ss : List Segment) (k j b : ℕ) (p : Part ss k j b) (s : Segment) (le
   pub put_spare : spare (set ss k s) ≡ spare ss
   put_spare = ap spare (part_put ss k j b p s) ∙ (swapped_spare p.front p.segment s p.back len cap ∙ ap spare (sym p.whole))
 
--- ---- one bucket more in the last segment
+-- ---- one chain more in the last segment
 
 pub spare_more : (ss : List Segment) (new : Segment) → spare (ss ++ new ∷ []) ≡ capacity_of new - length (items_of new)
 spare_more [] new = refl

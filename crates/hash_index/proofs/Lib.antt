@@ -6,7 +6,7 @@ pub mod Untagged
 pub mod Heads
 pub mod Oldest
 pub mod Rising
-pub mod OneBucket
+pub mod OneChain
 pub mod Spelling
 pub mod Changes
 pub mod Matching

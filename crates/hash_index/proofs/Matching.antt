@@ -30,7 +30,7 @@ use Rattle.hash_index.specs.Spelled.{spelled, Holds}
 use Rattle.hash_index.specs.Hashed.{IsHashed, KeepsHash, side_of, matches, others}
 use Rattle.hash_index.specs.Walks.{Leads, rest_of, Ends, HasHash}
 use Rattle.hash_index.proofs.Untagged.{tagged_node, tag_is}
-use Rattle.hash_index.proofs.OneBucket.{follow_leads, length-follow, leads_past}
+use Rattle.hash_index.proofs.OneChain.{follow_leads, length-follow, leads_past}
 
 -- ---- one step of a walk
 

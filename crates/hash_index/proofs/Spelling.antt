@@ -1,4 +1,4 @@
--- What an index spells, by its buckets.
+-- What an index spells, by its chains.
 use Rattle.std.proofs.Common.{◌≡◌, ◌≢◌, ℕ, zero, suc, Bool, true, false, cond, not, ◌&&◌, ◌==◌, ◌+◌, ◌*◌, ◌/◌, ◌^◌, ◌<◌, ◌≤◌, List, [], ◌∷◌, ◌++◌, length, map, get_or, drop, Option, Some, None, option_and_then, refl, sym, ap, ◌∙◌, subst, arith, append_assoc, length-append}
 use Rattle.std.specs.List.{AllByRecursion, slice_get}
 use Rattle.std.proofs.lemmas.List.{length-map}
@@ -32,10 +32,10 @@ use Rattle.hash_index.specs.Walks.{Leads, rest_of, Ends, HasHash}
 use Rattle.hash_index.proofs.Levels.{leads_within}
 use Rattle.hash_index.proofs.Untagged.{tag_is, tagged_node}
 use Rattle.hash_index.proofs.Heads.{same_of, slice_first, right_at, right_kept, all_none}
-use Rattle.hash_index.proofs.OneBucket.{Hangs, Focus, IsElsewhere, focus, chains_are, chains_same, chains_nodes, heads_first, follow_leads, leads_runs}
+use Rattle.hash_index.proofs.OneChain.{Hangs, Focus, IsElsewhere, focus, chains_are, chains_same, chains_nodes, heads_first, follow_leads, leads_runs}
 
--- an index whose buckets hold these nodes spells them
-pub Spells_from : (cs : ℕ → Column) (i : HashIndex) (xs : List Node) → Hangs (cs i.col) (leads_to i) 0 (heads_of i) xs → IsDistinct xs → i.len ≡ length xs → i.len * 4 ≤ i.buckets.len → AreRight (cs i.col) (all_of i) → AreOldest (cs i.col) xs (all_of i) → Spells cs i xs
+-- an index whose chains hold these nodes spells them
+pub Spells_from : (cs : ℕ → Column) (i : HashIndex) (xs : List Node) → Hangs (cs i.col) (leads_to i) 0 (heads_of i) xs → IsDistinct xs → i.len ≡ length xs → i.len * 4 ≤ i.chains.len → AreRight (cs i.col) (all_of i) → AreOldest (cs i.col) xs (all_of i) → Spells cs i xs
 unfolding spelled
 Spells_from cs i xs h dist len load right oldest =
     let fits : length (joined h.chains) ≤ i.len = omega (arith, len, ap length h.whole) in
@@ -58,10 +58,10 @@ pub hangs_focus : (c : Column) (to : ℕ → ℕ) (b : ℕ) (heads : List (Optio
 hangs_focus c to b heads xs lt h = subst (λ z. Focus c to 0 b b heads z) h.whole (focus c to b heads h.chains lt h.are)
 
 -- there are as many heads as chains
-pub heads_count : (i : HashIndex) → length (heads_of i) ≡ i.buckets.len
-heads_count i = length-map (all_of i) first_in ∙ sym i.buckets.ok
+pub heads_count : (i : HashIndex) → length (heads_of i) ≡ i.chains.len
+heads_count i = length-map (all_of i) first_in ∙ sym i.chains.ok
 
-pub focus_of : (cs : ℕ → Column) (i : HashIndex) (xs : List Node) (b : ℕ) → b < i.buckets.len → Spells cs i xs → Focus (cs i.col) (leads_to i) 0 b b (heads_of i) xs
+pub focus_of : (cs : ℕ → Column) (i : HashIndex) (xs : List Node) (b : ℕ) → b < i.chains.len → Spells cs i xs → Focus (cs i.col) (leads_to i) 0 b b (heads_of i) xs
 focus_of cs i xs b lt h = hangs_focus (cs i.col) (leads_to i) b (heads_of i) xs (omega (arith, heads_count i, lt)) (hangs_of cs i xs h)
 
 pub spelled_is : (cs : ℕ → Column) (i : HashIndex) (xs : List Node) → Spells cs i xs → spelled cs i ≡ xs
@@ -128,7 +128,7 @@ holds_front P (x ∷ xs) ys n all apart h = front_by x xs ys n h.before h.after 
 pub holds_middle : (P : Node → Type 0) (xs ys zs : List Node) (n : Node) → AllByRecursion P xs → AllByRecursion P zs → (P n → ⊥) → Holds (xs ++ (ys ++ zs)) n → Holds ys n
 holds_middle P xs ys zs n before after apart h = holds_front P ys zs n after apart (holds_past P xs (ys ++ zs) n before apart h)
 
--- a node of the bucket stands in its chain
+-- a node of the chain stands in it
 pub held_chain : (c : Column) (to : ℕ → ℕ) (k j b : ℕ) (heads : List (Option Node)) (xs : List Node) (n : Node) (f : Focus c to k j b heads xs) → IsIn c to b n → Holds xs n → Holds f.chain n
 held_chain c to k j b heads xs n f is h =
     holds_middle (IsElsewhere c to b) f.front f.chain f.back n f.before f.after (λ e. e is) (subst (λ z. Holds z n) f.whole h)
@@ -136,7 +136,7 @@ held_chain c to k j b heads xs n f is h =
 pub is_in : (c : Column) (to : ℕ → ℕ) (n : Node) (link : Link) → c n ≡ Some link → IsIn c to (to link.tag) n
 is_in c to n link is = ap (option_map to) (tag_is c n link is)
 
--- the list at a node of one bucket
+-- the list at a node of one chain
 pub split_at : (xs front chain back ps : List Node) (n : Node) (qs : List Node) → xs ≡ front ++ (chain ++ back) → chain ≡ ps ++ n ∷ qs → xs ≡ (front ++ ps) ++ n ∷ (qs ++ back)
 split_at xs front chain back ps n qs whole is =
     whole ∙ (ap (λ z. front ++ (z ++ back)) is ∙ (ap (λ z. front ++ z) (append_assoc ps (n ∷ qs) back) ∙ sym (append_assoc front ps (n ∷ (qs ++ back)))))
@@ -147,9 +147,9 @@ held_node cs i xs n h k = nodes_at (cs i.col) k.before n k.after (subst (λ z. A
 pub some_node : (cs : ℕ → Column) (i : HashIndex) (xs : List Node) (n : Node) → Spells cs i xs → Holds xs n → 0 < i.len
 some_node cs i xs n h k = omega (arith, h.len, ap length k.is, length-append k.before (n ∷ k.after))
 
--- an index that has a node has a bucket
-pub some_bucket : (cs : ℕ → Column) (i : HashIndex) (xs : List Node) (n : Node) → Spells cs i xs → Holds xs n → 0 < i.buckets.len
-some_bucket cs i xs n h k = omega (arith, h.len, h.load, ap length k.is, length-append k.before (n ∷ k.after))
+-- an index that has a node has a chain
+pub some_chain : (cs : ℕ → Column) (i : HashIndex) (xs : List Node) (n : Node) → Spells cs i xs → Holds xs n → 0 < i.chains.len
+some_chain cs i xs n h k = omega (arith, h.len, h.load, ap length k.is, length-append k.before (n ∷ k.after))
 
 pub first_spelled : (cs : ℕ → Column) (i : HashIndex) → IsSound cs i → first_head (heads_of i) ≡ first_or (spelled cs i) None
 first_spelled cs i h =
@@ -183,7 +183,7 @@ pub record HasNeighbours (c : Column) (link : Link) : Type 0 where
 
 pub has_neighbours : (cs : ℕ → Column) (i : HashIndex) (xs : List Node) (n : Node) (link : Link) → Spells cs i xs → Holds xs n → cs i.col n ≡ Some link → HasNeighbours (cs i.col) link
 has_neighbours cs i xs n link h k is =
-    let f = focus_of cs i xs (leads_to i link.tag) (leads_within i link.tag (some_bucket cs i xs n h k)) h in
+    let f = focus_of cs i xs (leads_to i link.tag) (leads_within i link.tag (some_chain cs i xs n h k)) h in
     let held = held_chain (cs i.col) (leads_to i) 0 (leads_to i link.tag) (leads_to i link.tag) (heads_of i) xs n f (is_in (cs i.col) (leads_to i) n link is) k in
     let runs = subst (λ z. Runs (untagged (cs i.col)) None z None) held.is f.here.runs in
     let near = neighbours (cs i.col) held.before n held.after link runs is in
@@ -206,7 +206,7 @@ pub record After (to : ℕ → ℕ) (heads : List (Option Node)) (link : Link) (
   pub some : (m : Node) → link.b ≡ Some m → Some m ≡ first_or ys None
   pub none : link.b ≡ None → first_head (drop (to link.tag + 1) heads) ≡ first_or ys None
 
-pub after_node : (cs : ℕ → Column) (i : HashIndex) (xs : List Node) (n : Node) (ys : List Node) (link : Link) → leads_to i link.tag < i.buckets.len → Spells cs i (xs ++ n ∷ ys) → cs i.col n ≡ Some link → After (leads_to i) (heads_of i) link ys
+pub after_node : (cs : ℕ → Column) (i : HashIndex) (xs : List Node) (n : Node) (ys : List Node) (link : Link) → leads_to i link.tag < i.chains.len → Spells cs i (xs ++ n ∷ ys) → cs i.col n ≡ Some link → After (leads_to i) (heads_of i) link ys
 after_node cs i xs n ys link lt h is =
     let f = focus_of cs i (xs ++ n ∷ ys) (leads_to i link.tag) lt h in
     let held = held_chain (cs i.col) (leads_to i) 0 (leads_to i link.tag) (leads_to i link.tag) (heads_of i) (xs ++ n ∷ ys) n f (is_in (cs i.col) (leads_to i) n link is) (record { before = xs; after = ys; is = refl }) in
@@ -227,8 +227,8 @@ rest_is cs i xs b f len =
     let fits : length f.chain ≤ i.len = omega (arith, len, ap length f.whole, length-append f.front (f.chain ++ f.back), length-append f.chain f.back) in
     (leads, follow_leads (untagged (cs i.col)) (get_or (heads_of i) b None) f.chain i.len fits leads)
 
--- from a bucket's first node there is a chain of distinct nodes
-pub head_ends : (cs : ℕ → Column) (i : HashIndex) (b : ℕ) (head : Option Node) → b < i.buckets.len → head ≡ get_or (heads_of i) b None → IsSound cs i → Ends cs i head × IsDistinct (rest_of cs i head)
+-- from a chain's first node there is a run of distinct nodes
+pub head_ends : (cs : ℕ → Column) (i : HashIndex) (b : ℕ) (head : Option Node) → b < i.chains.len → head ≡ get_or (heads_of i) b None → IsSound cs i → Ends cs i head × IsDistinct (rest_of cs i head)
 head_ends cs i b head lt at h =
     let f = focus_of cs i (spelled cs i) b lt h in
     let r = rest_is cs i (spelled cs i) b f h.len in
@@ -237,13 +237,13 @@ head_ends cs i b head lt at h =
     (subst (Ends cs i) (sym at) ends, subst IsDistinct (sym (ap (λ o. rest_of cs i o) at ∙ r.1)) (IsDistinct-parts f.chain f.back back.back).front)
 
 -- which runs to and fro, and rises where its first node says so
-pub head_runs : (cs : ℕ → Column) (i : HashIndex) (b : ℕ) (head : Option Node) → b < i.buckets.len → head ≡ get_or (heads_of i) b None → IsSound cs i → Runs (untagged (cs i.col)) None (rest_of cs i head) None × IsRising (cs i.col) (rest_of cs i head)
+pub head_runs : (cs : ℕ → Column) (i : HashIndex) (b : ℕ) (head : Option Node) → b < i.chains.len → head ≡ get_or (heads_of i) b None → IsSound cs i → Runs (untagged (cs i.col)) None (rest_of cs i head) None × IsRising (cs i.col) (rest_of cs i head)
 head_runs cs i b head lt at h =
     let f = focus_of cs i (spelled cs i) b lt h in
     let e = sym (ap (λ o. rest_of cs i o) at ∙ (rest_is cs i (spelled cs i) b f h.len).1) in
     (subst (λ z. Runs (untagged (cs i.col)) None z None) e f.here.runs, subst (λ z. IsRising (cs i.col) z) e f.here.rising)
 
-pub has_hash : (cs : ℕ → Column) (i : HashIndex) (hash : ℕ) (head : Option Node) → leads_to i hash < i.buckets.len → head ≡ get_or (heads_of i) (leads_to i hash) None → IsSound cs i → HasHash cs i hash head
+pub has_hash : (cs : ℕ → Column) (i : HashIndex) (hash : ℕ) (head : Option Node) → leads_to i hash < i.chains.len → head ≡ get_or (heads_of i) (leads_to i hash) None → IsSound cs i → HasHash cs i hash head
 has_hash cs i hash head lt at h =
     let to = leads_to i in
     let f = focus_of cs i (spelled cs i) (leads_to i hash) lt h in
@@ -307,8 +307,8 @@ chains_end cs i k [] h = tt
 chains_end cs i k (head ∷ heads) h =
     (subst (λ o. Leads (untagged (cs i.col)) o (rest_of cs i head)) (sym h.0.first) (leads_runs (cs i.col) None (rest_of cs i head) h.0.runs), chains_end cs i (k + 1) heads h.1)
 
--- an index of no buckets has no node
-pub has_none : (cs : ℕ → Column) (i : HashIndex) (hash : ℕ) → i.buckets.len ≡ 0 → IsSound cs i → HasHash cs i hash None
+-- an index of no chains has no node
+pub has_none : (cs : ℕ → Column) (i : HashIndex) (hash : ℕ) → i.chains.len ≡ 0 → IsSound cs i → HasHash cs i hash None
 has_none cs i hash none h =
     let rest = none_rest cs i in
     record {
@@ -327,10 +327,10 @@ past (h ∷ hs) (suc k) e = let le = past hs k e in omega (arith, le)
 
 start_of : (cs : ℕ → Column) (i : HashIndex) (hash : ℕ) (at : Option Head) → slice_get (all_of i) (leads_to i hash) ≡ at → IsSound cs i → HasHash cs i hash (option_and_then (start_in hash) at)
 start_of cs i hash None e h =
-    let none : ¬ (0 < i.buckets.len) = λ some. omega (arith, past (all_of i) (leads_to i hash) e, leads_within i hash some, i.buckets.ok) in
+    let none : ¬ (0 < i.chains.len) = λ some. omega (arith, past (all_of i) (leads_to i hash) e, leads_within i hash some, i.chains.ok) in
     has_none cs i hash (omega (arith, none)) h
 start_of cs i hash (Some head) e h =
-    let lt : leads_to i hash < i.buckets.len = omega (arith, slice_get_within (all_of i) (leads_to i hash) head e, i.buckets.ok) in
+    let lt : leads_to i hash < i.chains.len = omega (arith, slice_get_within (all_of i) (leads_to i hash) head e, i.chains.ok) in
     let whole = has_hash cs i hash (first_in head) lt (slice_first (heads_of i) (all_of i) (leads_to i hash) refl head e) h in
     start_at cs i hash head (nat_lt head.mark 128) (not (head.mark == hash / 2 ^ 58 + 64)) refl refl (right_at (cs i.col) (all_of i) (leads_to i hash) head h.right e) whole
 

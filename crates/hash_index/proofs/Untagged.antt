@@ -57,7 +57,7 @@ pub prev_untagged : (c d : Column) (m : Node) (link : Link) (prev : Option Node)
 prev_untagged c d m link prev is put =
     SetsPrev-some (untagged c) (untagged d) m (untagged_link link) prev (ap (option_map untagged_link) is) (put_untagged c d m (record link { a = prev }) put)
 
--- ---- the bucket that a tag leads to
+-- ---- the chain that a tag leads to
 
 some_tag : (to : ℕ → ℕ) (b : ℕ) (o : Option ℕ) → option_map_or (λ hash. to hash == b) o false ≡ true → (hash : ℕ) × ((o ≡ Some hash) × (to hash ≡ b))
 some_tag to b None e = cc

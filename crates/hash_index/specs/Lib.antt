@@ -1,7 +1,7 @@
 pub mod Mask
 pub mod Heads
 pub mod Segments
-pub mod Buckets
+pub mod LinearHashing
 pub mod Rising
 pub mod Chains
 pub mod Oldest

@@ -1,4 +1,4 @@
--- Numbers of buckets by which a mask takes the remainder: the powers of two, and 0.
+-- Numbers of chains by which a mask takes the remainder: the powers of two, and 0.
 use Rattle.std.specs.Prelude.{◌≡◌, ℕ, ◌-◌, ◌<◌, ◌%◌}
 use Rattle.std.specs.Int.Bits.{bit_and}
 use Rattle.std.specs.Coded.{coded_ℕ}

@@ -44,8 +44,8 @@ spare (s ∷ []) = capacity_of s - length (items_of s)
 spare (s ∷ (t ∷ ss)) = spare (t ∷ ss)
 
 -- where each segment is of size 512, the chain stands at this place of this segment
-pub record IsAt (bucket segment place : ℕ) : Type 0 where
-  pub at : bucket ≡ 512 * segment + place
+pub record IsAt (chain segment place : ℕ) : Type 0 where
+  pub at : chain ≡ 512 * segment + place
   pub within : place < 512
 
 pub AreSegments_prop : (size : ℕ) (ss : List Segment) → IsProp (AreSegments size ss)

@@ -1,4 +1,4 @@
--- The nodes that a hashed index has, bucket by bucket.
+-- The nodes that a hashed index has, chain by chain.
 use Rattle.std.specs.Prelude.{◌≡◌, ℕ, ◌+◌, ◌*◌, ◌/◌, ◌≤◌, List, length, map, Option, if◌then◌else◌, nat_lt}
 use Rattle.node_store.specs.declared.Node.{Node}
 use Rattle.node_store.specs.Column.{Column}
@@ -12,7 +12,7 @@ use Rattle.hash_index.specs.declared.head.Head.{Head}
 use Rattle.hash_index.specs.Segments.{all_in, heads_in}
 use Rattle.hash_index.specs.Heads.{AreRight}
 use Rattle.hash_index.specs.Oldest.{AreOldest}
-use Rattle.hash_index.specs.Buckets.{bucket_of}
+use Rattle.hash_index.specs.LinearHashing.{chain_of}
 use Rattle.hash_index.specs.Chains.{AreChains, joined, untagged}
 
 -- the column that the index uses
@@ -25,15 +25,15 @@ index_of i = i.index
 
 -- the head of each chain
 abbrev pub all_of : HashIndex → List Head
-all_of i = all_in i.buckets.segments.items
+all_of i = all_in i.chains.segments.items
 
 -- the first node of each chain
 abbrev pub heads_of : HashIndex → List (Option Node)
-heads_of i = heads_in i.buckets.segments.items
+heads_of i = heads_in i.chains.segments.items
 
 -- how many buckets it has, each of four chains
 abbrev pub buckets_of : HashIndex → ℕ
-buckets_of i = i.buckets.len / 4
+buckets_of i = i.chains.len / 4
 
 -- how many buckets have room for one node more: as many as there are, or one more where there are no more than nodes
 abbrev pub grown : ℕ → ℕ → ℕ
@@ -41,7 +41,7 @@ grown nodes buckets = if nat_lt nodes buckets then buckets else buckets + 1
 
 -- the chain that a hash leads to
 abbrev pub leads_to : HashIndex → ℕ → ℕ
-leads_to i hash = bucket_of i.level (i.buckets.len) hash
+leads_to i hash = chain_of i.level (i.chains.len) hash
 
 -- the nodes of each chain
 abbrev pub chains_of : (ℕ → Column) → HashIndex → List (List Node)
@@ -58,7 +58,7 @@ pub record Spells (cs : ℕ → Column) (i : HashIndex) (xs : List Node) : Type 
   pub chains : AreChains (cs i.col) (leads_to i) 0 (heads_of i) (chains_of cs i)
   pub distinct : IsDistinct xs
   pub len : i.len ≡ length xs
-  pub load : i.len * 4 ≤ i.buckets.len
+  pub load : i.len * 4 ≤ i.chains.len
   pub right : AreRight (cs i.col) (all_of i)
   pub oldest : AreOldest (cs i.col) xs (all_of i)
 
@@ -68,4 +68,4 @@ IsSound cs i = Spells cs i (spelled cs i)
 
 -- one more node needs no more buckets
 abbrev pub HasRoom : HashIndex → Type 0
-HasRoom i = (i.len + 1) * 4 ≤ i.buckets.len
+HasRoom i = (i.len + 1) * 4 ≤ i.chains.len

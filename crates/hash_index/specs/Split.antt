@@ -19,7 +19,7 @@ pub record Builds (c : Column) (chain : Chain) (xs : List Node) : Type 0 where
 
 -- whether the node goes to the chain after the last
 abbrev pub goes : Column → HashIndex → Node → Bool
-goes c i n = leads c (λ hash. hash % (i.level * 2)) (i.buckets.len) n
+goes c i n = leads c (λ hash. hash % (i.level * 2)) (i.chains.len) n
 
 -- the nodes that stay
 abbrev pub left : Column → HashIndex → List Node → List Node
@@ -31,7 +31,7 @@ taken c i xs = filter (goes c i) xs
 
 -- the new index has the same chains, and each hash leads where it did
 pub record IsSame (old new : HashIndex) : Type 0 where
-  pub buckets : all_of new ≡ all_of old
+  pub chains : all_of new ≡ all_of old
   pub len : new.len ≡ old.len
   pub col : new.col ≡ old.col
   pub index : new.index ≡ old.index

@@ -1,4 +1,4 @@
--- Buckets in a store: what their calls ask for, read and leave.
+-- Chains in a store: what their calls ask for, read and leave.
 use Rattle.std.specs.Prelude.{◌≡◌, List, Option, IsTrue}
 use Rattle.std.specs.declared.cmp.Ordering.{Ordering}
 use Rattle.node_store.specs.declared.Node.{Node}
@@ -12,17 +12,17 @@ use Rattle.hash_index.specs.Spelled.{IsSound, spelled, col_of, index_of}
 use Rattle.hash_index.specs.Hashed.{KeepsHash, IsHashed, side_of, matches, others}
 
 module _ {R : Type 0} where
-  -- the nodes of the buckets, in their order
+  -- the nodes of the chains, in their order
   abbrev pub nodes_of : HashIndex → Store R → List Node
   nodes_of i s = spelled (column_of s) i
 
-  -- the links of the buckets' nodes are those of the store
-  abbrev pub AreBucketsOf : HashIndex → Store R → Type 0
-  AreBucketsOf i s = IsSound (column_of s) i
+  -- the links of the chains' nodes are those of the store
+  abbrev pub AreChainsOf : HashIndex → Store R → Type 0
+  AreChainsOf i s = IsSound (column_of s) i
 
-  -- the node is one of the buckets'
+  -- the node is one of the chains'
   pub record HasNode (i : HashIndex) (s : Store R) (n : Node) : Type 0 where
-    pub chain : AreBucketsOf i s
+    pub chain : AreChainsOf i s
     pub held : Holds (nodes_of i s) n
 
   -- a change keeps the column and the index, and of the store the other columns and the records
@@ -59,13 +59,13 @@ module _ {E R P : Type 0} (X : Ghosts E R P) where
 
   -- the links of all nodes but the excepted one have the hashes of their records' keys
   pub record IsHashedBut (except : Option Node) (i : HashIndex) (s : Store R) (keys : E) : Type 0 where
-    pub chain : AreBucketsOf i s
+    pub chain : AreChainsOf i s
     pub has_key : HasKey i keys
     pub hashed : HaveTheirHash i s keys (others except (nodes_of i s))
 
   -- the links of all nodes have the hashes of their records' keys, and the probe is a whole key
   pub record CanSearch (i : HashIndex) (s : Store R) (keys : E) (probe : P) : Type 0 where
-    pub chain : AreBucketsOf i s
+    pub chain : AreChainsOf i s
     pub has_key : HasKey i keys
     pub whole : IsTrue (X.is_whole keys (index_of i) probe)
     pub hashed : HaveTheirHash i s keys (nodes_of i s)

@@ -5,7 +5,7 @@ ghost use Rattle.node_store.specs.ByNode.{column_of, contents};
 ghost use Rattle.node_store.specs.Column.{KeepsOthers};
 ghost use Rattle.node_store.specs.Nodes.{IsDistinct, Lacks};
 ghost use Rattle.hash_index.specs.Spelled.{col_of, buckets_of, grown, leads_to, HasRoom, KeepsTags};
-ghost use Rattle.hash_index.specs.Stored.{nodes_of, AreBucketsOf, KeepsRest};
+ghost use Rattle.hash_index.specs.Stored.{nodes_of, AreChainsOf, KeepsRest};
 ghost use Rattle.hash_index.specs.Walks.{rest_of, Ends};
 ghost use Rattle.hash_index.specs.Chains.{members, untagged};
 ghost use Rattle.hash_index.specs.Segments.{spare};
@@ -21,11 +21,11 @@ use std::alloc::AllocError;
 
 impl HashIndex {
     /// Makes room for one more node: where there are as many nodes as buckets, it adds one bucket, and moves those
-    /// nodes of one other bucket into it whose hashes lead there. Each chain keeps its order. Where memory is refused,
+    /// nodes of four other chains into it whose hashes lead there. Each chain keeps its order. Where memory is refused,
     /// everything is as before. Expected O(1): buckets that are there are not moved.
     pub fn reserve_one<R>(&mut self, store: &mut NodeStore<R>) -> Result<(), AllocError>
-        requires { AreBucketsOf self.old store.old }
-        ensures chain { AreBucketsOf self.new store.new }
+        requires { AreChainsOf self.old store.old }
+        ensures chain { AreChainsOf self.new store.new }
         ensures list { IsPermutation (nodes_of self.old store.old) (nodes_of self.new store.new) }
         ensures order { (b : ℕ) →
             members (column_of store.old (col_of self.old)) (leads_to self.new) b
@@ -54,18 +54,18 @@ impl HashIndex {
     // Makes room for one more bucket. Where memory is refused, everything is as before.
     fn reserve_chains(&mut self) -> Result<(), AllocError>
         ensures same { IsSame self.old self.new }
-        ensures count { self.new.buckets.len ≡ self.old.buckets.len }
-        ensures room { OnOk result (4 ≤ spare self.new.buckets.segments.items) }
+        ensures count { self.new.chains.len ≡ self.old.chains.len }
+        ensures room { OnOk result (4 ≤ spare self.new.chains.segments.items) }
         ensures unchanged { OnErr result (self.new ≡ self.old) }
     {
-        self.buckets.reserve_bucket(self.alloc)
+        self.chains.reserve_bucket(self.alloc)
     }
 
     // Adds two chains, for which there is room.
     fn grow_twice<R>(&mut self, store: &mut NodeStore<R>)
-        requires chain { AreBucketsOf self.old store.old }
-        requires room { 2 ≤ spare self.old.buckets.segments.items }
-        ensures chain { AreBucketsOf self.new store.new }
+        requires chain { AreChainsOf self.old store.old }
+        requires room { 2 ≤ spare self.old.chains.segments.items }
+        ensures chain { AreChainsOf self.new store.new }
         ensures list { IsPermutation (nodes_of self.old store.old) (nodes_of self.new store.new) }
         ensures order { (b : ℕ) →
             members (column_of store.old (col_of self.old)) (leads_to self.new) b
@@ -74,12 +74,12 @@ impl HashIndex {
             (nodes_of self.old store.old) }
         ensures tags { KeepsTags (column_of store.old (col_of self.old))
             (column_of store.new (col_of self.old)) }
-        ensures leads { 0 < self.old.buckets.len → (hash : ℕ) →
+        ensures leads { 0 < self.old.chains.len → (hash : ℕ) →
             leads_to self.old (leads_to self.new hash) ≡ leads_to self.old hash }
         ensures len { self.new.len ≡ self.old.len }
-        ensures count { self.new.buckets.len ≡ self.old.buckets.len + 2 }
-        ensures room { spare self.new.buckets.segments.items + 2 ≡
-            spare self.old.buckets.segments.items }
+        ensures count { self.new.chains.len ≡ self.old.chains.len + 2 }
+        ensures room { spare self.new.chains.segments.items + 2 ≡
+            spare self.old.chains.segments.items }
         ensures rest { KeepsRest self.old self.new store.old store.new }
     {
         self.grow(store);
@@ -88,9 +88,9 @@ impl HashIndex {
 
     // Adds a chain, for which there is room. A hash led to the chain from which the one was cut that it leads to now.
     fn grow<R>(&mut self, store: &mut NodeStore<R>)
-        requires chain { AreBucketsOf self.old store.old }
-        requires room { 0 < spare self.old.buckets.segments.items }
-        ensures chain { AreBucketsOf self.new store.new }
+        requires chain { AreChainsOf self.old store.old }
+        requires room { 0 < spare self.old.chains.segments.items }
+        ensures chain { AreChainsOf self.new store.new }
         ensures list { IsPermutation (nodes_of self.old store.old) (nodes_of self.new store.new) }
         ensures order { (b : ℕ) →
             members (column_of store.old (col_of self.old)) (leads_to self.new) b
@@ -99,17 +99,17 @@ impl HashIndex {
             (nodes_of self.old store.old) }
         ensures tags { KeepsTags (column_of store.old (col_of self.old))
             (column_of store.new (col_of self.old)) }
-        ensures leads { 0 < self.old.buckets.len → (hash : ℕ) →
+        ensures leads { 0 < self.old.chains.len → (hash : ℕ) →
             leads_to self.old (leads_to self.new hash) ≡ leads_to self.old hash }
         ensures len { self.new.len ≡ self.old.len }
-        ensures count { self.new.buckets.len ≡ self.old.buckets.len + 1 }
-        ensures room { spare self.new.buckets.segments.items + 1 ≡
-            spare self.old.buckets.segments.items }
+        ensures count { self.new.chains.len ≡ self.old.chains.len + 1 }
+        ensures room { spare self.new.chains.segments.items + 1 ≡
+            spare self.old.chains.segments.items }
         ensures rest { KeepsRest self.old self.new store.old store.new }
     {
         self.raise_level();
-        if self.buckets.is_empty() {
-            self.buckets.push_reserved(Head::none());
+        if self.chains.is_empty() {
+            self.chains.push_reserved(Head::none());
         } else {
             self.add_chain(store);
         }
@@ -118,21 +118,21 @@ impl HashIndex {
     // Doubles the level where there are twice as many chains, so that there are fewer than that again.
     fn raise_level(&mut self)
         ensures same { IsSame self.old self.new }
-        ensures buckets { self.new.buckets ≡ self.old.buckets }
-        ensures level { self.new.buckets.len < self.new.level * 2 }
+        ensures chains { self.new.chains ≡ self.old.chains }
+        ensures level { self.new.chains.len < self.new.level * 2 }
     {
-        if self.buckets.len() == self.level * 2 {
+        if self.chains.len() == self.level * 2 {
             self.level *= 2;
         }
     }
 
     // Adds a chain, for which there is room, with the nodes that it takes over from the one `level` before it.
     fn add_chain<R>(&mut self, store: &mut NodeStore<R>)
-        requires chain { AreBucketsOf self.old store.old }
-        requires some { 0 < self.old.buckets.len }
-        requires room { 0 < spare self.old.buckets.segments.items }
-        requires level { self.old.buckets.len < self.old.level * 2 }
-        ensures chain { AreBucketsOf self.new store.new }
+        requires chain { AreChainsOf self.old store.old }
+        requires some { 0 < self.old.chains.len }
+        requires room { 0 < spare self.old.chains.segments.items }
+        requires level { self.old.chains.len < self.old.level * 2 }
+        ensures chain { AreChainsOf self.new store.new }
         ensures list { IsPermutation (nodes_of self.old store.old) (nodes_of self.new store.new) }
         ensures order { (b : ℕ) →
             members (column_of store.old (col_of self.old)) (leads_to self.new) b
@@ -144,18 +144,18 @@ impl HashIndex {
         ensures len { self.new.len ≡ self.old.len }
         ensures leads { (hash : ℕ) →
             leads_to self.old (leads_to self.new hash) ≡ leads_to self.old hash }
-        ensures count { self.new.buckets.len ≡ self.old.buckets.len + 1 }
-        ensures room { spare self.new.buckets.segments.items + 1 ≡
-            spare self.old.buckets.segments.items }
+        ensures count { self.new.chains.len ≡ self.old.chains.len + 1 }
+        ensures room { spare self.new.chains.segments.items + 1 ≡
+            spare self.old.chains.segments.items }
         ensures rest { KeepsRest self.old self.new store.old store.new }
     {
-        let from = self.buckets.len() - self.level;
-        let head = self.buckets.head(from);
+        let from = self.chains.len() - self.level;
+        let head = self.chains.head(from);
         let (stay, moved) = self.cut(store, head.node());
         let stay = self.head_of(store, stay.first);
         let moved = self.head_of(store, moved.first);
-        self.buckets.set(from, stay.cut_from(head));
-        self.buckets.push_reserved(moved.cut_from(head));
+        self.chains.set(from, stay.cut_from(head));
+        self.chains.push_reserved(moved.cut_from(head));
     }
 
     // Cuts a chain in two: the nodes that stay in it once there is one more, and those that go there. Where the chain has
@@ -194,7 +194,7 @@ impl HashIndex {
         if b.is_some() {
             return self.cut_links(store, at);
         }
-        if self.remainder(tag) == self.buckets.len() {
+        if self.remainder(tag) == self.chains.len() {
             (Chain::new(), Chain::of(n))
         } else {
             (Chain::of(n), Chain::new())
@@ -231,7 +231,7 @@ impl HashIndex {
         while let Some(n) = at {
             let link = store.link(n, self.col);
             at = link.b;
-            if self.remainder(link.tag) == self.buckets.len() {
+            if self.remainder(link.tag) == self.chains.len() {
                 moved.append(store, self.col, n, link.tag);
             } else {
                 stay.append(store, self.col, n, link.tag);

@@ -14,8 +14,8 @@ ghost use Rattle.seq_index.specs.Links.{AreNodes, end_beside};
 ghost use Rattle.hash_index.specs.Mask.{HasMask, HasMask_prop};
 ghost use Rattle.hash_index.specs.Heads.{first_in, IsRight};
 
-mod buckets;
 mod chain;
+mod chains;
 mod column;
 mod earliest;
 mod grow;
@@ -36,24 +36,24 @@ use std::alloc::Global;
 /// Nodes in buckets by the hashes of their keys, at most one a bucket on average. The `tag` of a node's link is the
 /// hash that it was put in with. A bucket is four chains, so that few chains have more than one node. Chains are added
 /// four at a time: from `level` on, each takes over nodes of the one that stands `level` before it, until there are
-/// `level * 2`. `buckets` has the head of each chain.
+/// `level * 2`. `chains` has the head of each chain.
 #[derive(Drop)]
 pub struct HashIndex {
     alloc: Global,
     col: usize,
     index: usize,
-    buckets: Segments,
+    chains: Segments,
     level: usize,
     len: usize,
     ghost col_exists: { col < 8 },
     ghost some_level: { 0 < level },
     ghost masked: { HasMask (level * 2) } by { HasMask_prop (level * 2) },
-    ghost reached: { level ≤ max 1 buckets.len },
-    ghost covered: { buckets.len ≤ level * 2 },
+    ghost reached: { level ≤ max 1 chains.len },
+    ghost covered: { chains.len ≤ level * 2 },
 }
 
 impl HashIndex {
-    ghost use Rattle.hash_index.specs.Stored.{nodes_of, AreBucketsOf, HasNode, HasKey, HaveTheirHash, KeepsRest};
+    ghost use Rattle.hash_index.specs.Stored.{nodes_of, AreChainsOf, HasNode, HasKey, HaveTheirHash, KeepsRest};
     ghost use Rattle.hash_index.specs.Spelled.{Spells, col_of, index_of, all_of, heads_of, buckets_of, HasRoom, KeepsTags, spelled};
 
     /// An index of no nodes in column `col`, for the keys of the container's index `index`. It has no buckets yet,
@@ -69,7 +69,7 @@ impl HashIndex {
             alloc,
             col,
             index,
-            buckets: Segments::new(alloc),
+            chains: Segments::new(alloc),
             level: 1,
             len: 0,
         }
@@ -91,12 +91,12 @@ impl HashIndex {
 
     /// Puts `n` in, by the hash of its record's key, in room that was reserved. O(1).
     pub fn link<R, E: Extract<R>>(&mut self, store: &mut NodeStore<R>, keys: &E, n: Node)
-        requires chain { AreBucketsOf self.old store.old }
+        requires chain { AreChainsOf self.old store.old }
         requires node { IsNode (column_of store.old (col_of self.old)) n }
         requires new { Lacks (nodes_of self.old store.old) n }
         requires room { HasRoom self.old }
         requires has_key { HasKey E.Extract self.old keys.now }
-        ensures chain { AreBucketsOf self.new store.new }
+        ensures chain { AreChainsOf self.new store.new }
         ensures list { IsPermutation (n ∷ nodes_of self.old store.old)
             (nodes_of self.new store.new) }
         ensures hashed { HaveTheirHash E.Extract self.old store.old keys.now
@@ -127,12 +127,12 @@ impl HashIndex {
             tag,
             ..
         } = store.link(n, self.col);
-        let bucket = self.bucket(tag);
+        let chain = self.chain(tag);
         set_next(store, self.col, before, after);
         set_prev(store, self.col, after, before);
-        let head = self.head_beside(store, before, bucket, after);
+        let head = self.head_beside(store, before, chain, after);
         self.set_top(store, before, head.node(), after, up);
-        self.buckets.set(bucket, head);
+        self.chains.set(chain, head);
         self.len -= 1;
     }
 
@@ -141,21 +141,21 @@ impl HashIndex {
         &self,
         store: &NodeStore<R>,
         before: Option<Node>,
-        bucket: usize,
+        chain: usize,
         after: Option<Node>,
     ) -> Head
-        requires bucket { bucket < self.now.buckets.len }
+        requires chain { chain < self.now.chains.len }
         requires after { AreNodes (column_of store.now (col_of self.now)) after }
         ensures first { first_in result ≡
-            end_beside before (get_or (heads_of self.now) bucket None) after }
+            end_beside before (get_or (heads_of self.now) chain None) after }
         ensures kept { (m : Node) → before ≡ Some m →
-            slice_get (all_of self.now) bucket ≡ Some result }
+            slice_get (all_of self.now) chain ≡ Some result }
         ensures right { before ≡ None →
             IsRight (column_of store.now (col_of self.now)) result }
         ensures plain { before ≡ None → result.mark < 192 }
     {
         match before {
-            Some(_) => self.buckets.head(bucket),
+            Some(_) => self.chains.head(chain),
             None => self.head_of(store, after),
         }
     }

@@ -11,7 +11,7 @@ ghost use Rattle.hash_index.specs.Chains.{tag_at, untagged, KeepsTags, KeepsOthe
 ghost use Rattle.hash_index.specs.Heads.{first_in};
 ghost use Rattle.hash_index.specs.Rising.{Rises, IsBefore, IsBehind, IsLast, known_last, up_at, top_beside};
 ghost use Rattle.hash_index.specs.Spelled.{col_of, all_of, heads_of, buckets_of, HasRoom, leads_to};
-ghost use Rattle.hash_index.specs.Stored.{nodes_of, AreBucketsOf, KeepsRest};
+ghost use Rattle.hash_index.specs.Stored.{nodes_of, AreChainsOf, KeepsRest};
 ghost use Rattle.hash_index.specs.Walks.{rest_of};
 
 use crate::HashIndex;
@@ -36,11 +36,11 @@ fn last_of(first: Node, link: Link) -> Option<Node>
 impl HashIndex {
     // Puts `n` into the chain of a hash.
     pub(crate) fn put<R>(&mut self, store: &mut NodeStore<R>, n: Node, hash: u64)
-        requires chain { AreBucketsOf self.old store.old }
+        requires chain { AreChainsOf self.old store.old }
         requires node { IsNode (column_of store.old (col_of self.old)) n }
         requires new { Lacks (nodes_of self.old store.old) n }
         requires room { HasRoom self.old }
-        ensures chain { AreBucketsOf self.new store.new }
+        ensures chain { AreChainsOf self.new store.new }
         ensures list { IsPermutation (n ∷ nodes_of self.old store.old)
             (nodes_of self.new store.new) }
         ensures tag { tag_at (column_of store.new (col_of self.old)) n ≡ Some hash }
@@ -52,8 +52,8 @@ impl HashIndex {
         ensures buckets { buckets_of self.new ≡ buckets_of self.old }
         ensures rest { KeepsRest self.old self.new store.old store.new }
     {
-        let bucket = self.bucket(hash);
-        let head = self.buckets.head(bucket);
+        let chain = self.chain(hash);
+        let head = self.chains.head(chain);
         match head.node() {
             Some(first) => self.put_beside(store, n, hash, head, first),
             None => self.put_first(store, n, hash, None),
@@ -71,13 +71,13 @@ impl HashIndex {
         head: Head,
         first: Node,
     )
-        requires chain { AreBucketsOf self.old store.old }
+        requires chain { AreChainsOf self.old store.old }
         requires node { IsNode (column_of store.old (col_of self.old)) n }
         requires new { Lacks (nodes_of self.old store.old) n }
         requires room { HasRoom self.old }
         requires head { slice_get (all_of self.old) (leads_to self.old hash) ≡ Some head }
         requires first { first_in head ≡ Some first }
-        ensures chain { AreBucketsOf self.new store.new }
+        ensures chain { AreChainsOf self.new store.new }
         ensures list { IsPermutation (n ∷ nodes_of self.old store.old)
             (nodes_of self.new store.new) }
         ensures tag { tag_at (column_of store.new (col_of self.old)) n ≡ Some hash }
@@ -161,13 +161,13 @@ impl HashIndex {
 
     // Puts `n` first into the chain of a hash, and makes it lead up to `up`.
     fn put_first<R>(&mut self, store: &mut NodeStore<R>, n: Node, hash: u64, up: Option<Node>)
-        requires chain { AreBucketsOf self.old store.old }
+        requires chain { AreChainsOf self.old store.old }
         requires node { IsNode (column_of store.old (col_of self.old)) n }
         requires new { Lacks (nodes_of self.old store.old) n }
         requires room { HasRoom self.old }
         requires up { IsBefore (rest_of (column_of store.old) self.old
             (get_or (heads_of self.old) (leads_to self.old hash) None)) n up }
-        ensures chain { AreBucketsOf self.new store.new }
+        ensures chain { AreChainsOf self.new store.new }
         ensures list { IsPermutation (n ∷ nodes_of self.old store.old)
             (nodes_of self.new store.new) }
         ensures tag { tag_at (column_of store.new (col_of self.old)) n ≡ Some hash }
@@ -179,8 +179,8 @@ impl HashIndex {
         ensures buckets { buckets_of self.new ≡ buckets_of self.old }
         ensures rest { KeepsRest self.old self.new store.old store.new }
     {
-        let bucket = self.bucket(hash);
-        let head = self.buckets.get(bucket);
+        let chain = self.chain(hash);
+        let head = self.chains.get(chain);
         let link = Link {
             a: None,
             b: head,
@@ -191,7 +191,7 @@ impl HashIndex {
         };
         store.set_link(n, self.col, link);
         set_prev(store, self.col, head, Some(n));
-        self.buckets.set(bucket, Head::of(n, hash, head.is_some()));
+        self.chains.set(chain, Head::of(n, hash, head.is_some()));
         self.len += 1;
     }
 
@@ -206,7 +206,7 @@ impl HashIndex {
         at: Node,
         up: Option<Node>,
     )
-        requires chain { AreBucketsOf self.old store.old }
+        requires chain { AreChainsOf self.old store.old }
         requires node { IsNode (column_of store.old (col_of self.old)) n }
         requires new { Lacks (nodes_of self.old store.old) n }
         requires room { HasRoom self.old }
@@ -215,7 +215,7 @@ impl HashIndex {
         requires at { IsBehind (rest_of (column_of store.old) self.old (Some first)) at n up }
         requires later { tag_at (column_of store.old (col_of self.old)) first ≡ Some hash →
             number_of first < number_of n }
-        ensures chain { AreBucketsOf self.new store.new }
+        ensures chain { AreChainsOf self.new store.new }
         ensures list { IsPermutation (n ∷ nodes_of self.old store.old)
             (nodes_of self.new store.new) }
         ensures tag { tag_at (column_of store.new (col_of self.old)) n ≡ Some hash }
@@ -227,7 +227,7 @@ impl HashIndex {
         ensures buckets { buckets_of self.new ≡ buckets_of self.old }
         ensures rest { KeepsRest self.old self.new store.old store.new }
     {
-        let bucket = self.bucket(hash);
+        let chain = self.chain(hash);
         let after = store.link(at, self.col).b;
         let between = Link {
             a: Some(at),
@@ -241,7 +241,7 @@ impl HashIndex {
         set_next(store, self.col, Some(at), Some(n));
         set_prev(store, self.col, after, Some(n));
         set_up(store, self.col, Some(first), up);
-        self.buckets.set(bucket, head.joined());
+        self.chains.set(chain, head.joined());
         self.len += 1;
     }
 

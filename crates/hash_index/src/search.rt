@@ -220,9 +220,9 @@ impl HashIndex {
         ensures head { first_in result ≢ None →
             slice_get (all_of self.now) (leads_to self.now hash) ≡ Some result }
     {
-        if self.buckets.is_empty() {
+        if self.chains.is_empty() {
             return Head::none();
         }
-        self.buckets.seen(self.bucket(hash), hash)
+        self.chains.seen(self.chain(hash), hash)
     }
 }

@@ -25,10 +25,10 @@ pub(crate) struct Segments {
 }
 
 // The segment of a chain, and its place there.
-fn locate(bucket: usize) -> (usize, usize)
-    ensures { IsAt bucket result.0 result.1 }
+fn locate(chain: usize) -> (usize, usize)
+    ensures { IsAt chain result.0 result.1 }
 {
-    (bucket / SIZE, bucket % SIZE)
+    (chain / SIZE, chain % SIZE)
 }
 
 impl Segments {
@@ -55,43 +55,43 @@ impl Segments {
     }
 
     // The first node of a chain. O(1).
-    pub(crate) fn get(&self, bucket: usize) -> Option<Node>
-        requires { bucket < self.now.len }
-        ensures { result ≡ get_or (heads_in self.now.segments.items) bucket None }
+    pub(crate) fn get(&self, chain: usize) -> Option<Node>
+        requires { chain < self.now.len }
+        ensures { result ≡ get_or (heads_in self.now.segments.items) chain None }
     {
-        self.head(bucket).node()
+        self.head(chain).node()
     }
 
     // The head of a chain. O(1).
-    pub(crate) fn head(&self, bucket: usize) -> Head
-        requires { bucket < self.now.len }
-        ensures { slice_get (all_in self.now.segments.items) bucket ≡ Some result }
+    pub(crate) fn head(&self, chain: usize) -> Head
+        requires { chain < self.now.len }
+        ensures { slice_get (all_in self.now.segments.items) chain ≡ Some result }
     {
-        let (segment, place) = locate(bucket);
+        let (segment, place) = locate(chain);
         self.segments[segment].head(place)
     }
 
     // The head of a chain as a look-up of this hash sees it: where it passes the chain, no node is read. O(1).
-    pub(crate) fn seen(&self, bucket: usize, hash: u64) -> Head
-        requires { bucket < self.now.len }
+    pub(crate) fn seen(&self, chain: usize, hash: u64) -> Head
+        requires { chain < self.now.len }
         ensures first { first_in result ≡
-            option_and_then (start_in hash) (slice_get (all_in self.now.segments.items) bucket) }
+            option_and_then (start_in hash) (slice_get (all_in self.now.segments.items) chain) }
         ensures head { first_in result ≢ None →
-            slice_get (all_in self.now.segments.items) bucket ≡ Some result }
+            slice_get (all_in self.now.segments.items) chain ≡ Some result }
     {
-        let (segment, place) = locate(bucket);
+        let (segment, place) = locate(chain);
         self.segments[segment].seen(place, hash)
     }
 
     // Gives a chain another head. O(1).
-    pub(crate) fn set(&mut self, bucket: usize, head: Head)
-        requires { bucket < self.old.len }
+    pub(crate) fn set(&mut self, chain: usize, head: Head)
+        requires { chain < self.old.len }
         ensures heads { all_in self.new.segments.items ≡
-            set (all_in self.old.segments.items) bucket head }
+            set (all_in self.old.segments.items) chain head }
         ensures len { self.new.len ≡ self.old.len }
         ensures room { spare self.new.segments.items ≡ spare self.old.segments.items }
     {
-        let (segment, place) = locate(bucket);
+        let (segment, place) = locate(chain);
         self.segments[segment].set(place, head);
     }
 

@@ -8,34 +8,34 @@ use Rattle.hash_index.proofs.Heads.{slice_first}
 use Rattle.hash_index.proofs.Oldest.{cut_right, cut_oldest}
 use Rattle.hash_index.proofs.Changes.{head_there}
 use Rattle.hash_index.specs.Spelled.{all_of, heads_of}
-use Rattle.hash_index.specs.Buckets.{bucket_of}
+use Rattle.hash_index.specs.LinearHashing.{chain_of}
 use Rattle.hash_index.proofs.HashIndex.add_chain.Goals as goal
 
 pub cut-requires-clause-ends : goal.cut-requires-clause-ends
 cut-requires-clause-ends g c =
     let i = c.args.self.now in
-    let within : c.len.result - i.level < i.buckets.len = omega (arith, c.len.ensures, c.requires.some, i.some_level) in
+    let within : c.len.result - i.level < i.chains.len = omega (arith, c.len.ensures, c.requires.some, i.some_level) in
     let at = (c.node.ensures ∙ slice_first (heads_of i) (all_of i) (c.len.result - i.level) refl c.head-head.result c.head-head.ensures) in
     (head_ends (column_of c.args.store.now) i (c.len.result - i.level) c.node.result within at c.requires.chain).0
 
 pub cut-requires-clause-distinct : goal.cut-requires-clause-distinct
 cut-requires-clause-distinct g c =
     let i = c.args.self.now in
-    let within : c.len.result - i.level < i.buckets.len = omega (arith, c.len.ensures, c.requires.some, i.some_level) in
+    let within : c.len.result - i.level < i.chains.len = omega (arith, c.len.ensures, c.requires.some, i.some_level) in
     let at = (c.node.ensures ∙ slice_first (heads_of i) (all_of i) (c.len.result - i.level) refl c.head-head.result c.head-head.ensures) in
     (head_ends (column_of c.args.store.now) i (c.len.result - i.level) c.node.result within at c.requires.chain).1
 
 pub cut-requires-clause-runs : goal.cut-requires-clause-runs
 cut-requires-clause-runs g c =
     let i = c.args.self.now in
-    let within : c.len.result - i.level < i.buckets.len = omega (arith, c.len.ensures, c.requires.some, i.some_level) in
+    let within : c.len.result - i.level < i.chains.len = omega (arith, c.len.ensures, c.requires.some, i.some_level) in
     let at = (c.node.ensures ∙ slice_first (heads_of i) (all_of i) (c.len.result - i.level) refl c.head-head.result c.head-head.ensures) in
     (head_runs (column_of c.args.store.now) i (c.len.result - i.level) c.node.result within at c.requires.chain).0
 
 pub cut-requires-clause-rising : goal.cut-requires-clause-rising
 cut-requires-clause-rising g c =
     let i = c.args.self.now in
-    let within : c.len.result - i.level < i.buckets.len = omega (arith, c.len.ensures, c.requires.some, i.some_level) in
+    let within : c.len.result - i.level < i.chains.len = omega (arith, c.len.ensures, c.requires.some, i.some_level) in
     let at = (c.node.ensures ∙ slice_first (heads_of i) (all_of i) (c.len.result - i.level) refl c.head-head.result c.head-head.ensures) in
     (head_runs (column_of c.args.store.now) i (c.len.result - i.level) c.node.result within at c.requires.chain).1
 
@@ -48,7 +48,7 @@ head_of-moved-requires g c = first_node _ _ _ c.cut.ensures.moved
 pub returns-clause-chain : goal.returns-clause-chain
 returns-clause-chain g c =
     let i = c.args.self.now in
-    let within : c.len.result - i.level < i.buckets.len = omega (arith, c.len.ensures, c.requires.some, i.some_level) in
+    let within : c.len.result - i.level < i.chains.len = omega (arith, c.len.ensures, c.requires.some, i.some_level) in
     let at = (c.node.ensures ∙ slice_first (heads_of i) (all_of i) (c.len.result - i.level) refl c.head-head.result c.head-head.ensures) in
     grown_sound i _ refl (c.push_reserved.ensures.len ∙ ap (λ k. k + 1) c.set.ensures.len) c.requires.some (column_of c.args.store.now) (column_of c.cut.new.store) c.cut.result.0 c.cut.result.1 c.node.result (c.len.result - i.level) c.requires.chain (ap (λ k. k - i.level) c.len.ensures) at
     c.cut.ensures.stay c.cut.ensures.moved c.cut.ensures.stay_rising c.cut.ensures.moved_rising c.cut.ensures.tags c.cut.ensures.same refl refl (record { stays = c.cut_from.result; goes = c.cut_from-2.result; stay_is = c.cut_from.ensures.first ∙ c.head_of-stay.ensures.first; moved_is = c.cut_from-2.ensures.first ∙ c.head_of-moved.ensures.first; heads = c.push_reserved.ensures.heads ∙ ap (λ z. z ++ c.cut_from-2.result ∷ []) c.set.ensures.heads })
@@ -59,7 +59,7 @@ returns-clause-chain g c =
 pub returns-clause-list : goal.returns-clause-list
 returns-clause-list g c =
     let i = c.args.self.now in
-    let within : c.len.result - i.level < i.buckets.len = omega (arith, c.len.ensures, c.requires.some, i.some_level) in
+    let within : c.len.result - i.level < i.chains.len = omega (arith, c.len.ensures, c.requires.some, i.some_level) in
     let at = (c.node.ensures ∙ slice_first (heads_of i) (all_of i) (c.len.result - i.level) refl c.head-head.result c.head-head.ensures) in
     grown_moved i _ refl (c.push_reserved.ensures.len ∙ ap (λ k. k + 1) c.set.ensures.len) c.requires.some (column_of c.args.store.now) (column_of c.cut.new.store) c.cut.result.0 c.cut.result.1 c.node.result (c.len.result - i.level) c.requires.chain (ap (λ k. k - i.level) c.len.ensures) at
     c.cut.ensures.stay c.cut.ensures.moved c.cut.ensures.stay_rising c.cut.ensures.moved_rising c.cut.ensures.tags c.cut.ensures.same refl refl (record { stays = c.cut_from.result; goes = c.cut_from-2.result; stay_is = c.cut_from.ensures.first ∙ c.head_of-stay.ensures.first; moved_is = c.cut_from-2.ensures.first ∙ c.head_of-moved.ensures.first; heads = c.push_reserved.ensures.heads ∙ ap (λ z. z ++ c.cut_from-2.result ∷ []) c.set.ensures.heads })
@@ -70,7 +70,7 @@ returns-clause-list g c =
 pub returns-clause-order : goal.returns-clause-order
 returns-clause-order g c =
     let i = c.args.self.now in
-    let within : c.len.result - i.level < i.buckets.len = omega (arith, c.len.ensures, c.requires.some, i.some_level) in
+    let within : c.len.result - i.level < i.chains.len = omega (arith, c.len.ensures, c.requires.some, i.some_level) in
     let at = (c.node.ensures ∙ slice_first (heads_of i) (all_of i) (c.len.result - i.level) refl c.head-head.result c.head-head.ensures) in
     grown_order i _ refl (c.push_reserved.ensures.len ∙ ap (λ k. k + 1) c.set.ensures.len) c.requires.some (column_of c.args.store.now) (column_of c.cut.new.store) c.cut.result.0 c.cut.result.1 c.node.result (c.len.result - i.level) c.requires.chain (ap (λ k. k - i.level) c.len.ensures) at
     c.cut.ensures.stay c.cut.ensures.moved c.cut.ensures.stay_rising c.cut.ensures.moved_rising c.cut.ensures.tags c.cut.ensures.same refl refl (record { stays = c.cut_from.result; goes = c.cut_from-2.result; stay_is = c.cut_from.ensures.first ∙ c.head_of-stay.ensures.first; moved_is = c.cut_from-2.ensures.first ∙ c.head_of-moved.ensures.first; heads = c.push_reserved.ensures.heads ∙ ap (λ z. z ++ c.cut_from-2.result ∷ []) c.set.ensures.heads })
@@ -81,6 +81,6 @@ returns-clause-order g c =
 pub returns-clause-leads : goal.returns-clause-leads
 returns-clause-leads g c = λ hash.
     let i = c.args.self.now in
-    let le : i.level ≤ i.buckets.len = omega (arith, i.reached, c.requires.some) in
+    let le : i.level ≤ i.chains.len = omega (arith, i.reached, c.requires.some) in
     let count = c.push_reserved.ensures.len ∙ ap (λ k. k + 1) c.set.ensures.len in
-    ap (λ k. bucket_of i.level i.buckets.len (bucket_of i.level k hash)) count ∙ comes i.level i.buckets.len hash i.some_level le c.requires.level
+    ap (λ k. chain_of i.level i.chains.len (chain_of i.level k hash)) count ∙ comes i.level i.chains.len hash i.some_level le c.requires.level

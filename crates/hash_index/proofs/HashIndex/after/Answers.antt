@@ -17,4 +17,4 @@ returns-in-None c = λ cs xs n ys h is.
     let i = c.args.self.now in
     let some = c.requires in
     let within = leads_within i c.args.link.tag some in
-    c.first_from.ensures ∙ (ap (λ b. first_head (drop (b + 1) (heads_of i))) c.bucket.ensures.is ∙ (after_node cs i xs n ys c.args.link within h is).none c.in-None.is)
+    c.first_from.ensures ∙ (ap (λ b. first_head (drop (b + 1) (heads_of i))) c.chain.ensures.is ∙ (after_node cs i xs n ys c.args.link within h is).none c.in-None.is)

@@ -8,7 +8,7 @@ overflow_add-length g c =
     let rest = walk_rest (column_of c.args.store.now) c.args.self.now c.loop-at.at c.in-Some.n c.loop-at.invariant.ends c.in-Some.is in
     let fits = rest_fits (column_of c.args.store.now) c.args.self.now c.args.at in
     let so_far = c.loop-at.invariant.counted in
-    omega (arith, so_far, fits, ap length rest.1, c.requires.chain.load, c.args.self.now.buckets.small, c.args.self.now.buckets.ok)
+    omega (arith, so_far, fits, ap length rest.1, c.requires.chain.load, c.args.self.now.chains.small, c.args.self.now.chains.ok)
 
 pub loop-at-smaller : goal.loop-at-smaller
 loop-at-smaller g c =

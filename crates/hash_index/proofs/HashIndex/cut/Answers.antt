@@ -21,7 +21,7 @@ returns-then-remainder-len-clause-stay g c =
     let old = column_of c.args.store.now (col_of i) in
     let one = alone (column_of c.args.store.now) i c.args.at c.in-Some.n c.link-b.result c.requires.ends c.in-Some.is c.link-b.ensures (sym c.is_some.ensures ∙ c.if-is_some.false) in
     it_goes (column_of c.args.store.now) i c.args.at c.in-Some.n one c.new-then-remainder-len.result
-    (leads_there old (λ hash. hash % (i.level * 2)) i.buckets.len c.in-Some.n c.link-b.result.tag (tag_is old c.in-Some.n c.link-b.result c.link-b.ensures) (sym c.remainder.ensures ∙ (c.if-remainder-len.true ∙ c.len.ensures)))
+    (leads_there old (λ hash. hash % (i.level * 2)) i.chains.len c.in-Some.n c.link-b.result.tag (tag_is old c.in-Some.n c.link-b.result c.link-b.ensures) (sym c.remainder.ensures ∙ (c.if-remainder-len.true ∙ c.len.ensures)))
     (c.new-then-remainder-len.ensures _)
 
 pub returns-else-remainder-len-clause-moved : goal.returns-else-remainder-len-clause-moved
@@ -30,5 +30,5 @@ returns-else-remainder-len-clause-moved g c =
     let old = column_of c.args.store.now (col_of i) in
     let one = alone (column_of c.args.store.now) i c.args.at c.in-Some.n c.link-b.result c.requires.ends c.in-Some.is c.link-b.ensures (sym c.is_some.ensures ∙ c.if-is_some.false) in
     it_stays (column_of c.args.store.now) i c.args.at c.in-Some.n one c.new-else-remainder-len.result
-    (leads_elsewhere old (λ hash. hash % (i.level * 2)) i.buckets.len c.in-Some.n c.link-b.result.tag (tag_is old c.in-Some.n c.link-b.result c.link-b.ensures) (λ e. c.if-remainder-len.false (c.remainder.ensures ∙ (e ∙ sym c.len.ensures))))
+    (leads_elsewhere old (λ hash. hash % (i.level * 2)) i.chains.len c.in-Some.n c.link-b.result.tag (tag_is old c.in-Some.n c.link-b.result c.link-b.ensures) (λ e. c.if-remainder-len.false (c.remainder.ensures ∙ (e ∙ sym c.len.ensures))))
     (c.new-else-remainder-len.ensures _)

@@ -39,7 +39,7 @@ loop-at-preserved-then-remainder-len g c =
     let i = c.args.self.now in
     let old = column_of c.args.store.now (col_of c.args.self.now) in
     let r = ready (column_of c.args.store.now) c.args.self.now _ _ _ _ c.loop-at.at c.in-Some.n c.link-link.result _ _ c.requires.distinct c.loop-at.invariant.ends c.in-Some.is c.link-link.ensures c.loop-at.invariant.halves in
-    let passes = leads_there old (λ hash. hash % (i.level * 2)) i.buckets.len c.in-Some.n c.link-link.result.tag (tag_is old c.in-Some.n c.link-link.result r.is) (sym c.remainder.ensures ∙ (c.if-remainder-len.true ∙ c.len.ensures)) in
+    let passes = leads_there old (λ hash. hash % (i.level * 2)) i.chains.len c.in-Some.n c.link-link.result.tag (tag_is old c.in-Some.n c.link-link.result r.is) (sym c.remainder.ensures ∙ (c.if-remainder-len.true ∙ c.len.ensures)) in
     record {
       ends = r.ends;
       halves = halves_step old _ _ (goes old i) (λ n. not (goes old i n)) (never_both (goes old i)) _ c.in-Some.n _ c.loop-at.moved c.append.new.self c.loop-at.stay c.requires.distinct r.halves passes (ap not passes)
@@ -53,7 +53,7 @@ loop-at-preserved g c =
     let i = c.args.self.now in
     let old = column_of c.args.store.now (col_of c.args.self.now) in
     let r = ready (column_of c.args.store.now) c.args.self.now _ _ _ _ c.loop-at.at c.in-Some.n c.link-link.result _ _ c.requires.distinct c.loop-at.invariant.ends c.in-Some.is c.link-link.ensures c.loop-at.invariant.halves in
-    let fails = leads_elsewhere old (λ hash. hash % (i.level * 2)) i.buckets.len c.in-Some.n c.link-link.result.tag (tag_is old c.in-Some.n c.link-link.result r.is) (λ e. c.if-remainder-len.false (c.remainder.ensures ∙ (e ∙ sym c.len.ensures))) in
+    let fails = leads_elsewhere old (λ hash. hash % (i.level * 2)) i.chains.len c.in-Some.n c.link-link.result.tag (tag_is old c.in-Some.n c.link-link.result r.is) (λ e. c.if-remainder-len.false (c.remainder.ensures ∙ (e ∙ sym c.len.ensures))) in
     record {
       ends = r.ends;
       halves = halves_flip _ _ _ _ _ _ _ _ (halves_step old _ _ (λ n. not (goes old i n)) (goes old i) (either_both (goes old i)) _ c.in-Some.n _ c.loop-at.stay c.append-else-remainder-len.new.self c.loop-at.moved c.requires.distinct

@@ -15,7 +15,7 @@ returns-clause-order g c = λ b.
     let col = col_of c.args.self.now in
     let before = leads_to c.grow.new.self in
     let after = leads_to c.grow-2.new.self in
-    let some : 0 < c.grow.new.self.buckets.len = omega (arith, c.grow.ensures.count) in
+    let some : 0 < c.grow.new.self.chains.len = omega (arith, c.grow.ensures.count) in
     let second = subst (λ k. members (column_of c.grow.new.store k) after b (nodes_of c.grow-2.new.self c.grow-2.new.store) ≡ members (column_of c.grow.new.store k) after b (nodes_of c.grow.new.self c.grow.new.store)) c.grow.ensures.rest.col (c.grow-2.ensures.order b) in
     order_both (column_of c.args.store.now col) before after (c.grow-2.ensures.leads some) b (column_of c.grow.new.store col) (nodes_of c.args.self.now c.args.store.now) (nodes_of c.grow.new.self c.grow.new.store) (nodes_of c.grow-2.new.self c.grow-2.new.store) c.grow.ensures.tags (c.grow.ensures.order (before b)) second
 

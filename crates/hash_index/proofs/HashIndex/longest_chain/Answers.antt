@@ -4,8 +4,8 @@ use Rattle.hash_index.specs.Spelled.{heads_of}
 use Rattle.hash_index.proofs.Spelling.{chains_end}
 use Rattle.hash_index.proofs.HashIndex.longest_chain.Goals as goal
 
-pub loop-bucket-init : goal.loop-bucket-init
-loop-bucket-init g c = record {
+pub loop-chain-init : goal.loop-chain-init
+loop-chain-init g c = record {
   ends = chains_end (column_of c.args.store.now) c.args.self.now 0 (heads_of c.args.self.now) c.requires.chains;
   longest = refl;
 }

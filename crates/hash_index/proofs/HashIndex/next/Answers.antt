@@ -5,14 +5,14 @@ use Rattle.node_store.specs.ByNode.{column_of, same_node}
 use Rattle.list_model.specs.Walk.{next}
 use Rattle.seq_index.proofs.Walks.{next_at}
 use Rattle.hash_index.specs.Spelled.{Spells}
-use Rattle.hash_index.proofs.Spelling.{held_node, some_bucket}
+use Rattle.hash_index.proofs.Spelling.{held_node, some_chain}
 use Rattle.hash_index.proofs.HashIndex.next.Goals as goal
 
 pub link-requires : goal.link-requires
 link-requires g c = held_node _ _ _ c.args.n c.requires.chain c.requires.held
 
 pub after-requires : goal.after-requires
-after-requires g c = some_bucket _ _ _ c.args.n c.requires.chain c.requires.held
+after-requires g c = some_chain _ _ _ c.args.n c.requires.chain c.requires.held
 
 pub returns : goal.returns
 returns g c =

@@ -12,9 +12,9 @@ pub link-after-requires : goal.link-after-requires
 link-after-requires g c =
     let i = c.args.self.now in
     let cs = column_of c.args.store.now in
-    let b = c.bucket-bucket.result in
-    let within = c.bucket-bucket.ensures.within in
-    let at : slice_get (all_of i) b ≡ Some c.args.head = ap (slice_get (all_of i)) c.bucket-bucket.ensures.is ∙ c.requires.head in
+    let b = c.chain-chain.result in
+    let within = c.chain-chain.ensures.within in
+    let at : slice_get (all_of i) b ≡ Some c.args.head = ap (slice_get (all_of i)) c.chain-chain.ensures.is ∙ c.requires.head in
     let began : get_or (heads_of i) b None ≡ Some c.args.first = sym (slice_first (heads_of i) (all_of i) b refl c.args.head at) ∙ c.requires.first in
     let held = stands_held cs i b c.args.first c.args.at c.requires.chain within began (behind_stands _ c.args.at c.args.n c.args.up c.requires.at) in
     held_node cs i _ c.args.at c.requires.chain held
@@ -28,9 +28,9 @@ pub set_prev-requires : goal.set_prev-requires
 set_prev-requires g c = λ m e.
     let i = c.args.self.now in
     let cs = column_of c.args.store.now in
-    let b = c.bucket-bucket.result in
-    let within = c.bucket-bucket.ensures.within in
-    let at : slice_get (all_of i) b ≡ Some c.args.head = ap (slice_get (all_of i)) c.bucket-bucket.ensures.is ∙ c.requires.head in
+    let b = c.chain-chain.result in
+    let within = c.chain-chain.ensures.within in
+    let at : slice_get (all_of i) b ≡ Some c.args.head = ap (slice_get (all_of i)) c.chain-chain.ensures.is ∙ c.requires.head in
     let began : get_or (heads_of i) b None ≡ Some c.args.first = sym (slice_first (heads_of i) (all_of i) b refl c.args.head at) ∙ c.requires.first in
     let held = stands_held cs i b c.args.first c.args.at c.requires.chain within began (behind_stands _ c.args.at c.args.n c.args.up c.requires.at) in
     let near = has_neighbours cs i _ c.args.at c.link-after.result c.requires.chain held c.link-after.ensures in
@@ -40,9 +40,9 @@ pub set_up-requires : goal.set_up-requires
 set_up-requires g c = λ m e.
     let i = c.args.self.now in
     let cs = column_of c.args.store.now in
-    let b = c.bucket-bucket.result in
-    let within = c.bucket-bucket.ensures.within in
-    let at : slice_get (all_of i) b ≡ Some c.args.head = ap (slice_get (all_of i)) c.bucket-bucket.ensures.is ∙ c.requires.head in
+    let b = c.chain-chain.result in
+    let within = c.chain-chain.ensures.within in
+    let at : slice_get (all_of i) b ≡ Some c.args.head = ap (slice_get (all_of i)) c.chain-chain.ensures.is ∙ c.requires.head in
     let began : get_or (heads_of i) b None ≡ Some c.args.first = sym (slice_first (heads_of i) (all_of i) b refl c.args.head at) ∙ c.requires.first in
     let held = stands_held cs i b c.args.first c.args.at c.requires.chain within began (behind_stands _ c.args.at c.args.n c.args.up c.requires.at) in
     let same : c.args.first ≡ m = cc in
@@ -54,15 +54,15 @@ pub returns-clause-chain : goal.returns-clause-chain
 returns-clause-chain g c =
     let i = c.args.self.now in
     let cs = column_of c.args.store.now in
-    let b = c.bucket-bucket.result in
-    let within = c.bucket-bucket.ensures.within in
-    let at : slice_get (all_of i) b ≡ Some c.args.head = ap (slice_get (all_of i)) c.bucket-bucket.ensures.is ∙ c.requires.head in
+    let b = c.chain-chain.result in
+    let within = c.chain-chain.ensures.within in
+    let at : slice_get (all_of i) b ≡ Some c.args.head = ap (slice_get (all_of i)) c.chain-chain.ensures.is ∙ c.requires.head in
     let began : get_or (heads_of i) b None ≡ Some c.args.first = sym (slice_first (heads_of i) (all_of i) b refl c.args.head at) ∙ c.requires.first in
     let held = stands_held cs i b c.args.first c.args.at c.requires.chain within began (behind_stands _ c.args.at c.args.n c.args.up c.requires.at) in
     let load : (i.len + 1) * 4 ≤ c.set.new.self.len = omega (arith, c.requires.room, c.set.ensures.len) in
     let begin = head_there c.args.store.now i b c.args.head within at c.requires.chain c.args.first c.requires.first in
     behind_sound cs (column_of c.set_up.new.store) _ _ (column_of c.set_prev.new.store i.col) i _ c.args.n c.args.first c.args.at b c.args.hash c.link-after.result c.args.up c.joined.result c.requires.chain within
-    (record { col = refl; level = refl; count = c.set.ensures.len; heads = c.set.ensures.heads }) (c.joined.ensures.first ∙ c.requires.first) c.joined.ensures.followed refl load c.requires.new c.bucket-bucket.ensures.is
+    (record { col = refl; level = refl; count = c.set.ensures.len; heads = c.set.ensures.heads }) (c.joined.ensures.first ∙ c.requires.first) c.joined.ensures.followed refl load c.requires.new c.chain-chain.ensures.is
     began c.requires.at c.link-after.ensures c.set_link.ensures.put c.set_next.ensures.ends c.set_next.ensures.same c.set_prev.ensures.ends c.set_prev.ensures.same
     c.set_up.ensures.links c.set_up.ensures.same (c.set_up.ensures.up c.args.first refl) (λ m. c.set_up.ensures.tags m ∙ (c.set_prev.ensures.tags m ∙ c.set_next.ensures.tags m))
     (joined_oldest cs i b c.args.head c.joined.result c.args.first begin.block within at c.requires.first begin.is c.requires.chain c.joined.ensures.oldest) c.requires.later
@@ -71,15 +71,15 @@ pub returns-clause-list : goal.returns-clause-list
 returns-clause-list g c =
     let i = c.args.self.now in
     let cs = column_of c.args.store.now in
-    let b = c.bucket-bucket.result in
-    let within = c.bucket-bucket.ensures.within in
-    let at : slice_get (all_of i) b ≡ Some c.args.head = ap (slice_get (all_of i)) c.bucket-bucket.ensures.is ∙ c.requires.head in
+    let b = c.chain-chain.result in
+    let within = c.chain-chain.ensures.within in
+    let at : slice_get (all_of i) b ≡ Some c.args.head = ap (slice_get (all_of i)) c.chain-chain.ensures.is ∙ c.requires.head in
     let began : get_or (heads_of i) b None ≡ Some c.args.first = sym (slice_first (heads_of i) (all_of i) b refl c.args.head at) ∙ c.requires.first in
     let held = stands_held cs i b c.args.first c.args.at c.requires.chain within began (behind_stands _ c.args.at c.args.n c.args.up c.requires.at) in
     let load : (i.len + 1) * 4 ≤ c.set.new.self.len = omega (arith, c.requires.room, c.set.ensures.len) in
     let begin = head_there c.args.store.now i b c.args.head within at c.requires.chain c.args.first c.requires.first in
     behind_moved cs (column_of c.set_up.new.store) _ _ (column_of c.set_prev.new.store i.col) i _ c.args.n c.args.first c.args.at b c.args.hash c.link-after.result c.args.up c.joined.result c.requires.chain within
-    (record { col = refl; level = refl; count = c.set.ensures.len; heads = c.set.ensures.heads }) (c.joined.ensures.first ∙ c.requires.first) c.joined.ensures.followed refl load c.requires.new c.bucket-bucket.ensures.is
+    (record { col = refl; level = refl; count = c.set.ensures.len; heads = c.set.ensures.heads }) (c.joined.ensures.first ∙ c.requires.first) c.joined.ensures.followed refl load c.requires.new c.chain-chain.ensures.is
     began c.requires.at c.link-after.ensures c.set_link.ensures.put c.set_next.ensures.ends c.set_next.ensures.same c.set_prev.ensures.ends c.set_prev.ensures.same
     c.set_up.ensures.links c.set_up.ensures.same (c.set_up.ensures.up c.args.first refl) (λ m. c.set_up.ensures.tags m ∙ (c.set_prev.ensures.tags m ∙ c.set_next.ensures.tags m))
     (joined_oldest cs i b c.args.head c.joined.result c.args.first begin.block within at c.requires.first begin.is c.requires.chain c.joined.ensures.oldest) c.requires.later
@@ -88,9 +88,9 @@ pub returns-clause-same : goal.returns-clause-same
 returns-clause-same g c = λ m ne lacks.
     let i = c.args.self.now in
     let cs = column_of c.args.store.now in
-    let b = c.bucket-bucket.result in
-    let within = c.bucket-bucket.ensures.within in
-    let at : slice_get (all_of i) b ≡ Some c.args.head = ap (slice_get (all_of i)) c.bucket-bucket.ensures.is ∙ c.requires.head in
+    let b = c.chain-chain.result in
+    let within = c.chain-chain.ensures.within in
+    let at : slice_get (all_of i) b ≡ Some c.args.head = ap (slice_get (all_of i)) c.chain-chain.ensures.is ∙ c.requires.head in
     let began : get_or (heads_of i) b None ≡ Some c.args.first = sym (slice_first (heads_of i) (all_of i) b refl c.args.head at) ∙ c.requires.first in
     let held = stands_held cs i b c.args.first c.args.at c.requires.chain within began (behind_stands _ c.args.at c.args.n c.args.up c.requires.at) in
     behind_same cs i b c.args.first c.args.at c.link-after.result c.requires.chain within began (behind_stands _ c.args.at c.args.n c.args.up c.requires.at) c.link-after.ensures m lacks (column_of c.set_up.new.store i.col) _ _ _ c.set_up.ensures.same c.set_prev.ensures.same c.set_next.ensures.same ∙ c.set_link.ensures.put.others m ne

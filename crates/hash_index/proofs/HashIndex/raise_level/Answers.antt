@@ -1,5 +1,5 @@
 use Rattle.std.proofs.Common.{◌≡◌, ◌<◌, ◌*◌, refl, ap, sym, ◌∙◌, arith}
-use Rattle.hash_index.specs.Buckets.{bucket_of}
+use Rattle.hash_index.specs.LinearHashing.{chain_of}
 use Rattle.hash_index.proofs.Masks.{doubled}
 use Rattle.hash_index.proofs.Levels.{next_level}
 use Rattle.hash_index.proofs.HashIndex.raise_level.Goals as goal
@@ -12,11 +12,11 @@ invariant_of-self-clause-masked c =
 pub returns-then-len-self-clause-same : goal.returns-then-len-self-clause-same
 returns-then-len-self-clause-same c =
     let i = c.args.self.now in
-    let full : i.buckets.len ≡ i.level * 2 = omega (arith, c.if-len-self.true, c.len.ensures) in
+    let full : i.chains.len ≡ i.level * 2 = omega (arith, c.if-len-self.true, c.len.ensures) in
     record {
-      buckets = refl;
+      chains = refl;
       len = refl;
       col = refl;
       index = refl;
-      leads = λ hash. ap (λ k. bucket_of (i.level * 2) k hash) full ∙ (next_level i.level hash i.some_level ∙ sym (ap (λ k. bucket_of i.level k hash) full));
+      leads = λ hash. ap (λ k. chain_of (i.level * 2) k hash) full ∙ (next_level i.level hash i.some_level ∙ sym (ap (λ k. chain_of i.level k hash) full));
     }

@@ -23,7 +23,7 @@ returns-clause-order g c = λ b.
     let col = col_of c.reserve_chains.new.self in
     let before = leads_to c.grow_twice.new.self in
     let after = leads_to c.grow_twice-2.new.self in
-    let some : 0 < c.grow_twice.new.self.buckets.len = omega (arith, c.grow_twice.ensures.count) in
+    let some : 0 < c.grow_twice.new.self.chains.len = omega (arith, c.grow_twice.ensures.count) in
     let second = subst (λ k. members (column_of c.grow_twice.new.store k) after b (nodes_of c.grow_twice-2.new.self c.grow_twice-2.new.store) ≡ members (column_of c.grow_twice.new.store k) after b (nodes_of c.grow_twice.new.self c.grow_twice.new.store)) c.grow_twice.ensures.rest.col (c.grow_twice-2.ensures.order b) in
     let first = c.grow_twice.ensures.order (before b) ∙ ap (members (column_of c.args.store.now col) before (before b)) same in
     subst (λ k. members (column_of c.args.store.now k) after b (nodes_of c.grow_twice-2.new.self c.grow_twice-2.new.store) ≡ members (column_of c.args.store.now k) after b (nodes_of c.args.self.now c.args.store.now)) c.reserve_chains.ensures.same.col

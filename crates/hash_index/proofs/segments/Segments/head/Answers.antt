@@ -7,19 +7,19 @@ use Rattle.hash_index.proofs.segments.Segments.head.Goals as goal
 pub index-requires : goal.index-requires
 index-requires c =
     let s = c.args.self.now in
-    let part = stands s.segments.items c.args.bucket _ _ s.shape (omega (arith, s.ok, c.requires)) c.locate-segment.ensures in
+    let part = stands s.segments.items c.args.chain _ _ s.shape (omega (arith, s.ok, c.requires)) c.locate-segment.ensures in
     omega (arith, part_below _ _ _ _ part, s.segments.ok.0)
 
 pub head-requires : goal.head-requires
 head-requires c =
     let s = c.args.self.now in
-    let part = stands s.segments.items c.args.bucket _ _ s.shape (omega (arith, s.ok, c.requires)) c.locate-segment.ensures in
+    let part = stands s.segments.items c.args.chain _ _ s.shape (omega (arith, s.ok, c.requires)) c.locate-segment.ensures in
     let is = part_is _ _ _ _ part c.index.result.now c.index.ensures in
     omega (arith, part.within, ap (λ v. length (items_of v)) is)
 
 pub returns : goal.returns
 returns c =
     let s = c.args.self.now in
-    let part = stands s.segments.items c.args.bucket _ _ s.shape (omega (arith, s.ok, c.requires)) c.locate-segment.ensures in
+    let part = stands s.segments.items c.args.chain _ _ s.shape (omega (arith, s.ok, c.requires)) c.locate-segment.ensures in
     let is = part_is _ _ _ _ part c.index.result.now c.index.ensures in
     part_get _ _ _ _ part ∙ (ap (λ v. slice_get (items_of v) c.locate-segment.result.1) (sym is) ∙ c.head.ensures)

@@ -1,4 +1,4 @@
--- One bucket among all.
+-- One chain among all.
 use Rattle.std.proofs.Common.{◌≡◌, ◌≢◌, ℕ, zero, suc, ◌+◌, ◌<◌, ◌≤◌, List, [], ◌∷◌, ◌++◌, length, map, get_or, set, drop, Option, Some, None, option_and_then, refl, sym, ap, ◌∙◌, subst, arith, append_assoc, length-append}
 use Rattle.std.specs.List.{AllByRecursion}
 use Rattle.std.specs.Option.{option_map}
@@ -16,7 +16,7 @@ use Rattle.hash_index.specs.Walks.{Leads}
 use Rattle.hash_index.proofs.Rising.{rising_same}
 use Rattle.hash_index.proofs.Untagged.{tag_of, same_untagged, tagged_node, in_tag}
 
--- the node is in another bucket, or in none
+-- the node is in another chain, or in none
 abbrev pub IsElsewhere : Column → (ℕ → ℕ) → ℕ → Node → Type 0
 IsElsewhere c to b n = IsIn c to b n → ⊥
 
@@ -35,7 +35,7 @@ in_same c d to into b keeps [] s h = tt
 in_same c d to into b keeps (x ∷ xs) s h =
     (ap (λ o. option_map into (option_map tag_of o)) s.0 ∙ in_into c to into b keeps x h.0, in_same c d to into b keeps xs s.1 h.1)
 
--- a chain whose links stay, where each hash that led to its bucket still does
+-- a chain whose links stay, where each hash that led to its chain still does
 pub chain_same : (c d : Column) (to into : ℕ → ℕ) (b : ℕ) → ((hash : ℕ) → to hash ≡ b → into hash ≡ b) → (head : Option Node) (xs : List Node) → IsSameAt c d xs → IsChain c to b head xs → IsChain d into b head xs
 chain_same c d to into b keeps head xs s h = record {
   first = h.first;
@@ -52,7 +52,7 @@ chains_same c d to into b keeps (head ∷ heads) (xs ∷ xss) s h =
     let p = same_parts c d xs (joined xss) s in
     (chain_same c d to into b (keeps b (omega arith)) head xs p.0 h.0, chains_same c d to into (b + 1) (λ k le. keeps k (omega arith)) heads xss p.1 h.1)
 
--- no node of a later bucket is in this one
+-- no node of a later chain is in this one
 elsewhere_after : (c : Column) (to : ℕ → ℕ) (b k : ℕ) (heads : List (Option Node)) (xss : List (List Node)) → b < k → AreChains c to k heads xss → AllByRecursion (IsElsewhere c to b) (joined xss)
 elsewhere_after c to b k [] [] lt h = tt
 elsewhere_after c to b k [] (xs ∷ xss) lt h = absurd h
@@ -78,14 +78,14 @@ pub record Hangs (c : Column) (to : ℕ → ℕ) (k : ℕ) (heads : List (Option
   pub are : AreChains c to k heads chains
   pub whole : joined chains ≡ xs
 
--- each hash that leads to another bucket than this one leads there as before
-abbrev pub KeepsOtherBuckets : (ℕ → ℕ) → (ℕ → ℕ) → ℕ → Type 0
-KeepsOtherBuckets to into b = (hash : ℕ) → to hash ≢ b → into hash ≡ to hash
+-- each hash that leads to another chain than this one leads there as before
+abbrev pub KeepsOtherChains : (ℕ → ℕ) → (ℕ → ℕ) → ℕ → Type 0
+KeepsOtherChains to into b = (hash : ℕ) → to hash ≢ b → into hash ≡ to hash
 
-kept_to : (to into : ℕ → ℕ) (b k : ℕ) → KeepsOtherBuckets to into b → k ≢ b → (hash : ℕ) → to hash ≡ k → into hash ≡ k
+kept_to : (to into : ℕ → ℕ) (b k : ℕ) → KeepsOtherChains to into b → k ≢ b → (hash : ℕ) → to hash ≡ k → into hash ≡ k
 kept_to to into b k keeps ne hash e = keeps hash (λ f. ne (sym e ∙ f)) ∙ e
 
--- one bucket, with what stands before and after it, and what another chain in its place makes
+-- one chain, with what stands before and after it, and what another chain in its place makes
 pub record Focus (c : Column) (to : ℕ → ℕ) (k j b : ℕ) (heads : List (Option Node)) (xs : List Node) : Type 0 where
   pub front : List Node
   pub chain : List Node
@@ -95,7 +95,7 @@ pub record Focus (c : Column) (to : ℕ → ℕ) (k j b : ℕ) (heads : List (Op
   pub before : AllByRecursion (IsElsewhere c to b) front
   pub after : AllByRecursion (IsElsewhere c to b) back
   pub later : first_head (drop (j + 1) heads) ≡ first_or back None
-  pub with_chain : (d : Column) (into : ℕ → ℕ) → KeepsOtherBuckets to into b → (head : Option Node) (ys : List Node) → IsSameAt c d front → IsSameAt c d back → IsChain d into b head ys → Hangs d into k (set heads j head) (front ++ (ys ++ back))
+  pub with_chain : (d : Column) (into : ℕ → ℕ) → KeepsOtherChains to into b → (head : Option Node) (ys : List Node) → IsSameAt c d front → IsSameAt c d back → IsChain d into b head ys → Hangs d into k (set heads j head) (front ++ (ys ++ back))
 
 focus_at : (c : Column) (to : ℕ → ℕ) (k j b : ℕ) (heads : List (Option Node)) (xss : List (List Node)) → b ≡ k + j → j < length heads → AreChains c to k heads xss → Focus c to k j b heads (joined xss)
 focus_at c to k j b [] xss e lt h = absurd (omega arith)

@@ -1,4 +1,4 @@
-//! Buckets, and walks over all nodes.
+//! Chains and buckets, and walks over all nodes.
 ghost use Rattle.std.specs.Prelude.{◌≡◌, ℕ, ◌+◌, ◌*◌, ◌%◌, ◌<◌, ◌≤◌, List, ◌∷◌, ◌++◌, length, Some, None, drop, slice_get};
 ghost use Rattle.node_store.specs.declared.Node.{Node};
 ghost use Rattle.node_store.specs.Column.{Column};
@@ -6,7 +6,7 @@ ghost use Rattle.node_store.specs.Nodes.{first_or};
 ghost use Rattle.node_store.specs.ByNode.{column_of, same_node};
 ghost use Rattle.list_model.specs.Walk.{next as the_next};
 ghost use Rattle.hash_index.specs.Spelled.{Spells, chains_of, buckets_of, heads_of, leads_to};
-ghost use Rattle.hash_index.specs.Stored.{nodes_of, AreBucketsOf, HasNode};
+ghost use Rattle.hash_index.specs.Stored.{nodes_of, AreChainsOf, HasNode};
 ghost use Rattle.hash_index.specs.Chains.{first_head, longest};
 ghost use Rattle.hash_index.specs.Walks.{rest_of, Ends};
 
@@ -19,7 +19,7 @@ const CHAINS: usize = 4;
 impl HashIndex {
     /// How many nodes there are. O(1).
     pub fn len<R>(&self, store: &NodeStore<R>) -> usize
-        requires { AreBucketsOf self.now store.now }
+        requires { AreChainsOf self.now store.now }
         ensures { result ≡ length (nodes_of self.now store.now) }
     {
         self.len
@@ -29,18 +29,18 @@ impl HashIndex {
     pub fn buckets(&self) -> usize
         ensures { result ≡ buckets_of self.now }
     {
-        self.buckets.len() / CHAINS
+        self.chains.len() / CHAINS
     }
 
     /// How many nodes the longest chain has. O(buckets + nodes).
     pub fn longest_chain<R>(&self, store: &NodeStore<R>) -> usize
-        requires { AreBucketsOf self.now store.now }
+        requires { AreChainsOf self.now store.now }
         ensures { result ≡ longest (chains_of (column_of store.now) self.now) }
     {
         let mut longest = 0;
-        for bucket in 0..self.buckets.len() {
+        for chain in 0..self.chains.len() {
             longest = self
-                .chain_length(store, self.buckets.get(bucket))
+                .chain_length(store, self.chains.get(chain))
                 .max(longest);
         }
         longest
@@ -48,7 +48,7 @@ impl HashIndex {
 
     // How many nodes a chain has from `at` on.
     fn chain_length<R>(&self, store: &NodeStore<R>, at: Option<Node>) -> usize
-        requires chain { AreBucketsOf self.now store.now }
+        requires chain { AreChainsOf self.now store.now }
         requires ends { Ends (column_of store.now) self.now at }
         ensures { result ≡ length (rest_of (column_of store.now) self.now at) }
     {
@@ -63,7 +63,7 @@ impl HashIndex {
 
     /// The first node of a walk over all, in no stated order. O(chains before it).
     pub fn first<R>(&self, store: &NodeStore<R>) -> Option<Node>
-        requires { AreBucketsOf self.now store.now }
+        requires { AreChainsOf self.now store.now }
         ensures { result ≡ slice_get (nodes_of self.now store.now) 0 }
     {
         self.first_from(0)
@@ -80,24 +80,24 @@ impl HashIndex {
 
     // The node after the one that has this link.
     pub(crate) fn after(&self, link: Link) -> Option<Node>
-        requires { 0 < self.now.buckets.len }
+        requires { 0 < self.now.chains.len }
         ensures { (cs : ℕ → Column) (xs : List Node) (n : Node) (ys : List Node) →
             Spells cs self.now (xs ++ n ∷ ys) → cs self.now.col n ≡ Some link →
             result ≡ first_or ys None }
     {
         match link.b {
             Some(n) => Some(n),
-            None => self.first_from(self.bucket(link.tag) + 1),
+            None => self.first_from(self.chain(link.tag) + 1),
         }
     }
 
     // The first node of this chain or a later one.
-    pub(crate) fn first_from(&self, bucket: usize) -> Option<Node>
-        requires { bucket ≤ self.now.buckets.len }
-        ensures { result ≡ first_head (drop bucket (heads_of self.now)) }
+    pub(crate) fn first_from(&self, chain: usize) -> Option<Node>
+        requires { chain ≤ self.now.chains.len }
+        ensures { result ≡ first_head (drop chain (heads_of self.now)) }
     {
-        for later in bucket..self.buckets.len() {
-            let head = self.buckets.get(later);
+        for later in chain..self.chains.len() {
+            let head = self.chains.get(later);
             if head.is_some() {
                 return head;
             }
@@ -106,16 +106,16 @@ impl HashIndex {
     }
 
     // The chain of a hash.
-    pub(crate) fn bucket(&self, hash: u64) -> usize
-        requires { 0 < self.now.buckets.len }
+    pub(crate) fn chain(&self, hash: u64) -> usize
+        requires { 0 < self.now.chains.len }
         ensures is { result ≡ leads_to self.now hash }
-        ensures within { result < self.now.buckets.len }
+        ensures within { result < self.now.chains.len }
     {
-        let bucket = self.remainder(hash);
-        if bucket < self.buckets.len() {
-            bucket
+        let chain = self.remainder(hash);
+        if chain < self.chains.len() {
+            chain
         } else {
-            bucket - self.level
+            chain - self.level
         }
     }
 
