@@ -11,3 +11,4 @@ pub mod Split
 pub mod Hashed
 pub mod Walks
 pub mod Stored
+pub mod Put

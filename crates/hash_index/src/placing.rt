@@ -1,5 +1,5 @@
 //! Places of nodes in chains, and which one is the last of a chain that rises.
-ghost use Rattle.std.specs.Prelude.{◌≡◌, ◌≢◌, ◌+◌, ◌<◌, ◌∷◌, get_or, slice_get, option_and_then, Some, None, IsPermutation};
+ghost use Rattle.std.specs.Prelude.{◌≡◌, ◌+◌, ◌<◌, get_or, slice_get, option_and_then, Some, None};
 ghost use Rattle.std.specs.Option.{is_some};
 ghost use Rattle.node_store.specs.declared.Node.{Node};
 ghost use Rattle.node_store.specs.Store.{number_of};
@@ -10,8 +10,8 @@ ghost use Rattle.seq_index.specs.Links.{AreNodes, Runs};
 ghost use Rattle.hash_index.specs.Chains.{tag_at, untagged, KeepsTags, KeepsOtherNodes};
 ghost use Rattle.hash_index.specs.Heads.{first_in};
 ghost use Rattle.hash_index.specs.Rising.{Rises, IsBefore, IsBehind, IsLast, known_last, up_at, top_beside};
-ghost use Rattle.hash_index.specs.Spelled.{col_of, all_of, heads_of, buckets_of, HasRoom, leads_to};
-ghost use Rattle.hash_index.specs.Stored.{nodes_of, AreChainsOf, KeepsRest};
+ghost use Rattle.hash_index.specs.Spelled.{col_of, all_of, heads_of, leads_to};
+ghost use Rattle.hash_index.specs.Put.{CanPut, IsPut};
 ghost use Rattle.hash_index.specs.Walks.{rest_of};
 
 use crate::HashIndex;
@@ -36,21 +36,8 @@ fn last_of(first: Node, link: Link) -> Option<Node>
 impl HashIndex {
     // Puts `n` into the chain of a hash.
     pub(crate) fn put<R>(&mut self, store: &mut NodeStore<R>, n: Node, hash: u64)
-        requires chain { AreChainsOf self.old store.old }
-        requires node { IsNode (column_of store.old (col_of self.old)) n }
-        requires new { Lacks (nodes_of self.old store.old) n }
-        requires room { HasRoom self.old }
-        ensures chain { AreChainsOf self.new store.new }
-        ensures list { IsPermutation (n ∷ nodes_of self.old store.old)
-            (nodes_of self.new store.new) }
-        ensures tag { tag_at (column_of store.new (col_of self.old)) n ≡ Some hash }
-        ensures tags { (m : Node) → m ≢ n → tag_at (column_of store.new (col_of self.old)) m ≡
-            tag_at (column_of store.old (col_of self.old)) m }
-        ensures same { (m : Node) → m ≢ n → Lacks (nodes_of self.old store.old) m →
-            column_of store.new (col_of self.old) m ≡ column_of store.old (col_of self.old) m }
-        ensures len { self.new.len ≡ self.old.len + 1 }
-        ensures buckets { buckets_of self.new ≡ buckets_of self.old }
-        ensures rest { KeepsRest self.old self.new store.old store.new }
+        requires { CanPut self.old store.old n }
+        ensures { IsPut self.old self.new store.old store.new n hash }
     {
         let chain = self.chain(hash);
         let head = self.chains.head(chain);
@@ -71,23 +58,10 @@ impl HashIndex {
         head: Head,
         first: Node,
     )
-        requires chain { AreChainsOf self.old store.old }
-        requires node { IsNode (column_of store.old (col_of self.old)) n }
-        requires new { Lacks (nodes_of self.old store.old) n }
-        requires room { HasRoom self.old }
+        requires put { CanPut self.old store.old n }
         requires head { slice_get (all_of self.old) (leads_to self.old hash) ≡ Some head }
         requires first { first_in head ≡ Some first }
-        ensures chain { AreChainsOf self.new store.new }
-        ensures list { IsPermutation (n ∷ nodes_of self.old store.old)
-            (nodes_of self.new store.new) }
-        ensures tag { tag_at (column_of store.new (col_of self.old)) n ≡ Some hash }
-        ensures tags { (m : Node) → m ≢ n → tag_at (column_of store.new (col_of self.old)) m ≡
-            tag_at (column_of store.old (col_of self.old)) m }
-        ensures same { (m : Node) → m ≢ n → Lacks (nodes_of self.old store.old) m →
-            column_of store.new (col_of self.old) m ≡ column_of store.old (col_of self.old) m }
-        ensures len { self.new.len ≡ self.old.len + 1 }
-        ensures buckets { buckets_of self.new ≡ buckets_of self.old }
-        ensures rest { KeepsRest self.old self.new store.old store.new }
+        ensures { IsPut self.old self.new store.old store.new n hash }
     {
         let link = store.link(first, self.col);
         let last = last_of(first, link);
@@ -161,23 +135,10 @@ impl HashIndex {
 
     // Puts `n` first into the chain of a hash, and makes it lead up to `up`.
     fn put_first<R>(&mut self, store: &mut NodeStore<R>, n: Node, hash: u64, up: Option<Node>)
-        requires chain { AreChainsOf self.old store.old }
-        requires node { IsNode (column_of store.old (col_of self.old)) n }
-        requires new { Lacks (nodes_of self.old store.old) n }
-        requires room { HasRoom self.old }
+        requires put { CanPut self.old store.old n }
         requires up { IsBefore (rest_of (column_of store.old) self.old
             (get_or (heads_of self.old) (leads_to self.old hash) None)) n up }
-        ensures chain { AreChainsOf self.new store.new }
-        ensures list { IsPermutation (n ∷ nodes_of self.old store.old)
-            (nodes_of self.new store.new) }
-        ensures tag { tag_at (column_of store.new (col_of self.old)) n ≡ Some hash }
-        ensures tags { (m : Node) → m ≢ n → tag_at (column_of store.new (col_of self.old)) m ≡
-            tag_at (column_of store.old (col_of self.old)) m }
-        ensures same { (m : Node) → m ≢ n → Lacks (nodes_of self.old store.old) m →
-            column_of store.new (col_of self.old) m ≡ column_of store.old (col_of self.old) m }
-        ensures len { self.new.len ≡ self.old.len + 1 }
-        ensures buckets { buckets_of self.new ≡ buckets_of self.old }
-        ensures rest { KeepsRest self.old self.new store.old store.new }
+        ensures { IsPut self.old self.new store.old store.new n hash }
     {
         let chain = self.chain(hash);
         let head = self.chains.get(chain);
@@ -206,26 +167,13 @@ impl HashIndex {
         at: Node,
         up: Option<Node>,
     )
-        requires chain { AreChainsOf self.old store.old }
-        requires node { IsNode (column_of store.old (col_of self.old)) n }
-        requires new { Lacks (nodes_of self.old store.old) n }
-        requires room { HasRoom self.old }
+        requires put { CanPut self.old store.old n }
         requires head { slice_get (all_of self.old) (leads_to self.old hash) ≡ Some head }
         requires first { first_in head ≡ Some first }
         requires at { IsBehind (rest_of (column_of store.old) self.old (Some first)) at n up }
         requires later { tag_at (column_of store.old (col_of self.old)) first ≡ Some hash →
             number_of first < number_of n }
-        ensures chain { AreChainsOf self.new store.new }
-        ensures list { IsPermutation (n ∷ nodes_of self.old store.old)
-            (nodes_of self.new store.new) }
-        ensures tag { tag_at (column_of store.new (col_of self.old)) n ≡ Some hash }
-        ensures tags { (m : Node) → m ≢ n → tag_at (column_of store.new (col_of self.old)) m ≡
-            tag_at (column_of store.old (col_of self.old)) m }
-        ensures same { (m : Node) → m ≢ n → Lacks (nodes_of self.old store.old) m →
-            column_of store.new (col_of self.old) m ≡ column_of store.old (col_of self.old) m }
-        ensures len { self.new.len ≡ self.old.len + 1 }
-        ensures buckets { buckets_of self.new ≡ buckets_of self.old }
-        ensures rest { KeepsRest self.old self.new store.old store.new }
+        ensures { IsPut self.old self.new store.old store.new n hash }
     {
         let chain = self.chain(hash);
         let after = store.link(at, self.col).b;

@@ -15,64 +15,64 @@ link-link-requires g c =
     let i = c.args.self.now in
     let cs = column_of c.args.store.now in
     let b = leads_to i c.args.hash in
-    let within = leads_within i c.args.hash (some_room i c.requires.room) in
+    let within = leads_within i c.args.hash (some_room i c.requires.put.room) in
     let began : get_or (heads_of i) b None ≡ Some c.args.first = sym (slice_first (heads_of i) (all_of i) b refl c.args.head c.requires.head) ∙ c.requires.first in
-    head_there c.args.store.now i b c.args.head within c.requires.head c.requires.chain c.args.first c.requires.first
+    head_there c.args.store.now i b c.args.head within c.requires.head c.requires.put.chain c.args.first c.requires.first
 
 pub place-up-requires-clause-new : goal.place-up-requires-clause-new
 place-up-requires-clause-new g c =
     let i = c.args.self.now in
     let cs = column_of c.args.store.now in
     let b = leads_to i c.args.hash in
-    let within = leads_within i c.args.hash (some_room i c.requires.room) in
+    let within = leads_within i c.args.hash (some_room i c.requires.put.room) in
     let began : get_or (heads_of i) b None ≡ Some c.args.first = sym (slice_first (heads_of i) (all_of i) b refl c.args.head c.requires.head) ∙ c.requires.first in
-    chain_lacks cs i b c.args.first c.requires.chain within began c.args.n c.requires.new
+    chain_lacks cs i b c.args.first c.requires.put.chain within began c.args.n c.requires.put.new
 
 pub place-up-requires-clause-first : goal.place-up-requires-clause-first
 place-up-requires-clause-first g c =
     let i = c.args.self.now in
     let cs = column_of c.args.store.now in
     let b = leads_to i c.args.hash in
-    let within = leads_within i c.args.hash (some_room i c.requires.room) in
+    let within = leads_within i c.args.hash (some_room i c.requires.put.room) in
     let began : get_or (heads_of i) b None ≡ Some c.args.first = sym (slice_first (heads_of i) (all_of i) b refl c.args.head c.requires.head) ∙ c.requires.first in
-    chain_begins cs i b c.args.first c.requires.chain within began
+    chain_begins cs i b c.args.first c.requires.put.chain within began
 
 pub place-up-requires-clause-runs : goal.place-up-requires-clause-runs
 place-up-requires-clause-runs g c =
     let i = c.args.self.now in
     let cs = column_of c.args.store.now in
     let b = leads_to i c.args.hash in
-    let within = leads_within i c.args.hash (some_room i c.requires.room) in
+    let within = leads_within i c.args.hash (some_room i c.requires.put.room) in
     let began : get_or (heads_of i) b None ≡ Some c.args.first = sym (slice_first (heads_of i) (all_of i) b refl c.args.head c.requires.head) ∙ c.requires.first in
-    chain_runs cs i b c.args.first c.requires.chain within began
+    chain_runs cs i b c.args.first c.requires.put.chain within began
 
 pub place-up-requires-clause-last : goal.place-up-requires-clause-last
 place-up-requires-clause-last g c = λ m e.
     let i = c.args.self.now in
     let cs = column_of c.args.store.now in
     let b = leads_to i c.args.hash in
-    let within = leads_within i c.args.hash (some_room i c.requires.room) in
+    let within = leads_within i c.args.hash (some_room i c.requires.put.room) in
     let began : get_or (heads_of i) b None ≡ Some c.args.first = sym (slice_first (heads_of i) (all_of i) b refl c.args.head c.requires.head) ∙ c.requires.first in
-    known_rising cs i b c.args.first c.link-link.result c.requires.chain within began c.link-link.ensures m (sym c.last_of-last.ensures ∙ e)
+    known_rising cs i b c.args.first c.link-link.result c.requires.put.chain within began c.link-link.ensures m (sym c.last_of-last.ensures ∙ e)
 
 pub put_first-requires-clause-up : goal.put_first-requires-clause-up
 put_first-requires-clause-up g c =
     let i = c.args.self.now in
     let cs = column_of c.args.store.now in
     let b = leads_to i c.args.hash in
-    let within = leads_within i c.args.hash (some_room i c.requires.room) in
+    let within = leads_within i c.args.hash (some_room i c.requires.put.room) in
     let began : get_or (heads_of i) b None ≡ Some c.args.first = sym (slice_first (heads_of i) (all_of i) b refl c.args.head c.requires.head) ∙ c.requires.first in
-    let there = head_there c.args.store.now i b c.args.head within c.requires.head c.requires.chain c.args.first c.requires.first in
+    let there = head_there c.args.store.now i b c.args.head within c.requires.head c.requires.put.chain c.args.first c.requires.first in
     let later : ¬ (number_of c.args.first < number_of c.args.n) = λ lt. omega (arith, lt, c.if-number.false, c.number.ensures, c.number-2.ensures) in
     subst (λ o. IsBefore (rest_of cs i o) c.args.n c.last_of-last.result) (sym began)
-    (older_first c.args.store.now i b c.args.first c.args.n c.requires.chain within began there c.requires.node c.requires.new later c.last_of-last.result
-    (λ m e. known_rising cs i b c.args.first c.link-link.result c.requires.chain within began c.link-link.ensures m (sym c.last_of-last.ensures ∙ e)))
+    (older_first c.args.store.now i b c.args.first c.args.n c.requires.put.chain within began there c.requires.put.node c.requires.put.new later c.last_of-last.result
+    (λ m e. known_rising cs i b c.args.first c.link-link.result c.requires.put.chain within began c.link-link.ensures m (sym c.last_of-last.ensures ∙ e)))
 
 pub put_behind-requires-else-link-hash-clause-at : goal.put_behind-requires-else-link-hash-clause-at
 put_behind-requires-else-link-hash-clause-at g c =
     let i = c.args.self.now in
     let cs = column_of c.args.store.now in
     let b = leads_to i c.args.hash in
-    let within = leads_within i c.args.hash (some_room i c.requires.room) in
+    let within = leads_within i c.args.hash (some_room i c.requires.put.room) in
     let began : get_or (heads_of i) b None ≡ Some c.args.first = sym (slice_first (heads_of i) (all_of i) b refl c.args.head c.requires.head) ∙ c.requires.first in
-    behind_first _ c.args.first c.args.n (chain_begins cs i b c.args.first c.requires.chain within began)
+    behind_first _ c.args.first c.args.n (chain_begins cs i b c.args.first c.requires.put.chain within began)

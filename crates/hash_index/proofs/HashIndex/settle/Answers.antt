@@ -1,4 +1,4 @@
-use Rattle.std.proofs.Common.{List, ◌∷◌, Some, ap, sym, ◌∙◌, subst, arith}
+use Rattle.std.proofs.Common.{rules, List, ◌∷◌, Some, ap, sym, ◌∙◌, subst, arith}
 use Rattle.std.specs.Prelude.{IsPermutation}
 use Rattle.std.specs.Option.{option_map}
 use Rattle.std.proofs.lemmas.List.Sorted.{IsPermutation-trans, length_permutation}
@@ -24,13 +24,13 @@ returns-then-link-hash-clause-hashed g c = λ h.
     IsHashed_all hash c.args.store.now (col_of c.args.self.now) c.args.n _
     (tag_is (column_of c.args.store.now (col_of c.args.self.now)) c.args.n c.link.result c.link.ensures ∙ (ap Some (c.if-link-hash.true ∙ c.hash-hash.ensures) ∙ sym (ap (option_map hash) c.get.ensures))) h
 
-pub put-requires-clause-node : goal.put-requires-clause-node
-put-requires-clause-node g c =
-    IsNode_kept c.args.store.now c.unlink.new.store _ _ c.args.n c.unlink.ensures.rest.contents c.unlink.ensures.rest.col (node_linked c.args.store.now c.args.self.now c.args.n c.requires.node.chain c.requires.node.held)
-
-pub put-requires-clause-new : goal.put-requires-clause-new
-put-requires-clause-new g c =
-    subst (λ (z : List Node). Lacks z c.args.n) (sym (spelled_is (column_of c.unlink.new.store) c.unlink.new.self _ c.unlink.ensures.list)) (Lacks_without (spelled (column_of c.args.store.now) c.args.self.now) c.args.n)
+pub put-requires : goal.put-requires
+put-requires g c = record {
+  chain = search rules;
+  node = IsNode_kept c.args.store.now c.unlink.new.store _ _ c.args.n c.unlink.ensures.rest.contents c.unlink.ensures.rest.col (node_linked c.args.store.now c.args.self.now c.args.n c.requires.node.chain c.requires.node.held);
+  new = subst (λ (z : List Node). Lacks z c.args.n) (sym (spelled_is (column_of c.unlink.new.store) c.unlink.new.self _ c.unlink.ensures.list)) (Lacks_without (spelled (column_of c.args.store.now) c.args.self.now) c.args.n);
+  room = c.unlink.ensures.room;
+}
 
 pub returns-clause-list : goal.returns-clause-list
 returns-clause-list g c =
