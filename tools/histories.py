@@ -6,24 +6,10 @@ import sys
 import tempfile
 
 from built_program import built_program
+from every_kind import seven_indices
 from plain_machine import WRITES, Machine
 
-PEOPLE = """
-[[table]]
-name = "%s"
-column = [{name = "id", cell = "int"}, {name = "g", cell = "text"}, {name = "n", cell = "int"}]
-index = [
-  {name = "q", kind = "sequenced"},
-  {name = "v", kind = "random"},
-  {name = "u", kind = "ordered", unique = true, key = ["id"]},
-  {name = "r", kind = "ranked", key = ["n"]},
-  {name = "c", kind = "ordered", key = ["g", "-n"]},
-  {name = "h", kind = "hashed", key = ["g"]},
-  {name = "x", kind = "hashed", unique = true, key = ["g", "n"]},
-]
-"""
-
-SCHEMA = PEOPLE % "p" + PEOPLE % "o" + """
+SCHEMA = seven_indices("p") + seven_indices("o") + """
 [[table]]
 name = "t"
 max = 5

@@ -1,24 +1,9 @@
 """Worked examples: lines on empty tables, and the answers that were worked out by hand. Each example has a name that says what it shows."""
 import json
 
-SCHEMA = """
-[[table]]
-name = "p"
-column = [{name = "id", cell = "int"}, {name = "g", cell = "text"}, {name = "n", cell = "int"}]
-index = [
-  {name = "q", kind = "sequenced"},
-  {name = "v", kind = "random"},
-  {name = "u", kind = "ordered", unique = true, key = ["id"]},
-  {name = "r", kind = "ranked", key = ["n"]},
-  {name = "c", kind = "ordered", key = ["g", "-n"]},
-  {name = "h", kind = "hashed", key = ["g"]},
-  {name = "x", kind = "hashed", unique = true, key = ["g", "n"]}
-]
-[[table]]
-name = "t"
-max = 2
-column = [{name = "k", cell = "int"}]
-index = [{name = "s", kind = "sequenced"}]
+from every_kind import SCHEMA as TWO_TABLES
+
+SCHEMA = TWO_TABLES + """
 [[table]]
 name = "n"
 column = [{name = "id", cell = "int"}, {name = "m", cell = "int", null = true}]
