@@ -37,18 +37,26 @@ fn list<R: Runtime>(rt: &R, items: Iter<'_, Item, FieldKeys>) -> io::Result<()> 
     Ok(())
 }
 
-fn main(rt: HostRuntime) -> io::Result<()> {
-    let mut items = Indexed::new(rt.alloc(), INDICES, 1000)?;
-    put_all(&rt, &mut items)?;
-    println!(&rt; "by shelf, the latest first:")?;
-    list(&rt, items.index(BY_SHELF).iter())?;
-    println!(&rt; "by day:")?;
-    list(&rt, items.index(BY_DAY).iter())?;
+fn list_all<R: Runtime>(rt: &R, items: &Indexed<Item>) -> io::Result<()> {
+    println!(rt; "by shelf, the latest first:")?;
+    list(rt, items.index(BY_SHELF).iter())?;
+    println!(rt; "by day:")?;
+    list(rt, items.index(BY_DAY).iter())
+}
+
+fn look_up<R: Runtime>(rt: &R, items: &Indexed<Item>) -> io::Result<()> {
     let shelf = Search::unsigned(1).leading();
-    println!(&rt; "on shelf 1: {}", items.index(BY_SHELF).count(&shelf))?;
-    list(&rt, items.index(BY_SHELF).equal(&shelf))?;
-    println!(&rt;
+    println!(rt; "on shelf 1: {}", items.index(BY_SHELF).count(&shelf))?;
+    list(rt, items.index(BY_SHELF).equal(&shelf))?;
+    println!(rt;
         "item 5: {:?}",
         items.index(BY_NUMBER).row(&Search::unsigned(5))
     )
+}
+
+fn main(rt: HostRuntime) -> io::Result<()> {
+    let mut items = Indexed::new(rt.alloc(), INDICES, 1000)?;
+    put_all(&rt, &mut items)?;
+    list_all(&rt, &items)?;
+    look_up(&rt, &items)
 }
