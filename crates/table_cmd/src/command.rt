@@ -3,9 +3,9 @@
 ghost use Rattle.std.specs.Prelude.{◌≡◌};
 ghost use Rattle.table_cmd.specs.Command.{added_in, set_in, table_in};
 
+use crate::items::Items;
 use container_model::{Handle, Kind};
 use key_extract::{Cell, Text};
-use std::marker::Model;
 
 /// A value of a command.
 #[derive(Debug, Drop)]
@@ -27,66 +27,10 @@ pub struct Field {
 }
 
 /// The fields of a row. Those that were read from a line are in ascending order of their names' bytes, each name once.
-#[derive(Debug, Drop)]
-pub struct Fields {
-    pub(crate) fields: Vec<Field>,
-}
-
-impl Model for Fields {
-    ghost use Rattle.std.specs.Prelude.{List};
-    ghost use Rattle.table_cmd.specs.declared.command.Field.{Field as FieldValue};
-
-    ghost Value = { List FieldValue };
-
-    ghost view = { λ f. f.fields.items };
-}
-
-impl Fields {
-    /// These fields, in this order. O(1).
-    pub fn new(fields: Vec<Field>) -> Fields
-        ensures { result ≡ fields.items }
-    {
-        Fields { fields }
-    }
-
-    /// The fields, as long as they are borrowed. O(1).
-    pub fn as_slice(&self) -> &[Field]
-        ensures { result.now ≡ self.now }
-    {
-        &self.fields
-    }
-}
+pub type Fields = Items<Field>;
 
 /// The values of a key, or of its leading parts, first part first.
-#[derive(Debug, Drop)]
-pub struct Key {
-    pub(crate) values: Vec<Value>,
-}
-
-impl Model for Key {
-    ghost use Rattle.std.specs.Prelude.{List};
-    ghost use Rattle.table_cmd.specs.declared.command.Value.{Value as KeyValue};
-
-    ghost Value = { List KeyValue };
-
-    ghost view = { λ k. k.values.items };
-}
-
-impl Key {
-    /// These values, in this order. O(1).
-    pub fn new(values: Vec<Value>) -> Key
-        ensures { result ≡ values.items }
-    {
-        Key { values }
-    }
-
-    /// The values, as long as they are borrowed. O(1).
-    pub fn as_slice(&self) -> &[Value]
-        ensures { result.now ≡ self.now }
-    {
-        &self.values
-    }
-}
+pub type Key = Items<Value>;
 
 /// Where a range of an index ends on one side, by the keys that are this one or begin with it.
 #[derive(Debug, Drop)]
@@ -143,65 +87,10 @@ pub enum HandleText {
 }
 
 /// Handles in an order, as texts say them.
-#[derive(Debug, Drop)]
-pub struct Handles {
-    pub(crate) handles: Vec<HandleText>,
-}
-
-impl Model for Handles {
-    ghost use Rattle.std.specs.Prelude.{List};
-    ghost use Rattle.table_cmd.specs.declared.command.HandleText.{HandleText as Said};
-
-    ghost Value = { List Said };
-
-    ghost view = { λ h. h.handles.items };
-}
-
-impl Handles {
-    /// These handles, in this order. O(1).
-    pub fn new(handles: Vec<HandleText>) -> Handles
-        ensures { result ≡ handles.items }
-    {
-        Handles { handles }
-    }
-
-    /// The handles, as long as they are borrowed. O(1).
-    pub fn as_slice(&self) -> &[HandleText]
-        ensures { result.now ≡ self.now }
-    {
-        &self.handles
-    }
-}
+pub type Handles = Items<HandleText>;
 
 /// Names of columns in an order, each perhaps with a `-` before it.
-#[derive(Debug, Drop)]
-pub struct Names {
-    pub(crate) names: Vec<Text>,
-}
-
-impl Model for Names {
-    ghost use Rattle.std.specs.Prelude.{List, ℕ};
-
-    ghost Value = { List (List ℕ) };
-
-    ghost view = { λ n. n.names.items };
-}
-
-impl Names {
-    /// These names, in this order. O(1).
-    pub fn new(names: Vec<Text>) -> Names
-        ensures { result ≡ names.items }
-    {
-        Names { names }
-    }
-
-    /// The names, as long as they are borrowed. O(1).
-    pub fn as_slice(&self) -> &[Text]
-        ensures { result.now ≡ self.now }
-    {
-        &self.names
-    }
-}
+pub type Names = Items<Text>;
 
 /// Where an insertion goes at one index: before the record of a place.
 #[derive(Debug, Drop)]

@@ -3,10 +3,15 @@
 
 mod command;
 mod copy;
+mod items;
+mod part;
+mod parts;
 mod same;
 
 pub use command::{
     Changes, Command, Field, Fields, HandleText, Handles, Key, KeyBound, Names, Position, Value,
 };
 pub use container_model::{Handle, Kind};
+pub use items::Items;
 pub use key_extract::{Cell, Text};
+pub use part::Part;
