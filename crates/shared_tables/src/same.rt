@@ -22,72 +22,59 @@ fn has_same_numbers(a: &TableSpec, b: &TableSpec) -> bool
 fn has_same_parts(a: &TableSpec, b: &TableSpec) -> bool
     ensures { IsTrue result ↔ ((a.now.columns ≡ b.now.columns) × (a.now.indices ≡ b.now.indices)) }
 {
-    are_same_columns(a.columns(), b.columns()) && are_same_indices(a.indices(), b.indices())
+    are_same(a.columns(), b.columns()) && are_same(a.indices(), b.indices())
 }
 
-fn are_same_columns(a: &[Column], b: &[Column]) -> bool
+// What tables are declared with.
+trait Declared {
+    // Whether the other is declared alike.
+    fn is_same(&self, other: &Self) -> bool
+        ensures { IsTrue result ↔ (self.now ≡ other.now) };
+}
+
+fn are_same<T: Declared>(a: &[T], b: &[T]) -> bool
     ensures { IsTrue result ↔ (a.now ≡ b.now) }
 {
     if a.len() != b.len() {
         return false;
     }
-    for (place, column) in a.iter().enumerate() {
-        if !is_same_column(column, &b[place]) {
+    for (place, declared) in a.iter().enumerate() {
+        if !declared.is_same(&b[place]) {
             return false;
         }
     }
     true
 }
 
-fn are_same_indices(a: &[IndexSpec], b: &[IndexSpec]) -> bool
-    ensures { IsTrue result ↔ (a.now ≡ b.now) }
-{
-    if a.len() != b.len() {
-        return false;
+impl Declared for Column {
+    fn is_same(&self, other: &Column) -> bool {
+        self.cell == other.cell
+            && self.null == other.null
+            && self.name.as_str() == other.name.as_str()
     }
-    for (place, index) in a.iter().enumerate() {
-        if !is_same_index(index, &b[place]) {
-            return false;
-        }
-    }
-    true
 }
 
-fn is_same_column(a: &Column, b: &Column) -> bool
-    ensures { IsTrue result ↔ (a.now ≡ b.now) }
-{
-    a.cell == b.cell && a.null == b.null && a.name.as_str() == b.name.as_str()
+impl Declared for IndexSpec {
+    fn is_same(&self, other: &IndexSpec) -> bool {
+        self.kind == other.kind
+            && self.unique == other.unique
+            && self.name.as_str() == other.name.as_str()
+            && is_same_key(self.key.as_ref(), other.key.as_ref())
+    }
 }
 
-fn is_same_index(a: &IndexSpec, b: &IndexSpec) -> bool
-    ensures { IsTrue result ↔ (a.now ≡ b.now) }
-{
-    a.kind == b.kind
-        && a.unique == b.unique
-        && a.name.as_str() == b.name.as_str()
-        && is_same_key(a.key.as_ref(), b.key.as_ref())
+impl Declared for Part {
+    fn is_same(&self, other: &Part) -> bool {
+        self == other
+    }
 }
 
 fn is_same_key(a: Option<&KeySpec>, b: Option<&KeySpec>) -> bool
     ensures { IsTrue result ↔ (option_copied a.entry ≡ option_copied b.entry) }
 {
     match (a, b) {
-        (Some(a), Some(b)) => are_same_parts(a.parts(), b.parts()),
+        (Some(a), Some(b)) => are_same(a.parts(), b.parts()),
         (None, None) => true,
         _ => false,
     }
-}
-
-fn are_same_parts(a: &[Part], b: &[Part]) -> bool
-    ensures { IsTrue result ↔ (a.now ≡ b.now) }
-{
-    if a.len() != b.len() {
-        return false;
-    }
-    for (place, part) in a.iter().enumerate() {
-        if *part != b[place] {
-            return false;
-        }
-    }
-    true
 }
