@@ -4,7 +4,8 @@ ghost use Rattle.std.specs.Prelude.{◌≡◌, IfOk, true};
 ghost use Rattle.table_cmd.specs.Command.{is_index_change, is_keyed, is_row_change, is_sequence_change, is_unkeyed_read};
 
 use crate::command::Command;
-use crate::part::Part;
+use crate::groups::by_group;
+use crate::part::CommandPart;
 use std::alloc::AllocError;
 
 // A copy of a command that is one of these, part by part.
@@ -22,36 +23,14 @@ impl Command {
     pub fn copy(&self) -> Result<Command, AllocError>
         ensures { IfOk result (λ copy. copy ≡ self.now) }
     {
-        match self {
-            Command::Insert { .. }
-            | Command::Replace { .. }
-            | Command::Modify { .. }
-            | Command::ModifyKey { .. }
-            | Command::Erase { .. } => self.copy_row_change(),
-            Command::Clear { .. }
-            | Command::Move { .. }
-            | Command::Rearrange { .. }
-            | Command::Reverse { .. }
-            | Command::Sort { .. } => self.copy_sequence_change(),
-            Command::AddIndex { .. } | Command::DropIndex { .. } => self.copy_index_change(),
-            Command::EraseKey { .. }
-            | Command::Find { .. }
-            | Command::Count { .. }
-            | Command::Lower { .. }
-            | Command::Upper { .. }
-            | Command::FindRank { .. }
-            | Command::LowerRank { .. }
-            | Command::UpperRank { .. } => self.copy_keyed(),
-            Command::Get { .. }
-            | Command::Size { .. }
-            | Command::Range { .. }
-            | Command::Nth { .. }
-            | Command::Rank { .. }
-            | Command::Place { .. }
-            | Command::Next { .. }
-            | Command::Prev { .. }
-            | Command::List { .. } => self.copy_read(),
-        }
+        by_group!(
+            self;
+            self.copy_row_change(),
+            self.copy_sequence_change(),
+            self.copy_index_change(),
+            self.copy_keyed(),
+            self.copy_read()
+        )
     }
 
     // The same of a change of one record.

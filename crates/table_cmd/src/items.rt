@@ -2,7 +2,7 @@
 
 ghost use Rattle.std.specs.Prelude.{◌≡◌};
 
-use crate::part::Part;
+use crate::part::CommandPart;
 use std::alloc::AllocError;
 use std::marker::Model;
 
@@ -36,7 +36,7 @@ impl<T: Drop> Items<T> {
     }
 }
 
-impl<T: Part + Drop> Part for Items<T> {
+impl<T: CommandPart + Drop> CommandPart for Items<T> {
     fn copy(&self) -> Result<Items<T>, AllocError> {
         let mut items = Vec::with_capacity(*self.items.allocator(), self.items.len())?;
         for item in &self.items {

@@ -3,6 +3,7 @@
 
 mod command;
 mod copy;
+mod groups;
 mod items;
 mod part;
 mod parts;
@@ -14,4 +15,4 @@ pub use command::{
 pub use container_model::{Handle, Kind};
 pub use items::Items;
 pub use key_extract::{Cell, Text};
-pub use part::Part;
+pub use part::CommandPart;

@@ -7,7 +7,7 @@ use key_extract::{Cell, Text};
 use std::alloc::AllocError;
 
 /// What a command is made of: it has copies, and is compared with others.
-pub trait Part: Sized {
+pub trait CommandPart: Sized {
     /// An equal part, newly allocated. O(length of all texts + items).
     fn copy(&self) -> Result<Self, AllocError>
         ensures { IfOk result (λ copy. copy ≡ self.now) };
@@ -17,7 +17,7 @@ pub trait Part: Sized {
         ensures { IsTrue result ↔ (self.now ≡ other.now) };
 }
 
-impl Part for bool {
+impl CommandPart for bool {
     fn copy(&self) -> Result<bool, AllocError> {
         Ok(*self)
     }
@@ -27,7 +27,7 @@ impl Part for bool {
     }
 }
 
-impl Part for u64 {
+impl CommandPart for u64 {
     fn copy(&self) -> Result<u64, AllocError> {
         Ok(*self)
     }
@@ -37,7 +37,7 @@ impl Part for u64 {
     }
 }
 
-impl Part for Kind {
+impl CommandPart for Kind {
     fn copy(&self) -> Result<Kind, AllocError> {
         Ok(*self)
     }
@@ -47,7 +47,7 @@ impl Part for Kind {
     }
 }
 
-impl Part for Text {
+impl CommandPart for Text {
     fn copy(&self) -> Result<Text, AllocError> {
         Text::copy(self)
     }
@@ -57,7 +57,7 @@ impl Part for Text {
     }
 }
 
-impl Part for Cell {
+impl CommandPart for Cell {
     fn copy(&self) -> Result<Cell, AllocError> {
         Cell::copy(self)
     }
@@ -73,7 +73,7 @@ impl Part for Cell {
     }
 }
 
-impl<T: Part> Part for Option<T> {
+impl<T: CommandPart> CommandPart for Option<T> {
     fn copy(&self) -> Result<Option<T>, AllocError> {
         Ok(match self {
             Some(part) => Some(part.copy()?),

@@ -1,10 +1,10 @@
 //! Copies of the parts of commands, and whether they are the same.
 
 use crate::command::{Changes, Field, HandleText, KeyBound, Position, Value};
-use crate::part::Part;
+use crate::part::CommandPart;
 use std::alloc::AllocError;
 
-impl Part for Value {
+impl CommandPart for Value {
     fn copy(&self) -> Result<Value, AllocError> {
         Ok(match self {
             Value::Cell(cell) => Value::Cell(cell.copy()?),
@@ -21,7 +21,7 @@ impl Part for Value {
     }
 }
 
-impl Part for Field {
+impl CommandPart for Field {
     fn copy(&self) -> Result<Field, AllocError> {
         Ok(Field {
             name: self.name.copy()?,
@@ -34,7 +34,7 @@ impl Part for Field {
     }
 }
 
-impl Part for KeyBound {
+impl CommandPart for KeyBound {
     fn copy(&self) -> Result<KeyBound, AllocError> {
         Ok(match self {
             KeyBound::Included(key) => KeyBound::Included(key.copy()?),
@@ -53,7 +53,7 @@ impl Part for KeyBound {
     }
 }
 
-impl Part for Changes {
+impl CommandPart for Changes {
     fn copy(&self) -> Result<Changes, AllocError> {
         Ok(match self {
             Changes::Set(set) => Changes::Set(set.copy()?),
@@ -77,7 +77,7 @@ impl Part for Changes {
     }
 }
 
-impl Part for HandleText {
+impl CommandPart for HandleText {
     fn copy(&self) -> Result<HandleText, AllocError> {
         Ok(*self)
     }
@@ -93,7 +93,7 @@ impl Part for HandleText {
     }
 }
 
-impl Part for Position {
+impl CommandPart for Position {
     fn copy(&self) -> Result<Position, AllocError> {
         Ok(Position {
             index: self.index.copy()?,

@@ -4,7 +4,8 @@ ghost use Rattle.std.specs.Prelude.{◌≡◌, ◌↔◌, IsTrue, true};
 ghost use Rattle.table_cmd.specs.Command.{is_index_change, is_keyed, is_row_change, is_sequence_change, is_unkeyed_read};
 
 use crate::command::Command;
-use crate::part::Part;
+use crate::groups::by_group;
+use crate::part::CommandPart;
 
 // Whether a command that is one of these is the same as the other, part by part. Beside each part stands a name for the other's.
 macro_rules! same_among {
@@ -24,38 +25,14 @@ impl Command {
     pub fn is_same(&self, other: &Command) -> bool
         ensures { IsTrue result ↔ (self.now ≡ other.now) }
     {
-        match self {
-            Command::Insert { .. }
-            | Command::Replace { .. }
-            | Command::Modify { .. }
-            | Command::ModifyKey { .. }
-            | Command::Erase { .. } => self.is_same_row_change(other),
-            Command::Clear { .. }
-            | Command::Move { .. }
-            | Command::Rearrange { .. }
-            | Command::Reverse { .. }
-            | Command::Sort { .. } => self.is_same_sequence_change(other),
-            Command::AddIndex { .. } | Command::DropIndex { .. } => {
-                self.is_same_index_change(other)
-            }
-            Command::EraseKey { .. }
-            | Command::Find { .. }
-            | Command::Count { .. }
-            | Command::Lower { .. }
-            | Command::Upper { .. }
-            | Command::FindRank { .. }
-            | Command::LowerRank { .. }
-            | Command::UpperRank { .. } => self.is_same_keyed(other),
-            Command::Get { .. }
-            | Command::Size { .. }
-            | Command::Range { .. }
-            | Command::Nth { .. }
-            | Command::Rank { .. }
-            | Command::Place { .. }
-            | Command::Next { .. }
-            | Command::Prev { .. }
-            | Command::List { .. } => self.is_same_read(other),
-        }
+        by_group!(
+            self;
+            self.is_same_row_change(other),
+            self.is_same_sequence_change(other),
+            self.is_same_index_change(other),
+            self.is_same_keyed(other),
+            self.is_same_read(other)
+        )
     }
 
     // The same of a change of one record.

@@ -1,5 +1,5 @@
 use Rattle.std.proofs.Common.{◌≡◌, take}
-use Rattle.table_cmd.proofs.items.ItemsPart.copy.Given as goal
+use Rattle.table_cmd.proofs.items.ItemsCommandPart.copy.Given as goal
 
 abbrev pub invariant-loop-item : goal.invariant-loop-item
 invariant-loop-item g l = l.items.items ≡ take l.item-index l.item-items
