@@ -27,3 +27,4 @@ mod Beside
 pub mod Kept
 pub mod Clashless
 pub mod MarksKept
+mod Refilling

@@ -63,12 +63,17 @@ module _ {R E : Type 0} {has_key : E → ℕ → Bool} (s : IndexSet R E) (sound
         (λ j spec x apart room. room);
   }
 
-  -- a sequence has no keys, and the others are as they were
-  pub keyed_moved : IsTrue (is_sequence_kind (kind_at s k)) → contents t ≡ contents s.store → (order : ℕ → R → R → Ordering) (marks : ℕ → R → Marks) → AreKeyed order marks s.store s.specs.items s.indices.items → AreKeyed order marks t s.specs.items (set s.indices.items k new)
-  keyed_moved kind same order marks h = record {
+  -- where it has its nodes where their keys put them, all have
+  pub keyed_put : contents t ≡ contents s.store → (order : ℕ → R → R → Ordering) (marks : ℕ → R → Marks) → any.IsKeyed order marks t new → AreKeyed order marks s.store s.specs.items s.indices.items → AreKeyed order marks t s.specs.items (set s.indices.items k new)
+  keyed_put same order marks here h = record {
     each =
         each_set (λ j spec x. (IsPlaced (column_of s.store) j spec x × IsFar s.indices.items k i j x) × any.IsKeyed order marks s.store x) (λ _ _ x. any.IsKeyed order marks t x) s.specs.items s.indices.items k new sound.placed.one_each lt
         (λ j d x below. ((sound.placed.each j d x below, are_far s.specs.items s.indices.items k i lt sound.placed.apart j d x below), h.each j d x below))
-        (λ d. AreKeyed_sequence order marks t new _ (subst (λ z. IsTrue (is_sequence_kind z)) (sym (step.kind ∙ kind_here s sound k lt i e)) kind))
+        (λ d. here)
         (λ j spec x apart p. keyed_kept order marks s.store t _ j spec x _ _ p.0.0 keep same (p.0.1 apart) (list_kept (column_of s.store) (column_of t) _ j spec x p.0.0 keep (p.0.1 apart)) p.1);
   }
+
+  -- a sequence has no keys, and the others are as they were
+  pub keyed_moved : IsTrue (is_sequence_kind (kind_at s k)) → contents t ≡ contents s.store → (order : ℕ → R → R → Ordering) (marks : ℕ → R → Marks) → AreKeyed order marks s.store s.specs.items s.indices.items → AreKeyed order marks t s.specs.items (set s.indices.items k new)
+  keyed_moved kind same order marks h =
+      keyed_put same order marks (AreKeyed_sequence order marks t new _ (subst (λ z. IsTrue (is_sequence_kind z)) (sym (step.kind ∙ kind_here s sound k lt i e)) kind)) h

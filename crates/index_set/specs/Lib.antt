@@ -6,4 +6,5 @@ pub mod Set
 pub mod Lends
 pub mod Asked
 pub mod Added
+pub mod Refilled
 pub mod Dropped

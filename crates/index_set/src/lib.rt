@@ -13,6 +13,7 @@ mod drop_index;
 mod every;
 mod order;
 mod reads;
+mod refill;
 mod set;
 
 pub use add_index::NotAdded;

@@ -55,7 +55,7 @@ module _ {R : Type 0} (s : Store (Entry R)) (slots : List (Option Node)) (store 
           let apart = member (λ x. x.handle.slot ≢ k) s n p.0 store at.0 p.1 (none_lies_in (entries_in (contents s)) k free) in
           absurd (apart (ap (λ (h : Handle). h.slot) (sym (handle_of-is (record_of s) n p.0 p.1)) ∙ at.1))
 
-  none_is_free : (k : ℕ) → item_at slots k ≡ None → is_free (entries_in (contents s)) k ≡ true
+  pub none_is_free : (k : ℕ) → item_at slots k ≡ None → is_free (entries_in (contents s)) k ≡ true
   none_is_free k none =
       ap not (list_any_none _ (entries_in (contents s)) (All-from_recursion _ (entries_in (contents s))
       (all_members (λ e. (e.handle.slot == k) ≡ false) s store
@@ -121,41 +121,45 @@ was_node old new n x adds m other is =
     (λ (apart : number_of m ≢ number_of n). sym (adds.nodes.others (number_of m) apart) ∙ is)
     (cases_eq (number_of m) (number_of n))
 
--- the slots lead to it too, once it is in the least free one
-pub leads_added : {R : Type 0} (old new : Store (Entry R)) (n : Node) (e : Entry R) (slots : List (Option Node)) → AddsNode old new n e → e.handle.slot ≡ first_free slots → LeadsTo old slots → LeadsTo new (with_item slots (first_free slots) (Some n))
-leads_added old new n e slots adds slot leads = record { node_at = node_at; slot_of = slot_of }
+-- the slots lead to it too, once it is in a free one
+pub leads_put : {R : Type 0} (old new : Store (Entry R)) (n : Node) (e : Entry R) (slots : List (Option Node)) (at : ℕ) → item_at slots at ≡ None → AddsNode old new n e → e.handle.slot ≡ at → LeadsTo old slots → LeadsTo new (with_item slots at (Some n))
+leads_put old new n e slots put free adds slot leads = record { node_at = node_at; slot_of = slot_of }
   where
-    here : item_at (with_item slots (first_free slots) (Some n)) (first_free slots) ≡ Some n
-    here = item_at-with_item slots (first_free slots) (Some n) (first_free slots) ∙ ap (λ b. cond b (Some n) (item_at slots (first_free slots))) (eq-eqb (first_free slots) (first_free slots) refl)
+    here : item_at (with_item slots put (Some n)) put ≡ Some n
+    here = item_at-with_item slots put (Some n) put ∙ ap (λ b. cond b (Some n) (item_at slots put)) (eq-eqb put put refl)
 
-    elsewhere : (k : ℕ) → k ≢ first_free slots → item_at (with_item slots (first_free slots) (Some n)) k ≡ item_at slots k
-    elsewhere k other = item_at-with_item slots (first_free slots) (Some n) k ∙ ap (λ b. cond b (Some n) (item_at slots k)) (ne_eqb k (first_free slots) other)
+    elsewhere : (k : ℕ) → k ≢ put → item_at (with_item slots put (Some n)) k ≡ item_at slots k
+    elsewhere k other = item_at-with_item slots put (Some n) k ∙ ap (λ b. cond b (Some n) (item_at slots k)) (ne_eqb k put other)
 
-    own_slot : (handle_of (record_of new) n).slot ≡ first_free slots
+    own_slot : (handle_of (record_of new) n).slot ≡ put
     own_slot = ap (λ (h : Handle). h.slot) (handle_of-is (record_of new) n e adds.records.changed) ∙ slot
 
     slot_stays : (m : Node) → IsNodeOf old m → (handle_of (record_of new) m).slot ≡ (handle_of (record_of old) m).slot
     slot_stays m is = ap (λ (h : Handle). h.slot) (handle_stays old new n e adds m is)
 
-    node_at : (m : Node) → IsNodeOf new m → item_at (with_item slots (first_free slots) (Some n)) (handle_of (record_of new) m).slot ≡ Some m
+    node_at : (m : Node) → IsNodeOf new m → item_at (with_item slots put (Some n)) (handle_of (record_of new) m).slot ≡ Some m
     node_at m is =
         ⊎_elim
-        (λ (same : m ≡ n). ap (λ x. item_at (with_item slots (first_free slots) (Some n)) (handle_of (record_of new) x).slot) same ∙ ap (item_at (with_item slots (first_free slots) (Some n))) own_slot ∙ here ∙ ap Some (sym same))
+        (λ (same : m ≡ n). ap (λ x. item_at (with_item slots put (Some n)) (handle_of (record_of new) x).slot) same ∙ ap (item_at (with_item slots put (Some n))) own_slot ∙ here ∙ ap Some (sym same))
         (λ (other : m ≢ n).
         let was = was_node old new n e adds m other is in
         let at = leads.node_at m was in
-        ap (item_at (with_item slots (first_free slots) (Some n))) (slot_stays m was)
-        ∙ elsewhere _ (λ k. let bad = sym at ∙ (ap (item_at slots) k ∙ first_free-is_free slots) in cc)
+        ap (item_at (with_item slots put (Some n))) (slot_stays m was)
+        ∙ elsewhere _ (λ k. let bad = sym at ∙ (ap (item_at slots) k ∙ free) in cc)
         ∙ at)
         (node_cases m n)
 
-    slot_of : (k : ℕ) (m : Node) → item_at (with_item slots (first_free slots) (Some n)) k ≡ Some m → IsNodeOf new m × ((handle_of (record_of new) m).slot ≡ k)
+    slot_of : (k : ℕ) (m : Node) → item_at (with_item slots put (Some n)) k ≡ Some m → IsNodeOf new m × ((handle_of (record_of new) m).slot ≡ k)
     slot_of k m at =
         ⊎_elim
-        (λ (same : k ≡ first_free slots).
-        let one : n ≡ m = same_Some n m (sym here ∙ (ap (item_at (with_item slots (first_free slots) (Some n))) (sym same) ∙ at)) in
+        (λ (same : k ≡ put).
+        let one : n ≡ m = same_Some n m (sym here ∙ (ap (item_at (with_item slots put (Some n))) (sym same) ∙ at)) in
         subst (λ x. IsNodeOf new x × ((handle_of (record_of new) x).slot ≡ k)) one (adds.nodes.changed, own_slot ∙ sym same))
-        (λ (other : k ≢ first_free slots).
+        (λ (other : k ≢ put).
         let p = leads.slot_of k m (sym (elsewhere k other) ∙ at) in
         (others_added old new n e adds m p.0, slot_stays m p.0 ∙ p.1))
-        (cases_eq k (first_free slots))
+        (cases_eq k put)
+
+-- as the least free one is
+pub leads_added : {R : Type 0} (old new : Store (Entry R)) (n : Node) (e : Entry R) (slots : List (Option Node)) → AddsNode old new n e → e.handle.slot ≡ first_free slots → LeadsTo old slots → LeadsTo new (with_item slots (first_free slots) (Some n))
+leads_added old new n e slots adds slot leads = leads_put old new n e slots (first_free slots) (first_free-is_free slots) adds slot leads

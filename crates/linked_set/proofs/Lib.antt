@@ -20,6 +20,7 @@ pub mod Ranges
 pub mod Reading
 pub mod Rearranged
 pub mod Reindexed
+pub mod Restored
 pub mod Rewritten
 pub mod Seen
 pub mod Settling

@@ -24,26 +24,26 @@ use Rattle.linked_set.proofs.StableSort.{map-stable_sorted}
 
 module _ (compare : Node → Node → Ordering) where
   -- in an index in order they are sorted
-  ordered : (done ns : List Node) → entered_all compare Ordered done ns ≡ sorted_onto compare done ns
+  pub ordered : (done ns : List Node) → entered_all compare Ordered done ns ≡ sorted_onto compare done ns
   ordered done [] = refl
   ordered done (n ∷ ns) = ordered (insert_sorted compare n done) ns
 
-  ranked : (done ns : List Node) → entered_all compare Ranked done ns ≡ sorted_onto compare done ns
+  pub ranked : (done ns : List Node) → entered_all compare Ranked done ns ≡ sorted_onto compare done ns
   ranked done [] = refl
   ranked done (n ∷ ns) = ranked (insert_sorted compare n done) ns
 
   -- in the others they stand by age
-  abbrev GoesLast : Kind → Type 0
+  abbrev pub GoesLast : Kind → Type 0
   GoesLast kind = (n : Node) (xs : List Node) → AreOlder n xs → entered kind compare None n xs ≡ xs ++ n ∷ []
 
-  in_turn : (kind : Kind) → GoesLast kind → (done ns : List Node) → AreByAge (done ++ ns) → entered_all compare kind done ns ≡ done ++ ns
+  pub in_turn : (kind : Kind) → GoesLast kind → (done ns : List Node) → AreByAge (done ++ ns) → entered_all compare kind done ns ≡ done ++ ns
   in_turn kind last done [] by_age = sym (append-nil done)
   in_turn kind last done (n ∷ ns) by_age =
       ap (λ xs. entered_all compare kind xs ns) (last n done (older_before done n ns by_age))
       ∙ in_turn kind last (done ++ n ∷ []) ns (subst AreByAge (sym (append_assoc done (n ∷ []) ns)) by_age)
       ∙ append_assoc done (n ∷ []) ns
 
-  last_in_buckets : GoesLast Hashed
+  pub last_in_buckets : GoesLast Hashed
   last_in_buckets n xs older = ap (λ place. insert xs place n) (entered_last compare None n xs older) ∙ insert_end xs n
 
 module _ {R : Type 0} (records : Node → Option (Entry R)) (entries : List (Entry R)) (order : R → R → Ordering) where
@@ -51,7 +51,7 @@ module _ {R : Type 0} (records : Node → Option (Entry R)) (entries : List (Ent
   by_rows = order_at records (λ (a b : Entry R). order a.row b.row)
 
   -- nodes compare as their handles
-  by_handles : (m n : Node) → IsKnown records entries m → IsKnown records entries n → by_rows m n ≡ compare_of order entries (handle_of records m) (handle_of records n)
+  pub by_handles : (m n : Node) → IsKnown records entries m → IsKnown records entries n → by_rows m n ≡ compare_of order entries (handle_of records m) (handle_of records n)
   by_handles m n k l =
       (λ i. option_cmp (λ (a b : Entry R). order a.row b.row) (k.is i) (l.is i))
       ∙ (λ i. option_cmp order (sym (row_known records entries m k) i) (sym (row_known records entries n l) i))

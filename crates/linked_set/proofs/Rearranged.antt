@@ -106,7 +106,7 @@ handles_apart (h ∷ hs) apart = (
 )
 
 module _ {R : Type 0} where
-  entries_apart : (entries : List (Entry R)) → EachPair (λ a b. (b.handle.slot == a.handle.slot) ≡ false) entries → IsDistinct nat_eq (slots_of (map (λ e. e.handle) entries))
+  pub entries_apart : (entries : List (Entry R)) → EachPair (λ a b. (b.handle.slot == a.handle.slot) ≡ false) entries → IsDistinct nat_eq (slots_of (map (λ e. e.handle) entries))
   unfolding IsDistinct
   entries_apart [] each = tt
   entries_apart (e ∷ es) each = (

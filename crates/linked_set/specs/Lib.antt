@@ -6,5 +6,6 @@ pub mod LeadsTo
 pub mod Linked
 pub mod Modified
 pub mod Refusal
+pub mod Restored
 pub mod Seen
 pub mod Sorted

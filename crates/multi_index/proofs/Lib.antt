@@ -11,6 +11,7 @@ pub mod Rearranged
 pub mod Refusing
 pub mod Reindexed
 pub mod Replaced
+pub mod Restored
 pub mod Rising
 pub mod Rows
 pub mod Shrunk

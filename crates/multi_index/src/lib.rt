@@ -18,6 +18,7 @@ mod positions;
 mod range;
 mod rearrange;
 mod replace;
+mod restore;
 mod sort;
 
 pub use container::MultiIndex;
@@ -27,3 +28,4 @@ pub use iter::Iter;
 pub use key_extract::Extract;
 pub use linked_set::Modified;
 pub use modify_ops::{Edit, RowEdit};
+pub use restore::{Saved, Unrestorable};

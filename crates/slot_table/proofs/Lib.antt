@@ -1,3 +1,4 @@
 mod Gaps
 pub mod Laws
 mod Noted
+mod Filling

@@ -34,7 +34,7 @@ all_others : (x : Reverse ℕ) (noted : List (Reverse ℕ)) (j : ℕ) → j < x.
 all_others x [] j lt h = tt
 all_others x (y ∷ noted) j lt h = (other y.0 x.0 j (ge_from_not_lt y.0 x.0 h.0) lt, all_others x noted j lt h.1)
 
-abbrev one_if : Bool → ℕ
+abbrev pub one_if : Bool → ℕ
 one_if b = cond b 1 0
 
 is_one : (b : Bool) (n : ℕ) → 1 + n ≡ cond b 1 0 → b ≡ true
@@ -50,7 +50,7 @@ taken_once true true n h = omega arith
 taken_once true false n h = absurd (omega arith)
 taken_once false gap n h = omega arith
 
-freed_once : (here gap : Bool) (n m : ℕ) → m ≡ cond here 1 0 + n → n ≡ cond gap 1 0 → (here ≡ true → gap ≡ false) → m ≡ cond (cond here true gap) 1 0
+pub freed_once : (here gap : Bool) (n m : ℕ) → m ≡ cond here 1 0 + n → n ≡ cond gap 1 0 → (here ≡ true → gap ≡ false) → m ≡ cond (cond here true gap) 1 0
 freed_once true true n m e h out = let k = out refl in cc
 freed_once true false n m e h out = omega arith
 freed_once false gap n m e h out = omega arith

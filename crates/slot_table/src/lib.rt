@@ -3,9 +3,12 @@
 //! The heap always has room to note each slot once more, so a release takes no memory.
 #![tactic(auto)]
 
+mod restore;
+
 ghost use Rattle.std.specs.Prelude.{◌≡◌, ◌≢◌, ◌<◌, ◌≤◌, ◌∷◌, [], None, Some, OnOk, OnErr};
 ghost use Rattle.slot_table.specs.Slots.{HasRoom, first_free, item_at, with_item};
 
+pub use restore::put;
 use std::alloc::{AllocError, Global};
 use std::cmp::Reverse;
 use std::collections::BinaryHeap;

@@ -1,0 +1,496 @@
+-- Lists that are filled in an order that is told.
+use Rattle.std.proofs.Common.{◌≡◌, ◌≢◌, ⊎_elim, eq-eqb, ℕ, suc, ◌+◌, ◌≤◌, ◌<◌, ◌==◌, Bool, true, false, cond, List, [], ◌∷◌, ◌++◌, length, map, get_or, Option, Some, None, Result, Ok, Err, rules, refl, sym, ap, ◌∙◌, subst, arith, append-nil, append_assoc}
+use Rattle.std.specs.Prelude.{find, insert, count_by, is_some, nat_eq, slice_get, slice_set, IfOk, OnOk, IsTrue, IsPermutation}
+use Rattle.std.specs.List.{AllByRecursion, IsDistinct as AreDistinct, filter_map, cons_option, list_all}
+use Rattle.std.specs.Option.{option_map_or, option_cmp}
+use Rattle.std.specs.Ordering.{is_eq, is_gt, is_le}
+use Rattle.std.specs.Cmp.{IsTotalOrder}
+use Rattle.std.specs.Cmp.Lexicographic.{options_total}
+use Rattle.std.specs.declared.cmp.Ordering.{Ordering}
+use Rattle.std.specs.declared.cmp.Ordering.TheVariants.{Less, Equal, Greater}
+use Rattle.std.proofs.lemmas.Cmp.{on_total, alike_right, tied_back, tied_itself}
+use Rattle.std.proofs.lemmas.List.{length-map, length-set, length_push, map-set, get_or-set_same, get_or-set_other}
+use Rattle.std.proofs.lemmas.Bool.{cases_eq}
+use Rattle.std.proofs.lemmas.List.Edits.{insert_end}
+use Rattle.std.proofs.lemmas.List.Sorted.{length_permutation, IsPermutation-map, IsPermutation-sym, IsPermutation-trans}
+use Rattle.std.proofs.lemmas.Map.Keys.{IsDistinct-IsPermutation}
+use Rattle.list_model.specs.Order.{EachPair, IsInOrder}
+use Rattle.list_model.specs.Place.{not_above, insert_sorted, sorted_onto, stable_sorted}
+use Rattle.list_model.proofs.Counts.{count_by-cons, count_by_none}
+use Rattle.list_model.proofs.InOrder.{All-map}
+use Rattle.list_model.proofs.Kept.{All-split}
+use Rattle.list_model.proofs.Lists.{All-moved, All-of_map, EachPair-push, slice_get_at}
+use Rattle.list_model.proofs.Moved.{IsInOrder-stable_sorted}
+use Rattle.list_model.proofs.Orders.{not_gt_le}
+use Rattle.list_model.proofs.Permuted.{count_by-permutation, none_passes}
+use Rattle.node_store.specs.declared.Node.{Node}
+use Rattle.node_store.specs.Nodes.{IsDistinct}
+use Rattle.node_store.specs.Store.{Store, IsStore, IsNodeOf, number_of}
+use Rattle.node_store.specs.ByNode.{record_of, contents, AddsNode}
+use Rattle.node_store.proofs.ByNode.{records_kept}
+use Rattle.node_store.proofs.Members.{IsDistinct_moved}
+use Rattle.container_model.specs.declared.handle.Handle.{Handle}
+use Rattle.container_model.specs.declared.handle.Entry.{Entry}
+use Rattle.container_model.specs.declared.handle.Kind.{Kind}
+use Rattle.container_model.specs.declared.handle.Spec.{Spec}
+use Rattle.container_model.specs.declared.handle.Kind.TheVariants.{Sequenced, Random, Ordered, Ranked, Hashed}
+use Rattle.container_model.specs.Sequence.{has_each_once}
+use Rattle.container_model.specs.State.{IsIndex, AreIndices, KeysMatch, list_at, row_of, compare_of, is_sorted_kind, is_hashed_kind}
+use Rattle.container_model.proofs.Keys.{sorted_has_key}
+use Rattle.container_model.proofs.Found.{row_of_members, eqb_flip}
+use Rattle.any_index.specs.Lists.{entered}
+use Rattle.index_set.specs.Added.{entered_all, clash_from, clash, IsCause}
+use Rattle.index_set.specs.declared.build.NoIndex.{NoIndex}
+use Rattle.index_set.specs.declared.build.NoIndex.TheVariants as no
+use Rattle.index_set.specs.declared.set.IndexSet.{IndexSet}
+use Rattle.index_set.specs.Set.{store_of, keys_of, specs_of, list_of, lists_of, IsSound, IsKeyed, IsOfSame, IsUniqueExcept, contents as contents_of}
+use Rattle.index_set.proofs.Uniques.{unique_at}
+use Rattle.any_index.specs.Side.{order_at}
+use Rattle.linked_set.specs.declared.by_row.ByRow.{ByRow}
+use Rattle.linked_set.specs.ByRow.{has_by_row, order_by_row, marks_by_row}
+use Rattle.index_set.proofs.Building.{members_all}
+use Rattle.slot_table.specs.Slots.{item_at, with_item}
+use Rattle.linked_set.specs.LeadsTo.{LeadsTo}
+use Rattle.linked_set.specs.Linked.{handle_of, nodes_in, entries_in, handles_in, IsKnown}
+use Rattle.linked_set.specs.Restored.{AreApart, HasMembers, IsListed, HasEachKeyOnce, IsUnfit, IsMisfit, unfit_of, misfit_of, spec_at}
+use Rattle.linked_set.specs.Seen.{IsLinked}
+use Rattle.linked_set.specs.declared.fill.Unfit.{Unfit}
+use Rattle.linked_set.specs.declared.fill.Unfit.TheVariants as unfit
+use Rattle.linked_set.proofs.LeadsTo.{leads_put, none_is_free}
+use Rattle.key_extract.specs.Digests.{Marks}
+use Rattle.container_model.proofs.Handles.{free_is_apart}
+use Rattle.index_set.proofs.Members.{one_list_each}
+use Rattle.index_set.proofs.Each.{same_lists}
+use Rattle.linked_set.proofs.ByAge.{AreByAge, nodes_rise, nodes_held, distinct_by_age}
+use Rattle.linked_set.proofs.Contents.{known, has_record, member, handle_of-is, entries_added, handles_by_age, handles_kept}
+use Rattle.linked_set.proofs.NewList.{by_rows, by_handles, ordered, ranked, last_in_buckets, in_turn as in_turn_by_age}
+use Rattle.linked_set.proofs.StableSort.{map-stable_sorted}
+use Rattle.linked_set.proofs.Rearranged.{all_pass, each_once, entries_apart, slots_of, IsPermutation-unmap}
+
+-- ---- lists
+
+-- what holds of each pair holds of each member before one, and of that one
+pub before_it : {X : Type 0} (P : X → X → Type 0) (front : List X) (x : X) (back : List X) → EachPair P (front ++ x ∷ back) → AllByRecursion (λ y. P y x) front
+before_it P [] x back h = tt
+before_it P (y ∷ ys) x back h = ((All-split (λ z. P y z) ys (x ∷ back) h.0).1.0, before_it P ys x back h.1)
+
+nothing_found : {X : Type 0} (p : X → Bool) (xs : List X) → AllByRecursion (λ x. p x ≡ false) xs → find p xs ≡ None
+nothing_found p [] h = refl
+nothing_found p (x ∷ xs) h = ap (λ b. cond b (Some x) (find p xs)) h.0 ∙ nothing_found p xs h.1
+
+-- ---- a list in order stays as it is
+
+module _ {X : Type 0} (compare : X → X → Ordering) where
+  insert_last : (x : X) (done : List X) → AllByRecursion (λ d. is_gt (compare d x) ≡ false) done → insert_sorted compare x done ≡ done ++ x ∷ []
+  insert_last x [] h = refl
+  insert_last x (d ∷ ds) h =
+      let n : not_above (λ z. compare z x) (d ∷ ds) ≡ suc (not_above (λ z. compare z x) ds) =
+      count_by-cons (λ z. is_le (compare z x)) d ds ∙ (ap (λ b. cond b 1 0 + not_above (λ z. compare z x) ds) (not_gt_le _ h.0) ∙ omega arith) in
+      ap (λ k. insert (d ∷ ds) k x) n ∙ ap (λ l. d ∷ l) (insert_last x ds h.1)
+
+  sorted_in_turn : (done xs : List X) → IsInOrder compare (done ++ xs) → sorted_onto compare done xs ≡ done ++ xs
+  sorted_in_turn done [] h = sym (append-nil done)
+  sorted_in_turn done (x ∷ xs) h =
+      ap (λ l. sorted_onto compare l xs) (insert_last x done (before_it (λ y z. is_gt (compare y z) ≡ false) done x xs h))
+      ∙ (sorted_in_turn (done ++ x ∷ []) xs (subst (IsInOrder compare) (sym (append_assoc done (x ∷ []) xs)) h) ∙ append_assoc done (x ∷ []) xs)
+
+  pub sorted_as_it_is : (xs : List X) → IsInOrder compare xs → stable_sorted compare xs ≡ xs
+  sorted_as_it_is xs h = sorted_in_turn [] xs h
+
+-- ---- each key once, in any order
+
+abbrev one_if : Bool → ℕ
+one_if b = cond b 1 0
+
+module _ {X : Type 0} (compare : X → X → Ordering) (total : IsTotalOrder compare) where
+  abbrev differ : X → X → Type 0
+  differ x y = is_eq (compare x y) ≡ false
+
+  abbrev tie : X → X → Bool
+  tie z y = is_eq (compare y z)
+
+  is_tie : (o : Ordering) → is_eq o ≡ true → o ≡ Equal
+  is_tie Less e = cc
+  is_tie Equal e = refl
+  is_tie Greater e = cc
+
+  turned : (x y : X) → differ x y → differ y x
+  turned x y h = by_test (is_eq (compare y x)) refl
+    where
+      by_test : (b : Bool) → is_eq (compare y x) ≡ b → b ≡ false
+      by_test false e = refl
+      by_test true e = sym (ap is_eq (tied_back total y x (is_tie _ e))) ∙ h
+
+  few_by : (z x : X) (xs : List X) (b : Bool) → tie z x ≡ b → EachPair differ (x ∷ xs) → count_by (tie z) xs ≤ 1 → count_by (tie z) (x ∷ xs) ≤ 1
+  few_by z x xs true e h rest =
+      let none = count_by_none (tie z) xs (All-map (λ y. differ x y) (λ y. tie z y ≡ false) (λ y p. ap is_eq (sym (alike_right total x z y (is_tie _ e))) ∙ turned x y p) xs h.0) in
+      let here = ap one_if e in
+      omega (arith, count_by-cons (tie z) x xs, none, here)
+  few_by z x xs false e h rest = let here = ap one_if e in omega (arith, count_by-cons (tie z) x xs, rest, here)
+
+  few : (z : X) (xs : List X) → EachPair differ xs → count_by (tie z) xs ≤ 1
+  few z [] h = omega arith
+  few z (x ∷ xs) h = few_by z x xs (tie z x) refl h (few z xs h.1)
+
+  from_few : (xs : List X) → ((z : X) → count_by (tie z) xs ≤ 1) → EachPair differ xs
+  from_few [] h = tt
+  from_few (x ∷ xs) h =
+      let here = ap (λ o. one_if (is_eq o)) (tied_itself total x) in
+      let none : count_by (tie x) xs ≡ 0 = omega (arith, h x, count_by-cons (tie x) x xs, here) in
+      (All-map (λ y. tie x y ≡ false) (λ y. differ x y) (λ y p. turned y x p) xs (none_passes (tie x) xs none), from_few xs (λ z. omega (arith, h z, count_by-cons (tie z) x xs)))
+
+  pub differ_moved : (xs ys : List X) → IsPermutation xs ys → EachPair differ xs → EachPair differ ys
+  differ_moved xs ys moved h = from_few ys (λ z. omega (arith, count_by-permutation (tie z) xs ys moved, few z xs h))
+
+-- ---- nodes
+
+module _ (compare : Node → Node → Ordering) where
+  clashless : (before after : List Node) → EachPair (λ m n. is_eq (compare m n) ≡ false) (before ++ after) → clash_from compare before after ≡ None
+  clashless before [] h = refl
+  clashless before (n ∷ ns) h =
+      ap (λ o. option_map_or (λ m. Some (m, n)) o (clash_from compare (before ++ n ∷ []) ns)) (nothing_found (λ m. is_eq (compare m n)) before (before_it (λ m k. is_eq (compare m k) ≡ false) before n ns h))
+      ∙ clashless (before ++ n ∷ []) ns (subst (EachPair _) (sym (append_assoc before (n ∷ []) ns)) h)
+
+  pub none_clash : (ns : List Node) → EachPair (λ m n. is_eq (compare m n) ≡ false) ns → clash_from compare [] ns ≡ None
+  none_clash ns h = clashless [] ns h
+
+  in_turn : (kind : Kind) → ((n : Node) (xs : List Node) → entered kind compare None n xs ≡ xs ++ n ∷ []) → (done ns : List Node) → entered_all compare kind done ns ≡ done ++ ns
+  in_turn kind last done [] = sym (append-nil done)
+  in_turn kind last done (n ∷ ns) = ap (λ xs. entered_all compare kind xs ns) (last n done) ∙ (in_turn kind last (done ++ n ∷ []) ns ∙ append_assoc done (n ∷ []) ns)
+
+  -- so do buckets, where they come by age
+  pub hashed_in_turn : (ns : List Node) → AreByAge ns → entered_all compare Hashed [] ns ≡ ns
+  hashed_in_turn ns by_age = in_turn_by_age compare Hashed (last_in_buckets compare) [] ns by_age
+
+  -- a sequence has its nodes in the order in which they come
+  pub sequenced_in_turn : (ns : List Node) → entered_all compare Sequenced [] ns ≡ ns
+  sequenced_in_turn ns = in_turn Sequenced (λ n xs. insert_end xs n) [] ns
+
+  pub random_in_turn : (ns : List Node) → entered_all compare Random [] ns ≡ ns
+  random_in_turn ns = in_turn Random (λ n xs. insert_end xs n) [] ns
+
+module _ {R : Type 0} (records : Node → Option (Entry R)) (entries : List (Entry R)) (order : R → R → Ordering) where
+  abbrev differ_rows : Entry R → Entry R → Type 0
+  differ_rows a b = is_eq (order a.row b.row) ≡ false
+
+  abbrev differ_nodes : Node → Node → Type 0
+  differ_nodes m n = is_eq (by_rows records entries order m n) ≡ false
+
+  rows_after : (n : Node) (k : IsKnown records entries n) (ms : List Node) → AllByRecursion (IsKnown records entries) ms → AllByRecursion (λ m. differ_nodes n m) ms → AllByRecursion (λ b. differ_rows k.entry b) (filter_map records ms)
+  rows_after n k [] known h = tt
+  rows_after n k (m ∷ ms) known h =
+      subst (λ o. AllByRecursion (λ b. differ_rows k.entry b) (cons_option o (filter_map records ms))) (sym known.0.is)
+      ((λ i. is_eq (option_cmp (λ (a b : Entry R). order a.row b.row) (sym k.is i) (sym known.0.is i))) ∙ h.0, rows_after n k ms known.1 h.1)
+
+  -- where no two nodes have one key, no two records have
+  pub rows_differ : (ns : List Node) → AllByRecursion (IsKnown records entries) ns → EachPair differ_nodes ns → EachPair differ_rows (filter_map records ns)
+  rows_differ [] known h = tt
+  rows_differ (n ∷ ns) known h = subst (λ o. EachPair differ_rows (cons_option o (filter_map records ns))) (sym known.0.is) (rows_after n known.0 ns known.1 h.0, rows_differ ns known.1 h.1)
+
+  nodes_after : (n : Node) (k : IsKnown records entries n) (ms : List Node) → AllByRecursion (IsKnown records entries) ms → AllByRecursion (λ b. differ_rows k.entry b) (filter_map records ms) → AllByRecursion (λ m. differ_nodes n m) ms
+  nodes_after n k [] known h = tt
+  nodes_after n k (m ∷ ms) known h =
+      let both = subst (λ o. AllByRecursion (λ b. differ_rows k.entry b) (cons_option o (filter_map records ms))) known.0.is h in
+      ((λ i. is_eq (option_cmp (λ (a b : Entry R). order a.row b.row) (k.is i) (known.0.is i))) ∙ both.0, nodes_after n k ms known.1 both.1)
+
+  -- and the other way round
+  pub nodes_differ : (ns : List Node) → AllByRecursion (IsKnown records entries) ns → EachPair differ_rows (filter_map records ns) → EachPair differ_nodes ns
+  nodes_differ [] known h = tt
+  nodes_differ (n ∷ ns) known h =
+      let both = subst (λ o. EachPair differ_rows (cons_option o (filter_map records ns))) known.0.is h in
+      (nodes_after n known.0 ns known.1 both.0, nodes_differ ns known.1 both.1)
+
+-- ---- handles that are each record's once
+
+module _ {R : Type 0} (entries : List (Entry R)) (list : List Handle) (slots : AreApart entries) (moved : HasMembers entries list) where
+  live_members : AllByRecursion (λ h. is_some (row_of entries h) ≡ true) list
+  live_members = All-moved _ (map (λ e. e.handle) entries) list moved (All-of_map (λ (e : Entry R). e.handle) _ entries (All-map _ _ (λ (e : Entry R) found. ap is_some found) entries (row_of_members entries slots)))
+
+  pub members_live : list_all (λ h. is_some (row_of entries h)) list ≡ true
+  members_live = all_pass (λ h. is_some (row_of entries h)) list live_members
+
+  pub members_once : has_each_once entries list ≡ true
+  members_once =
+      each_once entries list slots live_members (omega (arith, length_permutation (map (λ e. e.handle) entries) list moved, length-map entries (λ e. e.handle)))
+      (IsDistinct-IsPermutation nat_eq eqb_flip _ _ (IsPermutation-map (λ (h : Handle). h.slot) _ list moved) (entries_apart entries slots))
+
+-- the nodes of such handles are all nodes
+module _ {R : Type 0} (s : Store (Entry R)) (slots : List (Option Node)) (store : IsStore s) (leads : LeadsTo s slots) (ns : List Node) (held : AllByRecursion (IsNodeOf s) ns) (list : List Handle) (is : map (handle_of (record_of s)) ns ≡ list) (members : HasMembers (entries_in (contents s)) list) where
+  pub nodes_moved : IsPermutation ns (nodes_in (contents s))
+  nodes_moved =
+      let f = handle_of (record_of s) in
+      let own = map (λ e. e.handle) (entries_in (contents s)) in
+      IsPermutation-unmap f (λ h. item_at slots h.slot) ns (nodes_in (contents s))
+      (All-map (IsNodeOf s) _ (λ n at. leads.node_at n at) ns held)
+      (All-map (IsNodeOf s) _ (λ n at. leads.node_at n at) (nodes_in (contents s)) (nodes_held s store))
+      (subst (λ l. IsPermutation (map f ns) l) (handles_by_age s store) (subst (λ l. IsPermutation l own) (sym is) (IsPermutation-sym own list members)))
+
+  pub nodes_distinct : IsDistinct ns
+  nodes_distinct = IsDistinct_moved (nodes_in (contents s)) ns (IsPermutation-sym ns (nodes_in (contents s)) nodes_moved) (distinct_by_age (nodes_in (contents s)) (nodes_rise s store))
+
+-- ---- the list of an index that is filled
+
+module _ {R : Type 0} (s : Store (Entry R)) (slots : List (Option Node)) (store : IsStore s) (leads : LeadsTo s slots) (apart : AreApart (entries_in (contents s))) (order : R → R → Ordering) (spec : Spec) (ns : List Node) (held : AllByRecursion (IsNodeOf s) ns) (list : List Handle)
+    (is : map (handle_of (record_of s)) ns ≡ list) (members : HasMembers (entries_in (contents s)) list) (aged : IsTrue (is_hashed_kind spec.kind) → ns ≡ nodes_in (contents s)) where
+  abbrev entries : List (Entry R)
+  entries = entries_in (contents s)
+
+  abbrev filled : List Node
+  filled = entered_all (by_rows (record_of s) entries order) spec.kind [] ns
+
+  known_nodes : (ms : List Node) → AllByRecursion (IsNodeOf s) ms → AllByRecursion (IsKnown (record_of s) entries) ms
+  known_nodes ms are = All-map (IsNodeOf s) _ (λ n at. known s n store apart at) ms are
+
+  moved : IsPermutation ns (nodes_in (contents s))
+  moved = nodes_moved s slots store leads ns held list is members
+
+  all_known : AllByRecursion (IsKnown (record_of s) entries) (nodes_in (contents s))
+  all_known = known_nodes (nodes_in (contents s)) (nodes_held s store)
+
+  abbrev settled : List Handle
+  settled = cond (is_sorted_kind spec.kind) (stable_sorted (compare_of order entries) list) list
+
+  by_key : map (handle_of (record_of s)) (stable_sorted (by_rows (record_of s) entries order) ns) ≡ stable_sorted (compare_of order entries) list
+  by_key =
+      map-stable_sorted (handle_of (record_of s)) (IsKnown (record_of s) entries) (by_rows (record_of s) entries order) (compare_of order entries) (by_handles (record_of s) entries order) ns (known_nodes ns held)
+      ∙ ap (stable_sorted (compare_of order entries)) is
+
+  -- its handles
+  pub filled_handles : map (handle_of (record_of s)) filled ≡ settled
+  filled_handles = by_kind spec.kind aged
+    where
+      f : Node → Handle
+      f = handle_of (record_of s)
+
+      compare : Node → Node → Ordering
+      compare = by_rows (record_of s) entries order
+
+      by_kind : (kind : Kind) → (IsTrue (is_hashed_kind kind) → ns ≡ nodes_in (contents s)) → map f (entered_all compare kind [] ns) ≡ cond (is_sorted_kind kind) (stable_sorted (compare_of order entries) list) list
+      by_kind Sequenced h = ap (map f) (sequenced_in_turn compare ns) ∙ is
+      by_kind Random h = ap (map f) (random_in_turn compare ns) ∙ is
+      by_kind Ordered h = ap (map f) (ordered compare [] ns) ∙ by_key
+      by_kind Ranked h = ap (map f) (ranked compare [] ns) ∙ by_key
+      by_kind Hashed h = ap (map f) (hashed_in_turn compare ns (subst AreByAge (sym (h refl)) (nodes_rise s store))) ∙ is
+
+  -- where it is the list that was told, it is that of an index
+  pub fitting : (IsTrue (is_sorted_kind spec.kind) → IsTotalOrder order) → (IsTrue (is_hashed_kind spec.kind) → list ≡ map (λ e. e.handle) entries) → (IsTrue (is_sorted_kind spec.kind) → list ≡ settled) →
+      (IsTrue spec.unique → IsTotalOrder order) → (IsTrue spec.unique → EachPair (λ m n. is_eq (by_rows (record_of s) entries order m n) ≡ false) filled) → IsIndex order entries spec list
+  unfolding contents
+  fitting total hashed same keyed once = record {
+    members = members;
+    in_order = λ sorted. in_place (is_sorted_kind spec.kind) sorted (same sorted) (IsInOrder-stable_sorted (compare_of order entries) (on_total (λ g. row_of entries g) (options_total (total sorted))) list);
+    by_stamp = hashed;
+    unique = λ one.
+        let compare = by_rows (record_of s) entries order in
+        let all = IsPermutation-trans filled ns (nodes_in (contents s)) (IsPermutation-sym ns filled (members_all compare spec.kind ns)) moved in
+        records_differ (differ_moved compare (on_total (record_of s) (options_total (on_total (λ (e : Entry R). e.row) (keyed one)))) filled (nodes_in (contents s)) all (once one));
+  }
+    where
+      in_place : (b : Bool) → IsTrue b → list ≡ cond b (stable_sorted (compare_of order entries) list) list → IsInOrder (compare_of order entries) (stable_sorted (compare_of order entries) list) → IsInOrder (compare_of order entries) list
+      in_place true sorted e h = subst (IsInOrder (compare_of order entries)) (sym e) h
+      in_place false sorted e h = absurd (search rules)
+
+      records_differ : EachPair (λ m n. is_eq (by_rows (record_of s) entries order m n) ≡ false) (nodes_in (contents s)) → EachPair (λ a b. is_eq (order a.row b.row) ≡ false) entries
+      records_differ h = rows_differ (record_of s) entries order (nodes_in (contents s)) all_known h
+
+  -- no clash is seen where the records have one key each
+  pub unclashed : (IsTrue spec.unique → IsTotalOrder order) → HasEachKeyOnce entries order spec list → clash (by_rows (record_of s) entries order) spec.unique ns ≡ None
+  unfolding contents
+  unclashed keyed once = by_unique spec.unique once keyed
+    where
+      compare : Node → Node → Ordering
+      compare = by_rows (record_of s) entries order
+
+      nodes_apart : EachPair (λ a b. is_eq (order a.row b.row) ≡ false) entries → EachPair (λ m n. is_eq (compare m n) ≡ false) (nodes_in (contents s))
+      nodes_apart h = nodes_differ (record_of s) entries order (nodes_in (contents s)) all_known h
+
+      by_unique : (b : Bool) → (IsTrue b → EachPair (λ a b. is_eq (order a.row b.row) ≡ false) entries) → (IsTrue b → IsTotalOrder order) → clash compare b ns ≡ None
+      by_unique true each total =
+          none_clash compare ns (differ_moved compare (on_total (record_of s) (options_total (on_total (λ (e : Entry R). e.row) (total refl)))) (nodes_in (contents s)) ns (IsPermutation-sym ns (nodes_in (contents s)) moved) (nodes_apart (each refl)))
+      by_unique false each total = refl
+
+  -- a list in order is the one that is made of it
+  pub listed : IsListed entries order spec list → list ≡ settled
+  listed h = by_sorted (is_sorted_kind spec.kind) h.in_order
+    where
+      by_sorted : (b : Bool) → (IsTrue b → IsInOrder (compare_of order entries) list) → list ≡ cond b (stable_sorted (compare_of order entries) list) list
+      by_sorted true in_order = sym (sorted_as_it_is (compare_of order entries) list (in_order refl))
+      by_sorted false in_order = refl
+
+  -- so it is where it is in order
+  pub settled_where : (IsTrue (is_sorted_kind spec.kind) → list ≡ settled) → list ≡ settled
+  settled_where same = by_sorted (is_sorted_kind spec.kind) same
+    where
+      by_sorted : (b : Bool) → (IsTrue b → list ≡ cond b (stable_sorted (compare_of order entries) list) list) → list ≡ cond b (stable_sorted (compare_of order entries) list) list
+      by_sorted true same = same refl
+      by_sorted false same = refl
+
+  -- why nodes are refused
+  pub refused : (IsTrue spec.unique → IsTotalOrder order) → (why : NoIndex) → IsCause (Unit {0}) (clash (by_rows (record_of s) entries order) spec.unique ns) why → IsUnfit entries order spec list (unfit_of why)
+  refused keyed no.Columns is = absurd (is tt)
+  refused keyed (no.Clash first second) is = λ once. (let bad = sym (unclashed keyed once) ∙ is.1 in cc)
+  refused keyed no.Memory is = tt
+
+-- ---- the set in which it is filled
+
+module _ {E R : Type 0} (set made : IndexSet (Entry R) (ByRow E)) (index : ℕ) (within : index < length (specs_of set)) (one : length (lists_of set) ≡ length (specs_of set)) (same : IsOfSame set made) (kept : contents_of made ≡ contents_of set) (xs : List Node) (lists : lists_of made ≡ slice_set (lists_of set) index xs) where
+  list_is : get_or (lists_of made) index [] ≡ xs
+  list_is = ap (λ ls. get_or ls index []) lists ∙ get_or-set_same (lists_of set) index xs [] (omega (arith, within, one))
+
+  pub listed_at : map (handle_of (record_of (store_of made))) (list_of made index) ≡ map (handle_of (record_of (store_of set))) xs
+  listed_at = (λ i. map (handle_of (records_kept (store_of set) (store_of made) kept i)) (list_is i))
+
+  pub handles_filled : (list : List Handle) → map (handle_of (record_of (store_of set))) xs ≡ list → handles_in (record_of (store_of made)) (lists_of made) ≡ slice_set (handles_in (record_of (store_of set)) (lists_of set)) index list
+  handles_filled list is =
+      let f = handle_of (record_of (store_of set)) in
+      handles_kept (store_of set) (store_of made) (lists_of made) kept
+      ∙ (ap (handles_in (record_of (store_of set))) lists ∙ (map-set (map f) (lists_of set) index xs ∙ ap (λ l. slice_set (handles_in (record_of (store_of set)) (lists_of set)) index l) is))
+
+  pub once_filled : (order : E → ℕ → R → R → Ordering) → IsUniqueExcept (order_by_row order) made None → IsTrue (spec_at (specs_of set) index).unique →
+      EachPair (λ m n. is_eq (by_rows (record_of (store_of set)) (entries_in (contents_of set)) (order (keys_of set).keys index) m n) ≡ false) xs
+  once_filled order unique one_key =
+      let specs = same.specs in
+      let lists_one : length (lists_of made) ≡ length (specs_of made) = ap length lists ∙ (length-set (lists_of set) index xs ∙ (one ∙ ap length (sym specs))) in
+      let here = unique_at (order_by_row order (keys_of made)) (record_of (store_of made)) None (specs_of made) (lists_of made) lists_one unique index (record { kind = Sequenced; unique = false }) (omega (arith, within, ap length specs))
+      (subst (λ ds. IsTrue (spec_at ds index).unique) (sym specs) one_key) in
+      subst (λ (f : Node → Node → Ordering). EachPair (λ m n. is_eq (f m n) ≡ false) xs) (λ i. order_at (records_kept (store_of set) (store_of made) kept i) (order_by_row order (same.keys i) index))
+      (subst (EachPair _) list_is here)
+
+-- the kind of an index is that of what it is to be
+pub kind_is : (specs : List Spec) (index : ℕ) → index < length specs → option_map_or (λ (d : Spec). d.kind) (slice_get specs index) Sequenced ≡ (spec_at specs index).kind
+kind_is specs index within = ap (λ (o : Option Spec). option_map_or (λ (d : Spec). d.kind) o Sequenced) (slice_get_at specs index (record { kind = Sequenced; unique = false }) within)
+
+-- an index has a key where it is in order, or unique
+module _ {R : Type 0} (has_key : ℕ → Bool) (order : ℕ → R → R → Ordering) (total : (index : ℕ) → IsTrue (has_key index) → IsTotalOrder (order index)) (specs : List Spec) (match : KeysMatch has_key specs) (index : ℕ) (within : index < length specs) where
+  abbrev none : Spec
+  none = record { kind = Sequenced; unique = false }
+
+  pub sorted_total : IsTrue (is_sorted_kind (spec_at specs index).kind) → IsTotalOrder (order index)
+  sorted_total sorted = total index (subst IsTrue (sym (match.keyed index none within)) (sorted_has_key (spec_at specs index).kind sorted))
+
+  pub unique_total : IsTrue (spec_at specs index).unique → IsTotalOrder (order index)
+  unique_total one = total index (subst IsTrue (sym (match.keyed index none within)) (match.unique index none within one))
+
+-- ---- results
+
+pub each_ok : {A B : Type 0} (P Q : A → Type 0) → ((x : A) → P x → Q x) → (r : Result A B) → IfOk r P → IfOk r Q
+each_ok P Q f (Ok x) h = f x h
+each_ok P Q f (Err e) h = tt
+
+pub both_ok : {A B S : Type 0} (P Q : A → Type 0) → ((x : A) → P x → S → Q x) → (r : Result A B) → IfOk r P → OnOk r S → IfOk r Q
+both_ok P Q f (Ok x) h s = f x h s
+both_ok P Q f (Err e) h s = tt
+
+-- ---- records are added that lie in slots
+
+-- so far, where these come next
+pub record AreAdded {E R : Type 0} (has_key : E → ℕ → Bool) (order : E → ℕ → R → R → Ordering) (marks : E → ℕ → R → Marks) (old new : IndexSet (Entry R) (ByRow E)) (all rest : List (Entry R)) (slots : List (Option Node)) : Type 0 where
+  pub sound : IsSound (has_by_row has_key) new
+  pub keyed : IsKeyed (order_by_row order) (marks_by_row marks) new
+  pub same : IsOfSame old new
+  pub lists : lists_of new ≡ lists_of old
+  pub entries : entries_in (contents_of new) ++ rest ≡ all
+  pub apart : AreApart (entries_in (contents_of new))
+  pub leads : LeadsTo (store_of new) slots
+  pub count : (store_of new).added ≡ length (entries_in (contents_of new))
+
+module _ {E R : Type 0} {has_key : E → ℕ → Bool} {order : E → ℕ → R → R → Ordering} {marks : E → ℕ → R → Marks} (old set : IndexSet (Entry R) (ByRow E)) (all rest : List (Entry R)) (e : Entry R) (slots : List (Option Node)) (h : AreAdded has_key order marks old set all (e ∷ rest) slots) where
+  abbrev so_far : List (Entry R)
+  so_far = entries_in (contents_of set)
+
+  pub added_one : (new : IndexSet (Entry R) (ByRow E)) (n : Node) → item_at slots e.handle.slot ≡ None → IsSound (has_by_row has_key) new → (IsKeyed (order_by_row order) (marks_by_row marks) set → IsKeyed (order_by_row order) (marks_by_row marks) new) → IsOfSame set new →
+      lists_of new ≡ lists_of set → number_of n ≡ (store_of set).added → (store_of new).added ≡ (store_of set).added + 1 → AddsNode (store_of set) (store_of new) n e →
+      AreAdded has_key order marks old new all rest (with_item slots e.handle.slot (Some n))
+  added_one new n free sound keyed same lists number count adds =
+      let entries : entries_in (contents_of new) ≡ so_far ++ e ∷ [] = entries_added (store_of set) (store_of new) n e adds h.sound.nodes number count in
+      record {
+        sound = sound;
+        keyed = keyed h.keyed;
+        same = record { keys = same.keys ∙ h.same.keys; specs = same.specs ∙ h.same.specs; columns = same.columns ∙ h.same.columns };
+        lists = lists ∙ h.lists;
+        entries = ap (λ es. es ++ rest) entries ∙ (append_assoc so_far (e ∷ []) rest ∙ h.entries);
+        apart = subst AreApart (sym entries) (EachPair-push _ so_far e (free_is_apart e.handle.slot so_far (none_is_free (store_of set) slots h.sound.nodes h.leads e.handle.slot free)) h.apart);
+        leads = leads_put (store_of set) (store_of new) n e slots e.handle.slot free adds refl h.leads;
+        count = omega (arith, count, h.count, ap length entries, length_push so_far e);
+      }
+
+  -- a slot that is taken is another record's
+  pub slot_taken : (n : Node) → item_at slots e.handle.slot ≡ Some n → AreApart all → ⊥
+  slot_taken n at apart =
+      let here = h.leads.slot_of e.handle.slot n at in
+      let p = has_record (store_of set) n here.0 in
+      let other = member (λ x. (e.handle.slot == x.handle.slot) ≡ false) (store_of set) n p.0 h.sound.nodes here.0 p.1
+      (before_it (λ a b. (b.handle.slot == a.handle.slot) ≡ false) so_far e rest (subst AreApart (sym h.entries) apart)) in
+      let own : p.0.handle.slot ≡ e.handle.slot = ap (λ (k : Handle). k.slot) (sym (handle_of-is (record_of (store_of set)) n p.0 p.1)) ∙ here.1 in
+      let bad = sym (eq-eqb e.handle.slot p.0.handle.slot (sym own)) ∙ other in cc
+
+-- ---- all indices
+
+each_index : {R : Type 0} (order : ℕ → R → R → Ordering) (entries : List (Entry R)) (b : ℕ) (specs : List Spec) (lists : List (List Handle)) → length lists ≡ length specs → ((j : ℕ) → j < length specs → IsIndex (order (b + j)) entries (spec_at specs j) (list_at lists j)) → AreIndices order entries b specs lists
+each_index order entries b [] [] one each = tt
+each_index order entries b [] (list ∷ lists) one each = absurd (omega (arith, one))
+each_index order entries b (spec ∷ specs) [] one each = absurd (omega (arith, one))
+each_index order entries b (spec ∷ specs) (list ∷ lists) one each = (
+  subst (λ k. IsIndex (order k) entries spec list) (at_first b) (each 0 (omega arith)),
+  each_index order entries (b + 1) specs lists (omega (arith, one)) (λ j lt. subst (λ k. IsIndex (order k) entries (spec_at specs j) (list_at lists j)) (at_next b j) (each (suc j) (omega (arith, lt)))),
+)
+  where
+    at_first : (b : ℕ) → b + 0 ≡ b
+    at_first b = omega arith
+
+    at_next : (b j : ℕ) → b + suc j ≡ b + 1 + j
+    at_next b j = omega arith
+
+-- so many are filled
+pub record AreFilled {E R : Type 0} (has_key : E → ℕ → Bool) (order : E → ℕ → R → R → Ordering) (marks : E → ℕ → R → Marks) (slots : List (Option Node)) (old new : IndexSet (Entry R) (ByRow E)) (lists : List (List Handle)) (index : ℕ) : Type 0 where
+  pub linked : IsLinked has_key order marks new slots
+  pub same : IsOfSame old new
+  pub contents : contents_of new ≡ contents_of old
+  pub listed : (j : ℕ) → j < index → list_at (handles_in (record_of (store_of new)) (lists_of new)) j ≡ list_at lists j
+  pub fits : (j : ℕ) → j < index → IsIndex (order (keys_of old).keys j) (entries_in (contents_of old)) (spec_at (specs_of old) j) (list_at lists j)
+
+module _ {E R : Type 0} {has_key : E → ℕ → Bool} {order : E → ℕ → R → R → Ordering} {marks : E → ℕ → R → Marks} (slots : List (Option Node)) (old set : IndexSet (Entry R) (ByRow E)) (lists : List (List Handle)) (index : ℕ) (h : AreFilled has_key order marks slots old set lists index) (one : length lists ≡ length (specs_of old)) where
+  listed_count : length (handles_in (record_of (store_of set)) (lists_of set)) ≡ length (specs_of old)
+  listed_count = length-map (lists_of set) (map (handle_of (record_of (store_of set)))) ∙ (one_list_each set h.linked.sound ∙ ap length h.same.specs)
+
+  pub filled_one : (new : IndexSet (Entry R) (ByRow E)) (list : List Handle) → index < length lists → list ≡ list_at lists index → IsLinked has_key order marks new slots → IsOfSame set new → contents_of new ≡ contents_of set →
+      handles_in (record_of (store_of new)) (lists_of new) ≡ slice_set (handles_in (record_of (store_of set)) (lists_of set)) index list →
+      IsIndex (order (keys_of set).keys index) (entries_in (contents_of set)) (spec_at (specs_of set) index) list →
+      AreFilled has_key order marks slots old new lists (index + 1)
+  filled_one new list within is linked same kept set_one fits = record {
+    linked = linked;
+    same = record { keys = same.keys ∙ h.same.keys; specs = same.specs ∙ h.same.specs; columns = same.columns ∙ h.same.columns };
+    contents = kept ∙ h.contents;
+    listed = λ j lt.
+        let before = handles_in (record_of (store_of set)) (lists_of set) in
+        ap (λ ls. list_at ls j) set_one
+        ∙ ⊎_elim
+        (λ (e : j ≡ index). ap (λ k. list_at (slice_set before index list) k) e ∙ (get_or-set_same before index list [] (omega (arith, within, one, listed_count)) ∙ (is ∙ ap (list_at lists) (sym e))))
+        (λ (apart : j ≢ index). get_or-set_other before index j list [] apart ∙ h.listed j (omega (arith, lt, apart)))
+        (cases_eq j index);
+    fits = λ j lt.
+        ⊎_elim
+        (λ (e : j ≡ index).
+        subst (λ k. IsIndex (order (keys_of old).keys k) (entries_in (contents_of old)) (spec_at (specs_of old) k) (list_at lists k)) (sym e)
+        (subst (IsIndex _ _ _) is (subst (λ es. IsIndex (order (keys_of old).keys index) (entries_in es) (spec_at (specs_of old) index) list) h.contents
+        (subst (λ ds. IsIndex (order (keys_of old).keys index) (entries_in (contents_of set)) (spec_at ds index) list) h.same.specs
+        (subst (λ (k : ByRow E). IsIndex (order k.keys index) (entries_in (contents_of set)) (spec_at (specs_of set) index) list) h.same.keys fits)))))
+        (λ (apart : j ≢ index). h.fits j (omega (arith, lt, apart)))
+        (cases_eq j index);
+  }
+
+  -- all are
+  pub filled_lists : length lists ≤ index → handles_in (record_of (store_of set)) (lists_of set) ≡ lists
+  filled_lists all = same_lists _ lists (listed_count ∙ sym one) (λ j lt. h.listed j (omega (arith, lt, all, listed_count, one)))
+
+  pub filled_indices : length lists ≤ index → AreIndices (order (keys_of old).keys) (entries_in (contents_of old)) 0 (specs_of old) lists
+  filled_indices all = each_index (order (keys_of old).keys) (entries_in (contents_of old)) 0 (specs_of old) lists one
+      (λ j lt.
+      let e : j ≡ 0 + j = omega arith in
+      subst (λ k. IsIndex (order (keys_of old).keys k) (entries_in (contents_of old)) (spec_at (specs_of old) j) (list_at lists j)) e (h.fits j (omega (arith, lt, all, one))))
+
+pub unfit_misfit : {R : Type 0} (es : List (Entry R)) (order : ℕ → R → R → Ordering) (specs : List Spec) (lists : List (List Handle)) (index : ℕ) (why : Unfit) → index < length specs → IsUnfit es (order index) (spec_at specs index) (list_at lists index) why → IsMisfit es order specs lists (misfit_of why index)
+unfit_misfit es order specs lists index unfit.Memory lt h = tt
+unfit_misfit es order specs lists index unfit.Members lt h = (lt, h)
+unfit_misfit es order specs lists index unfit.Order lt h = (lt, h)
+unfit_misfit es order specs lists index unfit.Clash lt h = (lt, h)

@@ -1,0 +1,34 @@
+use Rattle.std.proofs.Common.{◌≡◌, length, map, [], sym, ap, ◌∙◌, arith}
+use Rattle.std.proofs.lemmas.List.{length-map, get_or-map}
+use Rattle.container_model.specs.declared.handle.Handle.{Handle}
+use Rattle.index_set.specs.Set.{specs_of}
+use Rattle.linked_set.proofs.Restored.{filled_one, filled_lists, filled_indices}
+use Rattle.linked_set.proofs.restoring.fill_all.Goals as goal
+
+pub filled-requires-clause-linked : goal.filled-requires-clause-linked
+filled-requires-clause-linked g c = c.loop-index.invariant.linked
+
+pub filled-requires-clause-index : goal.filled-requires-clause-index
+filled-requires-clause-index g c = omega (arith, c.loop-index-test.true, c.requires.one_each, ap length c.loop-index.invariant.same.specs)
+
+pub loop-index-preserved : goal.loop-index-preserved
+loop-index-preserved g c =
+    let orders = c.args.orders.now in
+    let e = c.in-Ok.ensures in
+    let one = length-map orders (λ order. order.items) ∙ c.requires.one_each in
+    filled_one c.args.slots.now.items c.args.set c.loop-index.set (map (λ order. order.items) orders) c.loop-index.index c.loop-index.invariant one c.in-Ok.made c.deref.result.now
+    (omega (arith, c.loop-index-test.true, length-map orders (λ order. order.items)))
+    (c.deref.ensures.value ∙ (ap (λ order. order.items) c.index-orders-index.is ∙ sym (get_or-map (λ order. order.items) orders c.loop-index.index c.index-orders-index.result [] c.loop-index-test.true)))
+    e.linked e.same e.contents e.lists e.fits
+
+pub returns-clause-lists : goal.returns-clause-lists
+returns-clause-lists g c =
+    let orders = c.args.orders.now in
+    filled_lists c.args.slots.now.items c.args.set c.loop-index.set (map (λ order. order.items) orders) c.loop-index.index c.loop-index.invariant (length-map orders (λ order. order.items) ∙ c.requires.one_each)
+    (omega (arith, c.loop-index-test.false, length-map orders (λ order. order.items)))
+
+pub returns-clause-fits : goal.returns-clause-fits
+returns-clause-fits g c =
+    let orders = c.args.orders.now in
+    filled_indices c.args.slots.now.items c.args.set c.loop-index.set (map (λ order. order.items) orders) c.loop-index.index c.loop-index.invariant (length-map orders (λ order. order.items) ∙ c.requires.one_each)
+    (omega (arith, c.loop-index-test.false, length-map orders (λ order. order.items)))
