@@ -1,10 +1,13 @@
 //! An index, and its changes.
-ghost use Rattle.std.specs.Prelude.{◌≡◌, ℕ, ◌<◌, ◌≤◌, cond, Some, [], length, OnOk, OnErr};
+ghost use Rattle.std.specs.Prelude.{◌≡◌, ℕ, ◌<◌, ◌≤◌, IsTrue, cond, Some, [], length, OnOk, OnErr};
 ghost use Rattle.std.specs.declared.cmp.Ordering.{Ordering};
 ghost use Rattle.list_model.specs.Walk.{without};
 ghost use Rattle.key_extract.specs.Digests.{Marks};
 ghost use Rattle.node_store.specs.Column.{Column, IsNode};
 ghost use Rattle.node_store.specs.Nodes.{Lacks};
+ghost use Rattle.node_store.specs.declared.Node.{Node};
+ghost use Rattle.std.specs.Ordering.{is_le};
+ghost use Rattle.ord_tree.specs.Last.{last_that};
 ghost use Rattle.node_store.specs.ByNode.{column_of, same_node};
 ghost use Rattle.container_model.specs.State.{has_key_kind};
 ghost use Rattle.any_index.specs.Lists.{entered, settled_in};
@@ -118,19 +121,24 @@ impl AnyIndex {
     }
 
     /// Puts `n` in, in room that was reserved: by its key, or in a sequence before the node at the place `at`, or last
-    /// where there is none. O(log n) in a tree, O(1) in buckets and at the end of a sequence.
+    /// where there is none. Where `last` is given, it is in a tree the last node whose key is at most that of `n`, and spares
+    /// the search. O(log n) in a tree, O(1) in buckets and at the end of a sequence.
     pub fn enter<R, E: Extract<R>>(
         &mut self,
         store: &mut NodeStore<R>,
         keys: &E,
         n: Node,
         at: Option<u64>,
+        last: Option<Node>,
     )
         requires filed { IsFiled E.Extract self.old store.old keys.now }
         requires node { IsNode (column_of store.old (col_of self.old)) n }
         requires new { Lacks (nodes_of self.old store.old) n }
         requires room { HasRoom self.old }
         requires place { (p : ℕ) → at ≡ Some p → p ≤ length (nodes_of self.old store.old) }
+        requires last { (m : Node) → last ≡ Some m → IsTrue (has_key_kind (kind_of self.old)) →
+            last_that (λ m. is_le (order_in E.Extract self.old store.old keys.now m n))
+            (nodes_of self.old store.old) ≡ Some m }
         ensures sound { IsIn self.new store.new }
         ensures list { nodes_of self.new store.new ≡ entered (kind_of self.old)
             (order_in E.Extract self.old store.old keys.now) at n (nodes_of self.old store.old) }
@@ -146,8 +154,8 @@ impl AnyIndex {
                 Some(place) => row.insert_at(store, place, n),
                 None => row.push(store, n),
             },
-            AnyIndex::Ordered(tree) => tree.link(store, keys, n),
-            AnyIndex::Ranked(tree) => tree.link(store, keys, n),
+            AnyIndex::Ordered(tree) => tree.link(store, keys, n, last),
+            AnyIndex::Ranked(tree) => tree.link(store, keys, n, last),
             AnyIndex::Hashed(buckets) => buckets.link(store, keys, n),
         }
     }

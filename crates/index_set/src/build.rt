@@ -112,7 +112,7 @@ pub(crate) fn build<R, E: Extract<R>>(
         let Ok(()) = made.reserve_one(store) else {
             return Err(NoIndex::Memory);
         };
-        made.enter(store, keys, *n, None);
+        made.enter(store, keys, *n, None, None);
     }
     Ok(made)
 }

@@ -117,7 +117,7 @@ pub(crate) fn enter_each<R, E: Extract<R>>(
     ensures contents { contents store.new ≡ contents store.old }
 {
     for index in 0..specs.len() {
-        indices[index].enter(store, keys, n, place_in(at, index));
+        indices[index].enter(store, keys, n, place_in(at, index), None);
     }
 }
 

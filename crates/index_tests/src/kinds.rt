@@ -38,7 +38,7 @@ fn enter_new<R: Drop, E: Extract<R>>(
     let Ok(n) = store.add(value) else {
         return None;
     };
-    index.enter(store, keys, n, None);
+    index.enter(store, keys, n, None, None);
     Some(())
 }
 

@@ -62,7 +62,7 @@ pub(crate) fn put_by_key<T>(tree: &mut OrdTree<NoTally>, store: &mut NodeStore<K
     ensures contents { contents store.new ≡ contents store.old }
 {
     if tree.reserve_one(store).is_ok() {
-        tree.link(store, &ByKey, n);
+        tree.link(store, &ByKey, n, None);
     }
 }
 
@@ -81,7 +81,7 @@ pub(crate) fn put_by_rank<T>(tree: &mut RankTree, store: &mut NodeStore<Keyed<T>
     ensures contents { contents store.new ≡ contents store.old }
 {
     if tree.reserve_one(store).is_ok() {
-        tree.link(store, &ByKey, n);
+        tree.link(store, &ByKey, n, None);
     }
 }
 

@@ -31,7 +31,7 @@ fn insert_new<R: Drop, E: Extract<R>>(
     let Ok(n) = store.add(value) else {
         return None;
     };
-    tree.link(store, keys, n);
+    tree.link(store, keys, n, None);
     Some(())
 }
 

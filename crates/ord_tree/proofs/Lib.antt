@@ -19,6 +19,8 @@ pub mod KeySides
 pub mod Sought
 pub mod Excepting
 pub mod NextTo
+pub mod LastThat
+pub mod FreePlaces
 pub mod Settling
 pub mod Ordered
 pub mod Ways

@@ -26,7 +26,7 @@ pub record FirstSoFar (tally : ℕ → ℕ → ℕ) (c : Column) (first : Node) 
   pub is : IsAt tally c (Some first) here
   pub same : first_or (nodes here) None ≡ first_or (nodes t) None
 
-first_or-fork : (a : Tree) (x : Node) (b : Tree) (o : Option Node) → first_or (nodes (Fork a x b)) o ≡ first_or (nodes (Fork a x b)) None
+pub first_or-fork : (a : Tree) (x : Node) (b : Tree) (o : Option Node) → first_or (nodes (Fork a x b)) o ≡ first_or (nodes (Fork a x b)) None
 first_or-fork a x b o = first_or-append (nodes a) (x ∷ nodes b) o ∙ sym (first_or-append (nodes a) (x ∷ nodes b) None)
 
 first_or-left : (l : Tree) (x : Node) (r : Tree) (m : Node) → Some m ≡ root l → first_or (nodes l) None ≡ first_or (nodes (Fork l x r)) None

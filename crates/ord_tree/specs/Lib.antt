@@ -3,6 +3,7 @@ pub mod Digests
 pub mod Steps
 pub mod Path
 pub mod Cut
+pub mod Last
 pub mod Spelled
 pub mod Removal
 pub mod Side

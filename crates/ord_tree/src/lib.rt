@@ -4,6 +4,7 @@
 //! stand in one tree of each column at once.
 #![tactic(auto)]
 
+mod free;
 mod height;
 mod order;
 mod parts;

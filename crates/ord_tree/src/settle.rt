@@ -36,7 +36,7 @@ impl<T: Tally> OrdTree<T> {
             return;
         }
         self.unlink(store, n);
-        self.link(store, keys, n);
+        self.link(store, keys, n, None);
     }
 
     // Whether the key of `n`, whose digest is given, stands in order between those of its two neighbours.

@@ -1,5 +1,5 @@
 //! An ordered index, and its changes.
-ghost use Rattle.std.specs.Prelude.{◌≡◌, ℕ, ◌<◌, List, Some, [], OnOk, OnErr};
+ghost use Rattle.std.specs.Prelude.{◌≡◌, ℕ, ◌<◌, Bool, List, Some, [], OnOk, OnErr};
 ghost use Rattle.node_store.specs.Store.{IsNodeOf, no_link};
 ghost use Rattle.node_store.specs.Column.{Column, IsNode};
 ghost use Rattle.node_store.specs.Nodes.{Lacks};
@@ -8,10 +8,12 @@ ghost use Rattle.node_store.specs.ByNode.{column_of, same_node};
 ghost use Rattle.node_store.specs.Digest.{digest_number};
 ghost use Rattle.ord_tree.specs.Digests.{kept_digest, KeepsOtherDigests};
 ghost use Rattle.list_model.specs.Walk.{without, placed};
+ghost use Rattle.ord_tree.specs.Cut.{IsCut};
+ghost use Rattle.ord_tree.specs.Last.{last_that};
 ghost use Rattle.std.specs.Ordering.{is_le};
 
 use crate::order::order_to_record;
-use crate::removal::take_out;
+use crate::removal::{first_below, take_out};
 use crate::steps::{graft, plant};
 use crate::tally::Tally;
 use key_extract::Extract;
@@ -81,12 +83,22 @@ impl<T: Tally> OrdTree<T> {
         Ok(())
     }
 
-    /// Puts `n` after all whose key is at most its own. O(log n), comparisons included.
-    pub fn link<R, E: Extract<R>>(&mut self, store: &mut NodeStore<R>, keys: &E, n: Node)
+    /// Puts `n` after all whose key is at most its own. Where `last` is given, it is the last of those, and no key is compared.
+    /// O(log n), comparisons included.
+    pub fn link<R, E: Extract<R>>(
+        &mut self,
+        store: &mut NodeStore<R>,
+        keys: &E,
+        n: Node,
+        last: Option<Node>,
+    )
         requires ordered { IsOrdered E.Extract self.old store.old keys.now }
         requires node { IsNode (column_of store.old (col_of self.old)) n }
         requires new { Lacks (nodes_of self.old store.old) n }
         requires room { HasRoom self.old }
+        requires last { (m : Node) → last ≡ Some m → last_that
+            (λ m. is_le (order_in E.Extract self.old store.old keys.now m n))
+            (nodes_of self.old store.old) ≡ Some m }
         ensures tree { BecomesTree self.old self.new store.old store.new
             (placed (λ m. order_in E.Extract self.old store.old keys.now m n) n
             (nodes_of self.old store.old)) }
@@ -94,7 +106,7 @@ impl<T: Tally> OrdTree<T> {
             (nodes_of self.new store.new) }
     {
         let digest = Digest::of(keys.digest(self.index, store.get(n)));
-        let (parent, on_right) = self.place_of(store, keys, n, digest);
+        let (parent, on_right) = self.place_for(store, keys, n, digest, last);
         plant::<T, R>(store, self.col, n, digest);
         self.root = graft::<T, R>(store, self.col, self.root, parent, on_right, Some(n));
         self.len += 1;
@@ -113,6 +125,45 @@ impl<T: Tally> OrdTree<T> {
         self.root = take_out::<T, R>(store, self.col, self.root, n);
         self.len -= 1;
         store.set_link(n, self.col, Link::empty());
+    }
+
+    // Where a leaf for `n` goes, whose digest is given, and behind which node if that is known: its parent, and on which side
+    // of it.
+    fn place_for<R, E: Extract<R>>(
+        &self,
+        store: &NodeStore<R>,
+        keys: &E,
+        n: Node,
+        digest: Digest,
+        last: Option<Node>,
+    ) -> (Option<Node>, bool)
+        requires ordered { IsOrdered E.Extract self.now store.now keys.now }
+        requires node { IsNodeOf store.now n }
+        requires digest { digest_number digest ≡ kept_digest
+            (E.digest_of keys.now (index_of self.now)) store.now n }
+        requires last { (m : Node) → last ≡ Some m → last_that
+            (λ m. is_le (order_in E.Extract self.now store.now keys.now m n))
+            (nodes_of self.now store.now) ≡ Some m }
+        ensures { Place (λ m. is_le (order_in E.Extract self.now store.now keys.now m n))
+            (tree_of (column_of store.now) self.now) result.0 result.1 }
+    {
+        match last {
+            Some(last) => self.place_behind(store, last),
+            None => self.place_of(store, keys, n, digest),
+        }
+    }
+
+    // Where a leaf right behind `last` goes: its parent, and on which side of it.
+    fn place_behind<R>(&self, store: &NodeStore<R>, last: Node) -> (Option<Node>, bool)
+        requires { HasNode self.now store.now last }
+        ensures { (q : Node → Bool) → IsCut q (nodes_of self.now store.now) →
+            last_that q (nodes_of self.now store.now) ≡ Some last →
+            Place q (tree_of (column_of store.now) self.now) result.0 result.1 }
+    {
+        match store.link(last, self.col).b {
+            None => (Some(last), true),
+            Some(right) => (Some(first_below::<T, R>(store, self.col, right)), false),
+        }
     }
 
     // Where a leaf for `n`, whose digest is given, goes: its parent, and on which side of it.

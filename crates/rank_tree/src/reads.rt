@@ -1,8 +1,10 @@
 //! Walks and look-ups by a key: those of its tree.
-ghost use Rattle.std.specs.Prelude.{◌≡◌, ◌<◌, slice_get};
+ghost use Rattle.std.specs.Prelude.{◌≡◌, ◌<◌, None, slice_get, IfOk, IfErr, OnOk};
+ghost use Rattle.std.specs.Ordering.{is_le};
 ghost use Rattle.list_model.specs.Walk.{next as the_next, prev as the_prev, last as the_last};
 ghost use Rattle.node_store.specs.ByNode.{same_node};
 ghost use Rattle.list_model.specs.Place.{lower as the_lower, upper as the_upper, find_equal};
+ghost use Rattle.ord_tree.specs.Last.{last_that};
 ghost use Rattle.ord_tree.specs.Same.{AreNodesOf, equal_but};
 
 use crate::tree::RankTree;
@@ -10,7 +12,7 @@ use key_extract::Extract;
 use node_store::{Node, NodeStore};
 
 impl RankTree {
-    ghost use Rattle.rank_tree.specs.Stored.{IsTreeOf, HasNode, AreFew, record_side_in, IsOrderedBut, side_in, CanSearch, nodes_of};
+    ghost use Rattle.rank_tree.specs.Stored.{IsTreeOf, HasNode, AreFew, record_side_in, IsOrdered, IsOrderedBut, side_in, CanSearch, nodes_of};
 
     /// The first node. O(log n).
     pub fn first<R>(&self, store: &NodeStore<R>) -> Option<Node>
@@ -151,5 +153,27 @@ impl RankTree {
             (nodes_of self.now store.now) }
     {
         self.tree.same_as(store, keys, row, except)
+    }
+
+    /// The first node whose record has the row's key, as an `Err`. Where none has it, the last node whose key is at most the
+    /// row's, or `None` where each comes behind the row. One descent: O(log n), and it takes no memory.
+    pub fn free_place<R, E: Extract<R>>(
+        &self,
+        store: &NodeStore<R>,
+        keys: &E,
+        row: &R,
+    ) -> Result<Option<Node>, Node>
+        requires { IsOrdered E.Extract self.now store.now keys.now }
+        ensures free { OnOk result (equal_but None
+            (record_side_in E.Extract self.now store.now keys.now row.now)
+            (nodes_of self.now store.now) ≡ None) }
+        ensures place { IfOk result (λ last. last ≡ last_that
+            (λ m. is_le (record_side_in E.Extract self.now store.now keys.now row.now m))
+            (nodes_of self.now store.now)) }
+        ensures taken { IfErr result (λ by. equal_but None
+            (record_side_in E.Extract self.now store.now keys.now row.now)
+            (nodes_of self.now store.now) ≡ Some by) }
+    {
+        self.tree.free_place(store, keys, row)
     }
 }

@@ -7,6 +7,8 @@ ghost use Rattle.node_store.specs.declared.Node.{Node};
 ghost use Rattle.node_store.specs.ByNode.{column_of, same_node};
 ghost use Rattle.list_model.specs.Walk.{without, placed, settled};
 ghost use Rattle.ord_tree.specs.Digests.{KeepsOtherDigests};
+ghost use Rattle.ord_tree.specs.Last.{last_that};
+ghost use Rattle.std.specs.Ordering.{is_le};
 
 use crate::sizes::Sizes;
 use key_extract::Extract;
@@ -71,19 +73,29 @@ impl RankTree {
         self.tree.reserve_one(store)
     }
 
-    /// Puts `n` after all whose key is at most its own. O(log n), comparisons included.
-    pub fn link<R, E: Extract<R>>(&mut self, store: &mut NodeStore<R>, keys: &E, n: Node)
+    /// Puts `n` after all whose key is at most its own. Where `last` is given, it is the last of those, and no key is compared.
+    /// O(log n), comparisons included.
+    pub fn link<R, E: Extract<R>>(
+        &mut self,
+        store: &mut NodeStore<R>,
+        keys: &E,
+        n: Node,
+        last: Option<Node>,
+    )
         requires ordered { IsOrdered E.Extract self.old store.old keys.now }
         requires node { IsNode (column_of store.old (col_of self.old)) n }
         requires new { Lacks (nodes_of self.old store.old) n }
         requires room { HasRoom self.old }
+        requires last { (m : Node) → last ≡ Some m → last_that
+            (λ m. is_le (order_in E.Extract self.old store.old keys.now m n))
+            (nodes_of self.old store.old) ≡ Some m }
         ensures tree { BecomesTree self.old self.new store.old store.new
             (placed (λ m. order_in E.Extract self.old store.old keys.now m n) n
             (nodes_of self.old store.old)) }
         ensures digested { HaveTheirDigests E.Extract self.old store.new keys.now
             (nodes_of self.new store.new) }
     {
-        self.tree.link(store, keys, n);
+        self.tree.link(store, keys, n, last);
     }
 
     /// Takes `n` out, and empties its links. It reads no record, so the node's may have changed. O(log n).

@@ -100,7 +100,7 @@ fn insert(store: &mut NodeStore<u64>, tree: &mut RankTree, word: u64) -> u64
     let Ok(n) = store.add(word) else {
         return 0;
     };
-    tree.link(store, &Words, n);
+    tree.link(store, &Words, n, None);
     1
 }
 

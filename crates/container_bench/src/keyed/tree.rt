@@ -148,7 +148,7 @@ fn insert(store: &mut NodeStore<u64>, tree: &mut OrdTree<NoTally>, word: u64) ->
     let Ok(n) = store.add(word) else {
         return None;
     };
-    tree.link(store, &Words, n);
+    tree.link(store, &Words, n, None);
     Some(n)
 }
 

@@ -1,4 +1,4 @@
-use Rattle.std.proofs.Common.{◌∙◌}
+use Rattle.std.proofs.Common.{refl, ◌∙◌}
 use Rattle.node_store.specs.ByNode.{column_of, record_of}
 use Rattle.ord_tree.specs.Spelled as trees
 use Rattle.rank_tree.specs.Spelled as ranked
@@ -90,3 +90,9 @@ returns-in-Hashed-clause-keyed g c =
     let col = buckets.col_of c.in-Hashed.buckets in
     hashed_at hash c.link-in-Hashed.new.store _ index _ col _ _ c.link-in-Hashed.ensures.rest.index c.link-in-Hashed.ensures.rest.col (moved_by_number _)
     (c.link-in-Hashed.ensures.hashed (IsHashed_moved (hash index) c.args.store.now col _ _ (moved_back _) keyed))
+
+pub link-requires-clause-last : goal.link-requires-clause-last
+link-requires-clause-last g c = let last = rw c.in-Ordered.is at c.requires.last in λ m e. last m e refl
+
+pub link-requires-in-Ranked-clause-last : goal.link-requires-in-Ranked-clause-last
+link-requires-in-Ranked-clause-last g c = let last = rw c.in-Ranked.is at c.requires.last in λ m e. last m e refl

@@ -12,16 +12,16 @@ use Rattle.ord_tree.proofs.tree.OrdTree.link.Goals as goal
 pub get-requires : goal.get-requires
 get-requires g c = node_of_column c.args.store.now _ c.args.n c.requires.node
 
-pub place_of-parent-requires-clause-node : goal.place_of-parent-requires-clause-node
-place_of-parent-requires-clause-node g c = node_of_column c.args.store.now _ c.args.n c.requires.node
+pub place_for-parent-requires-clause-node : goal.place_for-parent-requires-clause-node
+place_for-parent-requires-clause-node g c = node_of_column c.args.store.now _ c.args.n c.requires.node
 
 pub graft-self-requires : goal.graft-self-requires
 graft-self-requires g c =
-    grafted_side _ _ _ _ _ _ _ c.args.n (the_tree _ _ c.requires.ordered.tree) c.place_of-parent.ensures c.requires.new c.plant.ensures.joined
+    grafted_side _ _ _ _ _ _ _ c.args.n (the_tree _ _ c.requires.ordered.tree) c.place_for-parent.ensures c.requires.new c.plant.ensures.joined
 
 pub returns-clause-tree : goal.returns-clause-tree
 returns-clause-tree g c =
-    let p = c.place_of-parent.ensures in
+    let p = c.place_for-parent.ensures in
     let sound = the_tree _ _ c.requires.ordered.tree in
     let grafted = grafted_leaf _ _ _ _ _ _ _ c.args.n sound p c.requires.new c.plant.ensures.joined in
     record {
