@@ -1,11 +1,7 @@
-// The calls of `container_bench times`, `times short`, `times walks` and `times indices` on a container of Boost.MultiIndex, with lines of the same form;
-// tools/bench_peer builds it.
+// The calls of `container_bench` on a container of Boost.MultiIndex, by the names that they have there; tools/bench_peer builds it.
 //
-// boost_peer answers [KEY ..]    sums of what insert, find, the short calls and the walks answer at 100 records
-// boost_peer times [KEY ..]      the bytes of a record, and the nanoseconds of processor time that each call takes
-// boost_peer short [KEY ..]      the same times of calls by an iterator or a place, and on groups of equal keys
-// boost_peer walks [KEY ..]      the same times of steps of iterators
-// boost_peer indices [KEY ..]    the same times of an insertion into a container of one index, by its kind
+// boost_peer answers [KEY ..]    what the calls of each row answer at 100 records, in sums
+// boost_peer times [KEY ..]      the bytes of a record, and the nanoseconds of processor time that each call takes at each size
 //
 // With five KEYs (price id owner id owner-price) each index has an extractor that reads at run time which key it takes, as the keys of
 // container_bench do. Without them the indices have members of the record as keys, fixed at compile time, as Boost.MultiIndex is mostly used.
@@ -213,8 +209,9 @@ public:
     void time(const char* name, uint64_t calls, Call call)
     {
         uint64_t begun = nanoseconds();
-        met += call();
+        uint64_t met = call();
         uint64_t each = (nanoseconds() - begun) / calls;
+        answers[name] = met;
         auto [place, is_new] = least.try_emplace(name, each);
         place->second = std::min(place->second, each);
         if (is_new)
@@ -229,42 +226,46 @@ public:
         least.clear();
     }
 
-    uint64_t met = 0;
+    void print_answers()
+    {
+        for (const std::string& name : names)
+            std::printf("%-44s%21lu\n", name.c_str(), (unsigned long)answers[name]);
+    }
 
 private:
     std::vector<std::string> names;
-    std::map<std::string, uint64_t> least;
+    std::map<std::string, uint64_t> least, answers;
 };
 
 template <class Keys>
 static void time_seven(Report& report, uint64_t count)
 {
     Seven<Keys> kept;
-    report.time("container, 7 indices: insert", count, [&] { return insert_each(kept, count); });
-    report.time("find: ordered, unique", count, [&] { return find_each<Keys, 3, 1>(kept, count); });
-    report.time("find: ordered, two parts", count, [&] { return find_each<Keys, 6, 4>(kept, count); });
-    report.time("find: ranked", count, [&] { return find_each<Keys, 2, 0>(kept, count); });
-    report.time("find: hashed, unique", count, [&] { return find_each<Keys, 5, 3>(kept, count); });
-    report.time("find: hashed, four records a key", count, [&] { return find_each<Keys, 4, 2>(kept, count); });
-    report.time("list, a record: sequenced", count, [&] { return list(kept.template get<0>()); });
-    report.time("list, a record: random access", count, [&] { return list(kept.template get<1>()); });
-    report.time("list, a record: ordered, unique", count, [&] { return list(kept.template get<3>()); });
-    report.time("list, a record: ordered, two parts", count, [&] { return list(kept.template get<6>()); });
-    report.time("list, a record: ranked", count, [&] { return list(kept.template get<2>()); });
-    report.time("list, a record: hashed, unique", count, [&] { return list(kept.template get<5>()); });
-    report.time("list, a record: hashed", count, [&] { return list(kept.template get<4>()); });
+    report.time("insert, 7 indices", count, [&] { return insert_each(kept, count); });
+    report.time("find, ordered and unique", count, [&] { return find_each<Keys, 3, 1>(kept, count); });
+    report.time("find, ordered by two parts", count, [&] { return find_each<Keys, 6, 4>(kept, count); });
+    report.time("find, ranked", count, [&] { return find_each<Keys, 2, 0>(kept, count); });
+    report.time("find, hashed and unique", count, [&] { return find_each<Keys, 5, 3>(kept, count); });
+    report.time("find, hashed, four records a key", count, [&] { return find_each<Keys, 4, 2>(kept, count); });
+    report.time("list, a record, sequenced", count, [&] { return list(kept.template get<0>()); });
+    report.time("list, a record, random access", count, [&] { return list(kept.template get<1>()); });
+    report.time("list, a record, ordered and unique", count, [&] { return list(kept.template get<3>()); });
+    report.time("list, a record, ordered by two parts", count, [&] { return list(kept.template get<6>()); });
+    report.time("list, a record, ranked", count, [&] { return list(kept.template get<2>()); });
+    report.time("list, a record, hashed and unique", count, [&] { return list(kept.template get<5>()); });
+    report.time("list, a record, hashed", count, [&] { return list(kept.template get<4>()); });
 }
 
 template <class Keys>
-static void time_all(Report& report, uint64_t count)
+static void time_counted(Report& report, uint64_t count)
 {
     {
         One<Keys> kept;
-        report.time("container, 1 index: insert", count, [&] { return insert_each(kept, count); });
+        report.time("insert, 1 index", count, [&] { return insert_each(kept, count); });
     }
     {
         Three<Keys> kept;
-        report.time("container, 3 indices: insert", count, [&] { return insert_each(kept, count); });
+        report.time("insert, 3 indices", count, [&] { return insert_each(kept, count); });
     }
     time_seven<Keys>(report, count);
 }
@@ -285,8 +286,10 @@ static void time_alone(Report& report, const char* name, uint64_t count)
     Alone<Index> kept;
     report.time(name, count, [&] {
         uint64_t met = 0;
-        for (uint64_t number = 0; number < count; number++)
-            met += put_alone(kept, nth_record(number, count));
+        for (uint64_t number = 0; number < count; number++) {
+            Record record = nth_record(number, count);
+            met += put_alone(kept, record) ? record.number : 0;
+        }
         return met;
     });
 }
@@ -294,13 +297,13 @@ static void time_alone(Report& report, const char* name, uint64_t count)
 template <class Keys>
 static void time_indices(Report& report, uint64_t count)
 {
-    time_alone<mi::sequenced<>>(report, "insert, alone: sequenced", count);
-    time_alone<mi::random_access<>>(report, "insert, alone: random access", count);
-    time_alone<mi::ordered_unique<typename Keys::Id>>(report, "insert, alone: ordered, unique", count);
-    time_alone<mi::ordered_non_unique<typename Keys::OwnerAndPrice, typename Keys::Order>>(report, "insert, alone: ordered, two parts", count);
-    time_alone<mi::ranked_non_unique<typename Keys::Price>>(report, "insert, alone: ranked", count);
-    time_alone<mi::hashed_unique<typename Keys::HashedId, typename Keys::Hash>>(report, "insert, alone: hashed, unique", count);
-    time_alone<mi::hashed_non_unique<typename Keys::Owner, typename Keys::Hash>>(report, "insert, alone: hashed", count);
+    time_alone<mi::sequenced<>>(report, "insert alone, sequenced", count);
+    time_alone<mi::random_access<>>(report, "insert alone, random access", count);
+    time_alone<mi::ordered_unique<typename Keys::Id>>(report, "insert alone, ordered and unique", count);
+    time_alone<mi::ordered_non_unique<typename Keys::OwnerAndPrice, typename Keys::Order>>(report, "insert alone, ordered by two parts", count);
+    time_alone<mi::ranked_non_unique<typename Keys::Price>>(report, "insert alone, ranked", count);
+    time_alone<mi::hashed_unique<typename Keys::HashedId, typename Keys::Hash>>(report, "insert alone, hashed and unique", count);
+    time_alone<mi::hashed_non_unique<typename Keys::Owner, typename Keys::Hash>>(report, "insert alone, hashed", count);
 }
 
 // Short calls. An iterator of the first index stands for a handle.
@@ -361,34 +364,34 @@ static void time_marked(Report& report, uint64_t count)
         });
     };
     time("get", count, [&](At handle, uint64_t) { return handle->price; });
-    time("nth: random access", count, [&](At, uint64_t place) { return row[place].number; });
-    time("place_of: random access", count, [&](At handle, uint64_t) { return kept.template project<1>(handle) - row.begin(); });
-    time("nth: ranked", count, [&](At, uint64_t place) { return ranked.nth(place)->number; });
-    time("rank: ranked", count, [&](At handle, uint64_t) { return ranked.rank(kept.template project<2>(handle)); });
-    time("next: sequenced", count, [&](At handle, uint64_t) { return next_of<0>(kept, handle); });
-    time("next: random access", count, [&](At handle, uint64_t) { return next_of<1>(kept, handle); });
-    time("next: ordered, unique", count, [&](At handle, uint64_t) { return next_of<3>(kept, handle); });
-    time("next: ranked", count, [&](At handle, uint64_t) { return next_of<2>(kept, handle); });
-    time("count: hashed, four records a key", count,
+    time("nth, random access", count, [&](At, uint64_t place) { return row[place].number; });
+    time("place_of, random access", count, [&](At handle, uint64_t) { return kept.template project<1>(handle) - row.begin(); });
+    time("nth, ranked", count, [&](At, uint64_t place) { return ranked.nth(place)->number; });
+    time("rank, ranked", count, [&](At handle, uint64_t) { return ranked.rank(kept.template project<2>(handle)); });
+    time("next, sequenced", count, [&](At handle, uint64_t) { return next_of<0>(kept, handle); });
+    time("next, random access", count, [&](At handle, uint64_t) { return next_of<1>(kept, handle); });
+    time("next, ordered and unique", count, [&](At handle, uint64_t) { return next_of<3>(kept, handle); });
+    time("next, ranked", count, [&](At handle, uint64_t) { return next_of<2>(kept, handle); });
+    time("count, hashed, four records a key", count,
          [&](At, uint64_t place) { return by_owner.count(Keys::template probe<2>(looked_for(place, count))); });
-    time("lower: ordered, unique", count,
+    time("lower, ordered and unique", count,
          [&](At, uint64_t place) { return by_id.lower_bound(Keys::template probe<1>(looked_for(place, count)))->number; });
-    time("upper: ordered, unique", count, [&](At, uint64_t place) {
+    time("upper, ordered and unique", count, [&](At, uint64_t place) {
         auto above = by_id.upper_bound(Keys::template probe<1>(looked_for(place, count)));
         return above == by_id.end() ? 0 : above->number;
     });
-    time("nth and a move one place on: random access", count, [&](At, uint64_t place) { return move_on(row, place); });
-    time("replace by its equal: 7 indices", count, [&](At handle, uint64_t) { return replace(kept, handle, nth_record(handle->number - 1, count)); });
-    time("modify of one key: 7 indices", count,
+    time("nth and a move one place on, random access", count, [&](At, uint64_t place) { return move_on(row, place); });
+    time("replace by an equal record, 7 indices", count, [&](At handle, uint64_t) { return replace(kept, handle, nth_record(handle->number - 1, count)); });
+    time("modify of one key, 7 indices", count,
          [&](At handle, uint64_t place) { return kept.modify(handle, [&](Record& record) { record.price = place; }); });
-    time("modify of all keys: 7 indices", count, [&](At handle, uint64_t place) {
+    time("modify of all keys, 7 indices", count, [&](At handle, uint64_t place) {
         return kept.modify(handle, [&](Record& record) {
             uint64_t number = record.number;
             record = nth_record(count + place, count);
             record.number = number;
         });
     });
-    time("erase: 7 indices", std::min<uint64_t>(count, 100), [&](At handle, uint64_t) { return erase(kept, handle); });
+    time("erase, 7 indices", std::min<uint64_t>(count, 100), [&](At handle, uint64_t) { return erase(kept, handle); });
 }
 
 // Records of so many owners.
@@ -445,16 +448,9 @@ static void time_groups(Report& report, uint64_t count)
     Groups<Keys> all(1, count);
     auto& kept = all.kept;
     auto find = [&](Probe owner) { return found_in<oldest>(kept.template get<1>(), owner); };
-    all.time(report, "find: hashed, all of one key", std::min<uint64_t>(count, 100), find);
+    all.time(report, "find, hashed, all of one key", std::min<uint64_t>(count, 100), find);
     all.time(report, "erase of the first record of a row", std::min<uint64_t>(count, 20), [&](Probe) { return erase(kept, kept.begin()); });
-    all.time(report, "find: hashed, one key, the oldest erased", std::min<uint64_t>(count, 100), find);
-}
-
-template <class Keys, bool oldest = false>
-static void time_short(Report& report, uint64_t count)
-{
-    time_marked<Keys>(report, count);
-    time_groups<Keys, oldest>(report, count);
+    all.time(report, "the same find, the oldest erased", std::min<uint64_t>(count, 100), find);
 }
 
 // Walks.
@@ -482,13 +478,13 @@ static void time_walks(Report& report, uint64_t count)
     {
         Seven<Keys> kept;
         insert_each(kept, count);
-        report.time("step: sequenced", count, [&] { return walk(kept.template get<0>()); });
-        report.time("step: random access", count, [&] { return walk(kept.template get<1>()); });
-        report.time("step: ordered, unique", count, [&] { return walk(kept.template get<3>()); });
-        report.time("step: ordered, two parts", count, [&] { return walk(kept.template get<6>()); });
-        report.time("step: ranked", count, [&] { return walk(kept.template get<2>()); });
+        report.time("step, sequenced", count, [&] { return walk(kept.template get<0>()); });
+        report.time("step, random access", count, [&] { return walk(kept.template get<1>()); });
+        report.time("step, ordered and unique", count, [&] { return walk(kept.template get<3>()); });
+        report.time("step, ordered by two parts", count, [&] { return walk(kept.template get<6>()); });
+        report.time("step, ranked", count, [&] { return walk(kept.template get<2>()); });
         auto& by_id = kept.template get<3>();
-        report.time("step in a range: ordered, unique", count / 2, [&] {
+        report.time("step in a range, ordered and unique", count / 2, [&] {
             Record low{uint64_t(1) << 62, 0, 0, 0}, high{uint64_t(3) << 62, 0, 0, 0};
             return prices(by_id.lower_bound(Keys::template probe<1>(low)), by_id.lower_bound(Keys::template probe<1>(high)));
         });
@@ -500,7 +496,7 @@ static void time_walks(Report& report, uint64_t count)
         record.owner = number % owners;
         grouped.insert(record);
     }
-    report.time("step in a group: ordered", count, [&] {
+    report.time("step in a group, ordered", count, [&] {
         uint64_t met = 0;
         for (uint64_t owner = 0; owner < owners; owner++) {
             auto [at, end] = grouped.template get<1>().equal_range(Keys::template probe<2>({0, 0, owner, 0}));
@@ -527,36 +523,29 @@ static void print_bytes(uint64_t count)
     uint64_t before = resident();
     Seven<Keys> kept;
     insert_each(kept, count);
-    std::printf("container, 7 indices: %lu bytes a record, of %lu\n", (unsigned long)((resident() - before) / count), (unsigned long)count);
+    std::printf("%-44s%9lu%12lu bytes\n", "7 indices", (unsigned long)count, (unsigned long)((resident() - before) / count));
 }
 
-static void print_times(void (*time)(Report&, uint64_t))
+template <class Keys, bool oldest = false>
+static void time_all(Report& report, uint64_t count)
+{
+    time_counted<Keys>(report, count);
+    time_indices<Keys>(report, count);
+    time_marked<Keys>(report, count);
+    time_groups<Keys, oldest>(report, count);
+    time_walks<Keys>(report, count);
+}
+
+template <class Keys>
+static void print_times()
 {
     Report report;
     const Pair sizes[] = {{1000, 9}, {100000, 3}, {1000000, 1}};
     for (auto [count, rounds] : sizes) {
         for (uint64_t round = 0; round < rounds; round++)
-            time(report, count);
+            time_all<Keys>(report, count);
         report.print(count);
     }
-    std::printf("sum of the answers: %lu\n", (unsigned long)report.met);
-}
-
-template <class Keys>
-static void print_answers(uint64_t count)
-{
-    Seven<Keys> kept;
-    std::printf("insert: %lu\n", (unsigned long)insert_each(kept, count));
-    std::printf("ranked, by price: %lu\n", (unsigned long)find_each<Keys, 2, 0>(kept, count));
-    std::printf("ordered and unique, by id: %lu\n", (unsigned long)find_each<Keys, 3, 1>(kept, count));
-    std::printf("hashed, by owner: %lu\n", (unsigned long)find_each<Keys, 4, 2>(kept, count));
-    std::printf("hashed and unique, by id: %lu\n", (unsigned long)find_each<Keys, 5, 3>(kept, count));
-    std::printf("ordered, by owner and price: %lu\n", (unsigned long)find_each<Keys, 6, 4>(kept, count));
-    Report asked, walked;
-    time_short<Keys, true>(asked, count);
-    std::printf("sum of the answers at %lu that are asked for: %lu\n", (unsigned long)count, (unsigned long)asked.met);
-    time_walks<Keys>(walked, count);
-    std::printf("sum of the answers at %lu that are walked: %lu\n", (unsigned long)count, (unsigned long)walked.met);
 }
 
 template <class Keys>
@@ -564,16 +553,12 @@ static int run(const std::string& word)
 {
     if (word == "times") {
         print_bytes<Keys>(100000);
-        print_times(time_all<Keys>);
-    } else if (word == "short")
-        print_times(time_short<Keys>);
-    else if (word == "indices")
-        print_times(time_indices<Keys>);
-    else if (word == "walks")
-        print_times(time_walks<Keys>);
-    else if (word == "answers")
-        print_answers<Keys>(100);
-    else
+        print_times<Keys>();
+    } else if (word == "answers") {
+        Report report;
+        time_all<Keys, true>(report, 100);
+        report.print_answers();
+    } else
         return 2;
     return 0;
 }

@@ -1,15 +1,18 @@
-//! The same indices, kept by hand with std's collections.
+//! The seven indices, kept by hand with std's collections.
 
-use crate::record::Record;
+use crate::calls::Call;
+use crate::measured::Measured;
+use crate::record::{Record, looked_for, nth_record};
 use std::alloc::{AllocError, Global};
 use std::collections::{BTreeMap, HashMap};
 
-/// Records in a vector, with as many of the collections beside it as are asked for. Each call answers the number of the
-/// record, from 1, or 0.
+/// Records in a vector, with as many of the collections beside it as are asked for. A call answers the number of a record,
+/// from 1, or another number as it says; where nothing is found, 0.
 #[derive(Drop)]
 pub(crate) struct ByHand {
-    indices: usize,
     alloc: Global,
+    indices: usize,
+    count: u64,
     records: Vec<Record>,
     sequence: Vec<u64>,
     row: Vec<u64>,
@@ -29,10 +32,12 @@ fn number(entry: Option<&u64>) -> u64 {
 }
 
 impl ByHand {
-    pub(crate) fn new(alloc: Global, indices: usize) -> ByHand {
+    /// No records, for so many.
+    pub(crate) fn new(alloc: Global, indices: usize, count: u64) -> ByHand {
         ByHand {
-            indices,
             alloc,
+            indices,
+            count,
             records: Vec::new(alloc),
             sequence: Vec::new(alloc),
             row: Vec::new(alloc),
@@ -44,7 +49,7 @@ impl ByHand {
         }
     }
 
-    pub(crate) fn insert(&mut self, record: Record) -> u64 {
+    fn insert(&mut self, record: Record) -> u64 {
         if self.by_id.get(&record.id).is_some() {
             return 0;
         }
@@ -86,53 +91,50 @@ impl ByHand {
         Ok(())
     }
 
-    pub(crate) fn find_id(&self, record: Record) -> u64 {
-        number(self.by_id.get(&record.id))
-    }
-
-    /// The first record that has the price.
-    pub(crate) fn find_price(&self, record: Record) -> u64 {
+    // The first record that has the price.
+    fn find_price(&self, record: Record) -> u64 {
         match self.by_price.range((record.price, 0)..).next() {
             Some((key, number)) if key.0 == record.price => *number,
             _ => 0,
         }
     }
 
-    /// The first record of the owner.
-    pub(crate) fn find_owner(&self, record: Record) -> u64 {
+    // The first record of the owner, and how many are the owner's.
+    fn find_owner(&self, record: Record) -> (u64, u64) {
         match self.by_owner.get(&record.owner) {
-            Some(numbers) => number(numbers.first()),
-            None => 0,
+            Some(numbers) => (number(numbers.first()), numbers.len() as u64),
+            None => (0, 0),
         }
     }
 
-    pub(crate) fn find_hashed_id(&self, record: Record) -> u64 {
-        number(self.ids.get(&record.id))
-    }
-
-    /// The first record of the owner that has the price.
-    pub(crate) fn find_owner_and_price(&self, record: Record) -> u64 {
+    // The first record of the owner that has the price.
+    fn find_owner_and_price(&self, record: Record) -> u64 {
         let price = u64::MAX - record.price;
-        match self
-            .by_owner_and_price
-            .range((record.owner, price, 0)..)
-            .next()
-        {
+        let from = (record.owner, price, 0);
+        match self.by_owner_and_price.range(from..).next() {
             Some((key, number)) if key.0 == record.owner && key.1 == price => *number,
             _ => 0,
         }
     }
 
-    /// The number of records in the list of all, copied in the order of insertion.
-    pub(crate) fn list(&self) -> u64 {
+    // The first record whose id does not come before.
+    fn lower(&self, record: Record) -> u64 {
+        match self.by_id.range(record.id..).next() {
+            Some((_, number)) => *number,
+            None => 0,
+        }
+    }
+
+    // How many records the list of all has, copied in the order of insertion.
+    fn list(&self) -> u64 {
         match self.sequence.to_vec(self.alloc) {
             Ok(numbers) => numbers.len() as u64,
             Err(_) => 0,
         }
     }
 
-    /// The number of records in the list of all, copied in the order of their ids.
-    pub(crate) fn list_by_id(&self) -> u64 {
+    // How many it has, copied in the order of the ids.
+    fn list_by_id(&self) -> u64 {
         let mut numbers = Vec::new(self.alloc);
         for number in self.by_id.values() {
             if numbers.push(*number).is_err() {
@@ -140,5 +142,98 @@ impl ByHand {
             }
         }
         numbers.len() as u64
+    }
+
+    // The price of the record of a number.
+    fn price(&self, number: u64) -> u64 {
+        match self.records.get((number as usize).saturating_sub(1)) {
+            Some(record) => record.price,
+            None => 0,
+        }
+    }
+
+    // The sum of the prices in the order of insertion.
+    fn walk(&self) -> u64 {
+        let mut met = 0u64;
+        for number in &self.sequence {
+            met = met.wrapping_add(self.price(*number));
+        }
+        met
+    }
+
+    // The same in the order of the ids.
+    fn walk_by_id(&self) -> u64 {
+        let mut met = 0u64;
+        for number in self.by_id.values() {
+            met = met.wrapping_add(self.price(*number));
+        }
+        met
+    }
+
+    // The same in the middle half of the ids.
+    fn walk_range(&self) -> u64 {
+        let mut met = 0u64;
+        for (_, number) in self.by_id.range((1 << 62)..(3 << 62)) {
+            met = met.wrapping_add(self.price(*number));
+        }
+        met
+    }
+
+    // What a look-up of a record answers.
+    fn looked_up(&self, call: Call, sought: Record) -> u64 {
+        match call {
+            Call::Find(2, _) => self.find_price(sought),
+            Call::Find(3, _) => number(self.by_id.get(&sought.id)),
+            Call::Find(4, _) => self.find_owner(sought).0,
+            Call::Find(5, _) => number(self.ids.get(&sought.id)),
+            Call::Find(6, _) => self.find_owner_and_price(sought),
+            Call::Count(4, _) => self.find_owner(sought).1,
+            Call::Lower(3, _) => self.lower(sought),
+            _ => 0,
+        }
+    }
+
+    // What the call of a number answers.
+    fn made(&mut self, call: Call, at: u64) -> u64 {
+        match call {
+            Call::Insert => self.insert(nth_record(at, self.count)),
+            Call::Nth(_) => number(self.row.get(at as usize)),
+            _ => self.looked_up(call, looked_for(at, self.count)),
+        }
+    }
+}
+
+impl Measured for ByHand {
+    type Call = Call;
+
+    fn has(&self, call: Call) -> bool {
+        matches!(
+            call,
+            Call::Insert
+                | Call::Find(2..=6, _)
+                | Call::Count(4, _)
+                | Call::Lower(3, _)
+                | Call::Nth(1)
+                | Call::List(0 | 3)
+                | Call::Walk(0 | 3)
+                | Call::WalkRange(3)
+        )
+    }
+
+    fn make(&mut self, call: Call, from: u64, to: u64) -> u64 {
+        match call {
+            Call::List(0) => self.list(),
+            Call::List(_) => self.list_by_id(),
+            Call::Walk(0) => self.walk(),
+            Call::Walk(_) => self.walk_by_id(),
+            Call::WalkRange(_) => self.walk_range(),
+            _ => {
+                let mut met = 0u64;
+                for at in from..to {
+                    met = met.wrapping_add(self.made(call, at));
+                }
+                met
+            }
+        }
     }
 }

@@ -1,5 +1,5 @@
 //! The keys of records.
-ghost use Rattle.std.specs.Prelude.{◌≡◌, ◌<◌, ◌++◌, ◌∷◌, [], IfOk, length, remove};
+ghost use Rattle.std.specs.Prelude.{◌≡◌, ◌++◌, ◌∷◌, [], IfOk, length, take};
 ghost use Rattle.container_bench.specs.Keys.{has_key, is_key, key_at, numbers, pair_cmp};
 
 use crate::record::Record;
@@ -80,14 +80,20 @@ impl Keys {
         Ok(Keys { keys })
     }
 
-    /// These keys but that of an index.
-    pub(crate) fn without(&self, index: usize) -> Result<Keys, AllocError>
-        requires { index < length self.now }
-        ensures { IfOk result (λ made. made ≡ remove self.now index) }
+    /// The first so many of these keys.
+    pub(crate) fn of_first(&self, count: usize) -> Result<Keys, AllocError>
+        ensures { IfOk result (λ made. made ≡ take count self.now) }
     {
         let mut keys = self.keys.to_vec(*self.keys.allocator())?;
-        keys.remove(index);
+        keys.truncate(count);
         Ok(Keys { keys })
+    }
+
+    /// How many these are.
+    pub(crate) fn len(&self) -> usize
+        ensures { result ≡ length self.now }
+    {
+        self.keys.len()
     }
 
     fn at(&self, index: usize) -> Key
@@ -117,7 +123,7 @@ impl Extract<Record> for Keys {
     ghost use Rattle.std.specs.Prelude.{true, refl};
     ghost use Rattle.std.proofs.Common.{◌∙◌};
     ghost use Rattle.std.proofs.lemmas.Cmp.{on_total, tied_back};
-    ghost use Rattle.ord_tree.specs.Laws.{cuts_at};
+    ghost use Rattle.key_extract.specs.Laws.{cuts_at};
     ghost use Rattle.container_bench.specs.Keys.{has_key, key_at, numbers, pair_cmp};
     ghost use Rattle.container_bench.specs.Pairs.{pairs_total, same_first};
     ghost use Rattle.key_extract.specs.KeyDigests.{count_digest};

@@ -1,6 +1,6 @@
 //! Calls that are timed.
 
-use bench_report::Report;
+use crate::table::{Side, Size, Table};
 use std::io;
 use std::rt::Runtime;
 use std::time::Instant;
@@ -11,17 +11,15 @@ pub(crate) enum Span {
     All,
     First(u64),
     FirstHalf,
-    SecondHalf,
 }
 
 impl Span {
-    // The first number, and the one behind the last.
-    fn of(self, count: u64) -> (u64, u64) {
+    // How many numbers these are.
+    fn of(self, count: u64) -> u64 {
         match self {
-            Span::All => (0, count),
-            Span::First(most) => (0, count.min(most)),
-            Span::FirstHalf => (0, count / 2),
-            Span::SecondHalf => (count / 2, count),
+            Span::All => count,
+            Span::First(most) => count.min(most),
+            Span::FirstHalf => count / 2,
         }
     }
 }
@@ -30,29 +28,30 @@ impl Span {
 pub(crate) trait Measured {
     type Call: Copy;
 
+    /// Whether there is such a call.
+    fn has(&self, call: Self::Call) -> bool;
+
     /// Makes the call at each of these numbers. Answers a sum of the answers.
     fn make(&mut self, call: Self::Call, from: u64, to: u64) -> u64;
 }
 
-/// Times these calls one after the other, at a size of `count`.
+/// Times those of these calls that there are, one after the other.
 pub(crate) fn time_calls<R: Runtime, M: Measured>(
     rt: &R,
-    report: &mut Report,
+    table: &mut Table,
+    side: Side,
     measured: &mut M,
-    calls: &[(&'static str, M::Call, Span)],
-    count: u64,
+    rows: &[(&'static str, M::Call, Span)],
+    size: Size,
 ) -> io::Result<()> {
-    for (name, call, span) in calls {
-        let (from, to) = span.of(count);
-        let start = Instant::now(rt)?;
-        let met = measured.make(*call, from, to);
-        report.line(
-            start.elapsed(rt)?,
-            name,
-            count,
-            to.saturating_sub(from),
-            met,
-        )?;
+    for (name, call, span) in rows {
+        if measured.has(*call) {
+            let calls = span.of(size.count);
+            let start = Instant::now(rt)?;
+            let met = measured.make(*call, 0, calls);
+            table.time(name, side, size, start.elapsed(rt)?, calls)?;
+            table.answer(name, side, met)?;
+        }
     }
     Ok(())
 }

@@ -1,120 +1,68 @@
 //! Memory that records take.
 
-use crate::book::Book;
+use crate::book::Chosen;
 use crate::by_hand::ByHand;
-use crate::{by_hand_times, container_times};
+use crate::calls::Call;
+use crate::filled::{Filled, Owners};
+use crate::keys::Keys;
+use crate::measured::Measured;
+use crate::table::{SIZES, Side, Size, Table};
 use bench_report::resident;
 use std::alloc::Global;
+use std::io;
 use std::rt::Runtime;
-use std::{fmt, io};
 
-// What some records take together.
-#[derive(Clone, Copy)]
-struct Taken {
-    name: &'static str,
-    bytes: u64,
-    count: u64,
-}
-
-impl fmt::Display for Taken {
-    fn fmt<W: fmt::Write>(&self, f: &mut fmt::Formatter<W>) -> fmt::Result {
-        let Taken { name, bytes, count } = self;
-        let each = bytes / (*count).max(1);
-        write!(f, "{name}: {each} bytes a record, of {count}")
-    }
-}
-
-/// Prints the bytes that came to memory since it had so many, for each of so many records.
-pub(crate) fn print<R: Runtime>(
-    rt: &R,
-    name: &'static str,
-    before: u64,
-    count: u64,
-) -> io::Result<()> {
-    let bytes = resident(rt)?.saturating_sub(before);
-    let taken = Taken { name, bytes, count };
-    println!(rt; "{taken}")
-}
-
-/// Prints the bytes that a record takes under seven indices, allocator included, in the container and by hand. It is right
-/// only where nothing was freed before.
-pub(crate) fn record_bytes<R: Runtime>(rt: &R, alloc: Global, count: u64) -> io::Result<()> {
-    let before = resident(rt)?;
-    match Book::new(alloc, 0, 7)? {
-        Some(mut book) => print_both(rt, alloc, before, &mut book, count),
-        None => Ok(()),
-    }
-}
-
-// Fills the container and prints its bytes, and then, while it stays, those by hand.
-fn print_both<R: Runtime>(
-    rt: &R,
-    alloc: Global,
-    before: u64,
-    book: &mut Book,
-    count: u64,
-) -> io::Result<()> {
-    container_times::insert_each(book, count);
-    print(rt, "container, 7 indices", before, count)?;
-    let before = resident(rt)?;
-    print_by_hand(rt, before, &mut ByHand::new(alloc, 7), count)
-}
-
-fn print_by_hand<R: Runtime>(rt: &R, before: u64, kept: &mut ByHand, count: u64) -> io::Result<()> {
-    by_hand_times::insert_each(kept, count);
-    print(rt, "by hand, 7 indices", before, count)
-}
-
-// The first of so many indices, and the names of the lines of a container that can have these alone, and eight.
+// Some indices from one on, and the rows of a container that can have these alone, and eight.
 const NUMBERS: [(usize, usize, &str, &str); 4] = [
-    (3, 1, "container, 1 index", "container, 1 index of up to 8"),
-    (
-        3,
-        2,
-        "container, 2 indices",
-        "container, 2 indices of up to 8",
-    ),
-    (
-        2,
-        4,
-        "container, 4 indices",
-        "container, 4 indices of up to 8",
-    ),
-    (
-        0,
-        7,
-        "container, 7 indices",
-        "container, 7 indices of up to 8",
-    ),
+    (3, 1, "1 index", "1 index, with room for eight"),
+    (3, 2, "2 indices", "2 indices, with room for eight"),
+    (2, 4, "4 indices", "4 indices, with room for eight"),
+    (0, 7, "7 indices", "7 indices, with room for eight"),
 ];
 
-/// Prints the bytes that a record takes under one to seven indices, in a container that can have these alone, and in one that can have eight. It is
-/// right only where nothing was freed before.
-pub(crate) fn bytes_by_most<R: Runtime>(rt: &R, alloc: Global, count: u64) -> io::Result<()> {
-    let mut books = Vec::new(alloc);
-    for (first, indices, alone, with_eight) in NUMBERS {
-        let least = Book::new(alloc, first, indices)?;
-        print_book(rt, alone, least, &mut books, count)?;
-        let eight = Book::with_most(alloc, first, indices, 8)?;
-        print_book(rt, with_eight, eight, &mut books, count)?;
+/// Notes the bytes that a record takes under some indices, allocator included. It is right only where nothing was freed
+/// before, so what was filled stays until all is noted.
+pub(crate) fn note_bytes<R: Runtime>(rt: &R, alloc: Global, table: &mut Table) -> io::Result<()> {
+    let size = Size {
+        column: 1,
+        count: SIZES[1].0,
+    };
+    let mut kept = Vec::new(alloc);
+    for (first, count, alone, with_eight) in NUMBERS {
+        for (name, most) in [(alone, count), (with_eight, 8)] {
+            let chosen = Chosen { first, count, most };
+            let made: Option<Filled<Keys>> = Filled::new(
+                alloc,
+                chosen,
+                Owners::Scattered,
+                size.count,
+            )?;
+            if let Some(mut filled) = made {
+                note(rt, table, name, Side::Container, &mut filled, size)?;
+                kept.push(filled)?;
+            }
+        }
     }
-    Ok(())
+    let (mut one, mut seven) = (
+        ByHand::new(alloc, 1, size.count),
+        ByHand::new(alloc, 7, size.count),
+    );
+    note(rt, table, "1 index", Side::Beside, &mut one, size)?;
+    note(rt, table, "7 indices", Side::Beside, &mut seven, size)
 }
 
-// Fills a book, prints its bytes, and keeps it.
-fn print_book<R: Runtime>(
+// Fills this, and notes the bytes of a record.
+fn note<R: Runtime, M: Measured<Call = Call>>(
     rt: &R,
+    table: &mut Table,
     name: &'static str,
-    book: Option<Book>,
-    books: &mut Vec<Book>,
-    count: u64,
+    side: Side,
+    measured: &mut M,
+    size: Size,
 ) -> io::Result<()> {
-    let Some(mut book) = book else {
-        return Ok(());
-    };
     let before = resident(rt)?;
-    container_times::insert_each(&mut book, count);
-    print(rt, name, before, count)?;
-    books.push(book)?;
+    measured.make(Call::Insert, 0, size.count);
+    let bytes = resident(rt)?.saturating_sub(before);
+    table.number(name, side, size, bytes / size.count.max(1))?;
     Ok(())
 }

@@ -2,10 +2,12 @@
 
 ghost use Rattle.std.specs.Prelude.{ℕ, IsTrue};
 
+use crate::book::INDICES;
 use crate::keys::{Key, Keys};
 use crate::record::Record;
 use field_keys::{Field, FieldKeys, Fields, KeyPart, Search, Value, pick, unsigned};
 use key_extract::Extract;
+use std::alloc::{AllocError, Global};
 
 impl Fields for Record {
     ghost use Rattle.std.specs.Prelude.{◌∷◌, []};
@@ -33,11 +35,25 @@ const OWNER: &[KeyPart] = &[KeyPart::Rising(2)];
 
 const OWNER_AND_PRICE: &[KeyPart] = &[KeyPart::Rising(2), KeyPart::Falling(1)];
 
-/// The keys of the first seven indices of a book.
-pub(crate) const COLUMNS: &[&[KeyPart]] = &[&[], &[], PRICE, ID, OWNER, ID, OWNER_AND_PRICE];
+// The keys of the indices of books.
+const COLUMNS: &[&[KeyPart]] = &[
+    &[],
+    &[],
+    PRICE,
+    ID,
+    OWNER,
+    ID,
+    OWNER_AND_PRICE,
+    &[],
+    OWNER,
+    OWNER,
+];
 
 /// Keys that can be searched by those of a record.
-pub(crate) trait Seek: Extract<Record> + Drop {
+pub(crate) trait Seek: Extract<Record> + Drop + 'static {
+    /// The keys of so many of the indices of books, from one on.
+    fn of_indices(alloc: Global, first: usize, count: usize) -> Result<Self, AllocError>;
+
     /// A search for the records that have the key of this one. It fits each index.
     fn sought(key: Key, record: &Record) -> Self::Probe
         ensures fits { (keys : Self) (index : ℕ) → IsTrue (Self.does_fit keys index result) }
@@ -45,12 +61,25 @@ pub(crate) trait Seek: Extract<Record> + Drop {
 }
 
 impl Seek for Keys {
+    fn of_indices(alloc: Global, first: usize, count: usize) -> Result<Keys, AllocError> {
+        let mut keys = Vec::new(alloc);
+        for (_, _, key) in INDICES.iter().copied().skip(first).take(count) {
+            keys.push(key)?;
+        }
+        Ok(Keys::new(keys))
+    }
+
     fn sought(key: Key, record: &Record) -> (u64, u64) {
         key.numbers(record)
     }
 }
 
 impl Seek for FieldKeys {
+    fn of_indices(_alloc: Global, first: usize, count: usize) -> Result<FieldKeys, AllocError> {
+        let end = first.saturating_add(count);
+        Ok(FieldKeys::new(COLUMNS.get(first..end).unwrap_or(&[])))
+    }
+
     fn sought(key: Key, record: &Record) -> Search {
         match key {
             Key::Nothing => Search::of(Value::Absent),

@@ -1,5 +1,4 @@
 pub mod Ordered
-pub mod Added
+pub mod Alone
 pub mod Framing
-pub mod Walks
 pub mod ByTens

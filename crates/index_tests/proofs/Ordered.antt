@@ -1,6 +1,5 @@
 -- Trees whose lists are in order.
 use Rattle.std.proofs.Common.{◌≡◌, ℕ, List, [], refl, ap, sym, subst}
-use Rattle.std.specs.Prelude.{IsTrue}
 use Rattle.std.specs.Cmp.{IsTotalOrder}
 use Rattle.std.proofs.lemmas.Cmp.{nat_cmp_total, on_total}
 use Rattle.node_store.specs.declared.Node.{Node}
@@ -12,12 +11,10 @@ use Rattle.list_model.specs.Order.{IsInOrder}
 use Rattle.list_model.specs.Walk.{without, placed}
 use Rattle.ord_tree.specs.declared.tree.OrdTree.{OrdTree}
 use Rattle.ord_tree.specs.declared.tally.Tally.{Ghosts}
-use Rattle.key_extract.specs.declared.extract.Extract.{Ghosts as KeyGhosts}
 use Rattle.ord_tree.specs.Digests.{AreDigested, KeepsOtherDigests}
 use Rattle.ord_tree.specs.Tree.{stored_digest}
 use Rattle.ord_tree.specs.Side.{order_at}
-use Rattle.ord_tree.specs.Spelled.{Spells, IsSound, spelled, col_of, index_of}
-use Rattle.ord_tree.specs.Stored.{nodes_of, order_in, IsOrdered, HaveTheirDigests, BecomesTree}
+use Rattle.ord_tree.specs.Spelled.{Spells, IsSound, spelled, col_of}
 use Rattle.ord_tree.proofs.Laws.{IsSound_from, IsSound_kept, IsSound_added, spelled_is, spelled_kept, spelled_added, Lacks_added}
 use Rattle.ord_tree.proofs.Ordered.{IsInOrder_empty, IsInOrder_others, IsInOrder_placed, IsInOrder_without}
 use Rattle.ord_tree.proofs.Digested.{digest_in, digested_at, AreDigested_others, AreDigested_kept, AreDigested_without}
@@ -86,30 +83,3 @@ pub tree_empty : {T X : Type 0} {G : Ghosts X} (s : Store (Keyed T)) (i : OrdTre
 tree_empty s i h =
     let list = spelled_is (column_of s) i [] h in
     (IsSound_from (column_of s) i [] h, (IsInOrder_empty (order_at (record_of s) by_key) (spelled (column_of s) i) list, digested_empty (λ _. 0) s (col_of i) (spelled (column_of s) i) list))
-
--- trees in the order of any keys
-module _ {E R P T : Type 0} {G : Ghosts T} (X : KeyGhosts E R P) where
-  -- a node comes to the store
-  pub IsOrdered_added : (old new : Store R) (keys : E) (n : Node) (value : R) (i : OrdTree T G) → AddsNode old new n value → IsOrdered X i old keys → IsOrdered X i new keys
-  IsOrdered_added old new keys n value i a h = record {
-    tree = IsSound_added old new n value i a h.tree;
-    key = h.key;
-    order =
-        subst (IsInOrder (order_in X i new keys)) (sym (spelled_added old new n value i a h.tree))
-        (IsInOrder_others (record_of old) (X.order_of keys (index_of i)) (record_of new) n (nodes_of i old) a.records.others (Lacks_added old new n value i (nodes_of i old) a h.tree) h.order);
-    digested =
-        subst (HaveTheirDigests X i new keys) (sym (spelled_added old new n value i a h.tree))
-        (AreDigested_others (X.digest_of keys (index_of i)) old new (col_of i) n (nodes_of i old) (λ m ne. ap digest_in ((a.columns (col_of i)).others m ne)) a.records.others (Lacks_added old new n value i (nodes_of i old) a h.tree) h.digested);
-  }
-
-  -- and is put in its place
-  pub IsOrdered_linked : (old new : Store R) (keys : E) (i j : OrdTree T G) (n : Node) → IsTotalOrder (X.order_of keys (index_of i)) → IsOrdered X i old keys →
-      BecomesTree i j old new (placed (λ m. order_in X i old keys m n) n (nodes_of i old)) → HaveTheirDigests X i new keys (nodes_of j new) → IsOrdered X j new keys
-  IsOrdered_linked old new keys i j n total h b digested = record {
-    tree = IsSound_from (column_of new) j _ b.list;
-    key = subst (λ (k : ℕ). IsTrue (X.has_key keys k)) (sym b.index) h.key;
-    order =
-        IsInOrder_same (record_of old) (record_of new) (X.order_of keys) (index_of i) (index_of j) _ _ (records_kept old new b.contents) b.index (spelled_is (column_of new) j _ b.list)
-        (IsInOrder_placed (record_of old) (X.order_of keys (index_of i)) total n (nodes_of i old) h.order);
-    digested = digested_at new (X.digest_of keys) (index_of j) (index_of i) (col_of j) (col_of i) _ _ b.index b.col refl digested;
-  }

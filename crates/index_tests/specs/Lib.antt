@@ -2,3 +2,4 @@ pub mod Keys
 pub mod Kinds
 pub mod Every
 pub mod Tens
+pub mod Lone

@@ -46,6 +46,16 @@ fn eight_indices(alloc: Global) -> [Index; 8]
     ]
 }
 
+// Two rows, in the first two columns.
+fn two_rows(alloc: Global) -> [Index; 2]
+    ensures { (s : Store (Keyed (Unit {0}))) → AreSound s 0 result }
+{
+    [
+        Index::Row(RowIndex::new(alloc, 0)),
+        Index::Row(RowIndex::new(alloc, 1)),
+    ]
+}
+
 // The list without a number.
 fn without(list: &[u64], number: u64, alloc: Global) -> Option<Vec<u64>> {
     let mut left = Vec::new(alloc);
@@ -120,7 +130,7 @@ fn are_lists(lists: &[Vec<u64>], wanted: &[[u64; 4]]) -> bool {
 pub(crate) fn six_columns_stay(alloc: Global) -> Option<bool> {
     let mut indices = six_indices(alloc);
     let lists = taken_from_each(&mut indices, alloc)?;
-    let wanted = [ADDED, ADDED, ADDED, ADDED, TURNED, TURNED];
+    let wanted = [ADDED, ADDED, ADDED, ADDED, TURNED, ADDED];
     Some(are_lists(&lists, &wanted))
 }
 
@@ -128,8 +138,15 @@ pub(crate) fn six_columns_stay(alloc: Global) -> Option<bool> {
 pub(crate) fn eight_columns_stay(alloc: Global) -> Option<bool> {
     let mut indices = eight_indices(alloc);
     let lists = taken_from_each(&mut indices, alloc)?;
-    let wanted = [ADDED, ADDED, TURNED, TURNED, BY_KEY, BY_KEY, ADDED, ADDED];
+    let wanted = [ADDED, ADDED, TURNED, ADDED, BY_KEY, BY_KEY, ADDED, ADDED];
     Some(are_lists(&lists, &wanted))
+}
+
+/// Whether nodes stand in two rows, in another order in each, and leave each of them without a change to the other.
+pub(crate) fn one_node_in_two_rows(alloc: Global) -> Option<bool> {
+    let mut rows = two_rows(alloc);
+    let lists = taken_from_each(&mut rows, alloc)?;
+    Some(are_lists(&lists, &[TURNED, ADDED]))
 }
 
 // Tells when it is dropped.

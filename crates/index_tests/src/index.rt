@@ -7,7 +7,7 @@ ghost use Rattle.node_store.specs.ByNode.{column_of, contents};
 ghost use Rattle.index_tests.specs.Kinds.{IsSoundIn, listed, col_in};
 
 use crate::keys::Keyed;
-use crate::put::{put_by_hash, put_by_key, put_by_rank, put_first, put_last};
+use crate::put::{put_by_hash, put_by_key, put_by_rank, put_in_row, put_last};
 use hash_index::HashIndex;
 use node_store::{Node, NodeStore};
 use ord_tree::{NoTally, OrdTree};
@@ -52,7 +52,7 @@ impl Index {
         }
     }
 
-    /// Puts `n` last in a chain, first in a row, and by its record's key elsewhere, if there is room.
+    /// Puts `n` last in a chain and in a row of an odd column, first in another row, and by its record's key elsewhere, if there is room.
     pub(crate) fn put<T>(&mut self, store: &mut NodeStore<Keyed<T>>, n: Node)
         requires sound { IsSoundIn store.old self.old }
         requires node { IsNode (column_of store.old (col_in self.old)) n }
@@ -64,7 +64,7 @@ impl Index {
     {
         match self {
             Index::Chain(chain) => put_last(chain, store, n),
-            Index::Row(row) => put_first(row, store, n),
+            Index::Row(row) => put_in_row(row, store, n),
             Index::Ordered(tree) => put_by_key(tree, store, n),
             Index::Ranked(tree) => put_by_rank(tree, store, n),
             Index::Hashed(buckets) => put_by_hash(buckets, store, n),

@@ -2,21 +2,21 @@
 //! indices, and of several indices over one store, each in a column of its own.
 #![tactic(auto)]
 
-mod buckets;
 mod columns;
 mod coming;
 mod counted;
+mod drawn;
+mod equals;
 mod every;
 mod index;
+mod items;
 mod keys;
-mod kinds;
 mod live;
+mod lone;
 mod numbers;
 mod put;
 mod ranks;
-mod row;
 mod rows;
-mod sequence;
 mod set;
 mod slots;
 mod store;
@@ -68,17 +68,20 @@ fn of_kinds(alloc: Global) -> [(&'static str, Option<bool>); 11] {
     [
         (
             "drawn changes of a sequence agree with a plain list",
-            sequence::script(alloc),
+            drawn::of_a_sequence(alloc),
         ),
         (
             "drawn changes of a row agree with a plain vector",
-            row::script(alloc),
+            drawn::of_a_row(alloc),
         ),
         (
             "equal keys are counted through growth",
-            buckets::script(alloc),
+            equals::are_counted_through_growth(alloc),
         ),
-        ("the first of a key at each kind", kinds::each_script(alloc)),
+        (
+            "the first of a key at each kind",
+            equals::are_found_at_each_kind(alloc),
+        ),
         (
             "each of a thousand ids is found by twenty comparisons",
             tree::are_found_by_few(alloc),
@@ -129,7 +132,7 @@ fn of_several(alloc: Global) -> [(&'static str, Option<bool>); 4] {
     [
         (
             "one node stands in two rows",
-            row::one_node_in_two_rows(alloc),
+            columns::one_node_in_two_rows(alloc),
         ),
         (
             "six columns stay as they were",

@@ -33,7 +33,8 @@ pub(crate) fn put_last<R>(chain: &mut SeqIndex, store: &mut NodeStore<R>, n: Nod
     }
 }
 
-pub(crate) fn put_first<R>(row: &mut RowIndex, store: &mut NodeStore<R>, n: Node)
+/// Puts it last in a row of an odd column, and first in another.
+pub(crate) fn put_in_row<R>(row: &mut RowIndex, store: &mut NodeStore<R>, n: Node)
     requires sound { rows.IsSound (column_of store.old) row.old }
     requires node { IsNode (column_of store.old (rows.col_of row.old)) n }
     requires new { Lacks (rows.spelled (column_of store.old) row.old) n }
@@ -43,7 +44,11 @@ pub(crate) fn put_first<R>(row: &mut RowIndex, store: &mut NodeStore<R>, n: Node
     ensures contents { contents store.new ≡ contents store.old }
 {
     if row.reserve_one(store).is_ok() {
-        row.insert_at(store, 0, n);
+        if row.col() % 2 == 1 {
+            row.push(store, n);
+        } else {
+            row.insert_at(store, 0, n);
+        }
     }
 }
 
