@@ -1,6 +1,9 @@
 -- What a call on a table tells.
 use Rattle.std.proofs.Common.{◌≡◌, inl, inr, ℕ, Bool, true, false, List, [], ◌++◌, not, refl, sym, ap, subst, ◌∙◌, Some}
-use Rattle.std.specs.Prelude.{MatchBool}
+use Rattle.std.proofs.lemmas.List.Quantifiers.{position-Some}
+use Rattle.std.proofs.lemmas.Option.{slice_get-get_or}
+use Rattle.std.proofs.lemmas.Slice.Eq.{bytes_eq-Decides}
+use Rattle.std.specs.Prelude.{MatchBool, bytes_eq, slice_get}
 use Rattle.table_changes.specs.Change.{is_change}
 use Rattle.table_cmd.specs.Command.{table_in}
 use Rattle.table_cmd.specs.declared.command.Command.{Command}
@@ -13,6 +16,12 @@ use Rattle.logged_tables.specs.Standing.{Carries}
 pub not-false : (b : Bool) → not b ≡ false → b ≡ true
 not-false true e = refl
 not-false false e = absurd (cc)
+
+-- the table at the place of a name has that name
+pub placed : (names : List (List ℕ)) (name : List ℕ) (place : ℕ) → place_of names name ≡ Some place → slice_get names place ≡ Some name
+placed names name place e =
+    let k = position-Some (λ other. bytes_eq other name) names place [] e in
+    slice_get-get_or names place [] k.0 ∙ ap (λ x. Some x) ((bytes_eq-Decides _ name).0 k.1)
 
 told_by : (b : Bool) (old new : LogData) (command : Command) (before told : List ℕ) → MatchBool b (Told old command before told new) ((new ≡ old) × Tells old command before told)
     → (x : List ℕ) × (told ≡ before ++ x) × MatchBool b (Told old command [] x new) ((new ≡ old) × Tells old command [] x)

@@ -1,5 +1,5 @@
 -- Marks that are taken away.
-use Rattle.std.proofs.Common.{◌≡◌, ℕ, ◌+◌, ◌<◌, List, ◌∷◌, [], length, refl, sym, ap, subst, ◌∙◌, take, Some, None}
+use Rattle.std.proofs.Common.{◌≡◌, ℕ, ◌+◌, ◌<◌, List, length, refl, sym, ap, subst, ◌∙◌, take, Some, None}
 use Rattle.std.specs.Prelude.{Option, All, slice_get, slice_set}
 use Rattle.std.proofs.lemmas.List.{set-get_or, take_more_set}
 use Rattle.std.proofs.lemmas.List.Elements.{All-push}

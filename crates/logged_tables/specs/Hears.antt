@@ -14,6 +14,12 @@ use Rattle.table_step.specs.Step.{memory_line}
 use Rattle.table_log.specs.Logged.{IsKept, LogData, Stops}
 use Rattle.logged_tables.specs.Standing.{Carries}
 use Rattle.logged_tables.specs.declared.fault.OverAt.{OverAt}
+use Rattle.logged_tables.specs.declared.syncing.Syncing.{Syncing}
+
+-- what a clause sees of a session's place: the names of the tables, and when their logs are synced
+pub record SeatData : Type 0 where
+  pub names : List (List ℕ)
+  pub syncing : Syncing
 
 -- the number of the first table of a name
 abbrev pub place_of : List (List ℕ) → List ℕ → Option ℕ

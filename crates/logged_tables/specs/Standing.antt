@@ -1,10 +1,12 @@
 -- How far the log of each table has to be synced before an answer leaves.
-use Rattle.std.specs.Prelude.{◌≡◌, ◌⊎◌, ℕ, ◌≤◌, ◌<◌, List, Bool, if◌then◌else◌, Option, Some, None, slice_set}
+use Rattle.std.specs.Prelude.{◌≡◌, ◌⊎◌, ℕ, ◌≤◌, ◌<◌, List, if◌then◌else◌, Option, Some, None, slice_set}
 use Rattle.std.specs.Bool.{MatchBool}
 use Rattle.table_changes.specs.Change.{is_change}
 use Rattle.table_cmd.specs.declared.command.Command.{Command}
 use Rattle.table_log.specs.Logged.{LogData, Tells, Told, failed_log, synced_log}
 use Rattle.table_log.specs.declared.logged.Mark.{Mark}
+use Rattle.logged_tables.specs.declared.syncing.Syncing.{Syncing}
+use Rattle.logged_tables.specs.declared.syncing.Syncing.TheVariants.{Each, Second, Never}
 
 -- ---- a call
 
@@ -17,8 +19,10 @@ abbrev pub mark_of : LogData → Mark
 mark_of log = record { bytes = log.size }
 
 -- the marks after an answer of the table at a place, which rests on all of its log
-abbrev pub marked : Bool → ℕ → LogData → List (Option Mark) → List (Option Mark)
-marked is_each place log marks = if is_each then slice_set marks place (Some (mark_of log)) else marks
+abbrev pub marked : Syncing → ℕ → LogData → List (Option Mark) → List (Option Mark)
+marked Each place log marks = slice_set marks place (Some (mark_of log))
+marked Second place log marks = marks
+marked Never place log marks = marks
 
 -- ---- a sync
 

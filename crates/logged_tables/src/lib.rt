@@ -2,6 +2,7 @@
 #![tactic(auto)]
 
 mod fault;
+mod lock;
 mod seat;
 mod serve;
 mod standing;

@@ -1,9 +1,11 @@
 //! The place of a session.
 
-ghost use Rattle.std.specs.Prelude.{◌≡◌, ◌≤◌, ◌<◌, ◌++◌, List, ℕ, None, All, IfErr, IfOk, OnErr, OnOk, length, slice_set};
+ghost use Rattle.std.specs.Prelude.{◌≡◌, ◌≤◌, ◌<◌, ◌++◌, false, List, ℕ, None, Some, All, IfErr, IfOk, OnErr, OnOk, length, slice_get, slice_set};
 ghost use Rattle.command_lines.specs.Fits.{CommandFits};
 ghost use Rattle.table_reply.specs.Buffer.{Keeps};
+ghost use Rattle.table_log.specs.Logged.{IsKept, Stops};
 ghost use Rattle.logged_tables.specs.Hears.{HearsCommand, IsOver};
+ghost use Rattle.logged_tables.specs.Standing.{Carries, marked};
 
 use crate::fault::OverAt;
 use crate::standing::Standing;
@@ -13,7 +15,7 @@ use std::alloc::{AllocError, Global};
 use std::marker::Model;
 use std::sync::{Mutex, MutexGuard, Wait};
 use table_cmd::Command;
-use table_log::{Disk, Over};
+use table_log::{Disk, LoggedTable, Over};
 use table_reply::{Fault, Out, READY_ROOM};
 use table_step::{refuse, refuse_memory};
 
@@ -28,11 +30,11 @@ pub struct Seat<'a, D: Disk, T: Wait> {
 }
 
 impl<'a, D: Disk, T: Wait> Model for Seat<'a, D, T> {
-    ghost use Rattle.std.specs.Prelude.{List, ℕ};
+    ghost use Rattle.logged_tables.specs.Hears.{SeatData};
 
-    ghost Value = { List (List ℕ) };
+    ghost Value = { SeatData };
 
-    ghost view = { λ s. s.tables.now };
+    ghost view = { λ s. record { names = s.tables.now; syncing = s.syncing } };
 }
 
 impl<'a, D: Disk, T: Wait> Seat<'a, D, T> {
@@ -43,7 +45,7 @@ impl<'a, D: Disk, T: Wait> Seat<'a, D, T> {
         rt: &'a T,
         syncing: Syncing,
     ) -> Result<Seat<'a, D, T>, AllocError>
-        ensures { IfOk result (λ seat. seat ≡ tables.now) }
+        ensures { IfOk result (λ seat. seat ≡ record { names = tables.now; syncing = syncing }) }
     {
         let standing = Standing::new(alloc, tables.len())?;
         Ok(Seat {
@@ -87,8 +89,8 @@ impl<'a, D: Disk, T: Wait> Seat<'a, D, T> {
     pub(crate) fn call(&self, command: &Command, out: &mut Out) -> Result<(), OverAt>
         requires ready { READY_ROOM ≤ out.old.room }
         requires fits { CommandFits command.now }
-        ensures answered { OnOk result ((text : List ℕ) × (out.new.bytes ≡ out.old.bytes ++ text) × HearsCommand self.now command.now text) }
-        ensures refused { IfErr result (λ at. IsOver self.now command.now at) }
+        ensures answered { OnOk result ((text : List ℕ) × (out.new.bytes ≡ out.old.bytes ++ text) × HearsCommand self.now.names command.now text) }
+        ensures refused { IfErr result (λ at. IsOver self.now.names command.now at) }
         ensures unchanged { OnErr result (out.new ≡ out.old) }
         ensures kept { Keeps out.old out.new }
     {
@@ -108,11 +110,32 @@ impl<'a, D: Disk, T: Wait> Seat<'a, D, T> {
             refuse_memory(out);
             return Ok(());
         }
-        let is_each = self.syncing == Syncing::Each;
-        match standing.call(&mut table, place, is_each, command, out) {
+        match self.carry_out(&mut standing, &mut table, place, command, out) {
             Ok(()) => Ok(()),
             Err(Over) => Err(OverAt { table: place }),
         }
+    }
+
+    // Carries out a command on the table of this number, which is lent.
+    fn carry_out(
+        &self,
+        standing: &mut Standing,
+        table: &mut LoggedTable<D>,
+        place: usize,
+        command: &Command,
+        out: &mut Out,
+    ) -> Result<(), Over>
+        requires ready { READY_ROOM ≤ out.old.room }
+        requires fits { CommandFits command.now }
+        requires place { place < length standing.old }
+        requires named { slice_get self.now.names place ≡ Some table.old.table.shape.name }
+        ensures answered { OnOk result ((table.old.is_over ≡ false) × Carries table.old command.now out.old.bytes out.new.bytes table.new) }
+        ensures marked { OnOk result (standing.new ≡ marked self.now.syncing place table.new standing.old) }
+        ensures stopped { OnErr result ((out.new ≡ out.old) × (standing.new ≡ standing.old) × Stops table.old command.now table.new) }
+        ensures stands { IsKept table.old }
+        ensures kept { Keeps out.old out.new }
+    {
+        standing.call(table, place, self.syncing, command, out)
     }
 
     // Sees to it that no mark stands of a table.
@@ -128,8 +151,11 @@ impl<'a, D: Disk, T: Wait> Seat<'a, D, T> {
         let Some(lock) = tables.at(place) else {
             return Err(OverAt { table: place });
         };
-        let mut table = lock.lock(self.rt);
-        if standing.settle(&mut table, place).is_err() {
+        // What others append meanwhile is synced too, and they need no sync of their own.
+        let mut table = lock.lock_last(self.rt);
+        // It always has this name, but of what a lock holds only its type is known.
+        let is_there = tables.is_named(place, table.name());
+        if !is_there || standing.settle(tables, &mut table, place).is_err() {
             return Err(OverAt { table: place });
         }
         Ok(())

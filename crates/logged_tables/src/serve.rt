@@ -40,9 +40,9 @@ impl<'a, D: Disk, T: Wait> Answers<Seat<'a, D, T>> for Lines {
 
     type Refusal = OverAt;
 
-    ghost tells = { λ seat. TellsText seat };
+    ghost tells = { λ seat. TellsText seat.names };
 
-    ghost refuses = { λ seat. RefusesTold seat };
+    ghost refuses = { λ seat. RefusesTold seat.names };
 
     fn answer(&mut self, seat: &Seat<'a, D, T>, line: &[u8], out: &mut Out) -> Result<(), OverAt> {
         match read_command(seat.alloc(), line) {
@@ -66,14 +66,14 @@ impl<'a, D: Disk, T: Wait> Seat<'a, D, T> {
     /// `Over` a front of the answers to what was carried out is written. It waits for its reader, its writer, and the tables.
     pub fn serve<R: Read, W: Write>(&self, source: &mut Source<R>, writer: W) -> Served<W>
         ensures served { OnOk result.end (IsServed R.remaining W.contents source.old source.new (whole_sink writer) (whole_sink result.writer)
-            (λ bytes text. HearsLines self.now (lines_of bytes) text)) }
+            (λ bytes text. HearsLines self.now.names (lines_of bytes) text)) }
         ensures read { result.end ≡ Err ServeFault.Read → IsUnread R.remaining W.contents source.old source.new (whole_sink writer) (whole_sink result.writer)
-            (λ bytes text. HearsEnded self.now bytes text) }
+            (λ bytes text. HearsEnded self.now.names bytes text) }
         ensures write { result.end ≡ Err ServeFault.Write → IsUnwritten R.remaining W.contents source.old source.new (whole_sink writer) (failed_sink result.writer)
-            (λ bytes text. HearsFront self.now bytes text) }
+            (λ bytes text. HearsFront self.now.names bytes text) }
         ensures over { (at : OverAt) → result.end ≡ Err (ServeFault.Over at) →
-            IsUnwritten R.remaining W.contents source.old source.new (whole_sink writer) (failed_sink result.writer) (λ bytes text. HearsFront self.now bytes text)
-            ⊎ IsRefused R.remaining W.contents source.old source.new (whole_sink writer) (whole_sink result.writer) (λ bytes text. StopsNext self.now bytes text at) }
+            IsUnwritten R.remaining W.contents source.old source.new (whole_sink writer) (failed_sink result.writer) (λ bytes text. HearsFront self.now.names bytes text)
+            ⊎ IsRefused R.remaining W.contents source.old source.new (whole_sink writer) (whole_sink result.writer) (λ bytes text. StopsNext self.now.names bytes text at) }
         ensures memory { result.end ≡ Err ServeFault.Memory → (source.new ≡ source.old) × (result.writer ≡ writer) }
     {
         self.begin();

@@ -8,7 +8,8 @@ ghost use Rattle.table_step.specs.Step.{memory_line};
 ghost use Rattle.table_log.specs.declared.logged.Mark.{Mark};
 ghost use Rattle.logged_tables.specs.Standing.{Carries, IsSettled, StopsSync, marked};
 
-use crate::syncing::sync_to;
+use crate::syncing::{Syncing, sync_to};
+use crate::tables::LoggedTables;
 use std::alloc::{AllocError, Global};
 use std::marker::Model;
 use table_cmd::Command;
@@ -90,7 +91,7 @@ impl Standing {
         &mut self,
         table: &mut LoggedTable<D>,
         place: usize,
-        is_each: bool,
+        syncing: Syncing,
         command: &Command,
         out: &mut Out,
     ) -> Result<(), Over>
@@ -98,7 +99,7 @@ impl Standing {
         requires fits { CommandFits command.now }
         requires place { place < length self.old }
         ensures answered { OnOk result ((table.old.is_over ≡ false) × Carries table.old command.now out.old.bytes out.new.bytes table.new) }
-        ensures marked { OnOk result (self.new ≡ marked is_each place table.new self.old) }
+        ensures marked { OnOk result (self.new ≡ marked syncing place table.new self.old) }
         ensures stopped { OnErr result ((out.new ≡ out.old) × (self.new ≡ self.old) × Stops table.old command.now table.new) }
         ensures stands { IsKept table.old }
         ensures kept { Keeps out.old out.new }
@@ -108,7 +109,7 @@ impl Standing {
         } else {
             table.read(command, out)?;
         }
-        if is_each {
+        if syncing == Syncing::Each {
             self.marks[place] = Some(table.mark());
         }
         Ok(())
@@ -118,10 +119,12 @@ impl Standing {
     /// away. Where it is synced so far, nothing is done.
     pub(crate) fn settle<D: Disk>(
         &mut self,
+        tables: &LoggedTables<D>,
         table: &mut LoggedTable<D>,
         place: usize,
     ) -> Result<(), Over>
         requires place { place < length self.old }
+        requires named { slice_get tables.now place ≡ Some table.old.table.shape.name }
         ensures settled { OnOk result ((self.new ≡ slice_set self.old place None) × IsSettled (slice_get self.old place) table.old table.new) }
         ensures stopped { OnErr result ((self.new ≡ self.old) × ((mark : Mark) × (slice_get self.old place ≡ Some (Some mark)) × StopsSync mark table.old table.new)) }
     {

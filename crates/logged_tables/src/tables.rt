@@ -1,14 +1,15 @@
 //! Tables with their logs, each behind a lock of its own.
 
-ghost use Rattle.std.specs.Prelude.{◌≡◌, ◌≤◌, IfNone, IfOk, IfSome, Some, length, map, slice_get};
+ghost use Rattle.std.specs.Prelude.{◌≡◌, ◌≤◌, ◌<◌, IfErr, IfNone, IfOk, IfSome, IsTrue, Some, length, map, slice_get, vec_len};
 ghost use Rattle.logged_tables.specs.Hears.{place_of};
 
 use crate::fault::OverAt;
+use crate::lock::TableLock;
 use crate::syncing::sync_to;
 use key_extract::Text;
 use std::alloc::{AllocError, Global};
 use std::marker::Model;
-use std::sync::{Mutex, Wait};
+use std::sync::Wait;
 use table_log::{Disk, LoggedTable};
 
 /// Tables with their logs, each behind a lock of its own, which several sessions call. A clause sees their names.
@@ -16,15 +17,17 @@ use table_log::{Disk, LoggedTable};
 pub struct LoggedTables<D: Disk> {
     alloc: Global,
     names: Vec<Text>,
-    locks: Vec<Mutex<LoggedTable<D>>>,
+    locks: Vec<TableLock<D>>,
 }
 
 impl<D: Disk> Model for LoggedTables<D> {
-    ghost use Rattle.std.specs.Prelude.{List, ℕ};
+    ghost use Rattle.std.specs.Prelude.{◌≡◌, List, ℕ, vec_len};
 
     ghost Value = { List (List ℕ) };
 
     ghost view = { λ t. t.names.items };
+
+    ghost invariant = { λ t. vec_len t.locks ≡ vec_len t.names };
 }
 
 // The names of tables.
@@ -46,7 +49,7 @@ impl<D: Disk> LoggedTables<D> {
         let names = names_of(alloc, &tables)?;
         let mut locks = Vec::with_capacity(alloc, tables.len())?;
         for table in tables {
-            locks.push(Mutex::new(table))?;
+            locks.push(TableLock::new(table))?;
         }
         Ok(LoggedTables {
             alloc,
@@ -80,8 +83,18 @@ impl<D: Disk> LoggedTables<D> {
         self.names.iter().position(|other| other.as_str() == name)
     }
 
+    /// Whether the table of a number has this name.
+    pub(crate) fn is_named(&self, place: usize, name: &str) -> bool
+        ensures { IsTrue result → slice_get self.now place ≡ Some name.now }
+    {
+        match self.name(place) {
+            Some(known) => known == name,
+            None => false,
+        }
+    }
+
     // The lock of the table of a number.
-    pub(crate) fn at(&self, place: usize) -> Option<&Mutex<LoggedTable<D>>> {
+    pub(crate) fn at(&self, place: usize) -> Option<&TableLock<D>> {
         self.locks.get(place)
     }
 
@@ -92,7 +105,9 @@ impl<D: Disk> LoggedTables<D> {
 
     /// Syncs each log that has bytes that are not synced. All are tried, and the first table whose log is over is told. It waits
     /// for each table. O(tables), and what the disks take.
-    pub fn sync_all(&self, rt: &impl Wait) -> Result<(), OverAt> {
+    pub fn sync_all(&self, rt: &impl Wait) -> Result<(), OverAt>
+        ensures { IfErr result (λ at. at.table < length self.now) }
+    {
         let mut first = Ok(());
         for (place, lock) in self.locks.iter().enumerate() {
             let mut table = lock.lock(rt);
@@ -105,7 +120,9 @@ impl<D: Disk> LoggedTables<D> {
     }
 
     /// The tables, out of their locks and in the order of their numbers. O(tables).
-    pub fn into_tables(self, alloc: Global) -> Result<Vec<LoggedTable<D>>, AllocError> {
+    pub fn into_tables(self, alloc: Global) -> Result<Vec<LoggedTable<D>>, AllocError>
+        ensures { IfOk result (λ tables. vec_len tables ≡ length self) }
+    {
         let LoggedTables {
             alloc: _,
             names: _,
@@ -113,7 +130,7 @@ impl<D: Disk> LoggedTables<D> {
         } = self;
         let mut tables = Vec::with_capacity(alloc, locks.len())?;
         for lock in locks {
-            tables.push(lock.into_inner())?;
+            tables.push(lock.into_table())?;
         }
         Ok(tables)
     }

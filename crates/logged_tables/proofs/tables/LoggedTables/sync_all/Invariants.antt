@@ -1,0 +1,5 @@
+use Rattle.std.specs.Prelude.{◌<◌, IfErr, length}
+use Rattle.logged_tables.proofs.tables.LoggedTables.sync_all.Given as goal
+
+abbrev pub invariant-loop-place : goal.invariant-loop-place
+invariant-loop-place g l = IfErr l.first (λ at. at.table < length l.lock-items)
