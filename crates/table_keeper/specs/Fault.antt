@@ -1,7 +1,5 @@
 -- What a fault of the program is told as.
-use Rattle.std.specs.Prelude.{ℕ, List, String}
-use Rattle.std.specs.declared.io.ErrorKind.{ErrorKind}
-use Rattle.std.specs.declared.io.ErrorKind.TheVariants.{OutOfMemory}
+use Rattle.std.specs.Prelude.{ℕ}
 use Rattle.keeper_words.specs.declared.asked.When.{When}
 use Rattle.keeper_words.specs.declared.asked.When.TheVariants as whens
 use Rattle.logged_tables.specs.declared.syncing.Syncing.{Syncing}
