@@ -1,5 +1,6 @@
 //! Runs drawn scripts on the container and on its first version over plain lists by turns, and compares each answer,
-//! and after each write each view. An index that is added is compared with that of a container that was made with it.
+//! and after each write each view. An index that is added is compared with that of a container that was made with it. Now and then
+//! the container is made anew of what it holds.
 //!
 //! A line has the indices of a group, as `indices` reads them, how many scripts and calls it had, the refusals by
 //! their names, and the differences. With a difference the status is 1.

@@ -9,6 +9,7 @@ mod changes;
 mod indexing;
 mod look_ups;
 mod reads;
+mod restoring;
 mod swap;
 
 use crate::indices::Indices;

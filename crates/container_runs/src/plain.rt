@@ -63,6 +63,11 @@ impl PlainIndex {
         self.most
     }
 
+    /// How many records it may have.
+    pub(crate) fn max(&self) -> u32 {
+        self.max
+    }
+
     pub(crate) fn view(&self, index: usize) -> &[Handle] {
         self.lists.view(index)
     }

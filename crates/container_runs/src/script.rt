@@ -72,7 +72,10 @@ fn run_calls(
     tally: &mut Tally,
 ) -> Result<(), AllocError> {
     draw.choose_range();
-    for _ in 0..drawn_calls(draw) {
+    for number in 0..drawn_calls(draw) {
+        if number % 40 == 39 {
+            pair.restore(tally)?;
+        }
         let count = u32::try_from(pair.indices()).unwrap_or(0);
         let index = draw.below(count) as usize;
         if index < pair.indices() {

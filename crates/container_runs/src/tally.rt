@@ -13,6 +13,7 @@ pub(crate) enum Count {
     Changed,
     Added,
     Dropped,
+    Restored,
     Found,
     Kind,
     Definition,
@@ -27,13 +28,14 @@ pub(crate) enum Count {
 }
 
 // What a line has behind each count.
-const WORDS: [&str; 17] = [
+const WORDS: [&str; 18] = [
     "scripts,",
     "calls:",
     "inserted,",
     "changed,",
     "indices added,",
     "dropped,",
+    "restored,",
     "found; refused:",
     "kind,",
     "definition,",
@@ -50,7 +52,7 @@ const WORDS: [&str; 17] = [
 /// What the calls of some scripts answered.
 #[derive(Clone, Copy)]
 pub(crate) struct Tally {
-    counts: [u64; 17],
+    counts: [u64; 18],
     indices: IndexTally,
 }
 
@@ -71,7 +73,7 @@ fn refused(why: Why) -> Count {
 impl Tally {
     pub(crate) fn new() -> Tally {
         Tally {
-            counts: [0; 17],
+            counts: [0; 18],
             indices: IndexTally::new(),
         }
     }
@@ -112,7 +114,7 @@ impl Tally {
     }
 
     pub(crate) fn add(&mut self, more: &Tally) {
-        for at in 0..17 {
+        for at in 0..18 {
             self.counts[at] = self.counts[at].wrapping_add(more.counts[at]);
         }
         self.indices.add(&more.indices);
@@ -128,7 +130,7 @@ impl Tally {
 
     pub(crate) fn print(&self, rt: &HostRuntime, group: &str) -> io::Result<()> {
         print!(rt; "{group}:")?;
-        for at in 0..17 {
+        for at in 0..18 {
             print!(rt; " {} {}", self.counts[at], WORDS[at])?;
         }
         println!(rt; "")
