@@ -88,7 +88,8 @@ def build(crate, jobs):
             if crate.makes_rlib():
                 return crate.build_rlib(flags, anew=False) == 0
             run = {"input": crate.stream("stdin") or b"", "stdout": subprocess.PIPE, "stderr": crate.out, "timeout": rtlib.LIMIT}
-            return crate.build_and_run(flags, [], False, **run) == 0
+            words = (crate.stream("args") or b"").decode().splitlines()
+            return crate.build_and_run(flags, words, False, **run) == int(crate.stream("status") or 0)
         except SystemExit as why:
             print(f"rt stopped: {why}", file=crate.out)
             return False
