@@ -18,6 +18,8 @@ from plain_machine import Machine, read
 PROGRAM = (os.path.abspath(next((it for it in sys.argv[1:2] if not it.isdigit()), "") or f"{TOP}/crates/table_keeper/out/table_keeper"),)
 # The seconds that an answer may take.
 PATIENCE = 8
+# What a shell starts in the background ignores an interrupt, and so would the program that a tool starts there.
+signal.signal(signal.SIGINT, signal.default_int_handler)
 # The status of its end: a file that can't be used, another schema, a log that can't be written, a bad line, a folder that is taken.
 FILE, DECLARED, FULL, LINE, TAKEN = 1, 3, 5, 6, 7
 
