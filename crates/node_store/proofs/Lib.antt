@@ -1,11 +1,16 @@
-pub mod Values
-pub mod Memory
 pub mod Keyed
 pub mod StoreLemmas
-mod ChainLemmas
-mod ChainAge
 pub mod NodeLists
 pub mod ByNode
 pub mod Members
 pub mod Age
-pub mod Crossing
+pub mod Places
+pub mod Columns
+pub mod Rows
+pub mod Edited
+pub mod Chained
+pub mod Rewritten
+pub mod Gone
+pub mod Removed
+pub mod Joined
+pub mod Added

@@ -1,8 +1,9 @@
-//! A store of records in heap blocks that never move.
+//! A store of records, with links between them in columns.
 //!
 //! A node has a record and, in each of the store's columns, links to other nodes with a tag, a height and a digest. What
-//! the links mean is for the layers above: the store only keeps them. Every call is O(1) but the store's drop, which
-//! is O(length). `add` allocates one block; no other call allocates.
+//! the links mean is for the layers above: the store only keeps them. A record lies in a place, and a column has the links
+//! of all places side by side. The place of a record that was removed is taken by a later one. Every call is O(1), `add` on
+//! the average, but the store's drop, which is O(places). `add` may allocate; no other call does.
 #![tactic(auto)]
 
 ghost use Rattle.std.specs.Prelude.{◌≡◌, ◌+◌, ◌<◌, ◌≤◌, ◌^◌, IfOk, IfErr, OnOk, OnErr, Some, IsTrue, ◌↔◌};
@@ -12,20 +13,19 @@ ghost use Rattle.node_store.specs.Age.{last_below};
 ghost use Rattle.node_store.specs.Column.{IsNode, IsPut, KeepsOthers};
 ghost use Rattle.node_store.specs.ByNode.{column_of, record_of, contents, AddsNode, RemovesNode};
 
-mod blocks;
 mod digest;
-mod shelf;
-mod shelves;
+mod kept;
+mod links;
 mod stored;
 
-use blocks::Place;
 pub use digest::Digest;
-use shelf::{Block, Shelf};
-use shelves::Shelves;
-use std::alloc::Global;
+use kept::{Kept, NOWHERE, newest_without, node_in, set_newer, set_older};
+use links::{Links, open_each};
+use slab::Slab;
+use std::alloc::{AllocFailed, Global};
 use std::marker::Model;
 use std::mem::size_of;
-use stored::Row;
+use stored::Stored;
 
 /// How many columns a store can have at most. A column is named by its number, the first by 0.
 pub const COLUMNS: usize = 8;
@@ -34,7 +34,7 @@ pub const COLUMNS: usize = 8;
 /// one store can be told apart.
 #[derive(Clone, Copy)]
 pub struct Node {
-    place: Place,
+    place: u32,
     number: u64,
 }
 
@@ -49,35 +49,23 @@ pub struct Link {
     pub digest: Digest,
 }
 
-/// A record that `add` hands back, since there was no memory for its block.
+/// A record that `add` hands back, since there was no memory for it.
 #[derive(Drop)]
 pub struct NoRoom<R> {
     pub value: R,
 }
 
-/// The bytes of the block of a record of 8 bytes with links in one column, of which they take 64.
-pub const LEAST_BLOCK_BYTES: usize = size_of::<Block<u64, Row<1>>>();
+/// The bytes of the links of one node in one column.
+pub const LINK_BYTES: usize = size_of::<Stored>();
 
-/// The same with links in as many columns as a store can have.
-pub const BLOCK_BYTES: usize = size_of::<Block<u64, Row<8>>>();
-
-// Makes the call on the shelf, whatever its width.
-macro_rules! on_shelf {
-    ($shelves:expr, $shelf:ident => $call:expr) => {
-        match $shelves {
-            Shelves::One($shelf) => $call,
-            Shelves::Two($shelf) => $call,
-            Shelves::Four($shelf) => $call,
-            Shelves::Eight($shelf) => $call,
-        }
-    };
-}
-
-/// Records with their links, each in a heap block of its own. The blocks have links in one, two, four or eight columns:
-/// the fewest that the store was made for.
+/// Records with their links, in places that are numbered from 0.
 #[derive(Drop)]
 pub struct NodeStore<R> {
-    shelves: Shelves<R>,
+    kept: Slab<Kept<R>>,
+    columns: [Links; COLUMNS],
+    width: usize,
+    newest: u32,
+    added: u64,
 }
 
 impl<R> Model for NodeStore<R> {
@@ -87,9 +75,11 @@ impl<R> Model for NodeStore<R> {
 
     ghost coded = { store_code R.code };
 
-    ghost use Rattle.node_store.specs.Shelves.{shelved};
+    ghost use Rattle.node_store.specs.Kept.{store_of, IsSound};
 
-    ghost view = { λ s. shelved s.shelves };
+    ghost view = { λ s. store_of s.kept.slots s.columns s.width s.added };
+
+    ghost invariant = { λ s. IsSound s.kept.slots s.columns s.width s.newest s.added };
 }
 
 impl Node {
@@ -98,7 +88,7 @@ impl Node {
         ensures { number_of result + 1 ≡ 2 ^ 64 }
     {
         Node {
-            place: Place::nowhere(),
+            place: NOWHERE,
             number: u64::MAX,
         }
     }
@@ -152,19 +142,28 @@ impl<R> NodeStore<R> {
     ghost use Rattle.node_store.specs.declared.Node.{Node};
     ghost use Rattle.node_store.specs.declared.Link.{Link};
 
-    /// A store with no node, and with so many columns or a few more. It allocates nothing until the first `add`.
+    /// A store with no node, and with so many columns. It allocates nothing until the first `add`.
     pub fn new(alloc: Global, columns: usize) -> NodeStore<R>
         requires { columns ≤ 8 }
         ensures empty { result ≡ empty_store (width_of result) }
         ensures enough { columns ≤ width_of result }
     {
-        let shelves = match columns {
-            0 | 1 => Shelves::One(Shelf::new(alloc)),
-            2 => Shelves::Two(Shelf::new(alloc)),
-            3 | 4 => Shelves::Four(Shelf::new(alloc)),
-            _ => Shelves::Eight(Shelf::new(alloc)),
-        };
-        NodeStore { shelves }
+        NodeStore {
+            kept: Slab::new(alloc),
+            columns: [
+                Links::new(alloc),
+                Links::new(alloc),
+                Links::new(alloc),
+                Links::new(alloc),
+                Links::new(alloc),
+                Links::new(alloc),
+                Links::new(alloc),
+                Links::new(alloc),
+            ],
+            width: columns,
+            newest: NOWHERE,
+            added: 0,
+        }
     }
 
     /// How many nodes there are.
@@ -172,7 +171,7 @@ impl<R> NodeStore<R> {
         ensures len { result ≡ len_of self.now }
         ensures sound { IsStore self.now }
     {
-        on_shelf!(&self.shelves, shelf => shelf.len())
+        self.kept.len()
     }
 
     /// How many records were added so far, whether or not they were removed since.
@@ -180,14 +179,14 @@ impl<R> NodeStore<R> {
         ensures added { result ≡ self.now.added }
         ensures sound { IsStore self.now }
     {
-        on_shelf!(&self.shelves, shelf => shelf.added())
+        self.added
     }
 
     /// The node that was added last, of those that are there.
     pub fn newest(&self) -> Option<Node>
         ensures { result ≡ last_below (nodes self.now) self.now.added }
     {
-        on_shelf!(&self.shelves, shelf => shelf.newest())
+        node_in(&self.kept, self.newest)
     }
 
     /// The node that was added last before `n`, of those that are there.
@@ -195,7 +194,10 @@ impl<R> NodeStore<R> {
         requires { IsNodeOf self.now n }
         ensures { result ≡ last_below (nodes self.now) (number_of n) }
     {
-        on_shelf!(&self.shelves, shelf => shelf.older(n))
+        match self.kept.get(n.place as usize) {
+            Some(entry) => node_in(&self.kept, entry.older),
+            None => unreachable!(),
+        }
     }
 
     /// The node's record.
@@ -204,7 +206,10 @@ impl<R> NodeStore<R> {
         requires { IsNodeOf self.now n }
         ensures { record_of self.now n ≡ Some result.now }
     {
-        on_shelf!(&self.shelves, shelf => shelf.get(n))
+        match self.kept.get(n.place as usize) {
+            Some(entry) => &entry.value,
+            None => unreachable!(),
+        }
     }
 
     /// The node's record for writing. No link changes.
@@ -213,7 +218,10 @@ impl<R> NodeStore<R> {
         ensures* writes_back { sem 𝓛 (lends_record R.row self.entry n result) }
         ensures value { record_of self.old n ≡ Some result.now }
     {
-        self.shelves.get_mut(n)
+        match self.kept.get_mut(n.place as usize) {
+            Some(entry) => &mut entry.value,
+            None => unreachable!(),
+        }
     }
 
     /// The node's links in a column.
@@ -222,7 +230,8 @@ impl<R> NodeStore<R> {
         requires { IsNode (column_of self.now col) n }
         ensures { column_of self.now col n ≡ Some result }
     {
-        on_shelf!(&self.shelves, shelf => shelf.link(n, col))
+        let columns = &self.columns;
+        columns[col].get(n.place).link()
     }
 
     /// Whether `o` is the node `n`. Their numbers decide, so both must be nodes of this store.
@@ -246,7 +255,8 @@ impl<R> NodeStore<R> {
         ensures others { KeepsOthers (column_of self.old) (column_of self.new) col }
         ensures contents { contents self.new ≡ contents self.old }
     {
-        on_shelf!(&mut self.shelves, shelf => shelf.set_link(n, col, link))
+        let columns = &mut self.columns;
+        columns[col].set(n.place, Stored::of(link));
     }
 
     /// Replaces the tag of the node's links in a column, which it does not read. The links themselves, the node's record,
@@ -260,12 +270,13 @@ impl<R> NodeStore<R> {
         ensures others { KeepsOthers (column_of self.old) (column_of self.new) col }
         ensures contents { contents self.new ≡ contents self.old }
     {
-        on_shelf!(&mut self.shelves, shelf => shelf.set_tag(n, col, tag))
+        let columns = &mut self.columns;
+        columns[col].set_tag(n.place, tag);
     }
 }
 
 impl<R: Drop> NodeStore<R> {
-    /// Adds a node with empty links in each column. Where there is no memory for its block, the record is handed
+    /// Adds a node with empty links in each column. Where there is no memory for it, the record is handed
     /// back and the store stays as it was.
     pub fn add(&mut self, value: R) -> Result<Node, NoRoom<R>>
         requires { self.old.added + 1 < 2 ^ 64 }
@@ -276,10 +287,37 @@ impl<R: Drop> NodeStore<R> {
         ensures unchanged { OnErr result (self.new ≡ self.old) }
         ensures returned { IfErr result (λ e. e.value ≡ value) }
     {
-        on_shelf!(&mut self.shelves, shelf => shelf.add(value))
+        let place = self.kept.vacant_key();
+        if place >= NOWHERE as usize {
+            return Err(NoRoom { value });
+        }
+        let place = place as u32;
+        match open_each(&mut self.columns, self.width, place) {
+            Ok(()) => {}
+            Err(_) => return Err(NoRoom { value }),
+        }
+        let number = self.added;
+        let entry = Kept {
+            older: self.newest,
+            newer: NOWHERE,
+            number,
+            value,
+        };
+        match self.kept.insert(entry) {
+            Ok(_) => {
+                set_newer(&mut self.kept, self.newest, place);
+                self.newest = place;
+                self.added = number + 1;
+                Ok(Node { place, number })
+            }
+            Err(failed) => {
+                let AllocFailed { value: entry } = failed;
+                Err(NoRoom { value: entry.value })
+            }
+        }
     }
 
-    /// Removes the node, frees its block and returns its record. Other nodes' links to it stay as they were, and
+    /// Removes the node, and returns its record. Other nodes' links to it stay as they were, and
     /// name no node from then on.
     pub fn remove(&mut self, n: Node) -> R
         requires { IsNodeOf self.old n }
@@ -288,6 +326,20 @@ impl<R: Drop> NodeStore<R> {
         ensures count { self.new.added ≡ self.old.added }
         ensures len { len_of self.new + 1 ≡ len_of self.old }
     {
-        on_shelf!(&mut self.shelves, shelf => shelf.remove(n))
+        match self.kept.try_remove(n.place as usize) {
+            Some(entry) => {
+                let Kept {
+                    older,
+                    newer,
+                    number: _,
+                    value,
+                } = entry;
+                set_newer(&mut self.kept, older, newer);
+                set_older(&mut self.kept, newer, older);
+                self.newest = newest_without(older, newer, self.newest);
+                value
+            }
+            None => unreachable!(),
+        }
     }
 }

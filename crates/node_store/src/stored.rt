@@ -1,12 +1,12 @@
-//! Links as a block keeps them.
+//! Links as a column keeps them.
 ghost use Rattle.std.specs.Prelude.{◌≡◌, Some, None, cond, not, nat_eq};
 ghost use Rattle.std.specs.Int.Bits.{bit_and};
 ghost use Rattle.node_store.specs.Stored.{link_of};
 
 use crate::{Digest, Link, Node};
 
-/// Links in which an absent node has a flag in place of a tag of its own, so that the whole is shorter. What a walk
-/// along a chain reads, the tag, the flags and `b`, stands beside the record of a block's first column.
+/// Links in which an absent node has a flag in place of a tag of its own, and nodes' places stand beside one another, so
+/// that the whole is shorter. What a way through a column reads stands before the numbers of nodes.
 #[derive(Clone, Copy)]
 pub(crate) struct Stored {
     tag: u64,
@@ -14,15 +14,12 @@ pub(crate) struct Stored {
     low: u16,
     height: u8,
     there: u8,
-    b: Node,
-    a: Node,
-    up: Node,
-}
-
-/// Links in so many columns.
-#[derive(Drop)]
-pub(crate) struct Row<const N: usize> {
-    pub(crate) row: [Stored; N],
+    a: u32,
+    b: u32,
+    up: u32,
+    number_a: u64,
+    number_b: u64,
+    number_up: u64,
 }
 
 // The bits of `there`.
@@ -44,35 +41,45 @@ fn flags(a: bool, b: bool, up: bool) -> u8
     a | b | up
 }
 
-// The node, where it is there.
-fn node_if(there: bool, node: Node) -> Option<Node>
-    ensures { result ≡ cond there (Some node) None }
+// The node of a place with a number, where it is there.
+fn node_if(there: bool, place: u32, number: u64) -> Option<Node>
+    ensures { result ≡ cond there (Some (record { place = place; number = number })) None }
 {
-    if there { Some(node) } else { None }
+    if there {
+        Some(Node { place, number })
+    } else {
+        None
+    }
 }
 
 impl Stored {
-    /// The links, with `filler` where there is no node.
+    /// The links.
     #[inline(always)]
-    pub(crate) fn of(link: Link, filler: Node) -> Stored
+    pub(crate) fn of(link: Link) -> Stored
         ensures { link_of result ≡ link }
     {
+        let a = link.a.unwrap_or(Node::nowhere());
+        let b = link.b.unwrap_or(Node::nowhere());
+        let up = link.up.unwrap_or(Node::nowhere());
         Stored {
             tag: link.tag,
             high: link.digest.high,
             low: link.digest.low,
             height: link.height,
             there: flags(link.a.is_some(), link.b.is_some(), link.up.is_some()),
-            b: link.b.unwrap_or(filler),
-            a: link.a.unwrap_or(filler),
-            up: link.up.unwrap_or(filler),
+            a: a.place,
+            b: b.place,
+            up: up.place,
+            number_a: a.number,
+            number_b: b.number,
+            number_up: up.number,
         }
     }
 
     /// Keeps another tag, and the same links and height.
     #[inline(always)]
     pub(crate) fn set_tag(&mut self, tag: u64)
-        ensures { link_of self.new ≡ record (link_of self.old) { tag = tag } }
+        ensures { self.new ≡ record self.old { tag = tag } }
     {
         self.tag = tag;
     }
@@ -83,9 +90,9 @@ impl Stored {
         ensures { result ≡ link_of self }
     {
         Link {
-            a: node_if(self.there & HAS_A != 0, self.a),
-            b: node_if(self.there & HAS_B != 0, self.b),
-            up: node_if(self.there & HAS_UP != 0, self.up),
+            a: node_if(self.there & HAS_A != 0, self.a, self.number_a),
+            b: node_if(self.there & HAS_B != 0, self.b, self.number_b),
+            up: node_if(self.there & HAS_UP != 0, self.up, self.number_up),
             tag: self.tag,
             height: self.height,
             digest: Digest {

@@ -1,0 +1,116 @@
+-- Places in which something changed.
+use Rattle.std.proofs.Common.{◌≡◌, ◌≢◌, ℕ, zero, suc, ◌<◌, List, [], ◌∷◌, length, set, Option, Some, None, refl, sym, ap, ◌∙◌, ⊎_elim, arith, get_or-set_same, get_or-set_other}
+use Rattle.std.specs.Option.{option_map, option_map_or}
+use Rattle.std.proofs.lemmas.Bool.{cases_eq}
+use Rattle.node_store.specs.declared.Node.{Node}
+use Rattle.node_store.specs.declared.kept.Kept.{Kept}
+use Rattle.node_store.specs.Kept.{at_place, node_of, node_at, named}
+use Rattle.node_store.proofs.Keyed.{some_mapped}
+use Rattle.node_store.proofs.Places.{AreApart, listed_none}
+use Rattle.node_store.proofs.Rows.{named_here, named_found}
+
+module _ {R : Type 0} where
+  -- a place that has something is below the length
+  within : (ss : List (Option (Kept R))) (p : ℕ) (e : Kept R) → at_place ss p ≡ Some e → p < length ss
+  within [] p e at = absurd (cc)
+  within (o ∷ ss) zero e at = omega arith
+  within (o ∷ ss) (suc p) e at = let k = within ss p e at in omega arith
+
+  pub put_here : (ss : List (Option (Kept R))) (p : ℕ) (e : Kept R) (o : Option (Kept R)) → at_place ss p ≡ Some e → at_place (set ss p o) p ≡ o
+  put_here ss p e o at = get_or-set_same ss p o None (within ss p e at)
+
+  pub put_other : (ss : List (Option (Kept R))) (p q : ℕ) (o : Option (Kept R)) → q ≢ p → at_place (set ss p o) q ≡ at_place ss q
+  put_other ss p q o apart = get_or-set_other ss p q o None apart
+
+  -- what lies in a place, changed by g
+  abbrev pub edited : (Kept R → Kept R) → ℕ → List (Option (Kept R)) → List (Option (Kept R))
+  edited g p ss = option_map_or (λ e. set ss p (Some (g e))) (at_place ss p) ss
+
+  edited_here : (g : Kept R → Kept R) (p : ℕ) (ss : List (Option (Kept R))) → at_place (edited g p ss) p ≡ option_map g (at_place ss p)
+  edited_here g p ss =
+      elim (at_place ss p) as (λ o. at_place ss p ≡ o → at_place (option_map_or (λ e. set ss p (Some (g e))) o ss) p ≡ option_map g o) [
+        | None ↦ λ h. h
+        | Some e ↦ λ h. put_here ss p e (Some (g e)) h
+      ] refl
+
+  pub edited_other : (g : Kept R → Kept R) (p q : ℕ) (ss : List (Option (Kept R))) → q ≢ p → at_place (edited g p ss) q ≡ at_place ss q
+  edited_other g p q ss apart =
+      elim (at_place ss p) as (λ o. at_place (option_map_or (λ e. set ss p (Some (g e))) o ss) q ≡ at_place ss q) [
+        | None ↦ refl
+        | Some e ↦ put_other ss p q (Some (g e)) apart
+      ]
+
+  -- what lay in a place before the change
+  pub record Was (g : Kept R → Kept R) (p : ℕ) (ss : List (Option (Kept R))) (q : ℕ) (f : Kept R) : Type 0 where
+    pub kept : Kept R
+    pub at : at_place ss q ≡ Some kept
+    pub here : q ≡ p → f ≡ g kept
+    pub elsewhere : q ≢ p → f ≡ kept
+
+  pub edited_was : (g : Kept R → Kept R) (p : ℕ) (ss : List (Option (Kept R))) (q : ℕ) (f : Kept R) → at_place (edited g p ss) q ≡ Some f → Was g p ss q f
+  edited_was g p ss q f at =
+      ⊎_elim
+      (λ (same : q ≡ p).
+      let r = some_mapped g (at_place ss p) f (sym (edited_here g p ss) ∙ ap (at_place (edited g p ss)) (sym same) ∙ at) in
+      record { kept = r.0; at = ap (at_place ss) same ∙ r.1; here = λ _. sym r.2; elsewhere = λ off. absurd (off same) })
+      (λ (off : q ≢ p). record { kept = f; at = sym (edited_other g p q ss off) ∙ at; here = λ same. absurd (off same); elsewhere = λ _. refl })
+      (cases_eq q p)
+
+  pub edited_there : (g : Kept R → Kept R) (p : ℕ) (ss : List (Option (Kept R))) (q : ℕ) (f : Kept R) → at_place ss q ≡ Some f → (h : Kept R) × (at_place (edited g p ss) q ≡ Some h)
+  edited_there g p ss q f at =
+      ⊎_elim
+      (λ (same : q ≡ p). (g f, ap (at_place (edited g p ss)) same ∙ edited_here g p ss ∙ ap (option_map g) (ap (at_place ss) (sym same) ∙ at)))
+      (λ (off : q ≢ p). (f, edited_other g p q ss off ∙ at))
+      (cases_eq q p)
+
+  -- a change brings nothing to an empty place
+  pub edited_none : (g : Kept R → Kept R) (p : ℕ) (ss : List (Option (Kept R))) (q : ℕ) → at_place ss q ≡ None → at_place (edited g p ss) q ≡ None
+  edited_none g p ss q at =
+      ⊎_elim
+      (λ (same : q ≡ p). ap (at_place (edited g p ss)) same ∙ edited_here g p ss ∙ ap (option_map g) (ap (at_place ss) (sym same) ∙ at))
+      (λ (off : q ≢ p). edited_other g p q ss off ∙ at)
+      (cases_eq q p)
+
+  -- ---- nodes by number
+
+  -- what lies in the place of a node that is there
+  pub node_in_place : (ss : List (Option (Kept R))) (p : ℕ) (n : Node) → node_at ss p ≡ Some n → (e : Kept R) × (at_place ss p ≡ Some e) × (node_of p e ≡ n)
+  node_in_place ss p n h = some_mapped (node_of p) (at_place ss p) n h
+
+  pub named_node : (ss : List (Option (Kept R))) (k : ℕ) (n : Node) → named ss k ≡ Some n → (node_at ss n.place ≡ Some n) × (n.number ≡ k)
+  named_node ss k n h =
+      let r = named_found ss k n h in
+      let number : r.0.number ≡ n.number = r.2 ∙ sym r.3 in
+      (ap (option_map (node_of n.place)) r.1 ∙ (λ i. Some (record { place = n.place; number = number i })), r.3)
+
+  pub named_is : (ss : List (Option (Kept R))) (p k : ℕ) (n : Node) → AreApart ss → node_at ss p ≡ Some n → n.number ≡ k → named ss k ≡ Some n
+  named_is ss p k n apart h number =
+      let r = node_in_place ss p n h in
+      ap (named ss) (sym number ∙ ap (λ (m : Node). m.number) (sym r.2)) ∙ named_here ss p r.0 apart r.1 ∙ ap Some r.2
+
+  -- a number that stands in no place but perhaps one that changed
+  pub named_but : (ss new : List (Option (Kept R))) (p k : ℕ) → AreApart ss → AreApart new → ((q : ℕ) → q ≢ p → node_at new q ≡ node_at ss q)
+      → ((n : Node) → node_at ss p ≡ Some n → n.number ≢ k) → ((n : Node) → node_at new p ≡ Some n → n.number ≢ k) → named new k ≡ named ss k
+  named_but ss new p k apart apart_new same no_old no_new =
+      elim (named ss k) as (λ o. named ss k ≡ o → named new k ≡ o) [
+        | None ↦ λ h. listed_none node_of 0 new k (λ q e at number.
+            let there = ap (option_map (node_of q)) at in
+            ⊎_elim
+            (λ (z : q ≡ p). no_new (node_of q e) (ap (node_at new) (sym z) ∙ there) number)
+            (λ (z : q ≢ p). let bad = sym (named_is ss q k (node_of q e) apart (sym (same q z) ∙ there) number) ∙ h in absurd (cc))
+            (cases_eq q p))
+        | Some n ↦ λ h.
+            let r = named_node ss k n h in
+            ⊎_elim
+            (λ (z : n.place ≡ p). absurd (no_old n (ap (node_at ss) (sym z) ∙ r.0) r.1))
+            (λ (z : n.place ≢ p). named_is new n.place k n apart_new (same n.place z ∙ r.0) r.1)
+            (cases_eq n.place p)
+      ] refl
+
+  pub named_same : (ss new : List (Option (Kept R))) (k : ℕ) → AreApart ss → AreApart new → ((q : ℕ) → node_at new q ≡ node_at ss q) → named new k ≡ named ss k
+  named_same ss new k apart apart_new same =
+      elim (named ss k) as (λ o. named ss k ≡ o → named new k ≡ o) [
+        | None ↦ λ h. listed_none node_of 0 new k (λ q e at number.
+            let bad = sym (named_is ss q k (node_of q e) apart (sym (same q) ∙ ap (option_map (node_of q)) at) number) ∙ h in cc bad)
+        | Some n ↦ λ h. let r = named_node ss k n h in named_is new n.place k n apart_new (same n.place ∙ r.0) r.1
+      ] refl

@@ -1,5 +1,0 @@
-use Rattle.node_store.proofs.ChainAge.{newest_in}
-use Rattle.node_store.proofs.shelf.Shelf.newest.Goals as goal
-
-pub returns : goal.returns
-returns g c = rw (← c.self.view_is) (newest_in _ c.self.inside.alloc c.self.inside.first c.self.inside.len c.self.inside.added c.self.invariant)
