@@ -1,4 +1,5 @@
 pub mod Spelled
+pub mod Last
 pub mod Lists
 pub mod Side
 pub mod Keyed

@@ -1,5 +1,5 @@
 //! Look-ups by a key.
-ghost use Rattle.std.specs.Prelude.{◌≡◌, IfSome, IsTrue, Some, None, IfOk, IfErr, OnOk};
+ghost use Rattle.std.specs.Prelude.{◌≡◌, IfSome, IsTrue, cond, Some, None, IfOk, IfErr, OnOk};
 ghost use Rattle.std.specs.Ordering.{is_le};
 ghost use Rattle.std.specs.declared.cmp.Ordering.TheVariants.{Equal};
 ghost use Rattle.hash_index.specs.Hashed.{IsHashed};
@@ -9,7 +9,6 @@ ghost use Rattle.container_model.specs.State.{has_key_kind, is_ranked_kind, is_s
 ghost use Rattle.list_model.specs.Place.{below, not_above, count_equal, find_equal, lower as the_lower, upper as the_upper, find_rank as the_rank};
 ghost use Rattle.node_store.specs.ByNode.{column_of, record_of};
 ghost use Rattle.any_index.specs.Side.{AreNodesOf, equal_but};
-ghost use Rattle.node_store.specs.declared.Node.{Node};
 ghost use Rattle.ord_tree.specs.Last.{last_that};
 ghost use Rattle.any_index.specs.Side.{side_of};
 ghost use Rattle.any_index.specs.Spelled.{Holds, kind_of, by_number};
@@ -208,8 +207,8 @@ impl AnyIndex {
     }
 
     /// The first node whose record has the record's key, as an `Err`. Where none has it, a tree answers the last node whose
-    /// key is at most the record's, if there is one, and buckets none. O(log n) in a tree, expected O(1) in buckets; it takes
-    /// no memory. A sequence has no such call.
+    /// key is at most the record's, or `None` where each comes behind the record, and buckets `None`. O(log n) in a tree,
+    /// expected O(1) in buckets; it takes no memory. A sequence has no such call.
     pub fn free_place<R, E: Extract<R>>(
         &self,
         store: &NodeStore<R>,
@@ -221,9 +220,9 @@ impl AnyIndex {
         ensures free { OnOk result (equal_but None
             (record_side_in E.Extract self.now store.now keys.now r.now)
             (nodes_of self.now store.now) ≡ None) }
-        ensures place { IfOk result (λ last. (m : Node) → last ≡ Some m → last_that
-            (λ m. is_le (record_side_in E.Extract self.now store.now keys.now r.now m))
-            (nodes_of self.now store.now) ≡ Some m) }
+        ensures place { IfOk result (λ last. last ≡ cond (is_sorted_kind (kind_of self.now))
+            (last_that (λ m. is_le (record_side_in E.Extract self.now store.now keys.now r.now m))
+            (nodes_of self.now store.now)) None) }
         ensures taken { IfErr result (λ by. equal_but None
             (record_side_in E.Extract self.now store.now keys.now r.now)
             (nodes_of self.now store.now) ≡ Some by) }

@@ -2,6 +2,7 @@ pub mod Each
 pub mod Frame
 pub mod Walk
 pub mod Banning
+pub mod FreePlaces
 pub mod Placing
 pub mod ByKind
 pub mod Coming

@@ -1,6 +1,7 @@
 pub mod Each
 pub mod Indices
 pub mod Lists
+pub mod Places
 pub mod Changed
 pub mod Set
 pub mod Lends

@@ -1,6 +1,6 @@
 //! Changes of all indices, one after the other.
 ghost use Rattle.key_extract.specs.Digests.{Marks};
-ghost use Rattle.std.specs.Prelude.{◌≡◌, false, ℕ, ◌≤◌, ◌<◌, Some, OnOk, OnErr, IfOk, [], map, length};
+ghost use Rattle.std.specs.Prelude.{◌≡◌, false, ℕ, ◌≤◌, ◌<◌, Some, OnOk, OnErr, IfOk, IfSome, [], map, length};
 ghost use Rattle.std.specs.declared.cmp.Ordering.{Ordering};
 ghost use Rattle.list_model.specs.Walk.{without};
 ghost use Rattle.node_store.specs.Column.{Column};
@@ -16,8 +16,10 @@ ghost use Rattle.index_set.specs.Changed.{AreKeyedBeside};
 ghost use Rattle.index_set.specs.Each.{changed_from, list_at};
 ghost use Rattle.index_set.specs.Indices.{ArePlaced, AreWithin, lists_in, HaveRoom, LackIt, HoldIt, AreKeyed, AreKeyedBut};
 ghost use Rattle.index_set.specs.Lists.{entered_at, settled_at};
+ghost use Rattle.index_set.specs.Places.{IsPlaceAt};
 
 use crate::changed::Changed;
+use crate::places::{FreePlace, last_in};
 use any_index::AnyIndex;
 use container_model::Spec;
 use key_extract::Extract;
@@ -95,6 +97,7 @@ pub(crate) fn enter_each<R, E: Extract<R>>(
     indices: &mut [AnyIndex],
     n: Node,
     at: Option<(usize, u64)>,
+    known: Option<FreePlace>,
 )
     requires placed { ArePlaced (column_of store.old) specs.now indices.old }
     requires keys { KeysMatch (E.has_key keys.now) specs.now }
@@ -104,6 +107,8 @@ pub(crate) fn enter_each<R, E: Extract<R>>(
     requires room { HaveRoom specs.now indices.old }
     requires place { (j p : ℕ) → at ≡ Some (j, p) →
         p ≤ length (list_at (lists_in (column_of store.old) indices.old) j) }
+    requires known { IfSome known (IsPlaceAt (E.order_of keys.now) (record_of store.old)
+        (lists_in (column_of store.old) indices.old) n) }
     requires keyed { AreKeyed (E.order_of keys.now)
         (marks_of E.Extract keys.now) store.old specs.now indices.old }
     ensures placed { ArePlaced (column_of store.new) specs.now indices.new }
@@ -117,7 +122,8 @@ pub(crate) fn enter_each<R, E: Extract<R>>(
     ensures contents { contents store.new ≡ contents store.old }
 {
     for index in 0..specs.len() {
-        indices[index].enter(store, keys, n, place_in(at, index), None);
+        let last = last_in(known, index);
+        indices[index].enter(store, keys, n, place_in(at, index), last);
     }
 }
 

@@ -1,6 +1,6 @@
 //! The set, its records, and changes of all indices.
 ghost use Rattle.any_index.specs.Keyed.{marks_of};
-ghost use Rattle.std.specs.Prelude.{◌≡◌, ◌+◌, ◌≤◌, ◌<◌, ◌^◌, ℕ, [], map, length, Some, None, IfOk, IfErr, OnOk, OnErr};
+ghost use Rattle.std.specs.Prelude.{◌≡◌, ◌+◌, ◌≤◌, ◌<◌, ◌^◌, ℕ, [], map, length, Some, None, IfOk, IfErr, IfSome, OnOk, OnErr};
 ghost use Rattle.std.specs.Borrow.{sem};
 ghost use Rattle.list_model.specs.Walk.{without};
 ghost use Rattle.node_store.specs.Store.{IsNodeOf, nodes, number_of, len_of, width_of, empty_store};
@@ -12,10 +12,12 @@ ghost use Rattle.index_set.specs.Changed.{may_differ, differs};
 ghost use Rattle.index_set.specs.Each.{changed_from};
 ghost use Rattle.index_set.specs.Indices.{LackIt, HoldIt};
 ghost use Rattle.index_set.specs.Lists.{entered_at, settled_at, ban_from};
+ghost use Rattle.index_set.specs.Places.{place_from, IsPlaceAt};
 
-use crate::bans::first_ban;
+use crate::bans::{first_ban, free_place};
 use crate::changed::Changed;
 use crate::every::{empty_indices, enter_each, leave_each, reserve_each, settle_each};
+use crate::places::FreePlace;
 use any_index::AnyIndex;
 use container_model::Spec;
 use key_extract::Extract;
@@ -204,13 +206,16 @@ impl<R, E: Extract<R>> IndexSet<R, E> {
     }
 
     /// Puts a node that is in no index into each, in room that was reserved: by its key, or in a sequence last. With
-    /// `at` an index and a place in it: in that sequence before the node at the place. O(log n) for each index.
-    pub fn enter(&mut self, n: Node, at: Option<(usize, u64)>)
+    /// `at` an index and a place in it: in that sequence before the node at the place. An index in which the place of its
+    /// record is `known` is not searched. O(log n) for each index.
+    pub fn enter(&mut self, n: Node, at: Option<(usize, u64)>, known: Option<FreePlace>)
         requires sound { IsSound E.has_key self.old }
         requires node { IsNodeOf (store_of self.old) n }
         requires loose { LackIt (lists_of self.old) n }
         requires room { HasRoom self.old }
         requires place { (j p : ℕ) → at ≡ Some (j, p) → p ≤ length (list_of self.old j) }
+        requires known { IfSome known (IsPlaceAt (E.order_of (keys_of self.old))
+            (record_of self.old) (lists_of self.old) n) }
         requires keyed { IsKeyed E.order_of (marks_of E.Extract) self.old }
         ensures sound { IsSound E.has_key self.new }
         ensures same { IsOfSame self.old self.new }
@@ -227,6 +232,7 @@ impl<R, E: Extract<R>> IndexSet<R, E> {
             &mut self.indices,
             n,
             at,
+            known,
         );
     }
 
@@ -315,6 +321,23 @@ impl<R, E: Extract<R>> IndexSet<R, E> {
             (lists_of self.now) except r.now 0 (specs_of self.now) }
     {
         self.bans_changed(r, except, Changed::all())
+    }
+
+    /// The first unique index in which a node has the record's key, with that node, as an `Err`. Where none has it, where the
+    /// record goes in the first of the unique trees in which a node comes before it, for `enter`; `None` where there is no such
+    /// tree. It takes no memory. One search of each unique index: O(log n) for each tree, expected O(1) for buckets.
+    pub fn free_place(&self, r: &R) -> Result<Option<FreePlace>, (usize, Node)>
+        requires sound { IsSound E.has_key self.now }
+        requires keyed { IsKeyedExcept E.order_of (marks_of E.Extract) self.now None }
+        requires unique { IsUniqueExcept E.order_of self.now None }
+        ensures free { OnOk result (ban_from (E.order_of (keys_of self.now)) (record_of self.now)
+            (lists_of self.now) None r.now 0 (specs_of self.now) ≡ None) }
+        ensures place { IfOk result (λ place. place ≡ place_from (E.order_of (keys_of self.now))
+            (record_of self.now) (lists_of self.now) r.now 0 (specs_of self.now)) }
+        ensures taken { IfErr result (λ by. ban_from (E.order_of (keys_of self.now))
+            (record_of self.now) (lists_of self.now) None r.now 0 (specs_of self.now) ≡ Some by) }
+    {
+        free_place(&self.store, &self.keys, &self.specs, &self.indices, r)
     }
 
     /// The indices at which a record has another key than that of `n`. A comparison for each index that has a key.

@@ -130,7 +130,7 @@ pub(crate) fn insert<R: Drop, E: Extract<R>>(set: &mut IndexSet<R, E>, value: R)
     let Ok(n) = set.add(value) else {
         return None;
     };
-    set.enter(n, None);
+    set.enter(n, None, None);
     Some(n)
 }
 

@@ -8,6 +8,7 @@ pub mod Contents
 pub mod Entered
 pub mod Excepted
 pub mod Filtered
+pub mod FreePlaces
 pub mod FreeSlots
 pub mod Indices
 pub mod Joined

@@ -24,7 +24,7 @@ pub use by_row::ByRow;
 pub use erase::{next_at, take_out};
 pub use erase_key::take_key;
 pub use index_changes::{add_index, check_index, drop_index};
-pub use linked::{first_ban, handle_at, node_at, position_at, put_in, replacement_ban};
+pub use linked::{free_place, handle_at, node_at, position_at, put_in, replacement_ban};
 pub use modify::{Modified, change};
 pub use modify_or_undo::change_or_undo;
 pub use range::{between, first_from, up_to};

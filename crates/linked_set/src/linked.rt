@@ -1,19 +1,21 @@
 //! A set of nodes under several indices, and the slots that lead to them.
 ghost use Rattle.any_index.specs.Keyed.{marks_of};
-ghost use Rattle.std.specs.Prelude.{◌≡◌, ◌+◌, ◌<◌, ◌≤◌, ◌^◌, ◌++◌, ◌∷◌, [], ℕ, None, Some, IfErr, OnErr, OnOk, IsTrue, length, not, option_map};
+ghost use Rattle.std.specs.Prelude.{◌≡◌, ◌+◌, ◌<◌, ◌≤◌, ◌^◌, ◌++◌, ◌∷◌, [], ℕ, None, Some, IfErr, IfOk, IfSome, OnErr, OnOk, IsTrue, length, not, option_map};
 ghost use Rattle.node_store.specs.Store.{IsNodeOf};
 ghost use Rattle.any_index.specs.Side.{AreNodesOf};
 ghost use Rattle.container_model.specs.State.{is_handle};
 ghost use Rattle.container_model.specs.Insert.{ban_from, entered_from};
 ghost use Rattle.slot_table.specs.Slots.{first_free, item_at};
 ghost use Rattle.index_set.specs.Indices.{HoldIt};
+ghost use Rattle.index_set.specs.Places.{place_from, IsPlaceOf};
 ghost use Rattle.index_set.specs.Set.{store_of, keys_of, specs_of, contents, record_of, list_of, lists_of, HasRoom, IsOfSame};
+ghost use Rattle.linked_set.specs.ByRow.{order_by_row};
 ghost use Rattle.linked_set.specs.Linked.{handle_of, entries_in, handles_in};
 ghost use Rattle.linked_set.specs.Seen.{IsLinked};
 
 use crate::by_row::ByRow;
 use container_model::{Entry, Handle};
-use index_set::IndexSet;
+use index_set::{FreePlace, IndexSet};
 use key_extract::Extract;
 use node_store::{NoRoom, Node};
 use slot_table::SlotTable;
@@ -61,26 +63,32 @@ pub fn node_at<R, E: Extract<R>>(
     }
 }
 
-/// The first unique index in which a record other than the excepted node's has the row's key, with the handle of that
-/// record. O(log n) for each unique index.
-pub fn first_ban<R, E: Extract<R>>(
+/// The first unique index in which a record has the row's key, with the handle of that record, as an `Err`. Where none has it,
+/// what is known of where the row goes, for `put_in`. One search of each unique index: O(log n) for each.
+pub fn free_place<R, E: Extract<R>>(
     set: &IndexSet<Entry<R>, ByRow<E>>,
     slots: &SlotTable<Node>,
     entry: &Entry<R>,
-    except: Option<Node>,
-) -> Option<(usize, Handle)>
+) -> Result<Option<FreePlace>, (usize, Handle)>
     requires linked { IsLinked E.has_key E.order_of (marks_of E.Extract) set.now slots.now.items }
-    requires except { AreNodesOf (store_of set.now) except }
-    ensures { result ≡ ban_from (E.order_of (keys_of set.now).keys) (entries_in (contents set.now))
-        (handles_in (record_of set.now) (lists_of set.now))
-        (option_map (handle_of (record_of set.now)) except) entry.now.row 0 (specs_of set.now) }
+    ensures free { OnOk result (ban_from (E.order_of (keys_of set.now).keys)
+        (entries_in (contents set.now)) (handles_in (record_of set.now) (lists_of set.now)) None
+        entry.now.row 0 (specs_of set.now) ≡ None) }
+    ensures place { IfOk result (λ place. place ≡ place_from (order_by_row E.order_of (keys_of set.now))
+        (record_of set.now) (lists_of set.now) entry.now 0 (specs_of set.now)) }
+    ensures taken { IfErr result (λ by. ban_from (E.order_of (keys_of set.now).keys)
+        (entries_in (contents set.now)) (handles_in (record_of set.now) (lists_of set.now)) None
+        entry.now.row 0 (specs_of set.now) ≡ Some by) }
 {
-    let (index, node) = set.bans(entry, except)?;
-    Some((index, handle_at(set, node)))
+    match set.free_place(entry) {
+        Ok(place) => Ok(place),
+        Err((index, node)) => Err((index, handle_at(set, node))),
+    }
 }
 
-/// As `first_ban` for a row that is to take the place of a node's: only the indices at which its key is another than that of the
-/// node's row are asked. O(log n) for each of these that is unique.
+/// The first unique index in which a record other than the node's has the key of a row that is to take the place of the node's,
+/// with the handle of that record. Only the indices at which the row's key is another than that of the node's row are asked.
+/// O(log n) for each of these that is unique.
 pub fn replacement_ban<R, E: Extract<R>>(
     set: &IndexSet<Entry<R>, ByRow<E>>,
     slots: &SlotTable<Node>,
@@ -117,13 +125,15 @@ fn reserve_one<R, E: Extract<R>>(
 }
 
 /// Adds a record, whose handle has the least free slot, and puts its node into each index: before the place where one is
-/// asked for, and elsewhere at its usual place. Where memory is refused the record is handed back, and the entries and the
-/// lists are as they were. O(log n) for each index, but O(n) where a place is asked for.
+/// asked for, and elsewhere at its usual place. The index in which its place is `known` is not searched. Where memory is refused
+/// the record is handed back, and the entries and the lists are as they were. O(log n) for each index, but O(n) where a place is
+/// asked for.
 pub fn put_in<R: Drop, E: Extract<R>>(
     set: &mut IndexSet<Entry<R>, ByRow<E>>,
     slots: &mut SlotTable<Node>,
     at: Option<(usize, u64)>,
     entry: Entry<R>,
+    known: Option<FreePlace>,
 ) -> Result<(), NoRoom<Entry<R>>>
     requires linked { IsLinked E.has_key E.order_of (marks_of E.Extract) set.old slots.old.items }
     requires count { (store_of set.old).added + 1 < 2 ^ 64 }
@@ -132,6 +142,8 @@ pub fn put_in<R: Drop, E: Extract<R>>(
     requires allowed { ban_from (E.order_of (keys_of set.old).keys) (entries_in (contents set.old))
         (handles_in (record_of set.old) (lists_of set.old)) None entry.row 0
         (specs_of set.old) ≡ None }
+    requires known { IfSome known (IsPlaceOf (order_by_row E.order_of (keys_of set.old))
+        (record_of set.old) (lists_of set.old) entry) }
     ensures linked { IsLinked E.has_key E.order_of (marks_of E.Extract) set.new slots.new.items }
     ensures same { IsOfSame set.old set.new }
     ensures entries { OnOk result (entries_in (contents set.new) ≡
@@ -152,7 +164,7 @@ pub fn put_in<R: Drop, E: Extract<R>>(
         return Err(NoRoom { value: entry });
     }
     let node = set.add(entry)?;
-    set.enter(node, at);
+    set.enter(node, at, known);
     slots.take(node);
     Ok(())
 }

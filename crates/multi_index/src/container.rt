@@ -4,14 +4,18 @@ ghost use Rattle.std.specs.Prelude.{◌≡◌, ◌↔◌, ◌<◌, ◌≤◌, �
 ghost use Rattle.list_model.specs.Place.{find_equal};
 ghost use Rattle.container_model.specs.State.{IsState, KeysMatch, empty, empty_with_most, list_at, row_of, has_key_kind, is_hashed_kind, is_sorted_kind};
 ghost use Rattle.container_model.specs.Find.{counted, found, kind_at};
-ghost use Rattle.container_model.specs.Insert.{insert_at_refusal, insert_refusal, new_handle, with_inserted};
-ghost use Rattle.index_set.specs.Set.{keys_of, specs_of, list_of, kind_at as set_kind_at, probe_side, IsSound, IsKeyed, IsUniqueExcept};
+ghost use Rattle.std.specs.Option.{option_map_or, option_or};
+ghost use Rattle.container_model.specs.Insert.{ban_from, insert_at_refusal, insert_refusal, limit, new_handle, with_inserted};
+ghost use Rattle.index_set.specs.Places.{place_from};
+ghost use Rattle.index_set.specs.Set.{keys_of, specs_of, contents, record_of, list_of, lists_of, kind_at as set_kind_at, probe_side, IsSound, IsKeyed, IsUniqueExcept};
 ghost use Rattle.linked_set.specs.ByRow.{has_by_row, order_by_row, marks_by_row, probe_by_row};
+ghost use Rattle.linked_set.specs.Linked.{entries_in, handles_in};
+ghost use Rattle.linked_set.specs.Seen.{IsLinked};
 
 use container_model::{Entry, Handle, Kind, Refused, Spec, Why};
-use index_set::IndexSet;
+use index_set::{FreePlace, IndexSet};
 use key_extract::Extract;
-use linked_set::{ByRow, by_age, first_ban, handle_at, in_order, node_at, put_in};
+use linked_set::{ByRow, by_age, free_place, handle_at, in_order, node_at, put_in};
 use node_store::Node;
 use slot_table::SlotTable;
 use std::alloc::{AllocError, Global};
@@ -126,14 +130,7 @@ impl<R: Drop, E: Extract<R> + Drop> MultiIndex<R, E> {
         ensures handed_back { IfErr result (λ refused. refused.row ≡ Some row) }
         ensures unchanged { OnErr result (self.new ≡ self.old) }
     {
-        let entry = self.entry(row);
-        if let Some(why) = self.insert_refusal(&entry) {
-            return Err(Refused {
-                why,
-                row: Some(entry.row),
-            });
-        }
-        self.put(None, entry)
+        self.put(None, row)
     }
 
     /// Puts a record in before the place of a sequence, and as `insert` does in the other indices; at the place `len` it
@@ -154,14 +151,13 @@ impl<R: Drop, E: Extract<R> + Drop> MultiIndex<R, E> {
         ensures handed_back { IfErr result (λ refused. refused.row ≡ Some row) }
         ensures unchanged { OnErr result (self.new ≡ self.old) }
     {
-        let entry = self.entry(row);
-        if let Some(why) = self.insert_at_refusal(index, place, &entry) {
+        if let Some(why) = self.place_refusal(index, place) {
             return Err(Refused {
                 why,
-                row: Some(entry.row),
+                row: Some(row),
             });
         }
-        self.put(Some((index, place)), entry)
+        self.put(Some((index, place)), row)
     }
 
     /// The record of a handle; a handle that names none is `Stale`. O(1).
@@ -268,20 +264,31 @@ impl<R: Drop, E: Extract<R> + Drop> MultiIndex<R, E> {
         Entry { handle, row }
     }
 
-    // Puts a record in that nothing keeps out: where it is asked for, and elsewhere at its usual places.
-    fn put(&mut self, at: Option<(usize, u64)>, entry: Entry<R>) -> Result<Handle, Refused<R>>
-        requires allowed { insert_refusal E.order_of self.old entry.row ≡ None }
-        requires handle { entry.handle ≡ new_handle self.old }
+    // Puts a record in: where it is asked for, and elsewhere at its usual places.
+    fn put(&mut self, at: Option<(usize, u64)>, row: R) -> Result<Handle, Refused<R>>
         requires within { IfSome at (λ at. (at.0 < length self.old.specs) ×
             (at.1 ≤ length self.old.entries)) }
         ensures handle { IfOk result (λ handle. handle ≡ new_handle self.old) }
-        ensures ok { OnOk result (self.new ≡ with_inserted E.order_of self.old at entry.row) }
-        ensures why { IfErr result (λ refused. refused.why ≡ Why.Memory) }
-        ensures handed_back { IfErr result (λ refused. refused.row ≡ Some entry.row) }
+        ensures allowed { OnOk result (insert_refusal E.order_of self.old row ≡ None) }
+        ensures ok { OnOk result (self.new ≡ with_inserted E.order_of self.old at row) }
+        ensures why { IfErr result (λ refused. refused.why ≡
+            unwrap_or (insert_refusal E.order_of self.old row) Why.Memory) }
+        ensures handed_back { IfErr result (λ refused. refused.row ≡ Some row) }
         ensures unchanged { OnErr result (self.new ≡ self.old) }
     {
+        let limit = self.limit();
+        let entry = self.entry(row);
+        let place = match admitted(&self.set, &self.slots, limit, &entry) {
+            Ok(place) => place,
+            Err(why) => {
+                return Err(Refused {
+                    why,
+                    row: Some(entry.row),
+                });
+            }
+        };
         let handle = entry.handle;
-        match put_in(&mut self.set, &mut self.slots, at, entry) {
+        match put_in(&mut self.set, &mut self.slots, at, entry, place) {
             Ok(()) => {
                 self.writes = handle.stamp;
                 Ok(handle)
@@ -293,10 +300,12 @@ impl<R: Drop, E: Extract<R> + Drop> MultiIndex<R, E> {
         }
     }
 
-    // Why a record may not go in before a place of an index, but for want of memory.
-    fn insert_at_refusal(&self, index: usize, place: u64, entry: &Entry<R>) -> Option<Why>
+    // Why no record may go in before a place of an index.
+    fn place_refusal(&self, index: usize, place: u64) -> Option<Why>
         requires { index < length self.now.specs }
-        ensures { result ≡ insert_at_refusal E.order_of self.now index place entry.now.row }
+        ensures why { (row : R) → insert_at_refusal E.order_of self.now index place row ≡
+            option_or result (insert_refusal E.order_of self.now row) }
+        ensures within { result ≡ None → place ≤ length self.now.entries }
     {
         if self.has_key(index) {
             return Some(Why::Kind);
@@ -304,16 +313,13 @@ impl<R: Drop, E: Extract<R> + Drop> MultiIndex<R, E> {
         if place > self.len() {
             return Some(Why::Place);
         }
-        self.insert_refusal(entry)
+        None
     }
 
-    // Why a record may not go in, but for want of memory.
-    fn insert_refusal(&self, entry: &Entry<R>) -> Option<Why>
-        ensures { result ≡ insert_refusal E.order_of self.now entry.now.row }
+    // Why no record may go in, whatever its keys are.
+    fn limit(&self) -> Option<Why>
+        ensures { result ≡ limit self.now }
     {
-        if let Some((index, by)) = first_ban(&self.set, &self.slots, entry, None) {
-            return Some(Why::Banned { index, by });
-        }
         if self.len() == self.max as u64 {
             return Some(Why::Full);
         }
@@ -321,6 +327,35 @@ impl<R: Drop, E: Extract<R> + Drop> MultiIndex<R, E> {
             return Some(Why::Spent);
         }
         None
+    }
+}
+
+// What is known of where a record goes. Else why it may not go in: a ban comes before the limit.
+fn admitted<R, E: Extract<R>>(
+    set: &IndexSet<Entry<R>, ByRow<E>>,
+    slots: &SlotTable<Node>,
+    limit: Option<Why>,
+    entry: &Entry<R>,
+) -> Result<Option<FreePlace>, Why>
+    requires { IsLinked E.has_key E.order_of (marks_of E.Extract) set.now slots.now.items }
+    ensures place { IfOk result (λ place. place ≡ place_from (order_by_row E.order_of (keys_of set.now))
+        (record_of set.now) (lists_of set.now) entry.now 0 (specs_of set.now)) }
+    ensures allowed { OnOk result (option_map_or (λ at. Some (Why.Banned at.0 at.1))
+        (ban_from (E.order_of (keys_of set.now).keys) (entries_in (contents set.now))
+        (handles_in (record_of set.now) (lists_of set.now)) None entry.now.row 0
+        (specs_of set.now)) limit ≡ None) }
+    ensures why { IfErr result (λ why. option_map_or (λ at. Some (Why.Banned at.0 at.1))
+        (ban_from (E.order_of (keys_of set.now).keys) (entries_in (contents set.now))
+        (handles_in (record_of set.now) (lists_of set.now)) None entry.now.row 0
+        (specs_of set.now)) limit ≡ Some why) }
+{
+    let place = match free_place(set, slots, entry) {
+        Ok(place) => place,
+        Err((index, by)) => return Err(Why::Banned { index, by }),
+    };
+    match limit {
+        None => Ok(place),
+        Some(why) => Err(why),
     }
 }
 

@@ -11,6 +11,7 @@ use Rattle.index_set.specs.Indices.{AreWithin}
 use Rattle.index_set.proofs.Each.{all_listed}
 use Rattle.index_set.proofs.Frame.{node_there, key_here, steps_of}
 use Rattle.index_set.proofs.Walk.{walk_start, walk_here, walk_step, walk_end, keyed_start, keyed_here, keyed_step, keyed_end, room_from_step, asked_here, entered_here}
+use Rattle.index_set.proofs.FreePlaces.{known_here}
 use Rattle.index_set.proofs.every.enter_each.Goals as goal
 
 pub loop-index-init : goal.loop-index-init
@@ -66,3 +67,7 @@ returns-clause-lists g c = walk_end _ c.args.store.now c.args.specs.now c.args.i
 
 pub returns-clause-keyed : goal.returns-clause-keyed
 returns-clause-keyed g c = record { each = keyed_end (g.E.Extract.order_of c.args.keys.now) (marks_of g.E.Extract c.args.keys.now) (λ xs. xs) c.args.specs.now c.loop-index.store c.loop-index.indices c.loop-index.index (omega arith) c.loop-index.invariant.keyed }
+
+pub enter-requires-clause-last : goal.enter-requires-clause-last
+enter-requires-clause-last g c = λ m e has.
+    known_here (g.E.Extract.order_of c.args.keys.now) _ c.args.store.now c.args.specs.now c.args.indices.now c.loop-index.index c.loop-index.store c.loop-index.indices (record { kind = Sequenced; unique = false }) _ c.loop-index-test.true c.loop-index.invariant.walk c.args.n c.args.known c.requires.known m (sym c.last_in-last.ensures ∙ e) has

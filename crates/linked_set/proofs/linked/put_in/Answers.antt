@@ -1,14 +1,18 @@
 use Rattle.any_index.specs.Keyed.{marks_of}
 use Rattle.std.proofs.Common.{◌≡◌, ◌+◌, ◌++◌, ◌∷◌, ◌∙◌, true, [], None, rules, Result, Ok, Err, sym, ap, subst, arith}
-use Rattle.std.specs.Prelude.{OnOk, OnErr}
+use Rattle.std.specs.Prelude.{IfSome, OnOk, OnErr}
 use Rattle.std.specs.Result.{is_ok}
-use Rattle.node_store.proofs.ByNode.{added_kept}
+use Rattle.node_store.proofs.ByNode.{added_kept, records_kept}
 use Rattle.container_model.specs.Insert.{ban_from, entered_from}
 use Rattle.slot_table.specs.Slots.{first_free}
 use Rattle.index_set.specs.Set.{store_of, keys_of, specs_of, contents, record_of, lists_of}
+use Rattle.index_set.specs.Places.{IsPlaceOf, IsPlaceAt}
+use Rattle.index_set.proofs.Members.{nodes_held}
+use Rattle.linked_set.specs.ByRow.{order_by_row}
 use Rattle.linked_set.specs.Linked.{entries_in, handles_in}
 use Rattle.linked_set.specs.Seen.{IsLinked}
 use Rattle.linked_set.proofs.Contents.{entries_kept, handles_kept}
+use Rattle.linked_set.proofs.FreePlaces.{places_added}
 use Rattle.linked_set.proofs.Joined.{IsLinked_grown, entries_grown, lists_grown}
 use Rattle.linked_set.proofs.linked.put_in.Goals as goal
 
@@ -49,6 +53,22 @@ pub enter-requires-clause-room : goal.enter-requires-clause-room
 enter-requires-clause-room g c =
     let ok : is_ok c.reserve_one.result ≡ true = c.if-is_err.ensures.negation in
     c.in_ok-node.ensures.room (if_ok c.reserve_one.result ok c.reserve_one.ensures.room)
+
+pub enter-requires-clause-known : goal.enter-requires-clause-known
+enter-requires-clause-known g c =
+    let order = g.E.Extract.order_of in
+    let old = c.args.set.now in
+    let now = c.reserve_one.new.set in
+    let mid = c.add.new.self in
+    let value = c.args.entry in
+    let reserved = c.reserve_one.ensures in
+    let added = c.in_ok-node.ensures in
+    let records : record_of now ≡ record_of old = records_kept (store_of old) (store_of now) reserved.contents in
+    let before : IfSome c.args.known (IsPlaceOf (order_by_row order (keys_of now)) (record_of now) (lists_of now) value) =
+    subst (λ T. T) (sym (λ i. IfSome c.args.known (IsPlaceOf (order_by_row order (reserved.same.keys i)) (records i) (reserved.lists i) value))) c.requires.known in
+    let after : IfSome c.args.known (IsPlaceAt (order_by_row order (keys_of now)) (record_of mid) (lists_of now) c.in_ok-node.node) =
+    places_added (order_by_row order (keys_of now)) (store_of now) (store_of mid) c.in_ok-node.node value added.added (lists_of now) (nodes_held now reserved.linked.sound) c.args.known before in
+    subst (λ T. T) (sym (λ i. IfSome c.args.known (IsPlaceAt (order_by_row order (added.same.keys i)) (record_of mid) (added.lists i) c.in_ok-node.node))) after
 
 pub returns-clause-linked : goal.returns-clause-linked
 returns-clause-linked g c =

@@ -1,5 +1,4 @@
-use Rattle.std.proofs.Common.{◌≡◌, List, Option, Some, None, Result, Ok, Err, sym, subst, ◌∙◌}
-use Rattle.std.specs.Prelude.{IfOk}
+use Rattle.std.proofs.Common.{List, None, sym, subst, ◌∙◌}
 use Rattle.node_store.specs.declared.Node.{Node}
 use Rattle.node_store.specs.ByNode.{column_of, record_of}
 use Rattle.hash_index.specs.Hashed.{IsHashed}
@@ -9,18 +8,14 @@ use Rattle.any_index.proofs.ByNumber.{moved_back}
 use Rattle.any_index.proofs.Same.{others_is, same_answer, excepted_moved}
 use Rattle.any_index.proofs.index.AnyIndex.free_place.Goals as goal
 
-known_from : (r : Result (Option Node) Node) (o : Option Node) → IfOk r (λ last. last ≡ o) → IfOk r (λ last. (m : Node) → last ≡ Some m → o ≡ Some m)
-known_from (Ok last) o h = λ m e. sym h ∙ e
-known_from (Err by) o h = h
-
 pub returns-in-Ordered-clause-place : goal.returns-in-Ordered-clause-place
-returns-in-Ordered-clause-place g c = rw c.in-Ordered.is (known_from c.free_place.result _ c.free_place.ensures.place)
+returns-in-Ordered-clause-place g c = rw c.in-Ordered.is c.free_place.ensures.place
 
 pub returns-in-Ordered-clause-taken : goal.returns-in-Ordered-clause-taken
 returns-in-Ordered-clause-taken g c = rw c.in-Ordered.is c.free_place.ensures.taken
 
 pub returns-in-Ranked-clause-place : goal.returns-in-Ranked-clause-place
-returns-in-Ranked-clause-place g c = rw c.in-Ranked.is (known_from c.free_place-in-Ranked.result _ c.free_place-in-Ranked.ensures.place)
+returns-in-Ranked-clause-place g c = rw c.in-Ranked.is c.free_place-in-Ranked.ensures.place
 
 pub returns-in-Ranked-clause-taken : goal.returns-in-Ranked-clause-taken
 returns-in-Ranked-clause-taken g c = rw c.in-Ranked.is c.free_place-in-Ranked.ensures.taken
