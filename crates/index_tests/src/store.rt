@@ -3,7 +3,7 @@ ghost use Rattle.std.specs.Prelude.{◌≡◌, ◌<◌, ◌≤◌};
 ghost use Rattle.node_store.specs.Store.{IsNodeOf, number_of, width_of};
 ghost use Rattle.node_store.specs.ByNode.{contents};
 
-use node_store::{BLOCK_BYTES, COLUMNS, Digest, LEAST_BLOCK_BYTES, Link, Node, NodeStore};
+use node_store::{COLUMNS, Digest, LINK_BYTES, Link, Node, NodeStore};
 use std::alloc::Global;
 use std::mem::size_of;
 use std::thread;
@@ -141,16 +141,12 @@ pub(crate) fn any_columns_keep_links(alloc: Global) -> Option<bool> {
     Some(of_few && keeps_last(alloc, COLUMNS)?)
 }
 
-/// Whether a node, its links and its block have these sizes in bytes.
+/// Whether a node and its links have these sizes in bytes.
 pub(crate) fn are_sizes() -> bool {
-    let two_neighbours_and_a_record = 2 * size_of::<Option<Node>>() + size_of::<u64>();
     size_of::<Node>() == 16
         && size_of::<Option<Node>>() == 24
         && size_of::<Link>() == 96
-        && (BLOCK_BYTES - two_neighbours_and_a_record) / COLUMNS == 64
-        && BLOCK_BYTES == 568
-        && LEAST_BLOCK_BYTES == two_neighbours_and_a_record + 64
-        && LEAST_BLOCK_BYTES == 120
+        && LINK_BYTES == 56
 }
 
 // A store with one more record, which is read in the store.
