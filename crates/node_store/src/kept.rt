@@ -1,6 +1,6 @@
 //! A record in its place.
-ghost use Rattle.std.specs.Prelude.{◌≡◌};
-ghost use Rattle.node_store.specs.Kept.{node_at, with_older, with_newer, newest_beside};
+ghost use Rattle.std.specs.Prelude.{◌≡◌, IsSome, Some};
+ghost use Rattle.node_store.specs.Kept.{at_place, node_at, with_older, with_newer, newest_beside};
 
 use crate::Node;
 use slab::Slab;
@@ -15,6 +15,18 @@ pub(crate) struct Kept<R> {
     pub(crate) newer: u32,
     pub(crate) number: u64,
     pub(crate) value: R,
+}
+
+// What lies in a place.
+#[inline(always)]
+pub(crate) fn kept_at<R>(kept: &Slab<Kept<R>>, place: u32) -> &Kept<R>
+    requires { IsSome (at_place kept.now.slots place) }
+    ensures { at_place kept.now.slots place ≡ Some result.now }
+{
+    match kept.get(place as usize) {
+        Some(entry) => entry,
+        None => unreachable!(),
+    }
 }
 
 // The node of what lies in a place.

@@ -19,7 +19,7 @@ mod links;
 mod stored;
 
 pub use digest::Digest;
-use kept::{Kept, NOWHERE, newest_without, node_in, set_newer, set_older};
+use kept::{Kept, NOWHERE, kept_at, newest_without, node_in, set_newer, set_older};
 use links::{Links, open_each};
 use slab::Slab;
 use std::alloc::{AllocFailed, Global};
@@ -194,10 +194,7 @@ impl<R> NodeStore<R> {
         requires { IsNodeOf self.now n }
         ensures { result ≡ last_below (nodes self.now) (number_of n) }
     {
-        match self.kept.get(n.place as usize) {
-            Some(entry) => node_in(&self.kept, entry.older),
-            None => unreachable!(),
-        }
+        node_in(&self.kept, kept_at(&self.kept, n.place).older)
     }
 
     /// The node's record.
@@ -206,10 +203,7 @@ impl<R> NodeStore<R> {
         requires { IsNodeOf self.now n }
         ensures { record_of self.now n ≡ Some result.now }
     {
-        match self.kept.get(n.place as usize) {
-            Some(entry) => &entry.value,
-            None => unreachable!(),
-        }
+        &kept_at(&self.kept, n.place).value
     }
 
     /// The node's record for writing. No link changes.

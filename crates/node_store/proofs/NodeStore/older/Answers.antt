@@ -1,21 +1,19 @@
-use Rattle.std.proofs.Common.{◌∙◌, ap, sym}
-use Rattle.std.specs.Option.{option_copied}
+use Rattle.std.proofs.Common.{◌∙◌, ap, sym, subst, IsSome, refl}
 use Rattle.std.proofs.lemmas.Option.{same_Some}
 use Rattle.node_store.specs.Age.{last_below}
 use Rattle.node_store.specs.Kept.{node_at, named}
 use Rattle.node_store.proofs.Rows.{node_kept, last_named}
 use Rattle.node_store.proofs.NodeStore.older.Goals as goal
 
-pub unreachable-requires : goal.unreachable-requires
-unreachable-requires g c =
+pub kept_at-requires : goal.kept_at-requires
+kept_at-requires g c =
     let k = node_kept c.self.inside.kept.slots c.self.inside.columns c.self.inside.width c.self.inside.added c.args.n (rw (← c.self.view_is) at c.requires) in
-    let bad = sym (ap option_copied c.in-None.is) ∙ c.get.ensures ∙ k.1 in
-    cc bad
+    subst IsSome (sym k.1) refl
 
 pub returns : goal.returns
 returns g c =
     let ss = c.self.inside.kept.slots in
     let k = node_kept ss c.self.inside.columns c.self.inside.width c.self.inside.added c.args.n (rw (← c.self.view_is) at c.requires) in
-    let same = same_Some _ _ (sym k.1 ∙ sym c.get.ensures ∙ ap option_copied c.in-Some.is) in
+    let same = same_Some _ _ (sym k.1 ∙ c.kept_at.ensures) in
     rw (← c.self.view_is) (c.node_in.ensures ∙ ap (λ e. node_at ss e.older) (sym same) ∙ c.self.invariant.chained.older c.args.n.place k.0 k.1
     ∙ ap (last_below (named ss)) k.2 ∙ sym (last_named ss c.self.inside.columns c.self.inside.width c.self.inside.added c.args.n.number))
