@@ -62,8 +62,7 @@ impl<R: Drop, E: Extract<R> + Drop> MultiIndex<R, E> {
         MultiIndex::with_most(alloc, specs, keys, 8, max, first_write)
     }
 
-    /// As `new`, for at most `most` indices at a time. A record takes 64 bytes for each index that there may be, in blocks
-    /// of room for 1, 2, 4 or 8. O(indices).
+    /// As `new`, for at most `most` indices at a time. A record takes 56 bytes for each index that there may be. O(indices).
     pub fn with_most(
         alloc: Global,
         specs: Vec<Spec>,
