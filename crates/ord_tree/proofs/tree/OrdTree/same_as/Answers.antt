@@ -36,6 +36,11 @@ link-link-requires g c = Nears-node g.T.Tally.of _ _ _ _ _ _ c.loop-at.invariant
 pub guide_at-requires-clause-node : goal.guide_at-requires-clause-node
 guide_at-requires-clause-node g c = record { block = c.link-link.result; is = c.link-link.ensures }
 
+pub guide_at-requires-clause-left : goal.guide_at-requires-clause-left
+guide_at-requires-clause-left g c =
+    let o = Opens-from g.T.Tally.of _ _ _ _ _ c.in-Some.n c.link-link.result _ c.loop-at.invariant.nears c.in-Some.is c.link-link.ensures in
+    record { tree = o.left; is = o.at_left }
+
 pub link-requires : goal.link-requires
 link-requires g c = c.guide_at.ensures.node c.in-Some-guide_at.guide c.in-Some-guide_at.is
 
