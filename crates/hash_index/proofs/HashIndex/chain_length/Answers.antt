@@ -1,7 +1,10 @@
 use Rattle.std.proofs.Common.{ap, length, arith}
 use Rattle.node_store.specs.ByNode.{column_of}
-use Rattle.hash_index.proofs.Matching.{walk_rest, walk_step, rest_fits}
+use Rattle.hash_index.proofs.Matching.{walk_node, walk_rest, walk_step, rest_fits}
 use Rattle.hash_index.proofs.HashIndex.chain_length.Goals as goal
+
+pub link-at-requires : goal.link-at-requires
+link-at-requires g c = walk_node (column_of c.args.store.now) c.args.self.now c.loop-at.at c.in-Some.n c.loop-at.invariant.ends c.in-Some.is
 
 pub overflow_add-length : goal.overflow_add-length
 overflow_add-length g c =
