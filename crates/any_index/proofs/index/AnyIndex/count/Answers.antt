@@ -38,3 +38,6 @@ returns-in-Hashed g c =
     let side = side_of (record_of c.args.store.now) (λ a. g.E.Extract.probe_order_of c.args.keys.now (buckets.index_of c.in-Hashed.buckets) a c.args.probe.now) in
     let xs = buckets.spelled (column_of c.args.store.now) c.in-Hashed.buckets in
     rw c.in-Hashed.is (c.count.ensures ∙ sym (count_by-permutation (λ n. is_eq (side n)) xs _ (moved_by_number xs)))
+
+pub returns-in-Ordered : goal.returns-in-Ordered
+returns-in-Ordered g c = rw c.in-Ordered.is c.run_length.ensures
