@@ -18,8 +18,8 @@ use Rattle.node_store.specs.declared.Node.{Node}
 use Rattle.node_store.specs.declared.Link.{Link}
 use Rattle.node_store.specs.Column.{Column}
 use Rattle.node_store.specs.Nodes.{Lacks, Holds, IsDistinct}
-use Rattle.node_store.specs.Store.{Store, IsNodeOf, number_of, IsStore}
-use Rattle.node_store.specs.ByNode.{column_of, record_of, same_node, AddsNode, RemovesNode}
+use Rattle.node_store.specs.Store.{Store, IsStore, IsNodeOf, age_of}
+use Rattle.node_store.specs.ByNode.{Columns, column_of, columns_in, record_of, same_node, AddsNode, RemovesNode}
 use Rattle.node_store.proofs.Members.{IsDistinct_moved, each_held}
 use Rattle.seq_index.proofs.Laws as seq
 pub use Rattle.seq_index.proofs.Walks.{without_at}
@@ -43,53 +43,59 @@ use Rattle.any_index.specs.declared.index.AnyIndex.{AnyIndex}
 use Rattle.any_index.specs.declared.index.AnyIndex.TheVariants.{Sequenced, Random, Ordered, Ranked, Hashed}
 use Rattle.any_index.specs.Keyed.{hash_by, digest_by, HasItsKey, Accepts, AreOrdered, AreKeyed, IsKeyed, IsKeyedBut}
 use Rattle.any_index.specs.Lists.{entry_place}
-use Rattle.any_index.specs.Spelled.{IsSound, list_of, kind_of, col_of, index_of, by_number, number_cmp}
+use Rattle.any_index.specs.Spelled.{IsSound, list_of, kind_of, col_of, index_of, by_age, age_cmp}
 use Rattle.any_index.proofs.Alike.{HasOneKey, order_alike, hash_alike, digest_alike}
-use Rattle.any_index.proofs.ByNumber.{Lacks_moved, Holds_moved, moved_by_number, moved_back}
+use Rattle.any_index.proofs.Hashed.{nodes_of}
+use Rattle.any_index.proofs.ByAge.{by_age_kept, Lacks_moved, Holds_moved, moved_by_age, moved_back}
 
 -- ---- an index stays as it is where its column stays
 
-pub list_of_kept : (cs ds : ℕ → Column) (i : AnyIndex) → ds (col_of i) ≡ cs (col_of i) → list_of ds i ≡ list_of cs i
-list_of_kept cs ds (Sequenced i) e = seq.spelled_kept cs ds i e
-list_of_kept cs ds (Random i) e = row.spelled_kept cs ds i e
-list_of_kept cs ds (Ordered i) e = ord.spelled_kept cs ds i e
-list_of_kept cs ds (Ranked i) e = rank.spelled_kept cs ds i e
-list_of_kept cs ds (Hashed i) e = ap by_number (hash.spelled_kept cs ds i e)
+pub list_of_kept : (cs ds : Columns) (i : AnyIndex) → ds.links (col_of i) ≡ cs.links (col_of i) → ds.ages ≡ cs.ages → list_of ds i ≡ list_of cs i
+list_of_kept cs ds (Sequenced i) e f = seq.spelled_kept cs.links ds.links i e
+list_of_kept cs ds (Random i) e f = row.spelled_kept cs.links ds.links i e
+list_of_kept cs ds (Ordered i) e f = ord.spelled_kept cs.links ds.links i e
+list_of_kept cs ds (Ranked i) e f = rank.spelled_kept cs.links ds.links i e
+list_of_kept cs ds (Hashed i) e f = λ k. by_age (f k) (hash.spelled_kept cs.links ds.links i e k)
 
-pub IsSound_kept : (cs ds : ℕ → Column) (i : AnyIndex) → ds (col_of i) ≡ cs (col_of i) → IsSound cs i → IsSound ds i
-IsSound_kept cs ds (Sequenced i) e h = seq.IsSound_kept cs ds i e h
-IsSound_kept cs ds (Random i) e h = row.IsSound_kept cs ds i e h
-IsSound_kept cs ds (Ordered i) e h = ord.IsSound_kept cs ds i e h
-IsSound_kept cs ds (Ranked i) e h = rank.IsSound_kept cs ds i e h
-IsSound_kept cs ds (Hashed i) e h = hash.IsSound_kept cs ds i e h
+pub IsSound_kept : (cs ds : Columns) (i : AnyIndex) → ds.links (col_of i) ≡ cs.links (col_of i) → ds.ages ≡ cs.ages → IsSound cs i → IsSound ds i
+IsSound_kept cs ds (Sequenced i) e f h = seq.IsSound_kept cs.links ds.links i e h
+IsSound_kept cs ds (Random i) e f h = row.IsSound_kept cs.links ds.links i e h
+IsSound_kept cs ds (Ordered i) e f h = ord.IsSound_kept cs.links ds.links i e h
+IsSound_kept cs ds (Ranked i) e f h = rank.IsSound_kept cs.links ds.links i e h
+IsSound_kept cs ds (Hashed i) e f h = subst (λ ages. buckets.IsSound ages ds.links i) (sym f) (hash.IsSound_kept cs.links ds.links i e h)
 
 -- its nodes are distinct
-pub list_distinct : (cs : ℕ → Column) (i : AnyIndex) → IsSound cs i → IsDistinct (list_of cs i)
-list_distinct cs (Sequenced i) h = seq.Spells_distinct cs i _ h
-list_distinct cs (Random i) h = row.Spells_distinct cs i _ h
-list_distinct cs (Ordered i) h = ord.Spells_distinct cs i _ h
-list_distinct cs (Ranked i) h = rank.Spells_distinct cs i _ h
-list_distinct cs (Hashed i) h = IsDistinct_moved (buckets.spelled cs i) (list_of cs (Hashed i)) (moved_by_number _) (hash.Spells_distinct cs i _ h)
+pub list_distinct : (cs : Columns) (i : AnyIndex) → IsSound cs i → IsDistinct (list_of cs i)
+list_distinct cs (Sequenced i) h = seq.Spells_distinct cs.links i _ h
+list_distinct cs (Random i) h = row.Spells_distinct cs.links i _ h
+list_distinct cs (Ordered i) h = ord.Spells_distinct cs.links i _ h
+list_distinct cs (Ranked i) h = rank.Spells_distinct cs.links i _ h
+list_distinct cs (Hashed i) h = IsDistinct_moved (buckets.spelled cs.links i) (list_of cs (Hashed i)) (moved_by_age cs.ages _) (hash.Spells_distinct cs.links i _ h)
 
 module _ {R : Type 0} where
   -- and nodes of the store
-  pub node_held : (s : Store R) (i : AnyIndex) (n : Node) → IsSound (column_of s) i → Holds (list_of (column_of s) i) n → IsNodeOf s n
+  pub node_held : (s : Store R) (i : AnyIndex) (n : Node) → IsSound (columns_in s) i → Holds (list_of (columns_in s) i) n → IsNodeOf s n
   node_held s (Sequenced i) n h k = seq.node_held s i n h k
   node_held s (Random i) n h k = row.node_held s i n h k
   node_held s (Ordered i) n h k = ord.node_held s i n h k
   node_held s (Ranked i) n h k = rank.node_held s i n h k
-  node_held s (Hashed i) n h k = hash.node_held s i n h (Holds_moved _ _ n (moved_back _) k)
+  node_held s (Hashed i) n h k = hash.node_held s i n h (Holds_moved _ _ n (moved_back (age_of s) _) k)
 
   -- ---- when nodes come and go in the store
 
-  pub list_of_added : (old new : Store R) (n : Node) (value : R) (i : AnyIndex) → AddsNode old new n value → IsSound (column_of old) i → list_of (column_of new) i ≡ list_of (column_of old) i
-  list_of_added old new n value (Sequenced i) a h = seq.spelled_added old new n value i a h
-  list_of_added old new n value (Random i) a h = row.spelled_added old new n value i a h
-  list_of_added old new n value (Ordered i) a h = ord.spelled_added old new n value i a h
-  list_of_added old new n value (Ranked i) a h = rank.spelled_added old new n value i a h
-  list_of_added old new n value (Hashed i) a h = ap by_number (hash.spelled_added old new n value i a h)
+  pub list_of_added : (old new : Store R) (n : Node) (value : R) (i : AnyIndex) → IsStore new → AddsNode old new n value → IsSound (columns_in old) i → list_of (columns_in new) i ≡ list_of (columns_in old) i
+  list_of_added old new n value (Sequenced i) store a h = seq.spelled_added old new n value i a h
+  list_of_added old new n value (Random i) store a h = row.spelled_added old new n value i a h
+  list_of_added old new n value (Ordered i) store a h = ord.spelled_added old new n value i a h
+  list_of_added old new n value (Ranked i) store a h = rank.spelled_added old new n value i a h
+  list_of_added old new n value (Hashed i) store a h =
+      let e = hash.spelled_added old new n value i a h in
+      let sound = hash.IsSound_added old new n value i a h in
+      ap (by_age (age_of new)) e
+      ∙ by_age_kept new store (age_of old) (buckets.spelled (column_of old) i) (hash.Spells_distinct (column_of old) i _ h) (subst (AllByRecursion (IsNodeOf new)) e (nodes_of new i sound))
+      (hash.aged_added old new n value (buckets.col_of i) _ a (hash.Spells_nodes (column_of old) i _ h))
 
-  pub IsSound_added : (old new : Store R) (n : Node) (value : R) (i : AnyIndex) → AddsNode old new n value → IsSound (column_of old) i → IsSound (column_of new) i
+  pub IsSound_added : (old new : Store R) (n : Node) (value : R) (i : AnyIndex) → AddsNode old new n value → IsSound (columns_in old) i → IsSound (columns_in new) i
   IsSound_added old new n value (Sequenced i) a h = seq.IsSound_added old new n value i a h
   IsSound_added old new n value (Random i) a h = row.IsSound_added old new n value i a h
   IsSound_added old new n value (Ordered i) a h = ord.IsSound_added old new n value i a h
@@ -97,28 +103,33 @@ module _ {R : Type 0} where
   IsSound_added old new n value (Hashed i) a h = hash.IsSound_added old new n value i a h
 
   -- the new node is not in the list
-  pub Lacks_added : (old new : Store R) (n : Node) (value : R) (i : AnyIndex) → AddsNode old new n value → IsSound (column_of old) i → Lacks (list_of (column_of new) i) n
+  pub Lacks_added : (old new : Store R) (n : Node) (value : R) (i : AnyIndex) → AddsNode old new n value → IsSound (columns_in old) i → Lacks (list_of (columns_in new) i) n
   Lacks_added old new n value (Sequenced i) a h = seq.Lacks_spelled_added old new n value i a h
   Lacks_added old new n value (Random i) a h = row.Lacks_spelled_added old new n value i a h
   Lacks_added old new n value (Ordered i) a h = ord.Lacks_spelled_added old new n value i a h
   Lacks_added old new n value (Ranked i) a h = rank.Lacks_spelled_added old new n value i a h
-  Lacks_added old new n value (Hashed i) a h = Lacks_moved _ _ n (moved_by_number _) (hash.Lacks_spelled_added old new n value i a h)
+  Lacks_added old new n value (Hashed i) a h = Lacks_moved _ _ n (moved_by_age (age_of new) _) (hash.Lacks_spelled_added old new n value i a h)
 
-  pub list_of_removed : (old new : Store R) (n : Node) (i : AnyIndex) → RemovesNode old new n → Lacks (list_of (column_of old) i) n → IsSound (column_of old) i → list_of (column_of new) i ≡ list_of (column_of old) i
-  list_of_removed old new n (Sequenced i) r lacks h = seq.spelled_removed old new n i r lacks h
-  list_of_removed old new n (Random i) r lacks h = row.spelled_removed old new n i r lacks h
-  list_of_removed old new n (Ordered i) r lacks h = ord.spelled_removed old new n i r lacks h
-  list_of_removed old new n (Ranked i) r lacks h = rank.spelled_removed old new n i r lacks h
-  list_of_removed old new n (Hashed i) r lacks h =
-      ap by_number (hash.spelled_is (column_of new) i _ (hash.Spells_removed old new n i _ r (Lacks_moved _ _ n (moved_back _) lacks) h))
+  pub list_of_removed : (old new : Store R) (n : Node) (i : AnyIndex) → IsStore new → RemovesNode old new n → Lacks (list_of (columns_in old) i) n → IsSound (columns_in old) i → list_of (columns_in new) i ≡ list_of (columns_in old) i
+  list_of_removed old new n (Sequenced i) store r lacks h = seq.spelled_removed old new n i r lacks h
+  list_of_removed old new n (Random i) store r lacks h = row.spelled_removed old new n i r lacks h
+  list_of_removed old new n (Ordered i) store r lacks h = ord.spelled_removed old new n i r lacks h
+  list_of_removed old new n (Ranked i) store r lacks h = rank.spelled_removed old new n i r lacks h
+  list_of_removed old new n (Hashed i) store r lacks h =
+      let away = Lacks_moved _ _ n (moved_back (age_of old) _) lacks in
+      let spells = hash.Spells_removed old new n i _ r away h in
+      let e = hash.spelled_is (column_of new) i _ spells in
+      ap (by_age (age_of new)) e
+      ∙ by_age_kept new store (age_of old) (buckets.spelled (column_of old) i) (hash.Spells_distinct (column_of old) i _ h) (subst (AllByRecursion (IsNodeOf new)) e (nodes_of new i (hash.IsSound_from (column_of new) i _ spells)))
+      (hash.aged_removed old new n (buckets.col_of i) _ r away (hash.Spells_nodes (column_of old) i _ h))
 
-  pub IsSound_removed : (old new : Store R) (n : Node) (i : AnyIndex) → RemovesNode old new n → Lacks (list_of (column_of old) i) n → IsSound (column_of old) i → IsSound (column_of new) i
+  pub IsSound_removed : (old new : Store R) (n : Node) (i : AnyIndex) → RemovesNode old new n → Lacks (list_of (columns_in old) i) n → IsSound (columns_in old) i → IsSound (columns_in new) i
   IsSound_removed old new n (Sequenced i) r lacks h = seq.IsSound_removed old new n i r lacks h
   IsSound_removed old new n (Random i) r lacks h = row.IsSound_removed old new n i r lacks h
   IsSound_removed old new n (Ordered i) r lacks h = ord.IsSound_removed old new n i r lacks h
   IsSound_removed old new n (Ranked i) r lacks h = rank.IsSound_removed old new n i r lacks h
   IsSound_removed old new n (Hashed i) r lacks h =
-      hash.IsSound_from (column_of new) i _ (hash.Spells_removed old new n i _ r (Lacks_moved _ _ n (moved_back _) lacks) h)
+      hash.IsSound_from (column_of new) i _ (hash.Spells_removed old new n i _ r (Lacks_moved _ _ n (moved_back (age_of old) _) lacks) h)
 
 -- ---- keys
 
@@ -197,33 +208,33 @@ module _ {R : Type 0} (order : ℕ → R → R → Ordering) (marks : ℕ → R 
   AreKeyed_without s (Hashed i) n xs h = hash.IsHashed_without (hash_by (marks (buckets.index_of i))) s (buckets.col_of i) n xs h
 
   pub IsKeyedBut_from : (s : Store R) (i : AnyIndex) (n : Node) → IsKeyed order marks s i → IsKeyedBut order marks s i n
-  IsKeyedBut_from s i n h = AreKeyed_without s i n (list_of (column_of s) i) h
+  IsKeyedBut_from s i n h = AreKeyed_without s i n (list_of (columns_in s) i) h
 
   -- when a node comes that is in no index yet, or goes that is in none
-  pub IsKeyed_added : (old new : Store R) (n : Node) (value : R) (i : AnyIndex) → AddsNode old new n value → IsSound (column_of old) i → IsKeyed order marks old i → IsKeyed order marks new i
-  IsKeyed_added old new n value i a sound h =
-      let e = list_of_added old new n value i a sound in
+  pub IsKeyed_added : (old new : Store R) (n : Node) (value : R) (i : AnyIndex) → IsStore new → AddsNode old new n value → IsSound (columns_in old) i → IsKeyed order marks old i → IsKeyed order marks new i
+  IsKeyed_added old new n value i store a sound h =
+      let e = list_of_added old new n value i store a sound in
       let lacks = subst (λ z. Lacks z n) e (Lacks_added old new n value i a sound) in
       subst (AreKeyed order marks new i) (sym e)
-      (AreKeyed_others old new i n (list_of (column_of old) i) (λ m ne. (a.columns (col_of i)).others m ne) a.records.others lacks h)
+      (AreKeyed_others old new i n (list_of (columns_in old) i) (λ m ne. (a.columns (col_of i)).others m ne) a.records.others lacks h)
 
-  pub IsKeyed_removed : (old new : Store R) (n : Node) (i : AnyIndex) → RemovesNode old new n → Lacks (list_of (column_of old) i) n → IsSound (column_of old) i → IsKeyed order marks old i → IsKeyed order marks new i
-  IsKeyed_removed old new n i r lacks sound h =
-      subst (AreKeyed order marks new i) (sym (list_of_removed old new n i r lacks sound))
-      (AreKeyed_others old new i n (list_of (column_of old) i) (λ m ne. (r.columns (col_of i)).others m ne) r.records.others lacks h)
+  pub IsKeyed_removed : (old new : Store R) (n : Node) (i : AnyIndex) → IsStore new → RemovesNode old new n → Lacks (list_of (columns_in old) i) n → IsSound (columns_in old) i → IsKeyed order marks old i → IsKeyed order marks new i
+  IsKeyed_removed old new n i store r lacks sound h =
+      subst (AreKeyed order marks new i) (sym (list_of_removed old new n i store r lacks sound))
+      (AreKeyed_others old new i n (list_of (columns_in old) i) (λ m ne. (r.columns (col_of i)).others m ne) r.records.others lacks h)
 
   -- when the record of one node changes, the index is keyed but for that node
-  pub IsKeyedBut_rewritten : (old new : Store R) (n : Node) (i : AnyIndex) → column_of new (col_of i) ≡ column_of old (col_of i) → ((m : Node) → m ≢ n → record_of new m ≡ record_of old m) → IsKeyedBut order marks old i n → IsKeyedBut order marks new i n
-  IsKeyedBut_rewritten old new n i links records h =
-      let xs = list_of (column_of old) i in
-      subst (λ z. AreKeyed order marks new i (without (same_node n) z)) (sym (list_of_kept (column_of old) (column_of new) i links))
+  pub IsKeyedBut_rewritten : (old new : Store R) (n : Node) (i : AnyIndex) → column_of new (col_of i) ≡ column_of old (col_of i) → ((m : Node) → m ≢ n → record_of new m ≡ record_of old m) → age_of new ≡ age_of old → IsKeyedBut order marks old i n → IsKeyedBut order marks new i n
+  IsKeyedBut_rewritten old new n i links records ages h =
+      let xs = list_of (columns_in old) i in
+      subst (λ z. AreKeyed order marks new i (without (same_node n) z)) (sym (list_of_kept (columns_in old) (columns_in new) i links ages))
       (AreKeyed_others old new i n (without (same_node n) xs) (λ m ne. ap (λ (c : Column). c m) links) records (hash.Lacks_without xs n) h)
 
   -- and once all records are as they were, as keyed as it was
-  pub IsKeyed_restored : (old new : Store R) (i : AnyIndex) → column_of new (col_of i) ≡ column_of old (col_of i) → record_of new ≡ record_of old → IsKeyed order marks old i → IsKeyed order marks new i
-  IsKeyed_restored old new i links records h =
-      subst (AreKeyed order marks new i) (sym (list_of_kept (column_of old) (column_of new) i links))
-      (AreKeyed_kept old new i (list_of (column_of old) i) links records h)
+  pub IsKeyed_restored : (old new : Store R) (i : AnyIndex) → column_of new (col_of i) ≡ column_of old (col_of i) → record_of new ≡ record_of old → age_of new ≡ age_of old → IsKeyed order marks old i → IsKeyed order marks new i
+  IsKeyed_restored old new i links records ages h =
+      subst (AreKeyed order marks new i) (sym (list_of_kept (columns_in old) (columns_in new) i links ages))
+      (AreKeyed_kept old new i (list_of (columns_in old) i) links records h)
 
   -- nor does it matter that the record of one node is another with the same keys
   AreKeyed_alike : (old new : Store R) (n : Node) (a b : R) (i : AnyIndex) (xs : List Node) → column_of new (col_of i) ≡ column_of old (col_of i) → record_of old n ≡ Some a → record_of new n ≡ Some b → ((m : Node) → m ≢ n → record_of new m ≡ record_of old m) →
@@ -243,37 +254,24 @@ module _ {R : Type 0} (order : ℕ → R → R → Ordering) (marks : ℕ → R 
           (ap (λ (c : Column). tag_at c y) links ∙ (p.0 ∙ sym (hash_alike (record_of old) (record_of new) n a b had has records (hash_by (marks k)) (ap (λ (m : Marks). m.hash) (one refl).same_marks) y)), each ys p.1)
 
   pub IsKeyed_alike : (old new : Store R) (n : Node) (a b : R) (i : AnyIndex) → column_of new (col_of i) ≡ column_of old (col_of i) → record_of old n ≡ Some a → record_of new n ≡ Some b → ((m : Node) → m ≢ n → record_of new m ≡ record_of old m) →
-      (IsTrue (has_key_kind (kind_of i)) → HasOneKey (order (index_of i)) (marks (index_of i)) a b) → IsKeyed order marks old i → IsKeyed order marks new i
-  IsKeyed_alike old new n a b i links had has records one h =
-      subst (AreKeyed order marks new i) (sym (list_of_kept (column_of old) (column_of new) i links))
-      (AreKeyed_alike old new n a b i (list_of (column_of old) i) links had has records one h)
+      (IsTrue (has_key_kind (kind_of i)) → HasOneKey (order (index_of i)) (marks (index_of i)) a b) → age_of new ≡ age_of old → IsKeyed order marks old i → IsKeyed order marks new i
+  IsKeyed_alike old new n a b i links had has records one ages h =
+      subst (AreKeyed order marks new i) (sym (list_of_kept (columns_in old) (columns_in new) i links ages))
+      (AreKeyed_alike old new n a b i (list_of (columns_in old) i) links had has records one h)
 
 -- ---- the nodes of the lists that changes leave
 
 -- in a hashed index a node that was added after all others goes last
-pub entered_last : (compare : Node → Node → Ordering) (at : Option ℕ) (n : Node) (xs : List Node) → AllByRecursion (λ m. number_of m < number_of n) xs → entry_place kind.Hashed compare at n xs ≡ length xs
-entered_last compare at n [] h = refl
-entered_last compare at n (x ∷ xs) h =
-    let first : is_le (number_cmp x n) ≡ true = lower (number_of x) (number_of n) h.0 in
-    let e : not_above (λ m. number_cmp m n) (x ∷ xs) ≡ suc (not_above (λ m. number_cmp m n) xs) =
-    count_by-cons (λ m. is_le (number_cmp m n)) x xs ∙ (ap (λ b. cond b 1 0 + not_above (λ m. number_cmp m n) xs) first ∙ omega arith) in
-    e ∙ ap (λ k. suc k) (entered_last compare at n xs h.1)
+pub entered_last : (ages : Node → ℕ) (compare : Node → Node → Ordering) (at : Option ℕ) (n : Node) (xs : List Node) → AllByRecursion (λ m. ages m < ages n) xs → entry_place kind.Hashed ages compare at n xs ≡ length xs
+entered_last ages compare at n [] h = refl
+entered_last ages compare at n (x ∷ xs) h =
+    let first : is_le (age_cmp ages x n) ≡ true = lower (ages x) (ages n) h.0 in
+    let e : not_above (λ m. age_cmp ages m n) (x ∷ xs) ≡ suc (not_above (λ m. age_cmp ages m n) xs) =
+    count_by-cons (λ m. is_le (age_cmp ages m n)) x xs ∙ (ap (λ b. cond b 1 0 + not_above (λ m. age_cmp ages m n) xs) first ∙ omega arith) in
+    e ∙ ap (λ k. suc k) (entered_last ages compare at n xs h.1)
   where
     lower : (a b : ℕ) → a < b → is_le (nat_cmp a b) ≡ true
     lower a b lt = grind (arith, nat_tests)
-
-module _ {R : Type 0} (s : Store R) (sound : IsStore s) where
-  below_by : (m : Node) (b : Bool) → nat_lt (number_of m) s.added ≡ b → IsNodeOf s m → number_of m < s.added
-  below_by m true e of = grind (arith, nat_tests)
-  below_by m false e of =
-      let le : s.added ≤ number_of m = grind (arith, nat_tests) in
-      let bad = sym of ∙ sound.bounded (number_of m) le in cc
-
-  -- the number of each node of an index is below that of the next node to be added
-  pub all_older : (i : AnyIndex) → IsSound (column_of s) i → AllByRecursion (λ m. number_of m < s.added) (list_of (column_of s) i)
-  all_older i h =
-      All-map (Holds (list_of (column_of s) i)) (λ m. number_of m < s.added)
-      (λ m k. below_by m (nat_lt (number_of m) s.added) refl (node_held s i m h k)) (list_of (column_of s) i) (each_held (list_of (column_of s) i))
 
 -- ---- nodes that look-ups answer stand in the list
 

@@ -1,4 +1,4 @@
-pub mod ByNumber
+pub mod ByAge
 pub mod Hashed
 pub mod Places
 pub mod Laws

@@ -21,14 +21,18 @@ use Rattle.list_model.proofs.InOrder.{All-map}
 use Rattle.node_store.specs.declared.Node.{Node}
 use Rattle.node_store.specs.Column.{Column}
 use Rattle.node_store.specs.Nodes.{Lacks, Holds, IsDistinct}
-use Rattle.node_store.specs.Store.{Store}
-use Rattle.node_store.specs.ByNode.{column_of, record_of, same_node}
+use Rattle.node_store.specs.Store.{Store, age_of}
+use Rattle.node_store.specs.ByNode.{Columns, column_of, columns_in, record_of, same_node}
 use Rattle.node_store.proofs.ByNode.{same_node-refl, same_node-true}
 use Rattle.node_store.proofs.Members.{each_held}
 use Rattle.node_store.proofs.NodeLists.{IsDistinct-parts, AreApart-head, Lacks-front, Lacks-back}
 use Rattle.seq_index.proofs.Walks.{place_at}
 use Rattle.ord_tree.proofs.KeySides.{Rises, Rises-from}
 use Rattle.hash_index.specs.declared.HashIndex.{HashIndex}
+use Rattle.seq_index.proofs.Laws as seq
+use Rattle.row_index.proofs.Laws as row
+use Rattle.ord_tree.proofs.Laws as ord
+use Rattle.rank_tree.proofs.Laws as rank
 use Rattle.hash_index.proofs.Laws as hash
 use Rattle.any_index.specs.declared.index.AnyIndex.{AnyIndex}
 use Rattle.any_index.specs.declared.index.AnyIndex.TheVariants.{Sequenced, Random, Ordered, Ranked, Hashed}
@@ -38,8 +42,8 @@ use Rattle.any_index.specs.Marks.{walk_of, matches_in, is_marked, is_match}
 use Rattle.any_index.specs.Side.{side_of}
 use Rattle.any_index.specs.Spelled.{IsSound, list_of, col_of, kind_of, index_of}
 use Rattle.any_index.specs.Stored.{CanFind}
-use Rattle.any_index.proofs.ByNumber.{Holds_moved, moved_by_number}
-use Rattle.any_index.proofs.Laws.{list_of_kept, list_distinct, IsSound_kept, IsKeyed_restored}
+use Rattle.any_index.proofs.ByAge.{Holds_moved, moved_by_age}
+use Rattle.any_index.proofs.Laws.{list_distinct, IsSound_kept, IsKeyed_restored}
 
 -- ---- members
 
@@ -139,28 +143,28 @@ module _ (side : Node → Ordering) (n : Node) where
 
 -- ---- the nodes of a walk
 
-pub list_held : (cs : ℕ → Column) (i : AnyIndex) (n : Node) → Holds (walk_of cs i) n → Holds (list_of cs i) n
+pub list_held : (cs : Columns) (i : AnyIndex) (n : Node) → Holds (walk_of cs i) n → Holds (list_of cs i) n
 list_held cs (Sequenced i) n h = h
 list_held cs (Random i) n h = h
 list_held cs (Ordered i) n h = h
 list_held cs (Ranked i) n h = h
-list_held cs (Hashed i) n h = Holds_moved _ _ n (moved_by_number _) h
+list_held cs (Hashed i) n h = Holds_moved _ _ n (moved_by_age cs.ages _) h
 
-pub walk_distinct : (cs : ℕ → Column) (i : AnyIndex) → IsSound cs i → IsDistinct (walk_of cs i)
+pub walk_distinct : (cs : Columns) (i : AnyIndex) → IsSound cs i → IsDistinct (walk_of cs i)
 walk_distinct cs (Sequenced i) h = list_distinct cs (Sequenced i) h
 walk_distinct cs (Random i) h = list_distinct cs (Random i) h
 walk_distinct cs (Ordered i) h = list_distinct cs (Ordered i) h
 walk_distinct cs (Ranked i) h = list_distinct cs (Ranked i) h
-walk_distinct cs (Hashed i) h = hash.Spells_distinct cs i _ h
+walk_distinct cs (Hashed i) h = hash.Spells_distinct cs.links i _ h
 
-walk_kept : (cs ds : ℕ → Column) (i : AnyIndex) → ds (col_of i) ≡ cs (col_of i) → walk_of ds i ≡ walk_of cs i
-walk_kept cs ds (Sequenced i) e = list_of_kept cs ds (Sequenced i) e
-walk_kept cs ds (Random i) e = list_of_kept cs ds (Random i) e
-walk_kept cs ds (Ordered i) e = list_of_kept cs ds (Ordered i) e
-walk_kept cs ds (Ranked i) e = list_of_kept cs ds (Ranked i) e
-walk_kept cs ds (Hashed i) e = hash.spelled_kept cs ds i e
+walk_kept : (cs ds : Columns) (i : AnyIndex) → ds.links (col_of i) ≡ cs.links (col_of i) → walk_of ds i ≡ walk_of cs i
+walk_kept cs ds (Sequenced i) e = seq.spelled_kept cs.links ds.links i e
+walk_kept cs ds (Random i) e = row.spelled_kept cs.links ds.links i e
+walk_kept cs ds (Ordered i) e = ord.spelled_kept cs.links ds.links i e
+walk_kept cs ds (Ranked i) e = rank.spelled_kept cs.links ds.links i e
+walk_kept cs ds (Hashed i) e = hash.spelled_kept cs.links ds.links i e
 
-pub walk_sorted : (cs : ℕ → Column) (i : AnyIndex) → IsTrue (is_sorted_kind (kind_of i)) → walk_of cs i ≡ list_of cs i
+pub walk_sorted : (cs : Columns) (i : AnyIndex) → IsTrue (is_sorted_kind (kind_of i)) → walk_of cs i ≡ list_of cs i
 walk_sorted cs (Sequenced i) h = refl
 walk_sorted cs (Random i) h = refl
 walk_sorted cs (Ordered i) h = refl
@@ -168,7 +172,7 @@ walk_sorted cs (Ranked i) h = refl
 walk_sorted cs (Hashed i) h = cc
 
 -- so is that of an index that is not hashed
-pub walk_listed : (cs : ℕ → Column) (i : AnyIndex) → ((x : HashIndex) → i ≡ Hashed x → ⊥) → walk_of cs i ≡ list_of cs i
+pub walk_listed : (cs : Columns) (i : AnyIndex) → ((x : HashIndex) → i ≡ Hashed x → ⊥) → walk_of cs i ≡ list_of cs i
 walk_listed cs (Sequenced i) h = refl
 walk_listed cs (Random i) h = refl
 walk_listed cs (Ordered i) h = refl
@@ -197,16 +201,16 @@ sorted_rises order marks s (Ordered i) xs side k cuts h = Rises-from (record_of 
 sorted_rises order marks s (Ranked i) xs side k cuts h = Rises-from (record_of s) (order (index_of (Ranked i))) side xs cuts h.in_order
 sorted_rises order marks s (Hashed i) xs side k cuts h = cc
 
-module _ {E R P : Type 0} (X : Ghosts E R P) (i : AnyIndex) (s t : Store R) (keys : E) (probe : P) (links : column_of t (col_of i) ≡ column_of s (col_of i)) (records : record_of t ≡ record_of s) where
+module _ {E R P : Type 0} (X : Ghosts E R P) (i : AnyIndex) (s t : Store R) (keys : E) (probe : P) (links : column_of t (col_of i) ≡ column_of s (col_of i)) (records : record_of t ≡ record_of s) (ages : age_of t ≡ age_of s) where
   pub matches_kept : matches_in X i t keys probe ≡ matches_in X i s keys probe
-  matches_kept = λ z. filter (λ n. is_eq (side_of (records z) (λ a. X.probe_order_of keys (index_of i) a probe) n)) (walk_kept (column_of s) (column_of t) i links z)
+  matches_kept = λ z. filter (λ n. is_eq (side_of (records z) (λ a. X.probe_order_of keys (index_of i) a probe) n)) (walk_kept (columns_in s) (columns_in t) i links z)
 
   pub find_kept : CanFind X i s keys probe → CanFind X i t keys probe
   find_kept h = record {
-    sound = IsSound_kept (column_of s) (column_of t) i links h.sound;
+    sound = IsSound_kept (columns_in s) (columns_in t) i links ages h.sound;
     key = h.key;
     fits = h.fits;
-    keyed = IsKeyed_restored (X.order_of keys) (marks_of X keys) s t i links records h.keyed;
+    keyed = IsKeyed_restored (X.order_of keys) (marks_of X keys) s t i links records ages h.keyed;
   }
 
 -- ---- the loop
@@ -332,12 +336,12 @@ match_held side xs n held = ap (λ b. b && is_eq (side n)) (held_any n xs held)
 match_moved : (side : Node → Ordering) (xs ys : List Node) (n : Node) → IsPermutation xs ys → is_match side xs n ≡ is_match side ys n
 match_moved side xs ys n moved = ap (λ b. b && is_eq (side n)) (list_any-IsPermutation (same_node n) xs ys moved)
 
-pub walk_moved : (cs : ℕ → Column) (i : AnyIndex) → IsPermutation (walk_of cs i) (list_of cs i)
+pub walk_moved : (cs : Columns) (i : AnyIndex) → IsPermutation (walk_of cs i) (list_of cs i)
 walk_moved cs (Sequenced i) = IsPermutation-refl _
 walk_moved cs (Random i) = IsPermutation-refl _
 walk_moved cs (Ordered i) = IsPermutation-refl _
 walk_moved cs (Ranked i) = IsPermutation-refl _
-walk_moved cs (Hashed i) = moved_by_number _
+walk_moved cs (Hashed i) = moved_by_age cs.ages _
 
 -- at the end the matches are marked, and no others are
 module _ (side : Node → Ordering) (walk xs : List Node) (c : Column) (at : Option Node) (w : Walked (filter (λ m. is_eq (side m)) walk) xs c at) (is : at ≡ None) where
@@ -353,7 +357,7 @@ module _ (side : Node → Ordering) (walk xs : List Node) (c : Column) (at : Opt
   all_marked list moved n held = marked_if (list_any (same_node n) walk) (is_eq (side n)) n refl refl held ∙ match_moved side walk list n moved
 
 -- the list of a row is that of its vector, whatever its column says
-pub row_list_same : (cs ds : ℕ → Column) (i : AnyIndex) → kind_of i ≡ kinds.Random → list_of ds i ≡ list_of cs i
+pub row_list_same : (cs ds : Columns) (i : AnyIndex) → kind_of i ≡ kinds.Random → list_of ds i ≡ list_of cs i
 unfolding spelled
 row_list_same cs ds (Sequenced i) e = cc
 row_list_same cs ds (Random i) e = refl

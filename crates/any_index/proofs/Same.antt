@@ -1,5 +1,5 @@
 -- The node that has a record's key, where a hashed index has one at most.
-use Rattle.std.proofs.Common.{◌≡◌, Bool, true, false, cond, not, ◌&&◌, List, [], ◌∷◌, Option, Some, None, refl, ap, sym, ◌∙◌, subst, slice_get}
+use Rattle.std.proofs.Common.{◌≡◌, ℕ, Bool, true, false, cond, not, ◌&&◌, List, [], ◌∷◌, Option, Some, None, refl, ap, sym, ◌∙◌, subst, slice_get}
 use Rattle.std.specs.Prelude.{filter, find, IsPermutation}
 use Rattle.std.specs.List.{AllByRecursion}
 use Rattle.std.specs.Option.{option_map_or, option_cmp}
@@ -21,8 +21,8 @@ use Rattle.node_store.proofs.ByNode.{same_node-refl, same_node-true}
 use Rattle.ord_tree.specs.Same.{without_excepted, equal_but}
 use Rattle.ord_tree.specs.Side.{order_at, side_of}
 use Rattle.hash_index.specs.Hashed.{others}
-use Rattle.any_index.specs.Spelled.{by_number}
-use Rattle.any_index.proofs.ByNumber.{moved_back, without_moved}
+use Rattle.any_index.specs.Spelled.{by_age}
+use Rattle.any_index.proofs.ByAge.{moved_back, without_moved}
 
 all_kept : (xs : List Node) → others None xs ≡ xs
 all_kept [] = refl
@@ -80,17 +80,17 @@ module _ {R : Type 0} (records : Node → Option R) (order : R → R → Orderin
       let e : x ≡ y = (All-moved (λ z. x ≡ z) (x ∷ []) (y ∷ ys) moved (refl, tt)).0 in ap Some (sym e)
   first_alike (x ∷ (z ∷ rest)) ys moved one = absurd (one x z rest refl)
 
-  -- what buckets answer is what the list by number does
-  pub same_answer : (except : Option Node) (xs : List Node) → EachPair (λ m n. is_eq (order_at records order m n) ≡ false) (without_excepted except (by_number xs)) →
-      find_equal (side_of records (λ a. order a r)) (others except xs) ≡ equal_but except (side_of records (λ a. order a r)) (by_number xs)
+  -- what buckets answer is what the list by age does
+  pub same_answer : (ages : Node → ℕ) (except : Option Node) (xs : List Node) → EachPair (λ m n. is_eq (order_at records order m n) ≡ false) (without_excepted except (by_age ages xs)) →
+      find_equal (side_of records (λ a. order a r)) (others except xs) ≡ equal_but except (side_of records (λ a. order a r)) (by_age ages xs)
   unfolding has_key
-  same_answer except xs once =
+  same_answer ages except xs once =
       let kept : Node → Bool = λ n. not (option_map_or (λ m. same_node m n) except false) in
-      let ys = by_number xs in
+      let ys = by_age ages xs in
       let old = filter has_key (filter kept xs) in
       let new = filter has_key (filter kept ys) in
       let moved : IsPermutation new old = IsPermutation-filter same_node same_node-true same_node-refl has_key (filter kept ys) (filter kept xs)
-      (IsPermutation-filter same_node same_node-true same_node-refl kept ys xs (moved_back xs)) in
+      (IsPermutation-filter same_node same_node-true same_node-refl kept ys xs (moved_back ages xs)) in
       let apart : EachPair (λ m n. is_eq (order_at records order m n) ≡ false) new =
       EachPair-filter (λ m n. is_eq (order_at records order m n) ≡ false) has_key (filter kept ys) (subst (EachPair (λ m n. is_eq (order_at records order m n) ≡ false)) (sym (others_is except ys)) once) in
       find_first has_key (filter kept xs)

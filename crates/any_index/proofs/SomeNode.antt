@@ -12,7 +12,7 @@ use Rattle.node_store.specs.Nodes.{Holds}
 use Rattle.hash_index.specs.Hashed.{matches}
 use Rattle.ord_tree.proofs.Excepting.{find_is}
 use Rattle.ord_tree.proofs.Nearing.{find-none}
-use Rattle.any_index.proofs.ByNumber.{Holds_moved}
+use Rattle.any_index.proofs.ByAge.{Holds_moved}
 use Rattle.any_index.proofs.Same.{find_first}
 
 module _ (side : Node → Ordering) where

@@ -9,7 +9,7 @@ use Rattle.any_index.proofs.InOrder.{settled_in_order}
 use Rattle.node_store.specs.declared.Node.{Node}
 use Rattle.node_store.specs.Nodes.{IsDistinct, Holds}
 use Rattle.node_store.specs.Store.{Store}
-use Rattle.node_store.specs.ByNode.{column_of, record_of, same_node}
+use Rattle.node_store.specs.ByNode.{columns_in, record_of, same_node}
 use Rattle.node_store.proofs.ByNode.{same_node-refl}
 use Rattle.key_extract.specs.Digests.{Marks}
 use Rattle.ord_tree.specs.Side.{order_at}
@@ -30,10 +30,10 @@ module _ {R : Type 0} (records : Node → Option R) (n : Node) where
       (settled_in_order (order_at_total records compare total) (same_node n) held.before n held.after apart.before (same_node-refl n) (subst (IsInOrder (order_at records compare)) held.is h))
 
 module _ {R : Type 0} (has_key : ℕ → Bool) (order : ℕ → R → R → Ordering) (total : (index : ℕ) → IsTrue (has_key index) → IsTotalOrder (order index)) (marks : ℕ → R → Marks) (s : Store R) (n : Node) where
-  pub settled_keyed : (i : AnyIndex) → HasItsKey has_key i → IsSound (column_of s) i → Holds (list_of (column_of s) i) n → IsKeyed order marks s i →
-      settled_in (kind_of i) (order_at (record_of s) (order (index_of i))) n (list_of (column_of s) i) ≡ list_of (column_of s) i
+  pub settled_keyed : (i : AnyIndex) → HasItsKey has_key i → IsSound (columns_in s) i → Holds (list_of (columns_in s) i) n → IsKeyed order marks s i →
+      settled_in (kind_of i) (order_at (record_of s) (order (index_of i))) n (list_of (columns_in s) i) ≡ list_of (columns_in s) i
   settled_keyed (Sequenced i) key sound held h = refl
   settled_keyed (Random i) key sound held h = refl
-  settled_keyed (Ordered i) key sound held h = settled_nodes (record_of s) n (order (index_of (Ordered i))) (total (index_of (Ordered i)) key) (list_of (column_of s) (Ordered i)) held (list_distinct (column_of s) (Ordered i) sound) h.in_order
-  settled_keyed (Ranked i) key sound held h = settled_nodes (record_of s) n (order (index_of (Ranked i))) (total (index_of (Ranked i)) key) (list_of (column_of s) (Ranked i)) held (list_distinct (column_of s) (Ranked i) sound) h.in_order
+  settled_keyed (Ordered i) key sound held h = settled_nodes (record_of s) n (order (index_of (Ordered i))) (total (index_of (Ordered i)) key) (list_of (columns_in s) (Ordered i)) held (list_distinct (columns_in s) (Ordered i) sound) h.in_order
+  settled_keyed (Ranked i) key sound held h = settled_nodes (record_of s) n (order (index_of (Ranked i))) (total (index_of (Ranked i)) key) (list_of (columns_in s) (Ranked i)) held (list_distinct (columns_in s) (Ranked i) sound) h.in_order
   settled_keyed (Hashed i) key sound held h = refl

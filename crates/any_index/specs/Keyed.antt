@@ -8,7 +8,7 @@ use Rattle.list_model.specs.Order.{EachPair, IsInOrder}
 use Rattle.list_model.specs.Walk.{without}
 use Rattle.node_store.specs.declared.Node.{Node}
 use Rattle.node_store.specs.Store.{Store}
-use Rattle.node_store.specs.ByNode.{column_of, record_of, same_node}
+use Rattle.node_store.specs.ByNode.{columns_in, record_of, same_node}
 use Rattle.key_extract.specs.declared.extract.Extract.{Ghosts}
 use Rattle.key_extract.specs.Digests.{Marks, marks_by}
 use Rattle.ord_tree.specs.Digests.{AreDigested}
@@ -67,15 +67,15 @@ module _ {R : Type 0} (order : ℕ → R → R → Ordering) (marks : ℕ → R 
 
   -- all of its nodes are
   abbrev pub IsKeyed : AnyIndex → Type 0
-  IsKeyed i = AreKeyed i (list_of (column_of s) i)
+  IsKeyed i = AreKeyed i (list_of (columns_in s) i)
 
   -- all but one, whose record may have changed
   abbrev pub IsKeyedBut : AnyIndex → Node → Type 0
-  IsKeyedBut i n = AreKeyed i (without (same_node n) (list_of (column_of s) i))
+  IsKeyedBut i n = AreKeyed i (without (same_node n) (list_of (columns_in s) i))
 
   -- all but the excepted one
   abbrev pub IsKeyedExcept : AnyIndex → Option Node → Type 0
-  IsKeyedExcept i except = AreKeyed i (without_excepted except (list_of (column_of s) i))
+  IsKeyedExcept i except = AreKeyed i (without_excepted except (list_of (columns_in s) i))
 
 module _ {R : Type 0} (order : ℕ → R → R → Ordering) (s : Store R) where
   -- no two nodes of a hashed index but the excepted one have one key
@@ -85,4 +85,4 @@ module _ {R : Type 0} (order : ℕ → R → R → Ordering) (s : Store R) where
   HasOneOfEachKey (Ordered i) except = Unit {0}
   HasOneOfEachKey (Ranked i) except = Unit {0}
   HasOneOfEachKey (Hashed i) except =
-      EachPair (λ m n. is_eq (order_at (record_of s) (order (hash.index_of i)) m n) ≡ false) (without_excepted except (list_of (column_of s) (Hashed i)))
+      EachPair (λ m n. is_eq (order_at (record_of s) (order (hash.index_of i)) m n) ≡ false) (without_excepted except (list_of (columns_in s) (Hashed i)))

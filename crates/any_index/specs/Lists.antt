@@ -10,19 +10,19 @@ use Rattle.list_model.specs.Walk.{settled}
 use Rattle.node_store.specs.declared.Node.{Node}
 use Rattle.node_store.specs.ByNode.{same_node}
 pub use Rattle.row_index.specs.Sunk.{IsSunk}
-use Rattle.any_index.specs.Spelled.{number_cmp}
+use Rattle.any_index.specs.Spelled.{age_cmp}
 
--- where a new node goes: in a sequence to the place that was asked for, or last; by its key after its equals; by its number
-abbrev pub entry_place : Kind → (Node → Node → Ordering) → Option ℕ → Node → List Node → ℕ
-entry_place Sequenced compare at n xs = option_map_or (λ p. p) at (length xs)
-entry_place Random compare at n xs = option_map_or (λ p. p) at (length xs)
-entry_place Ordered compare at n xs = not_above (λ m. compare m n) xs
-entry_place Ranked compare at n xs = not_above (λ m. compare m n) xs
-entry_place Hashed compare at n xs = not_above (λ m. number_cmp m n) xs
+-- where a new node goes: in a sequence to the place that was asked for, or last; by its key after its equals; by its age
+abbrev pub entry_place : Kind → (Node → ℕ) → (Node → Node → Ordering) → Option ℕ → Node → List Node → ℕ
+entry_place Sequenced ages compare at n xs = option_map_or (λ p. p) at (length xs)
+entry_place Random ages compare at n xs = option_map_or (λ p. p) at (length xs)
+entry_place Ordered ages compare at n xs = not_above (λ m. compare m n) xs
+entry_place Ranked ages compare at n xs = not_above (λ m. compare m n) xs
+entry_place Hashed ages compare at n xs = not_above (λ m. age_cmp ages m n) xs
 
 -- the list with a new node
-abbrev pub entered : Kind → (Node → Node → Ordering) → Option ℕ → Node → List Node → List Node
-entered kind compare at n xs = insert xs (entry_place kind compare at n xs) n
+abbrev pub entered : Kind → (Node → ℕ) → (Node → Node → Ordering) → Option ℕ → Node → List Node → List Node
+entered kind ages compare at n xs = insert xs (entry_place kind ages compare at n xs) n
 
 -- the list after a node's record has changed: in one in order the node settles
 abbrev pub settled_in : Kind → (Node → Node → Ordering) → Node → List Node → List Node

@@ -6,7 +6,7 @@ use Rattle.std.specs.declared.cmp.Ordering.{Ordering}
 use Rattle.node_store.specs.declared.Node.{Node}
 use Rattle.node_store.specs.Column.{Column}
 use Rattle.node_store.specs.Store.{Store}
-use Rattle.node_store.specs.ByNode.{column_of, same_node}
+use Rattle.node_store.specs.ByNode.{Columns, columns_in, same_node}
 use Rattle.key_extract.specs.declared.extract.Extract.{Ghosts}
 use Rattle.hash_index.specs.Spelled as hash
 use Rattle.row_index.specs.Spelled as row
@@ -21,16 +21,16 @@ abbrev pub is_match : (side : Node → Ordering) → List Node → Node → Bool
 is_match side xs n = list_any (same_node n) xs && is_eq (side n)
 
 -- the nodes of the index in the order of a walk, which in a hashed one goes along the chains
-abbrev pub walk_of : (ℕ → Column) → AnyIndex → List Node
+abbrev pub walk_of : Columns → AnyIndex → List Node
 walk_of cs (Sequenced i) = list_of cs (Sequenced i)
 walk_of cs (Random i) = list_of cs (Random i)
 walk_of cs (Ordered i) = list_of cs (Ordered i)
 walk_of cs (Ranked i) = list_of cs (Ranked i)
-walk_of cs (Hashed i) = hash.spelled cs i
+walk_of cs (Hashed i) = hash.spelled cs.links i
 
 -- those of them whose records have the key
 abbrev pub matches_in : {E R P : Type 0} → Ghosts E R P → AnyIndex → Store R → E → P → List Node
-matches_in X i s keys probe = filter (λ n. is_eq (side_in X i s keys probe n)) (walk_of (column_of s) i)
+matches_in X i s keys probe = filter (λ n. is_eq (side_in X i s keys probe n)) (walk_of (columns_in s) i)
 
 -- the index is a row whose nodes may be marked, none of them before a place
 abbrev pub HasMarks : (ℕ → Column) → AnyIndex → ℕ → Type 0

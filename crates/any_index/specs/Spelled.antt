@@ -6,8 +6,7 @@ use Rattle.container_model.specs.declared.handle.Kind.{Kind}
 use Rattle.container_model.specs.declared.handle.Kind.TheVariants as kind
 use Rattle.list_model.specs.Place.{stable_sorted}
 use Rattle.node_store.specs.declared.Node.{Node}
-use Rattle.node_store.specs.Store.{number_of}
-use Rattle.node_store.specs.Column.{Column}
+use Rattle.node_store.specs.ByNode.{Columns}
 pub use Rattle.node_store.specs.Column.{KeepsOthers}
 pub use Rattle.node_store.specs.Nodes.{Holds}
 use Rattle.seq_index.specs.Spelled as seq
@@ -42,12 +41,12 @@ index_of (Ranked i) = rank.index_of i
 index_of (Hashed i) = hash.index_of i
 
 -- the links of the column are those of the index
-abbrev pub IsSound : (ℕ → Column) → AnyIndex → Type 0
-IsSound cs (Sequenced i) = seq.IsSound cs i
-IsSound cs (Random i) = row.IsSound cs i
-IsSound cs (Ordered i) = ord.IsSound cs i
-IsSound cs (Ranked i) = rank.IsSound cs i
-IsSound cs (Hashed i) = hash.IsSound cs i
+abbrev pub IsSound : Columns → AnyIndex → Type 0
+IsSound cs (Sequenced i) = seq.IsSound cs.links i
+IsSound cs (Random i) = row.IsSound cs.links i
+IsSound cs (Ordered i) = ord.IsSound cs.links i
+IsSound cs (Ranked i) = rank.IsSound cs.links i
+IsSound cs (Hashed i) = hash.IsSound cs.ages cs.links i
 
 -- one more node needs no memory
 abbrev pub HasRoom : AnyIndex → Type 0
@@ -57,18 +56,18 @@ HasRoom (Ordered i) = ord.HasRoom i
 HasRoom (Ranked i) = rank.HasRoom i
 HasRoom (Hashed i) = hash.HasRoom i
 
--- how the numbers of two nodes' adds stand to one another
-abbrev pub number_cmp : Node → Node → Ordering
-number_cmp m n = nat_cmp (number_of m) (number_of n)
+-- how the ages of two nodes stand to one another
+abbrev pub age_cmp : (Node → ℕ) → Node → Node → Ordering
+age_cmp ages m n = nat_cmp (ages m) (ages n)
 
--- the nodes by the rising number of their add
-abbrev pub by_number : List Node → List Node
-by_number xs = stable_sorted number_cmp xs
+-- the nodes by rising age
+abbrev pub by_age : (Node → ℕ) → List Node → List Node
+by_age ages xs = stable_sorted (age_cmp ages) xs
 
 -- the nodes of the index in its order; a hashed one has them in the order of their adds
-abbrev pub list_of : (ℕ → Column) → AnyIndex → List Node
-list_of cs (Sequenced i) = seq.spelled cs i
-list_of cs (Random i) = row.spelled cs i
-list_of cs (Ordered i) = ord.spelled cs i
-list_of cs (Ranked i) = rank.spelled cs i
-list_of cs (Hashed i) = by_number (hash.spelled cs i)
+abbrev pub list_of : Columns → AnyIndex → List Node
+list_of cs (Sequenced i) = seq.spelled cs.links i
+list_of cs (Random i) = row.spelled cs.links i
+list_of cs (Ordered i) = ord.spelled cs.links i
+list_of cs (Ranked i) = rank.spelled cs.links i
+list_of cs (Hashed i) = by_age cs.ages (hash.spelled cs.links i)

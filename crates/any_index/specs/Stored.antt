@@ -3,7 +3,7 @@ use Rattle.std.specs.Prelude.{◌≡◌, List, Option, IsTrue}
 use Rattle.std.specs.declared.cmp.Ordering.{Ordering}
 use Rattle.node_store.specs.declared.Node.{Node}
 use Rattle.node_store.specs.Store.{Store}
-use Rattle.node_store.specs.ByNode.{column_of, record_of, contents}
+use Rattle.node_store.specs.ByNode.{column_of, columns_in, record_of, contents}
 use Rattle.key_extract.specs.declared.extract.Extract.{Ghosts}
 use Rattle.any_index.specs.Side.{side_of, order_at}
 use Rattle.any_index.specs.declared.index.AnyIndex.{AnyIndex}
@@ -13,11 +13,11 @@ use Rattle.any_index.specs.Keyed.{marks_of, HasItsKey, Accepts, IsKeyed, IsKeyed
 module _ {R : Type 0} where
   -- the nodes of the index, in its order
   abbrev pub nodes_of : AnyIndex → Store R → List Node
-  nodes_of i s = list_of (column_of s) i
+  nodes_of i s = list_of (columns_in s) i
 
   -- the links of the index are those of the store
   abbrev pub IsIn : AnyIndex → Store R → Type 0
-  IsIn i s = IsSound (column_of s) i
+  IsIn i s = IsSound (columns_in s) i
 
   -- the node is one of the index
   pub record HasNode (i : AnyIndex) (s : Store R) (n : Node) : Type 0 where

@@ -3,15 +3,17 @@ ghost use Rattle.std.specs.Prelude.{◌≡◌, ℕ, ◌<◌, ◌≤◌, IsTrue, 
 ghost use Rattle.std.specs.declared.cmp.Ordering.{Ordering};
 ghost use Rattle.list_model.specs.Walk.{without};
 ghost use Rattle.key_extract.specs.Digests.{Marks};
-ghost use Rattle.node_store.specs.Column.{Column, IsNode};
+ghost use Rattle.node_store.specs.Column.{IsNode};
 ghost use Rattle.node_store.specs.Nodes.{Lacks};
 ghost use Rattle.node_store.specs.declared.Node.{Node};
 ghost use Rattle.std.specs.Ordering.{is_le};
 ghost use Rattle.ord_tree.specs.Last.{last_that};
-ghost use Rattle.node_store.specs.ByNode.{column_of, same_node};
+ghost use Rattle.node_store.specs.ByNode.{Columns, column_of, same_node};
+ghost use Rattle.node_store.specs.Store.{age_of};
 ghost use Rattle.container_model.specs.State.{has_key_kind};
 ghost use Rattle.any_index.specs.Lists.{entered, settled_in};
 
+use crate::sound::sound;
 use container_model::Kind;
 use hash_index::HashIndex;
 use key_extract::Extract;
@@ -49,8 +51,8 @@ impl AnyIndex {
         ensures kind { kind_of result ≡ kind }
         ensures col { col_of result ≡ column }
         ensures index { index_of result ≡ cond (has_key_kind kind) index column }
-        ensures sound { (cs : ℕ → Column) → IsSound cs result }
-        ensures empty { (cs : ℕ → Column) → list_of cs result ≡ [] }
+        ensures sound { (cs : Columns) → IsSound cs result }
+        ensures empty { (cs : Columns) → list_of cs result ≡ [] }
     {
         match kind {
             Kind::Sequenced => AnyIndex::Sequenced(SeqIndex::new(column)),
@@ -116,7 +118,10 @@ impl AnyIndex {
             AnyIndex::Random(row) => row.reserve_one(store),
             AnyIndex::Ordered(tree) => tree.reserve_one(store),
             AnyIndex::Ranked(tree) => tree.reserve_one(store),
-            AnyIndex::Hashed(buckets) => buckets.reserve_one(store),
+            AnyIndex::Hashed(buckets) => {
+                sound(store);
+                buckets.reserve_one(store)
+            }
         }
     }
 
@@ -140,7 +145,7 @@ impl AnyIndex {
             last_that (λ m. is_le (order_in E.Extract self.old store.old keys.now m n))
             (nodes_of self.old store.old) ≡ Some m }
         ensures sound { IsIn self.new store.new }
-        ensures list { nodes_of self.new store.new ≡ entered (kind_of self.old)
+        ensures list { nodes_of self.new store.new ≡ entered (kind_of self.old) (age_of store.old)
             (order_in E.Extract self.old store.old keys.now) at n (nodes_of self.old store.old) }
         ensures keyed { IsKeyed (E.order_of keys.now) (marks_of E.Extract keys.now) store.new self.new }
         ensures rest { KeepsRest self.old self.new store.old store.new }
@@ -156,7 +161,10 @@ impl AnyIndex {
             },
             AnyIndex::Ordered(tree) => tree.link(store, keys, n, last),
             AnyIndex::Ranked(tree) => tree.link(store, keys, n, last),
-            AnyIndex::Hashed(buckets) => buckets.link(store, keys, n),
+            AnyIndex::Hashed(buckets) => {
+                sound(store);
+                buckets.link(store, keys, n);
+            }
         }
     }
 
@@ -178,7 +186,10 @@ impl AnyIndex {
             AnyIndex::Random(row) => row.unlink(store, n),
             AnyIndex::Ordered(tree) => tree.unlink(store, n),
             AnyIndex::Ranked(tree) => tree.unlink(store, n),
-            AnyIndex::Hashed(buckets) => buckets.unlink(store, n),
+            AnyIndex::Hashed(buckets) => {
+                sound(store);
+                buckets.unlink(store, n);
+            }
         }
     }
 
@@ -198,7 +209,10 @@ impl AnyIndex {
             AnyIndex::Sequenced(_) | AnyIndex::Random(_) => {}
             AnyIndex::Ordered(tree) => tree.settle(store, keys, n),
             AnyIndex::Ranked(tree) => tree.settle(store, keys, n),
-            AnyIndex::Hashed(buckets) => buckets.settle(store, keys, n),
+            AnyIndex::Hashed(buckets) => {
+                sound(store);
+                buckets.settle(store, keys, n);
+            }
         }
     }
 }

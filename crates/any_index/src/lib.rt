@@ -9,5 +9,6 @@ mod marks;
 mod order;
 mod reads;
 mod seek;
+mod sound;
 
 pub use index::AnyIndex;

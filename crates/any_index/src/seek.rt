@@ -8,12 +8,14 @@ ghost use Rattle.ord_tree.specs.Stored as trees;
 ghost use Rattle.container_model.specs.State.{has_key_kind, is_ranked_kind, is_sorted_kind};
 ghost use Rattle.list_model.specs.Place.{below, not_above, count_equal, find_equal, lower as the_lower, upper as the_upper, find_rank as the_rank};
 ghost use Rattle.node_store.specs.ByNode.{column_of, record_of};
+ghost use Rattle.node_store.specs.Store.{age_of};
 ghost use Rattle.any_index.specs.Side.{AreNodesOf, equal_but};
 ghost use Rattle.ord_tree.specs.Last.{last_that};
 ghost use Rattle.any_index.specs.Side.{side_of};
-ghost use Rattle.any_index.specs.Spelled.{Holds, kind_of, by_number};
+ghost use Rattle.any_index.specs.Spelled.{Holds, kind_of, by_age};
 
 use crate::AnyIndex;
+use crate::sound::sound;
 use hash_index::HashIndex;
 use key_extract::Extract;
 use node_store::{Node, NodeStore};
@@ -270,14 +272,15 @@ fn first_added<R, E: Extract<R>>(
     keys: &E,
     probe: &E::Probe,
 ) -> Option<Node>
-    requires sound { hash.IsSound (column_of store.now) buckets.now }
+    requires sound { hash.IsSound (age_of store.now) (column_of store.now) buckets.now }
     requires key { IsTrue (E.has_key keys.now (hash.index_of buckets.now)) }
     requires whole { IsTrue (E.is_whole keys.now (hash.index_of buckets.now) probe.now) }
     requires hashed { IsHashed (E.hash_of keys.now (hash.index_of buckets.now)) store.now
         (hash.col_of buckets.now) (hash.spelled (column_of store.now) buckets.now) }
     ensures { result ≡ find_equal (side_of (record_of store.now)
         (λ a. E.probe_order_of keys.now (hash.index_of buckets.now) a probe.now))
-        (by_number (hash.spelled (column_of store.now) buckets.now)) }
+        (by_age (age_of store.now) (hash.spelled (column_of store.now) buckets.now)) }
 {
+    sound(store);
     buckets.earliest_of(store, keys, probe)
 }

@@ -22,18 +22,26 @@ module _ (cs : ℕ → Column) (i : HashIndex) (at : Option Node) where
       s.rest ∙ ap (λ zs. n ∷ zs) (ap (λ o. rest_of cs i o) (no_node link.b last) ∙ rest_none cs i)
 
   -- one of no nodes keeps none
-  pub none_stay : (chain : Chain) → at ≡ None → Builds (cs i.col) chain [] → Builds (cs i.col) chain (left (cs i.col) i (rest_of cs i at))
-  none_stay chain e h = subst (λ z. Builds (cs i.col) chain (left (cs i.col) i z)) (sym (ap (λ o. rest_of cs i o) e ∙ rest_none cs i)) h
+  pub none_stay : {ages : Node → ℕ} (chain : Chain) → at ≡ None → Builds ages (cs i.col) chain [] → Builds ages (cs i.col) chain (left (cs i.col) i (rest_of cs i at))
+  none_stay {ages} chain e h = subst (λ z. Builds ages (cs i.col) chain (left (cs i.col) i z)) (sym (ap (λ o. rest_of cs i o) e ∙ rest_none cs i)) h
 
   -- and gives none away
-  pub none_go : (chain : Chain) → at ≡ None → Builds (cs i.col) chain [] → Builds (cs i.col) chain (taken (cs i.col) i (rest_of cs i at))
-  none_go chain e h = subst (λ z. Builds (cs i.col) chain (taken (cs i.col) i z)) (sym (ap (λ o. rest_of cs i o) e ∙ rest_none cs i)) h
+  pub none_go : {ages : Node → ℕ} (chain : Chain) → at ≡ None → Builds ages (cs i.col) chain [] → Builds ages (cs i.col) chain (taken (cs i.col) i (rest_of cs i at))
+  none_go {ages} chain e h = subst (λ z. Builds ages (cs i.col) chain (taken (cs i.col) i z)) (sym (ap (λ o. rest_of cs i o) e ∙ rest_none cs i)) h
 
   module _ (n : Node) (one : rest_of cs i at ≡ n ∷ []) (chain : Chain) where
     -- one whose node goes keeps none
-    pub it_goes : goes (cs i.col) i n ≡ true → Builds (cs i.col) chain [] → Builds (cs i.col) chain (left (cs i.col) i (rest_of cs i at))
-    it_goes e h = subst (λ z. Builds (cs i.col) chain (left (cs i.col) i z)) (sym one) (subst (λ b. Builds (cs i.col) chain (cond (not b) (n ∷ []) [])) (sym e) h)
+    pub it_goes : {ages : Node → ℕ} → goes (cs i.col) i n ≡ true → Builds ages (cs i.col) chain [] → Builds ages (cs i.col) chain (left (cs i.col) i (rest_of cs i at))
+    it_goes {ages} e h = subst (λ z. Builds ages (cs i.col) chain (left (cs i.col) i z)) (sym one) (subst (λ b. Builds ages (cs i.col) chain (cond (not b) (n ∷ []) [])) (sym e) h)
+
+    -- and gives that one away
+    pub it_moves : {ages : Node → ℕ} → goes (cs i.col) i n ≡ true → Builds ages (cs i.col) chain (n ∷ []) → Builds ages (cs i.col) chain (taken (cs i.col) i (rest_of cs i at))
+    it_moves {ages} e h = subst (λ z. Builds ages (cs i.col) chain (taken (cs i.col) i z)) (sym one) (subst (λ b. Builds ages (cs i.col) chain (cond b (n ∷ []) [])) (sym e) h)
 
     -- one whose node stays gives none away
-    pub it_stays : goes (cs i.col) i n ≡ false → Builds (cs i.col) chain [] → Builds (cs i.col) chain (taken (cs i.col) i (rest_of cs i at))
-    it_stays e h = subst (λ z. Builds (cs i.col) chain (taken (cs i.col) i z)) (sym one) (subst (λ b. Builds (cs i.col) chain (cond b (n ∷ []) [])) (sym e) h)
+    pub it_stays : {ages : Node → ℕ} → goes (cs i.col) i n ≡ false → Builds ages (cs i.col) chain [] → Builds ages (cs i.col) chain (taken (cs i.col) i (rest_of cs i at))
+    it_stays {ages} e h = subst (λ z. Builds ages (cs i.col) chain (taken (cs i.col) i z)) (sym one) (subst (λ b. Builds ages (cs i.col) chain (cond b (n ∷ []) [])) (sym e) h)
+
+    -- and keeps that one
+    pub it_remains : {ages : Node → ℕ} → goes (cs i.col) i n ≡ false → Builds ages (cs i.col) chain (n ∷ []) → Builds ages (cs i.col) chain (left (cs i.col) i (rest_of cs i at))
+    it_remains {ages} e h = subst (λ z. Builds ages (cs i.col) chain (left (cs i.col) i z)) (sym one) (subst (λ b. Builds ages (cs i.col) chain (cond (not b) (n ∷ []) [])) (sym e) h)

@@ -38,42 +38,42 @@ use Rattle.hash_index.proofs.Cutting.{Distinct_filter, filters_apart, never_both
 
 -- ---- an index with the same chains
 
-pub same_spells : (cs : ℕ → Column) (i j : HashIndex) (xs : List Node) → IsSame i j → Spells cs i xs → Spells cs j xs
-same_spells cs i j xs same h =
+pub same_spells : {ages : Node → ℕ} (cs : ℕ → Column) (i j : HashIndex) (xs : List Node) → IsSame i j → Spells ages cs i xs → Spells ages cs j xs
+same_spells {ages} cs i j xs same h =
     let k = hangs_of cs i xs h in
-    let into = chains_same (cs i.col) (cs i.col) (leads_to i) (leads_to j) 0 (λ b le hash e. same.leads hash ∙ e) (heads_of i) k.chains (IsSameAt-refl (cs i.col) (joined k.chains)) k.are in
-    let hangs : Hangs (cs i.col) (leads_to j) 0 (heads_of i) xs = record { chains = k.chains; are = into; whole = k.whole } in
-    Spells_from cs j xs (subst (λ b. Hangs (cs b) (leads_to j) 0 (heads_of j) xs) (sym same.col) (subst (λ z. Hangs (cs i.col) (leads_to j) 0 z xs) (sym (ap (map first_in) same.chains)) hangs))
+    let into = chains_same ages (cs i.col) (cs i.col) (leads_to i) (leads_to j) 0 (λ b le hash e. same.leads hash ∙ e) (heads_of i) k.chains (IsSameAt-refl (cs i.col) (joined k.chains)) k.are in
+    let hangs : Hangs ages (cs i.col) (leads_to j) 0 (heads_of i) xs = record { chains = k.chains; are = into; whole = k.whole } in
+    Spells_from cs j xs (subst (λ b. Hangs ages (cs b) (leads_to j) 0 (heads_of j) xs) (sym same.col) (subst (λ z. Hangs ages (cs i.col) (leads_to j) 0 z xs) (sym (ap (map first_in) same.chains)) hangs))
     h.distinct (same.len ∙ h.len) (omega (arith, same.len, h.load, i.chains.ok, j.chains.ok, ap length same.chains))
     (subst (λ b. AreRight (cs b) (all_of j)) (sym same.col) (subst (AreRight (cs i.col)) (sym same.chains) h.right))
-    (subst (λ b. AreOldest (cs b) xs (all_of j)) (sym same.col) (subst (AreOldest (cs i.col) xs) (sym same.chains) h.oldest))
+    (subst (λ b. AreOldest ages (cs b) xs (all_of j)) (sym same.col) (subst (AreOldest ages (cs i.col) xs) (sym same.chains) h.oldest))
 
-pub same_sound : (cs : ℕ → Column) (i j : HashIndex) → IsSame i j → IsSound cs i → IsSound cs j
-same_sound cs i j same h = IsSound_from cs j (spelled cs i) (same_spells cs i j (spelled cs i) same h)
+pub same_sound : {ages : Node → ℕ} (cs : ℕ → Column) (i j : HashIndex) → IsSame i j → IsSound ages cs i → IsSound ages cs j
+same_sound {ages} cs i j same h = IsSound_from cs j (spelled cs i) (same_spells cs i j (spelled cs i) same h)
 
-pub same_spelled : (cs : ℕ → Column) (i j : HashIndex) → IsSame i j → IsSound cs i → spelled cs j ≡ spelled cs i
-same_spelled cs i j same h = spelled_is cs j (spelled cs i) (same_spells cs i j (spelled cs i) same h)
+pub same_spelled : {ages : Node → ℕ} (cs : ℕ → Column) (i j : HashIndex) → IsSame i j → IsSound ages cs i → spelled cs j ≡ spelled cs i
+same_spelled {ages} cs i j same h = spelled_is cs j (spelled cs i) (same_spells cs i j (spelled cs i) same h)
 
 -- the first chain of all
-pub first_chain : (cs : ℕ → Column) (i j : HashIndex) (first : Head) → i.chains.len ≡ 0 → first_in first ≡ None → all_of j ≡ all_of i ++ first ∷ [] → j.len ≡ 0 → IsSound cs j
-first_chain cs i j first none empty items len =
+pub first_chain : {ages : Node → ℕ} (cs : ℕ → Column) (i j : HashIndex) (first : Head) → i.chains.len ≡ 0 → first_in first ≡ None → all_of j ≡ all_of i ++ first ∷ [] → j.len ≡ 0 → IsSound ages cs j
+first_chain {ages} cs i j first none empty items len =
     let one = ap (λ z. z ++ first ∷ []) (none_long (all_of i) (omega (arith, i.chains.ok, none))) in
     empty_sound cs j (subst (λ hs. AllByRecursion (λ o. o ≡ None) (map first_in hs)) (sym (items ∙ one)) (empty, tt)) len
 
 -- ---- a chain behind the others
 
-chains_last : (d : Column) (to : ℕ → ℕ) (k b : ℕ) (heads : List (Option Node)) (xss : List (List Node)) (head : Option Node) (ys : List Node) → b ≡ k + length heads → IsChain d to b head ys → AreChains d to k heads xss → AreChains d to k (heads ++ head ∷ []) (xss ++ ys ∷ [])
-chains_last d to k b [] [] head ys e chain h = let same : b ≡ k = omega (arith, e) in (subst (λ z. IsChain d to z head ys) same chain, tt)
-chains_last d to k b [] (xs ∷ xss) head ys e chain h = absurd h
-chains_last d to k b (o ∷ heads) [] head ys e chain h = absurd h
-chains_last d to k b (o ∷ heads) (xs ∷ xss) head ys e chain h = (h.0, chains_last d to (k + 1) b heads xss head ys (omega (arith, e)) chain h.1)
+chains_last : {ages : Node → ℕ} (d : Column) (to : ℕ → ℕ) (k b : ℕ) (heads : List (Option Node)) (xss : List (List Node)) (head : Option Node) (ys : List Node) → b ≡ k + length heads → IsChain ages d to b head ys → AreChains ages d to k heads xss → AreChains ages d to k (heads ++ head ∷ []) (xss ++ ys ∷ [])
+chains_last {ages} d to k b [] [] head ys e chain h = let same : b ≡ k = omega (arith, e) in (subst (λ z. IsChain ages d to z head ys) same chain, tt)
+chains_last {ages} d to k b [] (xs ∷ xss) head ys e chain h = absurd h
+chains_last {ages} d to k b (o ∷ heads) [] head ys e chain h = absurd h
+chains_last {ages} d to k b (o ∷ heads) (xs ∷ xss) head ys e chain h = (h.0, chains_last d to (k + 1) b heads xss head ys (omega (arith, e)) chain h.1)
 
 joined_last : (xss : List (List Node)) (ys : List Node) → joined (xss ++ ys ∷ []) ≡ joined xss ++ ys
 joined_last [] ys = append-nil ys
 joined_last (xs ∷ xss) ys = ap (λ z. xs ++ z) (joined_last xss ys) ∙ sym (append_assoc xs (joined xss) ys)
 
-pub hangs_last : (d : Column) (to : ℕ → ℕ) (heads : List (Option Node)) (xs : List Node) (head : Option Node) (ys : List Node) → IsChain d to (length heads) head ys → Hangs d to 0 heads xs → Hangs d to 0 (heads ++ head ∷ []) (xs ++ ys)
-hangs_last d to heads xs head ys chain h = record {
+pub hangs_last : {ages : Node → ℕ} (d : Column) (to : ℕ → ℕ) (heads : List (Option Node)) (xs : List Node) (head : Option Node) (ys : List Node) → IsChain ages d to (length heads) head ys → Hangs ages d to 0 heads xs → Hangs ages d to 0 (heads ++ head ∷ []) (xs ++ ys)
+hangs_last {ages} d to heads xs head ys chain h = record {
   chains = h.chains ++ ys ∷ [];
   are = chains_last d to 0 (length heads) heads h.chains head ys (omega arith) chain h.are;
   whole = joined_last h.chains ys ∙ ap (λ z. z ++ ys) h.whole;
@@ -213,10 +213,10 @@ module _ (i j : HashIndex) (level : j.level ≡ i.level) (count : j.chains.len �
       let bad : leads_to i hash ≡ i.chains.len = sym (into_stays hash ne) ∙ e in
       omega (arith, lt, bad)
 
-  module _ (cs ds : ℕ → Column) (stay moved : Chain) (head : Option Node) (from : ℕ) (h : IsSound cs i) (from_is : from ≡ i.chains.len - i.level) (at : head ≡ get_or (heads_of i) from None)
-      (stay_is : Builds (ds i.col) stay (left (cs i.col) i (rest_of cs i head))) (moved_is : Builds (ds i.col) moved (taken (cs i.col) i (rest_of cs i head))) (stay_rising : IsRising (ds i.col) (left (cs i.col) i (rest_of cs i head))) (moved_rising : IsRising (ds i.col) (taken (cs i.col) i (rest_of cs i head))) (tags : KeepsTags (cs i.col) (ds i.col)) (same : (m : Node) → Lacks (rest_of cs i head) m → ds i.col m ≡ cs i.col m)
+  module _ {ages : Node → ℕ} (cs ds : ℕ → Column) (stay moved : Chain) (head : Option Node) (from : ℕ) (h : IsSound ages cs i) (from_is : from ≡ i.chains.len - i.level) (at : head ≡ get_or (heads_of i) from None)
+      (stay_is : Builds ages (ds i.col) stay (left (cs i.col) i (rest_of cs i head))) (moved_is : Builds ages (ds i.col) moved (taken (cs i.col) i (rest_of cs i head))) (stay_rising : IsRising ages (ds i.col) (left (cs i.col) i (rest_of cs i head))) (moved_rising : IsRising ages (ds i.col) (taken (cs i.col) i (rest_of cs i head))) (tags : KeepsTags (cs i.col) (ds i.col)) (same : (m : Node) → Lacks (rest_of cs i head) m → ds i.col m ≡ cs i.col m)
       (col : j.col ≡ i.col) (len : j.len ≡ i.len) (cuts : CutsHeads i j from stay.first moved.first) (stay_right : IsRight (ds i.col) cuts.stays) (moved_right : IsRight (ds i.col) cuts.goes)
-      (stay_old : 192 ≤ cuts.stays.mark → (n : Node) → first_in cuts.stays ≡ Some n → IsOldestOf (cs i.col) (spelled cs i) n) (moved_old : 192 ≤ cuts.goes.mark → (n : Node) → first_in cuts.goes ≡ Some n → IsOldestOf (cs i.col) (spelled cs i) n) where
+      (stay_old : 192 ≤ cuts.stays.mark → (n : Node) → first_in cuts.stays ≡ Some n → IsOldestOf ages (cs i.col) (spelled cs i) n) (moved_old : 192 ≤ cuts.goes.mark → (n : Node) → first_in cuts.goes ≡ Some n → IsOldestOf ages (cs i.col) (spelled cs i) n) where
     abbrev c : Column
     c = cs i.col
 
@@ -229,7 +229,7 @@ module _ (i j : HashIndex) (level : j.level ≡ i.level) (count : j.chains.len �
     abbrev remainder : ℕ → ℕ
     remainder hash = hash % (i.level * 2)
 
-    focused : Focus c (leads_to i) 0 from from (heads_of i) (spelled cs i)
+    focused : Focus ages c (leads_to i) 0 from from (heads_of i) (spelled cs i)
     focused = focus_of cs i (spelled cs i) from (omega (arith, from_is, some, i.some_level)) h
 
     rest : rest_of cs i head ≡ focused.chain
@@ -244,25 +244,25 @@ module _ (i j : HashIndex) (level : j.level ≡ i.level) (count : j.chains.len �
     goes_in : (n : Node) → goes c i n ≡ true → IsIn d (leads_to j) last n
     goes_in n gone = let t = leads_tag c remainder last n gone in ap (option_map (leads_to j)) (tags n ∙ t.1.0) ∙ ap Some (into_goes t.0 t.1.1)
 
-    stay_chain : IsChain d (leads_to j) from stay.first (left c i focused.chain)
+    stay_chain : IsChain ages d (leads_to j) from stay.first (left c i focused.chain)
     stay_chain =
-        let b = subst (λ z. Builds d stay (left c i z)) rest stay_is in
+        let b = subst (λ z. Builds ages d stay (left c i z)) rest stay_is in
         record {
           first = b.first;
           runs = b.runs;
           members = All-map (λ n. IsIn c (leads_to i) from n × (not (goes c i n) ≡ true)) (IsIn d (leads_to j) from) (λ n e. stays_in n e.0 e.1) (left c i focused.chain)
               (All-both (IsIn c (leads_to i) from) (λ n. not (goes c i n) ≡ true) (left c i focused.chain) (All-filter (IsIn c (leads_to i) from) (λ n. not (goes c i n)) focused.chain focused.here.members) (All-passed (λ n. not (goes c i n)) focused.chain));
-          rising = subst (λ z. IsRising d (left c i z)) rest stay_rising;
+          rising = subst (λ z. IsRising ages d (left c i z)) rest stay_rising;
         }
 
-    moved_chain : IsChain d (leads_to j) last moved.first (taken c i focused.chain)
+    moved_chain : IsChain ages d (leads_to j) last moved.first (taken c i focused.chain)
     moved_chain =
-        let b = subst (λ z. Builds d moved (taken c i z)) rest moved_is in
+        let b = subst (λ z. Builds ages d moved (taken c i z)) rest moved_is in
         record {
           first = b.first;
           runs = b.runs;
           members = All-map (λ n. goes c i n ≡ true) (IsIn d (leads_to j) last) goes_in (taken c i focused.chain) (All-passed (goes c i) focused.chain);
-          rising = subst (λ z. IsRising d (taken c i z)) rest moved_rising;
+          rising = subst (λ z. IsRising ages d (taken c i z)) rest moved_rising;
         }
 
     same_apart : (zs : List Node) → AreApart zs focused.chain → IsSameAt c d zs
@@ -272,42 +272,42 @@ module _ (i j : HashIndex) (level : j.level ≡ i.level) (count : j.chains.len �
     abbrev new_list : List Node
     new_list = cut_list (goes c i) focused.front focused.chain focused.back
 
-    grown_hangs : Hangs d (leads_to j) 0 (set (heads_of i) from stay.first ++ moved.first ∷ []) new_list
+    grown_hangs : Hangs ages d (leads_to j) 0 (set (heads_of i) from stay.first ++ moved.first ∷ []) new_list
     grown_hangs =
         let a = apart_of focused.front focused.chain focused.back (subst IsDistinct focused.whole h.distinct) in
         let keeps = subst (KeepsOtherChains (leads_to i) (leads_to j)) (sym from_is) others_stay in
         let one = focused.with_chain d (leads_to j) keeps stay.first (left c i focused.chain) (same_apart focused.front (AreApart-sym focused.chain focused.front a.before)) (same_apart focused.back (AreApart-sym focused.chain focused.back a.after)) stay_chain in
         let place : last ≡ length (set (heads_of i) from stay.first) = omega (arith, heads_count i, length-set (heads_of i) from stay.first) in
-        hangs_last d (leads_to j) (set (heads_of i) from stay.first) (focused.front ++ (left c i focused.chain ++ focused.back)) moved.first (taken c i focused.chain) (subst (λ b. IsChain d (leads_to j) b moved.first (taken c i focused.chain)) place moved_chain) one
+        hangs_last d (leads_to j) (set (heads_of i) from stay.first) (focused.front ++ (left c i focused.chain ++ focused.back)) moved.first (taken c i focused.chain) (subst (λ b. IsChain ages d (leads_to j) b moved.first (taken c i focused.chain)) place moved_chain) one
 
     grown_right : AreRight (ds j.col) (all_of j)
     grown_right =
         let k = hangs_of cs i (spelled cs i) h in
         let apart : (b : ℕ) (m : Node) → b ≢ from → IsIn c (leads_to i) b m → d m ≡ c m =
         λ b m ne is. same m (subst (λ z. Lacks z m) (sym rest) (lacks_other c (leads_to i) from b focused.chain m focused.here.members is ne)) in
-        let most = right_set c d (leads_to i) (IsNode c) 0 from (all_of i) k.chains cuts.stays k.are (subst (AllByRecursion (IsNode c)) (sym k.whole) (each_node c (spelled cs i) (Spells_nodes cs i (spelled cs i) h)))
+        let most = right_set ages c d (leads_to i) (IsNode c) 0 from (all_of i) k.chains cuts.stays k.are (subst (AllByRecursion (IsNode c)) (sym k.whole) (each_node c (spelled cs i) (Spells_nodes cs i (spelled cs i) h)))
         (λ b m ne node is. apart b m (λ e. ne (omega (arith, e))) is) stay_right h.right in
         subst (λ b. AreRight (ds b) (all_of j)) (sym col) (subst (AreRight d) (sym cuts.heads) (All-join (IsRight d) (set (all_of i) from cuts.stays) (cuts.goes ∷ []) most (moved_right, tt)))
 
-    old_there : (n : Node) → IsOldestOf c (spelled cs i) n → IsOldestOf d new_list n
-    old_there n old = old_tags c d new_list n tags (old_cut c (goes c i) focused.front focused.chain focused.back n (subst (λ z. IsOldestOf c z n) focused.whole old))
+    old_there : (n : Node) → IsOldestOf ages c (spelled cs i) n → IsOldestOf ages d new_list n
+    old_there n old = old_tags ages c d new_list n tags (old_cut ages c (goes c i) focused.front focused.chain focused.back n (subst (λ z. IsOldestOf ages c z n) focused.whole old))
 
-    grown_oldest : AreOldest (ds j.col) new_list (all_of j)
+    grown_oldest : AreOldest ages (ds j.col) new_list (all_of j)
     grown_oldest =
         let k = hangs_of cs i (spelled cs i) h in
-        let most = oldest_set c d (leads_to i) (IsNode c) (spelled cs i) new_list 0 from (all_of i) k.chains cuts.stays k.are (subst (AllByRecursion (IsNode c)) (sym k.whole) (each_node c (spelled cs i) (Spells_nodes cs i (spelled cs i) h)))
+        let most = oldest_set ages ages c d (leads_to i) (IsNode c) (spelled cs i) new_list 0 from (all_of i) k.chains cuts.stays k.are (subst (AllByRecursion (IsNode c)) (sym k.whole) (each_node c (spelled cs i) (Spells_nodes cs i (spelled cs i) h)))
         (λ b m ne node is. old_there m) (λ says n first. old_there n (stay_old says n first)) h.oldest in
-        subst (λ b. AreOldest (ds b) new_list (all_of j)) (sym col) (subst (AreOldest d new_list) (sym cuts.heads)
-        (All-join (IsOldest d new_list) (set (all_of i) from cuts.stays) (cuts.goes ∷ []) most ((λ says n first. old_there n (moved_old says n first)), tt)))
+        subst (λ b. AreOldest ages (ds b) new_list (all_of j)) (sym col) (subst (AreOldest ages d new_list) (sym cuts.heads)
+        (All-join (IsOldest ages d new_list) (set (all_of i) from cuts.stays) (cuts.goes ∷ []) most ((λ says n first. old_there n (moved_old says n first)), tt)))
 
-    grown_spells : Spells ds j new_list
+    grown_spells : Spells ages ds j new_list
     grown_spells =
-        let hangs = subst (λ k. Hangs (ds k) (leads_to j) 0 (heads_of j) new_list) (sym col) (subst (λ z. Hangs d (leads_to j) 0 z new_list) (sym (cut_firsts i j from stay.first moved.first cuts)) grown_hangs) in
+        let hangs = subst (λ k. Hangs ages (ds k) (leads_to j) 0 (heads_of j) new_list) (sym col) (subst (λ z. Hangs ages d (leads_to j) 0 z new_list) (sym (cut_firsts i j from stay.first moved.first cuts)) grown_hangs) in
         let count_kept = length_permutation _ _ (cut_moved (goes c i) focused.front focused.chain focused.back) in
         Spells_from ds j new_list hangs (cut_distinct (goes c i) focused.front focused.chain focused.back (subst IsDistinct focused.whole h.distinct))
         (omega (arith, len, h.len, ap length focused.whole, count_kept)) (omega (arith, len, h.load, count)) grown_right grown_oldest
 
-    pub grown_sound : IsSound ds j
+    pub grown_sound : IsSound ages ds j
     grown_sound = IsSound_from ds j new_list grown_spells
 
     pub grown_moved : IsPermutation (spelled cs i) (spelled ds j)

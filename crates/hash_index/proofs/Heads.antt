@@ -103,13 +103,13 @@ pub all_none : (c : Column) (hs : List Head) → AllByRecursion (λ o. o ≡ Non
 all_none c [] none = tt
 all_none c (h ∷ hs) none = (right_none c h none.0, all_none c hs none.1)
 
-module _ (c d : Column) (to : ℕ → ℕ) where
-  right_one : (j : ℕ) (h : Head) (xs : List Node) → IsChain c to j (first_in h) xs → ((m : Node) → first_or xs None ≡ Some m → d m ≡ c m) → IsRight c h → IsRight d h
+module _ (ages : Node → ℕ) (c d : Column) (to : ℕ → ℕ) where
+  right_one : (j : ℕ) (h : Head) (xs : List Node) → IsChain ages c to j (first_in h) xs → ((m : Node) → first_or xs None ≡ Some m → d m ≡ c m) → IsRight c h → IsRight d h
   right_one j h xs chain same right = λ alone n l first at. right alone n l first (sym (same n (sym chain.first ∙ first)) ∙ at)
 
   module _ (Q : Node → Type 0) where
     -- heads stay right where the links of the first nodes stay
-    pub right_kept : (k : ℕ) (hs : List Head) (xss : List (List Node)) → AreChains c to k (map first_in hs) xss → AllByRecursion Q (joined xss) → ((j : ℕ) (m : Node) → k ≤ j → Q m → IsIn c to j m → d m ≡ c m) → AreRight c hs → AreRight d hs
+    pub right_kept : (k : ℕ) (hs : List Head) (xss : List (List Node)) → AreChains ages c to k (map first_in hs) xss → AllByRecursion Q (joined xss) → ((j : ℕ) (m : Node) → k ≤ j → Q m → IsIn c to j m → d m ≡ c m) → AreRight c hs → AreRight d hs
     right_kept k [] xss chains all same right = tt
     right_kept k (h ∷ hs) [] chains all same right = absurd chains
     right_kept k (h ∷ hs) (xs ∷ xss) chains all same right =
@@ -119,7 +119,7 @@ module _ (c d : Column) (to : ℕ → ℕ) where
         )
 
     -- and where the head of the one chain of which they may not is right
-    pub right_set : (k b : ℕ) (hs : List Head) (xss : List (List Node)) (new : Head) → AreChains c to k (map first_in hs) xss → AllByRecursion Q (joined xss) → ((j : ℕ) (m : Node) → j ≢ k + b → Q m → IsIn c to j m → d m ≡ c m) → IsRight d new → AreRight c hs → AreRight d (set hs b new)
+    pub right_set : (k b : ℕ) (hs : List Head) (xss : List (List Node)) (new : Head) → AreChains ages c to k (map first_in hs) xss → AllByRecursion Q (joined xss) → ((j : ℕ) (m : Node) → j ≢ k + b → Q m → IsIn c to j m → d m ≡ c m) → IsRight d new → AreRight c hs → AreRight d (set hs b new)
     right_set k b [] xss new chains all same is right = tt
     right_set k b (h ∷ hs) [] new chains all same is right = absurd chains
     right_set k zero (h ∷ hs) (xs ∷ xss) new chains all same is right =

@@ -7,7 +7,7 @@ use Rattle.node_store.specs.declared.Node.{Node}
 use Rattle.node_store.specs.declared.Link.{Link}
 use Rattle.node_store.specs.Column.{Column, IsNode}
 use Rattle.node_store.specs.Nodes.{AllNodes, Lacks, IsDistinct}
-use Rattle.node_store.specs.Store.{Store, IsNodeOf}
+use Rattle.node_store.specs.Store.{Store, IsNodeOf, age_of}
 use Rattle.node_store.specs.ByNode.{column_of, record_of, contents, same_node, AddsNode, RemovesNode}
 use Rattle.node_store.proofs.ByNode.{lacks_added, same_added, same_removed, node_of_column, records_kept, same_node-true}
 use Rattle.node_store.proofs.Members.{differ}
@@ -23,21 +23,22 @@ use Rattle.hash_index.specs.Spelled.{heads_of, Spells, IsSound, spelled, col_of,
 use Rattle.hash_index.specs.Hashed.{KeepsHash, IsHashed}
 use Rattle.hash_index.proofs.Spelling as spelling
 use Rattle.hash_index.proofs.Spelling.{nodes_at}
+pub use Rattle.hash_index.proofs.Aged.{Spells_aged, Spells_contents, aged_added, aged_removed}
 pub use Rattle.hash_index.proofs.Spelling.{spelled_is, IsSound_from}
 
-pub Spells_distinct : (cs : ℕ → Column) (i : HashIndex) (xs : List Node) → Spells cs i xs → IsDistinct xs
-Spells_distinct cs i xs h = h.distinct
+pub Spells_distinct : {ages : Node → ℕ} (cs : ℕ → Column) (i : HashIndex) (xs : List Node) → Spells ages cs i xs → IsDistinct xs
+Spells_distinct {ages} cs i xs h = h.distinct
 
 -- an index stays as it is where its column stays
 pub spelled_kept : (cs ds : ℕ → Column) (i : HashIndex) → ds (col_of i) ≡ cs (col_of i) → spelled ds i ≡ spelled cs i
 unfolding spelled
 spelled_kept cs ds i e = ap (λ (c : Column). joined (map (λ head. follow (untagged c) head i.len) (heads_of i))) e
 
-pub Spells_kept : (cs ds : ℕ → Column) (i : HashIndex) (xs : List Node) → ds (col_of i) ≡ cs (col_of i) → Spells cs i xs → Spells ds i xs
-Spells_kept cs ds i xs e h = spelling.Spells_same cs ds i xs (IsSameAt-kept (cs (col_of i)) (ds (col_of i)) xs e) h
+pub Spells_kept : {ages : Node → ℕ} (cs ds : ℕ → Column) (i : HashIndex) (xs : List Node) → ds (col_of i) ≡ cs (col_of i) → Spells ages cs i xs → Spells ages ds i xs
+Spells_kept {ages} cs ds i xs e h = spelling.Spells_same cs ds i xs (IsSameAt-kept (cs (col_of i)) (ds (col_of i)) xs e) h
 
-pub IsSound_kept : (cs ds : ℕ → Column) (i : HashIndex) → ds (col_of i) ≡ cs (col_of i) → IsSound cs i → IsSound ds i
-IsSound_kept cs ds i e h = IsSound_from ds i (spelled cs i) (Spells_kept cs ds i (spelled cs i) e h)
+pub IsSound_kept : {ages : Node → ℕ} (cs ds : ℕ → Column) (i : HashIndex) → ds (col_of i) ≡ cs (col_of i) → IsSound ages cs i → IsSound ages ds i
+IsSound_kept {ages} cs ds i e h = IsSound_from ds i (spelled cs i) (Spells_kept cs ds i (spelled cs i) e h)
 
 -- ---- nodes that calls take out
 
@@ -53,38 +54,42 @@ Lacks_without (x ∷ xs) n = without_by xs n x (same_node n x) refl (Lacks_witho
 -- ---- when nodes come and go in the store
 
 -- the store has each node of the list
-pub Spells_nodes : (cs : ℕ → Column) (i : HashIndex) (xs : List Node) → Spells cs i xs → AllNodes (cs (col_of i)) xs
-Spells_nodes = spelling.Spells_nodes
+pub Spells_nodes : {ages : Node → ℕ} (cs : ℕ → Column) (i : HashIndex) (xs : List Node) → Spells ages cs i xs → AllNodes (cs (col_of i)) xs
+Spells_nodes {ages} = spelling.Spells_nodes
 
 module _ {R : Type 0} where
-  pub Spells_added : (old new : Store R) (n : Node) (value : R) (i : HashIndex) (xs : List Node) → AddsNode old new n value → Spells (column_of old) i xs → Spells (column_of new) i xs
+  pub Spells_added : (old new : Store R) (n : Node) (value : R) (i : HashIndex) (xs : List Node) → AddsNode old new n value → Spells (age_of old) (column_of old) i xs → Spells (age_of new) (column_of new) i xs
   Spells_added old new n value i xs a h =
-      spelling.Spells_same (column_of old) (column_of new) i xs (same_added old new n value (col_of i) xs a (Spells_nodes (column_of old) i xs h)) h
+      let nodes = Spells_nodes (column_of old) i xs h in
+      Spells_aged (age_of old) (age_of new) (column_of new) i xs (aged_added old new n value (col_of i) xs a nodes)
+      (spelling.Spells_same (column_of old) (column_of new) i xs (same_added old new n value (col_of i) xs a nodes) h)
 
   -- the new node is not in the list
-  pub Lacks_added : (old new : Store R) (n : Node) (value : R) (i : HashIndex) (xs : List Node) → AddsNode old new n value → Spells (column_of old) i xs → Lacks xs n
-  Lacks_added old new n value i xs a h = lacks_added old new n value (col_of i) xs a (Spells_nodes (column_of old) i xs h)
+  pub Lacks_added : {ages : Node → ℕ} (old new : Store R) (n : Node) (value : R) (i : HashIndex) (xs : List Node) → AddsNode old new n value → Spells ages (column_of old) i xs → Lacks xs n
+  Lacks_added {ages} old new n value i xs a h = lacks_added old new n value (col_of i) xs a (Spells_nodes (column_of old) i xs h)
 
-  pub Spells_removed : (old new : Store R) (n : Node) (i : HashIndex) (xs : List Node) → RemovesNode old new n → Lacks xs n → Spells (column_of old) i xs → Spells (column_of new) i xs
-  Spells_removed old new n i xs r lacks h = spelling.Spells_same (column_of old) (column_of new) i xs (same_removed old new n (col_of i) xs r lacks) h
+  pub Spells_removed : (old new : Store R) (n : Node) (i : HashIndex) (xs : List Node) → RemovesNode old new n → Lacks xs n → Spells (age_of old) (column_of old) i xs → Spells (age_of new) (column_of new) i xs
+  Spells_removed old new n i xs r lacks h =
+      Spells_aged (age_of old) (age_of new) (column_of new) i xs (aged_removed old new n (col_of i) xs r lacks (Spells_nodes (column_of old) i xs h))
+      (spelling.Spells_same (column_of old) (column_of new) i xs (same_removed old new n (col_of i) xs r lacks) h)
 
-  pub spelled_added : (old new : Store R) (n : Node) (value : R) (i : HashIndex) → AddsNode old new n value → IsSound (column_of old) i → spelled (column_of new) i ≡ spelled (column_of old) i
+  pub spelled_added : (old new : Store R) (n : Node) (value : R) (i : HashIndex) → AddsNode old new n value → IsSound (age_of old) (column_of old) i → spelled (column_of new) i ≡ spelled (column_of old) i
   spelled_added old new n value i a h = spelled_is (column_of new) i (spelled (column_of old) i) (Spells_added old new n value i (spelled (column_of old) i) a h)
 
-  pub IsSound_added : (old new : Store R) (n : Node) (value : R) (i : HashIndex) → AddsNode old new n value → IsSound (column_of old) i → IsSound (column_of new) i
+  pub IsSound_added : (old new : Store R) (n : Node) (value : R) (i : HashIndex) → AddsNode old new n value → IsSound (age_of old) (column_of old) i → IsSound (age_of new) (column_of new) i
   IsSound_added old new n value i a h = IsSound_from (column_of new) i (spelled (column_of old) i) (Spells_added old new n value i (spelled (column_of old) i) a h)
 
-  pub Lacks_spelled_added : (old new : Store R) (n : Node) (value : R) (i : HashIndex) → AddsNode old new n value → IsSound (column_of old) i → Lacks (spelled (column_of new) i) n
+  pub Lacks_spelled_added : (old new : Store R) (n : Node) (value : R) (i : HashIndex) → AddsNode old new n value → IsSound (age_of old) (column_of old) i → Lacks (spelled (column_of new) i) n
   Lacks_spelled_added old new n value i a h = subst (λ (z : List Node). Lacks z n) (sym (spelled_added old new n value i a h)) (Lacks_added old new n value i (spelled (column_of old) i) a h)
 
   -- a node of the list is one of the column
-  pub node_linked : (s : Store R) (i : HashIndex) (n : Node) → IsSound (column_of s) i → Holds (spelled (column_of s) i) n → IsNode (column_of s (col_of i)) n
-  node_linked s i n h k =
+  pub node_linked : {ages : Node → ℕ} (s : Store R) (i : HashIndex) (n : Node) → IsSound ages (column_of s) i → Holds (spelled (column_of s) i) n → IsNode (column_of s (col_of i)) n
+  node_linked {ages} s i n h k =
       nodes_at (column_of s (col_of i)) k.before n k.after (subst (λ z. AllNodes (column_of s (col_of i)) z) k.is (Spells_nodes (column_of s) i (spelled (column_of s) i) h))
 
   -- and of the store
-  pub node_held : (s : Store R) (i : HashIndex) (n : Node) → IsSound (column_of s) i → Holds (spelled (column_of s) i) n → IsNodeOf s n
-  node_held s i n h k = node_of_column s (col_of i) n (node_linked s i n h k)
+  pub node_held : {ages : Node → ℕ} (s : Store R) (i : HashIndex) (n : Node) → IsSound ages (column_of s) i → Holds (spelled (column_of s) i) n → IsNodeOf s n
+  node_held {ages} s i n h k = node_of_column s (col_of i) n (node_linked s i n h k)
 
 -- ---- hashes that the column keeps
 

@@ -5,6 +5,7 @@ pub mod Levels
 pub mod Untagged
 pub mod Heads
 pub mod Oldest
+pub mod Aged
 pub mod Rising
 pub mod OneChain
 pub mod Spelling

@@ -36,46 +36,46 @@ in_same c d to into b keeps (x ∷ xs) s h =
     (ap (λ o. option_map into (option_map tag_of o)) s.0 ∙ in_into c to into b keeps x h.0, in_same c d to into b keeps xs s.1 h.1)
 
 -- a chain whose links stay, where each hash that led to its chain still does
-pub chain_same : (c d : Column) (to into : ℕ → ℕ) (b : ℕ) → ((hash : ℕ) → to hash ≡ b → into hash ≡ b) → (head : Option Node) (xs : List Node) → IsSameAt c d xs → IsChain c to b head xs → IsChain d into b head xs
-chain_same c d to into b keeps head xs s h = record {
+pub chain_same : {ages : Node → ℕ} (c d : Column) (to into : ℕ → ℕ) (b : ℕ) → ((hash : ℕ) → to hash ≡ b → into hash ≡ b) → (head : Option Node) (xs : List Node) → IsSameAt c d xs → IsChain ages c to b head xs → IsChain ages d into b head xs
+chain_same {ages} c d to into b keeps head xs s h = record {
   first = h.first;
   runs = Runs-same (untagged c) (untagged d) None xs None (same_untagged c d xs s) h.runs;
   members = in_same c d to into b keeps xs s h.members;
-  rising = rising_same c d xs s h.rising;
+  rising = rising_same ages c d xs s h.rising;
 }
 
-pub chains_same : (c d : Column) (to into : ℕ → ℕ) (b : ℕ) → ((k : ℕ) → b ≤ k → (hash : ℕ) → to hash ≡ k → into hash ≡ k) → (heads : List (Option Node)) (xss : List (List Node)) → IsSameAt c d (joined xss) → AreChains c to b heads xss → AreChains d into b heads xss
-chains_same c d to into b keeps [] [] s h = tt
-chains_same c d to into b keeps [] (xs ∷ xss) s h = h
-chains_same c d to into b keeps (head ∷ heads) [] s h = h
-chains_same c d to into b keeps (head ∷ heads) (xs ∷ xss) s h =
+pub chains_same : (ages : Node → ℕ) (c d : Column) (to into : ℕ → ℕ) (b : ℕ) → ((k : ℕ) → b ≤ k → (hash : ℕ) → to hash ≡ k → into hash ≡ k) → (heads : List (Option Node)) (xss : List (List Node)) → IsSameAt c d (joined xss) → AreChains ages c to b heads xss → AreChains ages d into b heads xss
+chains_same ages c d to into b keeps [] [] s h = tt
+chains_same ages c d to into b keeps [] (xs ∷ xss) s h = h
+chains_same ages c d to into b keeps (head ∷ heads) [] s h = h
+chains_same ages c d to into b keeps (head ∷ heads) (xs ∷ xss) s h =
     let p = same_parts c d xs (joined xss) s in
-    (chain_same c d to into b (keeps b (omega arith)) head xs p.0 h.0, chains_same c d to into (b + 1) (λ k le. keeps k (omega arith)) heads xss p.1 h.1)
+    (chain_same c d to into b (keeps b (omega arith)) head xs p.0 h.0, chains_same ages c d to into (b + 1) (λ k le. keeps k (omega arith)) heads xss p.1 h.1)
 
 -- no node of a later chain is in this one
-elsewhere_after : (c : Column) (to : ℕ → ℕ) (b k : ℕ) (heads : List (Option Node)) (xss : List (List Node)) → b < k → AreChains c to k heads xss → AllByRecursion (IsElsewhere c to b) (joined xss)
-elsewhere_after c to b k [] [] lt h = tt
-elsewhere_after c to b k [] (xs ∷ xss) lt h = absurd h
-elsewhere_after c to b k (head ∷ heads) [] lt h = absurd h
-elsewhere_after c to b k (head ∷ heads) (xs ∷ xss) lt h =
+elsewhere_after : (ages : Node → ℕ) (c : Column) (to : ℕ → ℕ) (b k : ℕ) (heads : List (Option Node)) (xss : List (List Node)) → b < k → AreChains ages c to k heads xss → AllByRecursion (IsElsewhere c to b) (joined xss)
+elsewhere_after ages c to b k [] [] lt h = tt
+elsewhere_after ages c to b k [] (xs ∷ xss) lt h = absurd h
+elsewhere_after ages c to b k (head ∷ heads) [] lt h = absurd h
+elsewhere_after ages c to b k (head ∷ heads) (xs ∷ xss) lt h =
     let ne : b ≢ k = omega arith in
     All-join (IsElsewhere c to b) xs (joined xss) (All-map (IsIn c to k) (IsElsewhere c to b) (λ n e. elsewhere_from c to b k n ne e) xs h.0.members)
-    (elsewhere_after c to b (k + 1) heads xss (omega arith) h.1)
+    (elsewhere_after ages c to b (k + 1) heads xss (omega arith) h.1)
 
 -- the first node of all
-pub heads_first : (c : Column) (to : ℕ → ℕ) (b : ℕ) (heads : List (Option Node)) (xss : List (List Node)) → AreChains c to b heads xss → first_head heads ≡ first_or (joined xss) None
-heads_first c to b [] [] h = refl
-heads_first c to b [] (xs ∷ xss) h = absurd h
-heads_first c to b (head ∷ heads) [] h = absurd h
-heads_first c to b (None ∷ heads) ([] ∷ xss) h = heads_first c to (b + 1) heads xss h.1
-heads_first c to b (None ∷ heads) ((x ∷ xs) ∷ xss) h = let e = h.0.first in cc
-heads_first c to b (Some n ∷ heads) ([] ∷ xss) h = let e = h.0.first in cc
-heads_first c to b (Some n ∷ heads) ((x ∷ xs) ∷ xss) h = h.0.first
+pub heads_first : (ages : Node → ℕ) (c : Column) (to : ℕ → ℕ) (b : ℕ) (heads : List (Option Node)) (xss : List (List Node)) → AreChains ages c to b heads xss → first_head heads ≡ first_or (joined xss) None
+heads_first ages c to b [] [] h = refl
+heads_first ages c to b [] (xs ∷ xss) h = absurd h
+heads_first ages c to b (head ∷ heads) [] h = absurd h
+heads_first ages c to b (None ∷ heads) ([] ∷ xss) h = heads_first ages c to (b + 1) heads xss h.1
+heads_first ages c to b (None ∷ heads) ((x ∷ xs) ∷ xss) h = let e = h.0.first in cc
+heads_first ages c to b (Some n ∷ heads) ([] ∷ xss) h = let e = h.0.first in cc
+heads_first ages c to b (Some n ∷ heads) ((x ∷ xs) ∷ xss) h = h.0.first
 
 -- chains from these first nodes that have these nodes in all
-pub record Hangs (c : Column) (to : ℕ → ℕ) (k : ℕ) (heads : List (Option Node)) (xs : List Node) : Type 0 where
+pub record Hangs (ages : Node → ℕ) (c : Column) (to : ℕ → ℕ) (k : ℕ) (heads : List (Option Node)) (xs : List Node) : Type 0 where
   pub chains : List (List Node)
-  pub are : AreChains c to k heads chains
+  pub are : AreChains ages c to k heads chains
   pub whole : joined chains ≡ xs
 
 -- each hash that leads to another chain than this one leads there as before
@@ -86,35 +86,35 @@ kept_to : (to into : ℕ → ℕ) (b k : ℕ) → KeepsOtherChains to into b →
 kept_to to into b k keeps ne hash e = keeps hash (λ f. ne (sym e ∙ f)) ∙ e
 
 -- one chain, with what stands before and after it, and what another chain in its place makes
-pub record Focus (c : Column) (to : ℕ → ℕ) (k j b : ℕ) (heads : List (Option Node)) (xs : List Node) : Type 0 where
+pub record Focus (ages : Node → ℕ) (c : Column) (to : ℕ → ℕ) (k j b : ℕ) (heads : List (Option Node)) (xs : List Node) : Type 0 where
   pub front : List Node
   pub chain : List Node
   pub back : List Node
   pub whole : xs ≡ front ++ (chain ++ back)
-  pub here : IsChain c to b (get_or heads j None) chain
+  pub here : IsChain ages c to b (get_or heads j None) chain
   pub before : AllByRecursion (IsElsewhere c to b) front
   pub after : AllByRecursion (IsElsewhere c to b) back
   pub later : first_head (drop (j + 1) heads) ≡ first_or back None
-  pub with_chain : (d : Column) (into : ℕ → ℕ) → KeepsOtherChains to into b → (head : Option Node) (ys : List Node) → IsSameAt c d front → IsSameAt c d back → IsChain d into b head ys → Hangs d into k (set heads j head) (front ++ (ys ++ back))
+  pub with_chain : (d : Column) (into : ℕ → ℕ) → KeepsOtherChains to into b → (head : Option Node) (ys : List Node) → IsSameAt c d front → IsSameAt c d back → IsChain ages d into b head ys → Hangs ages d into k (set heads j head) (front ++ (ys ++ back))
 
-focus_at : (c : Column) (to : ℕ → ℕ) (k j b : ℕ) (heads : List (Option Node)) (xss : List (List Node)) → b ≡ k + j → j < length heads → AreChains c to k heads xss → Focus c to k j b heads (joined xss)
-focus_at c to k j b [] xss e lt h = absurd (omega arith)
-focus_at c to k j b (head ∷ heads) [] e lt h = absurd h
-focus_at c to k zero b (head ∷ heads) (xs ∷ xss) e lt h =
+focus_at : {ages : Node → ℕ} (c : Column) (to : ℕ → ℕ) (k j b : ℕ) (heads : List (Option Node)) (xss : List (List Node)) → b ≡ k + j → j < length heads → AreChains ages c to k heads xss → Focus ages c to k j b heads (joined xss)
+focus_at {ages} c to k j b [] xss e lt h = absurd (omega arith)
+focus_at {ages} c to k j b (head ∷ heads) [] e lt h = absurd h
+focus_at {ages} c to k zero b (head ∷ heads) (xs ∷ xss) e lt h =
     let same : k ≡ b = omega arith in
     record {
       front = [];
       chain = xs;
       back = joined xss;
       whole = refl;
-      here = subst (λ z. IsChain c to z head xs) same h.0;
+      here = subst (λ z. IsChain ages c to z head xs) same h.0;
       before = tt;
-      after = elsewhere_after c to b (k + 1) heads xss (omega arith) h.1;
-      later = heads_first c to (k + 1) heads xss h.1;
+      after = elsewhere_after ages c to b (k + 1) heads xss (omega arith) h.1;
+      later = heads_first ages c to (k + 1) heads xss h.1;
       with_chain = λ d into keeps new ys sf sb chain.
-          record { chains = ys ∷ xss; are = (subst (λ z. IsChain d into z new ys) (sym same) chain, chains_same c d to into (k + 1) (λ m le. kept_to to into b m keeps (omega arith)) heads xss sb h.1); whole = refl };
+          record { chains = ys ∷ xss; are = (subst (λ z. IsChain ages d into z new ys) (sym same) chain, chains_same ages c d to into (k + 1) (λ m le. kept_to to into b m keeps (omega arith)) heads xss sb h.1); whole = refl };
     }
-focus_at c to k (suc j) b (head ∷ heads) (xs ∷ xss) e lt h =
+focus_at {ages} c to k (suc j) b (head ∷ heads) (xs ∷ xss) e lt h =
     let r = focus_at c to (k + 1) j b heads xss (omega arith) (omega arith) h.1 in
     let ne : b ≢ k = omega arith in
     let past : suc j + 1 ≡ suc (j + 1) = omega arith in
@@ -133,8 +133,8 @@ focus_at c to k (suc j) b (head ∷ heads) (xs ∷ xss) e lt h =
           record { chains = xs ∷ q.chains; are = (chain_same c d to into k (kept_to to into b k keeps (λ e. ne (sym e))) head xs p.0 h.0, q.are); whole = ap (λ z. xs ++ z) q.whole ∙ sym (append_assoc xs r.front (ys ++ r.back)) };
     }
 
-pub focus : (c : Column) (to : ℕ → ℕ) (b : ℕ) (heads : List (Option Node)) (xss : List (List Node)) → b < length heads → AreChains c to 0 heads xss → Focus c to 0 b b heads (joined xss)
-focus c to b heads xss lt h = focus_at c to 0 b b heads xss (omega arith) lt h
+pub focus : {ages : Node → ℕ} (c : Column) (to : ℕ → ℕ) (b : ℕ) (heads : List (Option Node)) (xss : List (List Node)) → b < length heads → AreChains ages c to 0 heads xss → Focus ages c to 0 b b heads (joined xss)
+focus {ages} c to b heads xss lt h = focus_at c to 0 b b heads xss (omega arith) lt h
 
 -- ---- walks
 
@@ -161,14 +161,14 @@ leads_past c at [] n ys h = h.2
 leads_past c at (x ∷ xs) n ys h = leads_past c (following c x) xs n ys h.2
 
 -- the chains are those that their first nodes lead through
-pub chains_are : (c : Column) (to : ℕ → ℕ) (b k : ℕ) (heads : List (Option Node)) (xss : List (List Node)) → length (joined xss) ≤ k → AreChains c to b heads xss → map (λ head. follow (untagged c) head k) heads ≡ xss
-chains_are c to b k [] [] le h = refl
-chains_are c to b k [] (xs ∷ xss) le h = absurd h
-chains_are c to b k (head ∷ heads) [] le h = absurd h
-chains_are c to b k (head ∷ heads) (xs ∷ xss) le h =
+pub chains_are : (ages : Node → ℕ) (c : Column) (to : ℕ → ℕ) (b k : ℕ) (heads : List (Option Node)) (xss : List (List Node)) → length (joined xss) ≤ k → AreChains ages c to b heads xss → map (λ head. follow (untagged c) head k) heads ≡ xss
+chains_are ages c to b k [] [] le h = refl
+chains_are ages c to b k [] (xs ∷ xss) le h = absurd h
+chains_are ages c to b k (head ∷ heads) [] le h = absurd h
+chains_are ages c to b k (head ∷ heads) (xs ∷ xss) le h =
     let both = length-append xs (joined xss) in
     let here : follow (untagged c) head k ≡ xs = follow_leads (untagged c) head xs k (omega arith) (subst (λ o. Leads (untagged c) o xs) (sym h.0.first) (leads_runs c None xs h.0.runs)) in
-    ap (λ z. z ∷ map (λ o. follow (untagged c) o k) heads) here ∙ ap (λ z. xs ∷ z) (chains_are c to (b + 1) k heads xss (omega arith) h.1)
+    ap (λ z. z ∷ map (λ o. follow (untagged c) o k) heads) here ∙ ap (λ z. xs ∷ z) (chains_are ages c to (b + 1) k heads xss (omega arith) h.1)
 
 runs_nodes : (c : Column) (p : Option Node) (xs : List Node) → Runs (untagged c) p xs None → AllNodes c xs
 runs_nodes c p [] h = tt
@@ -179,8 +179,8 @@ nodes_join c [] ys h k = k
 nodes_join c (x ∷ xs) ys h k = (h.0, nodes_join c xs ys h.1 k)
 
 -- the column has each node
-pub chains_nodes : (c : Column) (to : ℕ → ℕ) (b : ℕ) (heads : List (Option Node)) (xss : List (List Node)) → AreChains c to b heads xss → AllNodes c (joined xss)
-chains_nodes c to b [] [] h = tt
-chains_nodes c to b [] (xs ∷ xss) h = absurd h
-chains_nodes c to b (head ∷ heads) [] h = absurd h
-chains_nodes c to b (head ∷ heads) (xs ∷ xss) h = nodes_join c xs (joined xss) (runs_nodes c None xs h.0.runs) (chains_nodes c to (b + 1) heads xss h.1)
+pub chains_nodes : (ages : Node → ℕ) (c : Column) (to : ℕ → ℕ) (b : ℕ) (heads : List (Option Node)) (xss : List (List Node)) → AreChains ages c to b heads xss → AllNodes c (joined xss)
+chains_nodes ages c to b [] [] h = tt
+chains_nodes ages c to b [] (xs ∷ xss) h = absurd h
+chains_nodes ages c to b (head ∷ heads) [] h = absurd h
+chains_nodes ages c to b (head ∷ heads) (xs ∷ xss) h = nodes_join c xs (joined xss) (runs_nodes c None xs h.0.runs) (chains_nodes ages c to (b + 1) heads xss h.1)

@@ -9,7 +9,6 @@ use Rattle.node_store.specs.declared.Node.{Node}
 use Rattle.node_store.specs.declared.Link.{Link}
 use Rattle.node_store.specs.Column.{Column}
 use Rattle.node_store.specs.Nodes.{IsSameAt, first_or, last_or}
-use Rattle.node_store.specs.Store.{number_of}
 use Rattle.node_store.proofs.NodeLists.{last_or-append}
 use Rattle.list_model.proofs.Lists.{EachPair-push, All-join}
 use Rattle.list_model.proofs.Kept.{EachPair-without_middle, All-split}
@@ -17,17 +16,17 @@ use Rattle.list_model.proofs.InOrder.{All-map}
 use Rattle.seq_index.proofs.Runs.{EndsWith-last}
 use Rattle.hash_index.specs.Rising.{Rises, up_at, top_of, IsRising, top_beside, IsBefore, IsBehind}
 
-abbrev IsBelow : Node → Node → Type 0
-IsBelow x y = number_of x < number_of y
+abbrev IsBelow : (Node → ℕ) → Node → Node → Type 0
+IsBelow ages x y = ages x < ages y
 
 -- the links of a list stay
-pub rising_same : (c d : Column) (xs : List Node) → IsSameAt c d xs → IsRising c xs → IsRising d xs
-rising_same c d [] same h = λ m e. absurd (cc)
-rising_same c d (x ∷ xs) same h = λ m e. h m (sym (ap (option_and_then (λ (l : Link). l.up)) same.0) ∙ e)
+pub rising_same : (ages : Node → ℕ) (c d : Column) (xs : List Node) → IsSameAt c d xs → IsRising ages c xs → IsRising ages d xs
+rising_same ages c d [] same h = λ m e. absurd (cc)
+rising_same ages c d (x ∷ xs) same h = λ m e. h m (sym (ap (option_and_then (λ (l : Link). l.up)) same.0) ∙ e)
 
 -- where the first node leads up to none, nothing is said
-pub rising_none : (c : Column) (x : Node) (xs : List Node) → up_at c x ≡ None → IsRising c (x ∷ xs)
-rising_none c x xs none = λ m e. let bad : None ≡ Some m = sym none ∙ e in absurd (cc)
+pub rising_none : (ages : Node → ℕ) (c : Column) (x : Node) (xs : List Node) → up_at c x ≡ None → IsRising ages c (x ∷ xs)
+rising_none ages c x xs none = λ m e. let bad : None ≡ Some m = sym none ∙ e in absurd (cc)
 
 -- what the first node leads up to
 pub top_at : (c : Column) (xs : List Node) (up : Option Node) → ((n : Node) → first_or xs None ≡ Some n → up_at c n ≡ up) → (m : Node) → top_of c xs ≡ Some m → up ≡ Some m
@@ -40,34 +39,34 @@ pub last_some : (xs : List Node) (x : Node) → (m : Node) × (last_or xs (Some 
 last_some [] x = (x, refl)
 last_some (y ∷ xs) x = last_some xs y
 
-below_by : (x : Node) (xs : List Node) (m : Node) (k : ℕ) → last_or xs (Some x) ≡ Some m → Rises (x ∷ xs) → number_of m < k → AllByRecursion (λ y. number_of y < k) (x ∷ xs)
-below_by x [] m k e rises lt = let same : x ≡ m = cc in (subst (λ z. number_of z < k) (sym same) lt, tt)
-below_by x (y ∷ xs) m k e rises lt =
-    let rest = below_by y xs m k e rises.1 lt in
+below_by : (ages : Node → ℕ) (x : Node) (xs : List Node) (m : Node) (k : ℕ) → last_or xs (Some x) ≡ Some m → Rises ages (x ∷ xs) → ages m < k → AllByRecursion (λ y. ages y < k) (x ∷ xs)
+below_by ages x [] m k e rises lt = let same : x ≡ m = cc in (subst (λ z. ages z < k) (sym same) lt, tt)
+below_by ages x (y ∷ xs) m k e rises lt =
+    let rest = below_by ages y xs m k e rises.1 lt in
     (omega (arith, rises.0.0, rest.0), rest)
 
-pub rises_above : (xs : List Node) (m n : Node) → last_or xs None ≡ Some m → Rises xs → number_of m < number_of n → Rises (xs ++ n ∷ [])
-rises_above [] m n e rises lt = absurd (cc)
-rises_above (x ∷ xs) m n e rises lt = EachPair-push IsBelow (x ∷ xs) n (below_by x xs m (number_of n) e rises lt) rises
+pub rises_above : (ages : Node → ℕ) (xs : List Node) (m n : Node) → last_or xs None ≡ Some m → Rises ages xs → ages m < ages n → Rises ages (xs ++ n ∷ [])
+rises_above ages [] m n e rises lt = absurd (cc)
+rises_above ages (x ∷ xs) m n e rises lt = EachPair-push (IsBelow ages) (x ∷ xs) n (below_by ages x xs m (ages n) e rises lt) rises
 
-after_by : (o : Option Node) (m n : Node) → o ≡ Some m → option_map_or (λ k. nat_lt (number_of k) (number_of n)) o true ≡ true → number_of m < number_of n
-after_by o m n is e = ltb-true (number_of m) (number_of n) (ap (λ z. option_map_or (λ k. nat_lt (number_of k) (number_of n)) z true) (sym is) ∙ e)
+after_by : (ages : Node → ℕ) (o : Option Node) (m n : Node) → o ≡ Some m → option_map_or (λ k. nat_lt (ages k) (ages n)) o true ≡ true → ages m < ages n
+after_by ages o m n is e = ltb-true (ages m) (ages n) (ap (λ z. option_map_or (λ k. nat_lt (ages k) (ages n)) z true) (sym is) ∙ e)
 
-pub rises_appended : (xs : List Node) (n : Node) → option_map_or (λ k. nat_lt (number_of k) (number_of n)) (last_or xs None) true ≡ true → Rises xs → Rises (xs ++ n ∷ [])
-rises_appended [] n e rises = (tt, tt)
-rises_appended (x ∷ xs) n e rises =
+pub rises_appended : (ages : Node → ℕ) (xs : List Node) (n : Node) → option_map_or (λ k. nat_lt (ages k) (ages n)) (last_or xs None) true ≡ true → Rises ages xs → Rises ages (xs ++ n ∷ [])
+rises_appended ages [] n e rises = (tt, tt)
+rises_appended ages (x ∷ xs) n e rises =
     let last = last_some xs x in
-    rises_above (x ∷ xs) last.0 n last.1 rises (after_by (last_or xs (Some x)) last.0 n last.1 e)
+    rises_above ages (x ∷ xs) last.0 n last.1 rises (after_by ages (last_or xs (Some x)) last.0 n last.1 e)
 
 -- a node comes behind another
-pub rising_behind : (g : Column) (zs : List Node) (up : Option Node) → ((m : Node) → up ≡ Some m → (last_or zs None ≡ Some m) × Rises zs) → ((k : Node) → first_or zs None ≡ Some k → up_at g k ≡ up) → IsRising g zs
-rising_behind g zs up rises is = λ m e. rises m (top_at g zs up is m e)
+pub rising_behind : (ages : Node → ℕ) (g : Column) (zs : List Node) (up : Option Node) → ((m : Node) → up ≡ Some m → (last_or zs None ≡ Some m) × Rises ages zs) → ((k : Node) → first_or zs None ≡ Some k → up_at g k ≡ up) → IsRising ages g zs
+rising_behind ages g zs up rises is = λ m e. rises m (top_at g zs up is m e)
 
-pub rises_between : (front : List Node) (at n : Node) (back : List Node) → Rises (front ++ at ∷ back) → number_of at < number_of n → AllByRecursion (λ y. number_of n < number_of y) back → Rises (front ++ at ∷ n ∷ back)
-rises_between [] at n back rises lt above = ((lt, rises.0), (above, rises.1))
-rises_between (x ∷ front) at n back rises lt above =
-    let parts = All-split (λ y. number_of x < number_of y) front (at ∷ back) rises.0 in
-    (All-join (λ y. number_of x < number_of y) front (at ∷ n ∷ back) parts.0 (parts.1.0, (omega (arith, parts.1.0, lt), parts.1.1)), rises_between front at n back rises.1 lt above)
+pub rises_between : (ages : Node → ℕ) (front : List Node) (at n : Node) (back : List Node) → Rises ages (front ++ at ∷ back) → ages at < ages n → AllByRecursion (λ y. ages n < ages y) back → Rises ages (front ++ at ∷ n ∷ back)
+rises_between ages [] at n back rises lt above = ((lt, rises.0), (above, rises.1))
+rises_between ages (x ∷ front) at n back rises lt above =
+    let parts = All-split (λ y. ages x < ages y) front (at ∷ back) rises.0 in
+    (All-join (λ y. ages x < ages y) front (at ∷ n ∷ back) parts.0 (parts.1.0, (omega (arith, parts.1.0, lt), parts.1.1)), rises_between ages front at n back rises.1 lt above)
 
 -- ---- before all
 
@@ -76,41 +75,41 @@ last_still [] n m e = absurd (cc)
 last_still (x ∷ xs) n m e = e
 
 -- a node comes before all
-pub rising_before : (f : Column) (n : Node) (xs : List Node) (up : Option Node) → up_at f n ≡ up → IsBefore xs n up → IsRising f (n ∷ xs)
-rising_before f n xs up is before = λ m e. let rises = before m (sym is ∙ e) in (last_still xs n m rises.0, rises.1)
+pub rising_before : (ages : Node → ℕ) (f : Column) (n : Node) (xs : List Node) (up : Option Node) → up_at f n ≡ up → IsBefore ages xs n up → IsRising ages f (n ∷ xs)
+rising_before ages f n xs up is before = λ m e. let rises = before m (sym is ∙ e) in (last_still xs n m rises.0, rises.1)
 
-pub rises_below : (x n : Node) (xs : List Node) → number_of n < number_of x → Rises (x ∷ xs) → Rises (n ∷ (x ∷ xs))
-rises_below x n xs lt rises = ((lt, All-map (λ y. number_of x < number_of y) (λ y. number_of n < number_of y) (λ y more. omega (arith, lt, more)) xs rises.0), rises)
+pub rises_below : (ages : Node → ℕ) (x n : Node) (xs : List Node) → ages n < ages x → Rises ages (x ∷ xs) → Rises ages (n ∷ (x ∷ xs))
+rises_below ages x n xs lt rises = ((lt, All-map (λ y. ages x < ages y) (λ y. ages n < ages y) (λ y more. omega (arith, lt, more)) xs rises.0), rises)
 
 -- ---- a walk from the last node on, to the first one that was added before another
 
 -- what the walk has passed was added after `n`, and ends with `top`, or with `n` where there is none
-pub record Walked (xs : List Node) (at : Option Node) (top n : Node) : Type 0 where
+pub record Walked (ages : Node → ℕ) (xs : List Node) (at : Option Node) (top n : Node) : Type 0 where
   pub front : List Node
   pub back : List Node
   pub is : xs ≡ front ++ back
   pub ends : at ≡ last_or front None
-  pub above : AllByRecursion (λ y. number_of n < number_of y) back
+  pub above : AllByRecursion (λ y. ages n < ages y) back
   pub last : last_or back (Some n) ≡ Some top
 
-pub walked_none : (xs : List Node) (end n : Node) → last_or xs None ≡ Some end → Walked xs (Some end) n n
-walked_none xs end n last = record { front = xs; back = []; is = sym (append-nil xs); ends = sym last; above = tt; last = refl }
+pub walked_none : {ages : Node → ℕ} (xs : List Node) (end n : Node) → last_or xs None ≡ Some end → Walked ages xs (Some end) n n
+walked_none {ages} xs end n last = record { front = xs; back = []; is = sym (append-nil xs); ends = sym last; above = tt; last = refl }
 
 -- the next node
-pub record Meets (xs : List Node) (m top n : Node) : Type 0 where
+pub record Meets (ages : Node → ℕ) (xs : List Node) (m top n : Node) : Type 0 where
   pub front : List Node
   pub back : List Node
   pub is : xs ≡ front ++ m ∷ back
-  pub above : AllByRecursion (λ y. number_of n < number_of y) back
+  pub above : AllByRecursion (λ y. ages n < ages y) back
   pub last : last_or back (Some n) ≡ Some top
 
-pub walked_meets : (xs : List Node) (at : Option Node) (m top n : Node) → at ≡ Some m → Walked xs at top n → Meets xs m top n
-walked_meets xs at m top n here w =
+pub walked_meets : {ages : Node → ℕ} (xs : List Node) (at : Option Node) (m top n : Node) → at ≡ Some m → Walked ages xs at top n → Meets ages xs m top n
+walked_meets {ages} xs at m top n here w =
     let r = EndsWith-last w.front m (sym w.ends ∙ here) in
     record { front = r.front; back = w.back; is = w.is ∙ (ap (λ z. z ++ w.back) r.is ∙ append_assoc r.front (m ∷ []) w.back); above = w.above; last = w.last }
 
-pub walked_next : (xs : List Node) (m top end n : Node) (next : Option Node) (w : Meets xs m top n) → last_or xs None ≡ Some end → next ≡ last_or w.front None → number_of n < number_of m → Walked xs next end n
-walked_next xs m top end n next w last is lt = record {
+pub walked_next : {ages : Node → ℕ} (xs : List Node) (m top end n : Node) (next : Option Node) (w : Meets ages xs m top n) → last_or xs None ≡ Some end → next ≡ last_or w.front None → ages n < ages m → Walked ages xs next end n
+walked_next {ages} xs m top end n next w last is lt = record {
   front = w.front;
   back = m ∷ w.back;
   is = w.is;
@@ -120,17 +119,17 @@ walked_next xs m top end n next w last is lt = record {
 }
 
 -- a node that was added before `n`
-pub walked_there : (xs : List Node) (m top n : Node) → Meets xs m top n → Rises xs → number_of m < number_of n → IsBehind xs m n (Some top)
-walked_there xs m top n w rises lt = record {
+pub walked_there : {ages : Node → ℕ} (xs : List Node) (m top n : Node) → Meets ages xs m top n → Rises ages xs → ages m < ages n → IsBehind ages xs m n (Some top)
+walked_there {ages} xs m top n w rises lt = record {
   front = w.front;
   back = w.back;
   is = w.is;
-  rises = λ k e. (last_or-append w.front (m ∷ n ∷ w.back) None ∙ (w.last ∙ e), rises_between w.front m n w.back (subst Rises w.is rises) lt w.above);
+  rises = λ k e. (last_or-append w.front (m ∷ n ∷ w.back) None ∙ (w.last ∙ e), rises_between ages w.front m n w.back (subst (Rises ages) w.is rises) lt w.above);
 }
 
-pub behind_first : (xs : List Node) (first n : Node) → first_or xs None ≡ Some first → IsBehind xs first n None
-behind_first [] first n e = absurd (cc)
-behind_first (x ∷ xs) first n e = let same : x ≡ first = cc in record { front = []; back = xs; is = ap (λ z. z ∷ xs) same; rises = λ m no. absurd (cc) }
+pub behind_first : {ages : Node → ℕ} (xs : List Node) (first n : Node) → first_or xs None ≡ Some first → IsBehind ages xs first n None
+behind_first {ages} [] first n e = absurd (cc)
+behind_first {ages} (x ∷ xs) first n e = let same : x ≡ first = cc in record { front = []; back = xs; is = ap (λ z. z ∷ xs) same; rises = λ m no. absurd (cc) }
 
 -- ---- a node less
 
@@ -143,15 +142,15 @@ middle_gone : (before : Option Node) (k q : Node) (up top : Option Node) → bef
 middle_gone None k q up top is = absurd (cc)
 middle_gone (Some b) k q up top is = refl
 
-pub rising_out : (c f : Column) (ps : List Node) (n : Node) (qs : List Node) → ((m : Node) → first_or (ps ++ qs) None ≡ Some m → up_at f m ≡ top_beside (last_or ps None) (first_or qs None) (up_at c n) (up_at c m)) → IsRising c (ps ++ n ∷ qs) → IsRising f (ps ++ qs)
-rising_out c f [] n [] is h = λ m e. absurd (cc)
-rising_out c f [] n (q ∷ qs) is h = λ m e. let was = h m (sym (is q refl) ∙ e) in (was.0, was.1.1)
-rising_out c f (p ∷ ps) n [] is h = λ m e.
+pub rising_out : (ages : Node → ℕ) (c f : Column) (ps : List Node) (n : Node) (qs : List Node) → ((m : Node) → first_or (ps ++ qs) None ≡ Some m → up_at f m ≡ top_beside (last_or ps None) (first_or qs None) (up_at c n) (up_at c m)) → IsRising ages c (ps ++ n ∷ qs) → IsRising ages f (ps ++ qs)
+rising_out ages c f [] n [] is h = λ m e. absurd (cc)
+rising_out ages c f [] n (q ∷ qs) is h = λ m e. let was = h m (sym (is q refl) ∙ e) in (was.0, was.1.1)
+rising_out ages c f (p ∷ ps) n [] is h = λ m e.
     let last = last_some ps p in
     let gone = last_gone (last_or ps (Some p)) last.0 (up_at c n) (up_at c p) m last.1 (sym (is p refl) ∙ e) in
     let was = h gone.0.0 gone.0.1 in
-    (ap (λ z. last_or z None) (append-nil (p ∷ ps)) ∙ gone.1, EachPair-without_middle IsBelow (p ∷ ps) n [] was.1)
-rising_out c f (p ∷ ps) n (q ∷ qs) is h = λ m e.
+    (ap (λ z. last_or z None) (append-nil (p ∷ ps)) ∙ gone.1, EachPair-without_middle (IsBelow ages) (p ∷ ps) n [] was.1)
+rising_out ages c f (p ∷ ps) n (q ∷ qs) is h = λ m e.
     let last = last_some ps p in
     let was = h m (sym (is p refl ∙ middle_gone (last_or ps (Some p)) last.0 q (up_at c n) (up_at c p) last.1) ∙ e) in
-    (last_or-append (p ∷ ps) (q ∷ qs) None ∙ (sym (last_or-append (p ∷ ps) (n ∷ q ∷ qs) None) ∙ was.0), EachPair-without_middle IsBelow (p ∷ ps) n (q ∷ qs) was.1)
+    (last_or-append (p ∷ ps) (q ∷ qs) None ∙ (sym (last_or-append (p ∷ ps) (n ∷ q ∷ qs) None) ∙ was.0), EachPair-without_middle (IsBelow ages) (p ∷ ps) n (q ∷ qs) was.1)

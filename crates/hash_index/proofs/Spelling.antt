@@ -35,14 +35,14 @@ use Rattle.hash_index.proofs.Heads.{same_of, slice_first, right_at, right_kept, 
 use Rattle.hash_index.proofs.OneChain.{Hangs, Focus, IsElsewhere, focus, chains_are, chains_same, chains_nodes, heads_first, follow_leads, leads_runs}
 
 -- an index whose chains hold these nodes spells them
-pub Spells_from : (cs : ℕ → Column) (i : HashIndex) (xs : List Node) → Hangs (cs i.col) (leads_to i) 0 (heads_of i) xs → IsDistinct xs → i.len ≡ length xs → i.len * 4 ≤ i.chains.len → AreRight (cs i.col) (all_of i) → AreOldest (cs i.col) xs (all_of i) → Spells cs i xs
+pub Spells_from : {ages : Node → ℕ} (cs : ℕ → Column) (i : HashIndex) (xs : List Node) → Hangs ages (cs i.col) (leads_to i) 0 (heads_of i) xs → IsDistinct xs → i.len ≡ length xs → i.len * 4 ≤ i.chains.len → AreRight (cs i.col) (all_of i) → AreOldest ages (cs i.col) xs (all_of i) → Spells ages cs i xs
 unfolding spelled
-Spells_from cs i xs h dist len load right oldest =
+Spells_from {ages} cs i xs h dist len load right oldest =
     let fits : length (joined h.chains) ≤ i.len = omega (arith, len, ap length h.whole) in
-    let e : chains_of cs i ≡ h.chains = chains_are (cs i.col) (leads_to i) 0 i.len (heads_of i) h.chains fits h.are in
+    let e : chains_of cs i ≡ h.chains = chains_are ages (cs i.col) (leads_to i) 0 i.len (heads_of i) h.chains fits h.are in
     record {
       is = sym (ap joined e ∙ h.whole);
-      chains = subst (λ z. AreChains (cs i.col) (leads_to i) 0 (heads_of i) z) (sym e) h.are;
+      chains = subst (λ z. AreChains ages (cs i.col) (leads_to i) 0 (heads_of i) z) (sym e) h.are;
       distinct = dist;
       len = len;
       load = load;
@@ -50,51 +50,51 @@ Spells_from cs i xs h dist len load right oldest =
       oldest = oldest;
     }
 
-pub hangs_of : (cs : ℕ → Column) (i : HashIndex) (xs : List Node) → Spells cs i xs → Hangs (cs i.col) (leads_to i) 0 (heads_of i) xs
+pub hangs_of : {ages : Node → ℕ} (cs : ℕ → Column) (i : HashIndex) (xs : List Node) → Spells ages cs i xs → Hangs ages (cs i.col) (leads_to i) 0 (heads_of i) xs
 unfolding spelled
-hangs_of cs i xs h = record { chains = chains_of cs i; are = h.chains; whole = sym h.is }
+hangs_of {ages} cs i xs h = record { chains = chains_of cs i; are = h.chains; whole = sym h.is }
 
-pub hangs_focus : (c : Column) (to : ℕ → ℕ) (b : ℕ) (heads : List (Option Node)) (xs : List Node) → b < length heads → Hangs c to 0 heads xs → Focus c to 0 b b heads xs
-hangs_focus c to b heads xs lt h = subst (λ z. Focus c to 0 b b heads z) h.whole (focus c to b heads h.chains lt h.are)
+pub hangs_focus : {ages : Node → ℕ} (c : Column) (to : ℕ → ℕ) (b : ℕ) (heads : List (Option Node)) (xs : List Node) → b < length heads → Hangs ages c to 0 heads xs → Focus ages c to 0 b b heads xs
+hangs_focus {ages} c to b heads xs lt h = subst (λ z. Focus ages c to 0 b b heads z) h.whole (focus c to b heads h.chains lt h.are)
 
 -- there are as many heads as chains
 pub heads_count : (i : HashIndex) → length (heads_of i) ≡ i.chains.len
 heads_count i = length-map (all_of i) first_in ∙ sym i.chains.ok
 
-pub focus_of : (cs : ℕ → Column) (i : HashIndex) (xs : List Node) (b : ℕ) → b < i.chains.len → Spells cs i xs → Focus (cs i.col) (leads_to i) 0 b b (heads_of i) xs
-focus_of cs i xs b lt h = hangs_focus (cs i.col) (leads_to i) b (heads_of i) xs (omega (arith, heads_count i, lt)) (hangs_of cs i xs h)
+pub focus_of : {ages : Node → ℕ} (cs : ℕ → Column) (i : HashIndex) (xs : List Node) (b : ℕ) → b < i.chains.len → Spells ages cs i xs → Focus ages (cs i.col) (leads_to i) 0 b b (heads_of i) xs
+focus_of {ages} cs i xs b lt h = hangs_focus (cs i.col) (leads_to i) b (heads_of i) xs (omega (arith, heads_count i, lt)) (hangs_of cs i xs h)
 
-pub spelled_is : (cs : ℕ → Column) (i : HashIndex) (xs : List Node) → Spells cs i xs → spelled cs i ≡ xs
-spelled_is cs i xs h = sym h.is
+pub spelled_is : {ages : Node → ℕ} (cs : ℕ → Column) (i : HashIndex) (xs : List Node) → Spells ages cs i xs → spelled cs i ≡ xs
+spelled_is {ages} cs i xs h = sym h.is
 
-pub IsSound_from : (cs : ℕ → Column) (i : HashIndex) (xs : List Node) → Spells cs i xs → IsSound cs i
-IsSound_from cs i xs h = subst (λ (z : List Node). Spells cs i z) h.is h
+pub IsSound_from : {ages : Node → ℕ} (cs : ℕ → Column) (i : HashIndex) (xs : List Node) → Spells ages cs i xs → IsSound ages cs i
+IsSound_from {ages} cs i xs h = subst (λ (z : List Node). Spells ages cs i z) h.is h
 
-pub Spells_same : (cs ds : ℕ → Column) (i : HashIndex) (xs : List Node) → IsSameAt (cs i.col) (ds i.col) xs → Spells cs i xs → Spells ds i xs
-Spells_same cs ds i xs s h =
+pub Spells_same : {ages : Node → ℕ} (cs ds : ℕ → Column) (i : HashIndex) (xs : List Node) → IsSameAt (cs i.col) (ds i.col) xs → Spells ages cs i xs → Spells ages ds i xs
+Spells_same {ages} cs ds i xs s h =
     let k = hangs_of cs i xs h in
     let all = same_of (cs i.col) (ds i.col) (joined k.chains) (subst (λ z. IsSameAt (cs i.col) (ds i.col) z) (sym k.whole) s) in
     Spells_from ds i xs
-    (record { chains = k.chains; are = chains_same (cs i.col) (ds i.col) (leads_to i) (leads_to i) 0 (λ b le hash e. e) (heads_of i) k.chains (subst (λ z. IsSameAt (cs i.col) (ds i.col) z) (sym k.whole) s) k.are; whole = k.whole })
+    (record { chains = k.chains; are = chains_same ages (cs i.col) (ds i.col) (leads_to i) (leads_to i) 0 (λ b le hash e. e) (heads_of i) k.chains (subst (λ z. IsSameAt (cs i.col) (ds i.col) z) (sym k.whole) s) k.are; whole = k.whole })
     h.distinct h.len h.load
-    (right_kept (cs i.col) (ds i.col) (leads_to i) (λ m. ds i.col m ≡ cs i.col m) 0 (all_of i) k.chains k.are (same_of (cs i.col) (ds i.col) (joined k.chains) (subst (λ z. IsSameAt (cs i.col) (ds i.col) z) (sym k.whole) s)) (λ j m le same is. same) h.right)
-    (oldest_kept (cs i.col) (ds i.col) (leads_to i) (λ m. ds i.col m ≡ cs i.col m) xs xs 0 (all_of i) k.chains k.are all
+    (right_kept ages (cs i.col) (ds i.col) (leads_to i) (λ m. ds i.col m ≡ cs i.col m) 0 (all_of i) k.chains k.are (same_of (cs i.col) (ds i.col) (joined k.chains) (subst (λ z. IsSameAt (cs i.col) (ds i.col) z) (sym k.whole) s)) (λ j m le same is. same) h.right)
+    (oldest_kept ages ages (cs i.col) (ds i.col) (leads_to i) (λ m. ds i.col m ≡ cs i.col m) xs xs 0 (all_of i) k.chains k.are all
     (λ j m le same is old. All-map _ _ (λ q both tag ne. both.1 (sym (ap (option_map (λ (l : Link). l.tag)) both.0) ∙ (tag ∙ ap (option_map (λ (l : Link). l.tag)) same)) ne) xs (All-both _ _ xs (same_of (cs i.col) (ds i.col) xs s) old)) h.oldest)
 
-pub Spells_nodes : (cs : ℕ → Column) (i : HashIndex) (xs : List Node) → Spells cs i xs → AllNodes (cs i.col) xs
-Spells_nodes cs i xs h =
+pub Spells_nodes : {ages : Node → ℕ} (cs : ℕ → Column) (i : HashIndex) (xs : List Node) → Spells ages cs i xs → AllNodes (cs i.col) xs
+Spells_nodes {ages} cs i xs h =
     let k = hangs_of cs i xs h in
-    subst (λ z. AllNodes (cs i.col) z) k.whole (chains_nodes (cs i.col) (leads_to i) 0 (heads_of i) k.chains k.are)
+    subst (λ z. AllNodes (cs i.col) z) k.whole (chains_nodes ages (cs i.col) (leads_to i) 0 (heads_of i) k.chains k.are)
 
 -- an index of no nodes
-pub empty_hangs : (c : Column) (to : ℕ → ℕ) (k : ℕ) (heads : List (Option Node)) → AllByRecursion (λ o. o ≡ None) heads → Hangs c to k heads []
-empty_hangs c to k [] h = record { chains = []; are = tt; whole = refl }
-empty_hangs c to k (head ∷ heads) h =
+pub empty_hangs : {ages : Node → ℕ} (c : Column) (to : ℕ → ℕ) (k : ℕ) (heads : List (Option Node)) → AllByRecursion (λ o. o ≡ None) heads → Hangs ages c to k heads []
+empty_hangs {ages} c to k [] h = record { chains = []; are = tt; whole = refl }
+empty_hangs {ages} c to k (head ∷ heads) h =
     let r = empty_hangs c to (k + 1) heads h.1 in
     record { chains = [] ∷ r.chains; are = (record { first = h.0; runs = tt; members = tt; rising = λ m e. absurd (cc) }, r.are); whole = r.whole }
 
-pub empty_sound : (cs : ℕ → Column) (i : HashIndex) → AllByRecursion (λ o. o ≡ None) (heads_of i) → i.len ≡ 0 → IsSound cs i
-empty_sound cs i h e = IsSound_from cs i [] (Spells_from cs i [] (empty_hangs (cs i.col) (leads_to i) 0 (heads_of i) h) tt e (omega (arith, e)) (all_none (cs i.col) (all_of i) h) (none_oldest (cs i.col) [] (all_of i) h))
+pub empty_sound : {ages : Node → ℕ} (cs : ℕ → Column) (i : HashIndex) → AllByRecursion (λ o. o ≡ None) (heads_of i) → i.len ≡ 0 → IsSound ages cs i
+empty_sound {ages} cs i h e = IsSound_from cs i [] (Spells_from cs i [] (empty_hangs (cs i.col) (leads_to i) 0 (heads_of i) h) tt e (omega (arith, e)) (all_none (cs i.col) (all_of i) h) (none_oldest ages (cs i.col) [] (all_of i) h))
 
 -- ---- nodes of a list
 
@@ -129,8 +129,8 @@ pub holds_middle : (P : Node → Type 0) (xs ys zs : List Node) (n : Node) → A
 holds_middle P xs ys zs n before after apart h = holds_front P ys zs n after apart (holds_past P xs (ys ++ zs) n before apart h)
 
 -- a node of the chain stands in it
-pub held_chain : (c : Column) (to : ℕ → ℕ) (k j b : ℕ) (heads : List (Option Node)) (xs : List Node) (n : Node) (f : Focus c to k j b heads xs) → IsIn c to b n → Holds xs n → Holds f.chain n
-held_chain c to k j b heads xs n f is h =
+pub held_chain : {ages : Node → ℕ} (c : Column) (to : ℕ → ℕ) (k j b : ℕ) (heads : List (Option Node)) (xs : List Node) (n : Node) (f : Focus ages c to k j b heads xs) → IsIn c to b n → Holds xs n → Holds f.chain n
+held_chain {ages} c to k j b heads xs n f is h =
     holds_middle (IsElsewhere c to b) f.front f.chain f.back n f.before f.after (λ e. e is) (subst (λ z. Holds z n) f.whole h)
 
 pub is_in : (c : Column) (to : ℕ → ℕ) (n : Node) (link : Link) → c n ≡ Some link → IsIn c to (to link.tag) n
@@ -141,20 +141,20 @@ pub split_at : (xs front chain back ps : List Node) (n : Node) (qs : List Node) 
 split_at xs front chain back ps n qs whole is =
     whole ∙ (ap (λ z. front ++ (z ++ back)) is ∙ (ap (λ z. front ++ z) (append_assoc ps (n ∷ qs) back) ∙ sym (append_assoc front ps (n ∷ (qs ++ back)))))
 
-pub held_node : (cs : ℕ → Column) (i : HashIndex) (xs : List Node) (n : Node) → Spells cs i xs → Holds xs n → IsNode (cs i.col) n
-held_node cs i xs n h k = nodes_at (cs i.col) k.before n k.after (subst (λ z. AllNodes (cs i.col) z) k.is (Spells_nodes cs i xs h))
+pub held_node : {ages : Node → ℕ} (cs : ℕ → Column) (i : HashIndex) (xs : List Node) (n : Node) → Spells ages cs i xs → Holds xs n → IsNode (cs i.col) n
+held_node {ages} cs i xs n h k = nodes_at (cs i.col) k.before n k.after (subst (λ z. AllNodes (cs i.col) z) k.is (Spells_nodes cs i xs h))
 
-pub some_node : (cs : ℕ → Column) (i : HashIndex) (xs : List Node) (n : Node) → Spells cs i xs → Holds xs n → 0 < i.len
-some_node cs i xs n h k = omega (arith, h.len, ap length k.is, length-append k.before (n ∷ k.after))
+pub some_node : {ages : Node → ℕ} (cs : ℕ → Column) (i : HashIndex) (xs : List Node) (n : Node) → Spells ages cs i xs → Holds xs n → 0 < i.len
+some_node {ages} cs i xs n h k = omega (arith, h.len, ap length k.is, length-append k.before (n ∷ k.after))
 
 -- an index that has a node has a chain
-pub some_chain : (cs : ℕ → Column) (i : HashIndex) (xs : List Node) (n : Node) → Spells cs i xs → Holds xs n → 0 < i.chains.len
-some_chain cs i xs n h k = omega (arith, h.len, h.load, ap length k.is, length-append k.before (n ∷ k.after))
+pub some_chain : {ages : Node → ℕ} (cs : ℕ → Column) (i : HashIndex) (xs : List Node) (n : Node) → Spells ages cs i xs → Holds xs n → 0 < i.chains.len
+some_chain {ages} cs i xs n h k = omega (arith, h.len, h.load, ap length k.is, length-append k.before (n ∷ k.after))
 
-pub first_spelled : (cs : ℕ → Column) (i : HashIndex) → IsSound cs i → first_head (heads_of i) ≡ first_or (spelled cs i) None
-first_spelled cs i h =
+pub first_spelled : {ages : Node → ℕ} (cs : ℕ → Column) (i : HashIndex) → IsSound ages cs i → first_head (heads_of i) ≡ first_or (spelled cs i) None
+first_spelled {ages} cs i h =
     let k = hangs_of cs i (spelled cs i) h in
-    heads_first (cs i.col) (leads_to i) 0 (heads_of i) k.chains k.are ∙ ap (λ z. first_or z None) k.whole
+    heads_first ages (cs i.col) (leads_to i) 0 (heads_of i) k.chains k.are ∙ ap (λ z. first_or z None) k.whole
 
 -- ---- walks
 
@@ -181,8 +181,8 @@ pub record HasNeighbours (c : Column) (link : Link) : Type 0 where
   pub before : (m : Node) → link.a ≡ Some m → IsNode c m
   pub after : (m : Node) → link.b ≡ Some m → IsNode c m
 
-pub has_neighbours : (cs : ℕ → Column) (i : HashIndex) (xs : List Node) (n : Node) (link : Link) → Spells cs i xs → Holds xs n → cs i.col n ≡ Some link → HasNeighbours (cs i.col) link
-has_neighbours cs i xs n link h k is =
+pub has_neighbours : {ages : Node → ℕ} (cs : ℕ → Column) (i : HashIndex) (xs : List Node) (n : Node) (link : Link) → Spells ages cs i xs → Holds xs n → cs i.col n ≡ Some link → HasNeighbours (cs i.col) link
+has_neighbours {ages} cs i xs n link h k is =
     let f = focus_of cs i xs (leads_to i link.tag) (leads_within i link.tag (some_chain cs i xs n h k)) h in
     let held = held_chain (cs i.col) (leads_to i) 0 (leads_to i link.tag) (leads_to i link.tag) (heads_of i) xs n f (is_in (cs i.col) (leads_to i) n link is) k in
     let runs = subst (λ z. Runs (untagged (cs i.col)) None z None) held.is f.here.runs in
@@ -206,8 +206,8 @@ pub record After (to : ℕ → ℕ) (heads : List (Option Node)) (link : Link) (
   pub some : (m : Node) → link.b ≡ Some m → Some m ≡ first_or ys None
   pub none : link.b ≡ None → first_head (drop (to link.tag + 1) heads) ≡ first_or ys None
 
-pub after_node : (cs : ℕ → Column) (i : HashIndex) (xs : List Node) (n : Node) (ys : List Node) (link : Link) → leads_to i link.tag < i.chains.len → Spells cs i (xs ++ n ∷ ys) → cs i.col n ≡ Some link → After (leads_to i) (heads_of i) link ys
-after_node cs i xs n ys link lt h is =
+pub after_node : {ages : Node → ℕ} (cs : ℕ → Column) (i : HashIndex) (xs : List Node) (n : Node) (ys : List Node) (link : Link) → leads_to i link.tag < i.chains.len → Spells ages cs i (xs ++ n ∷ ys) → cs i.col n ≡ Some link → After (leads_to i) (heads_of i) link ys
+after_node {ages} cs i xs n ys link lt h is =
     let f = focus_of cs i (xs ++ n ∷ ys) (leads_to i link.tag) lt h in
     let held = held_chain (cs i.col) (leads_to i) 0 (leads_to i link.tag) (leads_to i link.tag) (heads_of i) (xs ++ n ∷ ys) n f (is_in (cs i.col) (leads_to i) n link is) (record { before = xs; after = ys; is = refl }) in
     let near = neighbours (cs i.col) held.before n held.after link (subst (λ z. Runs (untagged (cs i.col)) None z None) held.is f.here.runs) is in
@@ -221,15 +221,15 @@ after_node cs i xs n ys link lt h is =
 
 -- ---- the chain of a hash
 
-pub rest_is : (cs : ℕ → Column) (i : HashIndex) (xs : List Node) (b : ℕ) (f : Focus (cs i.col) (leads_to i) 0 b b (heads_of i) xs) → i.len ≡ length xs → Leads (untagged (cs i.col)) (get_or (heads_of i) b None) f.chain × (rest_of cs i (get_or (heads_of i) b None) ≡ f.chain)
-rest_is cs i xs b f len =
+pub rest_is : {ages : Node → ℕ} (cs : ℕ → Column) (i : HashIndex) (xs : List Node) (b : ℕ) (f : Focus ages (cs i.col) (leads_to i) 0 b b (heads_of i) xs) → i.len ≡ length xs → Leads (untagged (cs i.col)) (get_or (heads_of i) b None) f.chain × (rest_of cs i (get_or (heads_of i) b None) ≡ f.chain)
+rest_is {ages} cs i xs b f len =
     let leads = subst (λ o. Leads (untagged (cs i.col)) o f.chain) (sym f.here.first) (leads_runs (cs i.col) None f.chain f.here.runs) in
     let fits : length f.chain ≤ i.len = omega (arith, len, ap length f.whole, length-append f.front (f.chain ++ f.back), length-append f.chain f.back) in
     (leads, follow_leads (untagged (cs i.col)) (get_or (heads_of i) b None) f.chain i.len fits leads)
 
 -- from a chain's first node there is a run of distinct nodes
-pub head_ends : (cs : ℕ → Column) (i : HashIndex) (b : ℕ) (head : Option Node) → b < i.chains.len → head ≡ get_or (heads_of i) b None → IsSound cs i → Ends cs i head × IsDistinct (rest_of cs i head)
-head_ends cs i b head lt at h =
+pub head_ends : {ages : Node → ℕ} (cs : ℕ → Column) (i : HashIndex) (b : ℕ) (head : Option Node) → b < i.chains.len → head ≡ get_or (heads_of i) b None → IsSound ages cs i → Ends cs i head × IsDistinct (rest_of cs i head)
+head_ends {ages} cs i b head lt at h =
     let f = focus_of cs i (spelled cs i) b lt h in
     let r = rest_is cs i (spelled cs i) b f h.len in
     let back = IsDistinct-parts f.front (f.chain ++ f.back) (subst IsDistinct f.whole h.distinct) in
@@ -237,14 +237,14 @@ head_ends cs i b head lt at h =
     (subst (Ends cs i) (sym at) ends, subst IsDistinct (sym (ap (λ o. rest_of cs i o) at ∙ r.1)) (IsDistinct-parts f.chain f.back back.back).front)
 
 -- which runs to and fro, and rises where its first node says so
-pub head_runs : (cs : ℕ → Column) (i : HashIndex) (b : ℕ) (head : Option Node) → b < i.chains.len → head ≡ get_or (heads_of i) b None → IsSound cs i → Runs (untagged (cs i.col)) None (rest_of cs i head) None × IsRising (cs i.col) (rest_of cs i head)
-head_runs cs i b head lt at h =
+pub head_runs : {ages : Node → ℕ} (cs : ℕ → Column) (i : HashIndex) (b : ℕ) (head : Option Node) → b < i.chains.len → head ≡ get_or (heads_of i) b None → IsSound ages cs i → Runs (untagged (cs i.col)) None (rest_of cs i head) None × IsRising ages (cs i.col) (rest_of cs i head)
+head_runs {ages} cs i b head lt at h =
     let f = focus_of cs i (spelled cs i) b lt h in
     let e = sym (ap (λ o. rest_of cs i o) at ∙ (rest_is cs i (spelled cs i) b f h.len).1) in
-    (subst (λ z. Runs (untagged (cs i.col)) None z None) e f.here.runs, subst (λ z. IsRising (cs i.col) z) e f.here.rising)
+    (subst (λ z. Runs (untagged (cs i.col)) None z None) e f.here.runs, subst (λ z. IsRising ages (cs i.col) z) e f.here.rising)
 
-pub has_hash : (cs : ℕ → Column) (i : HashIndex) (hash : ℕ) (head : Option Node) → leads_to i hash < i.chains.len → head ≡ get_or (heads_of i) (leads_to i hash) None → IsSound cs i → HasHash cs i hash head
-has_hash cs i hash head lt at h =
+pub has_hash : {ages : Node → ℕ} (cs : ℕ → Column) (i : HashIndex) (hash : ℕ) (head : Option Node) → leads_to i hash < i.chains.len → head ≡ get_or (heads_of i) (leads_to i hash) None → IsSound ages cs i → HasHash cs i hash head
+has_hash {ages} cs i hash head lt at h =
     let to = leads_to i in
     let f = focus_of cs i (spelled cs i) (leads_to i hash) lt h in
     let r = rest_is cs i (spelled cs i) (leads_to i hash) f h.len in
@@ -298,18 +298,18 @@ pub none_long : {X : Type 0} (xs : List X) → length xs ≤ 0 → xs ≡ []
 none_long [] le = refl
 none_long (x ∷ xs) le = absurd (omega arith)
 
-pub no_nodes : (cs : ℕ → Column) (i : HashIndex) → IsSound cs i → i.len ≡ 0 → spelled cs i ≡ []
-no_nodes cs i h e = none_long (spelled cs i) (omega (arith, h.len, e))
+pub no_nodes : {ages : Node → ℕ} (cs : ℕ → Column) (i : HashIndex) → IsSound ages cs i → i.len ≡ 0 → spelled cs i ≡ []
+no_nodes {ages} cs i h e = none_long (spelled cs i) (omega (arith, h.len, e))
 
 -- each chain ends
-pub chains_end : (cs : ℕ → Column) (i : HashIndex) (k : ℕ) (heads : List (Option Node)) → AreChains (cs i.col) (leads_to i) k heads (map (rest_of cs i) heads) → AllByRecursion (Ends cs i) heads
-chains_end cs i k [] h = tt
-chains_end cs i k (head ∷ heads) h =
-    (subst (λ o. Leads (untagged (cs i.col)) o (rest_of cs i head)) (sym h.0.first) (leads_runs (cs i.col) None (rest_of cs i head) h.0.runs), chains_end cs i (k + 1) heads h.1)
+pub chains_end : (ages : Node → ℕ) (cs : ℕ → Column) (i : HashIndex) (k : ℕ) (heads : List (Option Node)) → AreChains ages (cs i.col) (leads_to i) k heads (map (rest_of cs i) heads) → AllByRecursion (Ends cs i) heads
+chains_end ages cs i k [] h = tt
+chains_end ages cs i k (head ∷ heads) h =
+    (subst (λ o. Leads (untagged (cs i.col)) o (rest_of cs i head)) (sym h.0.first) (leads_runs (cs i.col) None (rest_of cs i head) h.0.runs), chains_end ages cs i (k + 1) heads h.1)
 
 -- an index of no chains has no node
-pub has_none : (cs : ℕ → Column) (i : HashIndex) (hash : ℕ) → i.chains.len ≡ 0 → IsSound cs i → HasHash cs i hash None
-has_none cs i hash none h =
+pub has_none : {ages : Node → ℕ} (cs : ℕ → Column) (i : HashIndex) (hash : ℕ) → i.chains.len ≡ 0 → IsSound ages cs i → HasHash cs i hash None
+has_none {ages} cs i hash none h =
     let rest = none_rest cs i in
     record {
       front = [];
@@ -325,15 +325,15 @@ past [] k e = omega arith
 past (h ∷ hs) zero e = cc
 past (h ∷ hs) (suc k) e = let le = past hs k e in omega (arith, le)
 
-start_of : (cs : ℕ → Column) (i : HashIndex) (hash : ℕ) (at : Option Head) → slice_get (all_of i) (leads_to i hash) ≡ at → IsSound cs i → HasHash cs i hash (option_and_then (start_in hash) at)
-start_of cs i hash None e h =
+start_of : {ages : Node → ℕ} (cs : ℕ → Column) (i : HashIndex) (hash : ℕ) (at : Option Head) → slice_get (all_of i) (leads_to i hash) ≡ at → IsSound ages cs i → HasHash cs i hash (option_and_then (start_in hash) at)
+start_of {ages} cs i hash None e h =
     let none : ¬ (0 < i.chains.len) = λ some. omega (arith, past (all_of i) (leads_to i hash) e, leads_within i hash some, i.chains.ok) in
     has_none cs i hash (omega (arith, none)) h
-start_of cs i hash (Some head) e h =
+start_of {ages} cs i hash (Some head) e h =
     let lt : leads_to i hash < i.chains.len = omega (arith, slice_get_within (all_of i) (leads_to i hash) head e, i.chains.ok) in
     let whole = has_hash cs i hash (first_in head) lt (slice_first (heads_of i) (all_of i) (leads_to i hash) refl head e) h in
     start_at cs i hash head (nat_lt head.mark 128) (not (head.mark == hash / 2 ^ 58 + 64)) refl refl (right_at (cs i.col) (all_of i) (leads_to i hash) head h.right e) whole
 
 -- what a look-up begins with has each node of the hash
-pub has_start : (cs : ℕ → Column) (i : HashIndex) (hash : ℕ) (first : Option Node) → first ≡ option_and_then (start_in hash) (slice_get (all_of i) (leads_to i hash)) → IsSound cs i → HasHash cs i hash first
-has_start cs i hash first is h = subst (HasHash cs i hash) (sym is) (start_of cs i hash (slice_get (all_of i) (leads_to i hash)) refl h)
+pub has_start : {ages : Node → ℕ} (cs : ℕ → Column) (i : HashIndex) (hash : ℕ) (first : Option Node) → first ≡ option_and_then (start_in hash) (slice_get (all_of i) (leads_to i hash)) → IsSound ages cs i → HasHash cs i hash first
+has_start {ages} cs i hash first is h = subst (HasHash cs i hash) (sym is) (start_of cs i hash (slice_get (all_of i) (leads_to i hash)) refl h)

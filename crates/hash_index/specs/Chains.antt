@@ -38,18 +38,18 @@ abbrev pub members : Column → (ℕ → ℕ) → ℕ → List Node → List Nod
 members c to b xs = filter (leads c to b) xs
 
 -- the nodes of one chain, linked to and fro, from the first of them, whose link may say which one is the last of a chain that rises
-pub record IsChain (c : Column) (to : ℕ → ℕ) (b : ℕ) (head : Option Node) (xs : List Node) : Type 0 where
+pub record IsChain (ages : Node → ℕ) (c : Column) (to : ℕ → ℕ) (b : ℕ) (head : Option Node) (xs : List Node) : Type 0 where
   pub first : head ≡ first_or xs None
   pub runs : Runs (untagged c) None xs None
   pub members : AllByRecursion (IsIn c to b) xs
-  pub rising : IsRising c xs
+  pub rising : IsRising ages c xs
 
 -- the chains from this one on
-abbrev pub AreChains : Column → (ℕ → ℕ) → ℕ → List (Option Node) → List (List Node) → Type 0
-AreChains c to b [] [] = Unit {0}
-AreChains c to b [] (xs ∷ xss) = ⊥
-AreChains c to b (head ∷ heads) [] = ⊥
-AreChains c to b (head ∷ heads) (xs ∷ xss) = IsChain c to b head xs × AreChains c to (b + 1) heads xss
+abbrev pub AreChains : (Node → ℕ) → Column → (ℕ → ℕ) → ℕ → List (Option Node) → List (List Node) → Type 0
+AreChains ages c to b [] [] = Unit {0}
+AreChains ages c to b [] (xs ∷ xss) = ⊥
+AreChains ages c to b (head ∷ heads) [] = ⊥
+AreChains ages c to b (head ∷ heads) (xs ∷ xss) = IsChain ages c to b head xs × AreChains ages c to (b + 1) heads xss
 
 -- the nodes of the chains, one after another
 abbrev pub joined : List (List Node) → List Node

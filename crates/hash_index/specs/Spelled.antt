@@ -53,18 +53,18 @@ spelled cs i = joined (chains_of cs i)
 
 -- the index has these nodes, at most one a bucket on average, each in the chain of the hash that the column keeps of it, and
 -- what its heads say is right
-pub record Spells (cs : ℕ → Column) (i : HashIndex) (xs : List Node) : Type 0 where
+pub record Spells (ages : Node → ℕ) (cs : ℕ → Column) (i : HashIndex) (xs : List Node) : Type 0 where
   pub is : xs ≡ spelled cs i
-  pub chains : AreChains (cs i.col) (leads_to i) 0 (heads_of i) (chains_of cs i)
+  pub chains : AreChains ages (cs i.col) (leads_to i) 0 (heads_of i) (chains_of cs i)
   pub distinct : IsDistinct xs
   pub len : i.len ≡ length xs
   pub load : i.len * 4 ≤ i.chains.len
   pub right : AreRight (cs i.col) (all_of i)
-  pub oldest : AreOldest (cs i.col) xs (all_of i)
+  pub oldest : AreOldest ages (cs i.col) xs (all_of i)
 
 -- the index is chains of distinct nodes
-abbrev pub IsSound : (ℕ → Column) → HashIndex → Type 0
-IsSound cs i = Spells cs i (spelled cs i)
+abbrev pub IsSound : (Node → ℕ) → (ℕ → Column) → HashIndex → Type 0
+IsSound ages cs i = Spells ages cs i (spelled cs i)
 
 -- one more node needs no more buckets
 abbrev pub HasRoom : HashIndex → Type 0

@@ -11,11 +11,11 @@ use Rattle.hash_index.specs.Rising.{Rises}
 use Rattle.hash_index.specs.Spelled.{all_of, leads_to}
 
 -- the chain has these nodes
-pub record Builds (c : Column) (chain : Chain) (xs : List Node) : Type 0 where
+pub record Builds (ages : Node → ℕ) (c : Column) (chain : Chain) (xs : List Node) : Type 0 where
   pub first : chain.first ≡ first_or xs None
   pub last : chain.last ≡ last_or xs None
   pub runs : Runs (untagged c) None xs None
-  pub rises : IsTrue chain.rises → Rises xs
+  pub rises : IsTrue chain.rises → Rises ages xs
 
 -- whether the node goes to the chain after the last
 abbrev pub goes : Column → HashIndex → Node → Bool

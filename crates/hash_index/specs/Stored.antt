@@ -4,7 +4,7 @@ use Rattle.std.specs.declared.cmp.Ordering.{Ordering}
 use Rattle.node_store.specs.declared.Node.{Node}
 use Rattle.node_store.specs.Column.{KeepsOthers}
 use Rattle.node_store.specs.Nodes.{Holds}
-use Rattle.node_store.specs.Store.{Store}
+use Rattle.node_store.specs.Store.{Store, age_of}
 use Rattle.node_store.specs.ByNode.{column_of, contents}
 use Rattle.key_extract.specs.declared.extract.Extract.{Ghosts}
 use Rattle.hash_index.specs.declared.HashIndex.{HashIndex}
@@ -18,7 +18,7 @@ module _ {R : Type 0} where
 
   -- the links of the chains' nodes are those of the store
   abbrev pub AreChainsOf : HashIndex → Store R → Type 0
-  AreChainsOf i s = IsSound (column_of s) i
+  AreChainsOf i s = IsSound (age_of s) (column_of s) i
 
   -- the node is one of the chains'
   pub record HasNode (i : HashIndex) (s : Store R) (n : Node) : Type 0 where

@@ -1,12 +1,12 @@
 //! Writes of the links of a chain.
-ghost use Rattle.std.specs.Prelude.{◌≡◌, ◌≢◌, ◌<◌, nat_lt, true, List, [], ◌∷◌, ◌++◌, Some, None};
+ghost use Rattle.std.specs.Prelude.{◌≡◌, ◌≢◌, ℕ, ◌<◌, nat_lt, true, List, [], ◌∷◌, ◌++◌, Some, None};
 ghost use Rattle.std.specs.Option.{option_map_or};
-ghost use Rattle.node_store.specs.Store.{number_of};
+ghost use Rattle.node_store.specs.Store.{IsNodeOf, age_of};
 ghost use Rattle.node_store.specs.declared.Node.{Node};
 ghost use Rattle.node_store.specs.Nodes.{IsDistinct};
 ghost use Rattle.node_store.specs.ByNode.{column_of, contents};
 ghost use Rattle.node_store.specs.Column.{KeepsOthers, KeepsNodes, IsNode, Column};
-ghost use Rattle.seq_index.specs.Links.{AreNodes, Runs, SetsNext, SetsPrev, end_beside};
+ghost use Rattle.seq_index.specs.Links.{AreNodes, AreNodesOf, Runs, SetsNext, SetsPrev, end_beside};
 ghost use Rattle.hash_index.specs.Chains.{untagged, tag_at, KeepsTags, KeepsOtherNodes};
 ghost use Rattle.hash_index.specs.Rising.{up_at, KeepsUps, IsRising};
 ghost use Rattle.hash_index.specs.Split.{Builds};
@@ -75,11 +75,13 @@ pub(crate) fn set_up<R>(store: &mut NodeStore<R>, col: usize, at: Option<Node>, 
 }
 
 // Whether a node was added after the last one, if there is one.
-fn is_after(last: Option<Node>, n: Node) -> bool
-    ensures { result ≡ option_map_or (λ m. nat_lt (number_of m) (number_of n)) last true }
+fn is_after<R>(store: &NodeStore<R>, last: Option<Node>, n: Node) -> bool
+    requires last { AreNodesOf store.now last }
+    requires node { IsNodeOf store.now n }
+    ensures { result ≡ option_map_or (λ m. nat_lt (age_of store.now m) (age_of store.now n)) last true }
 {
     match last {
-        Some(m) => m.number() < n.number(),
+        Some(m) => store.age(m) < store.age(n),
         None => true,
     }
 }
@@ -106,7 +108,7 @@ pub(crate) struct Chain {
 impl Chain {
     // A chain of no nodes.
     pub(crate) fn new() -> Chain
-        ensures { (c : Column) → Builds c result [] }
+        ensures { (ages : Node → ℕ) (c : Column) → Builds ages c result [] }
     {
         Chain {
             first: None,
@@ -117,7 +119,8 @@ impl Chain {
 
     // A chain of one node, where its link leads to no other.
     pub(crate) fn of(n: Node) -> Chain
-        ensures { (c : Column) → Runs (untagged c) None (n ∷ []) None → Builds c result (n ∷ []) }
+        ensures { (ages : Node → ℕ) (c : Column) → Runs (untagged c) None (n ∷ []) None →
+            Builds ages c result (n ∷ []) }
     {
         Chain {
             first: Some(n),
@@ -132,8 +135,8 @@ impl Chain {
         requires last { AreNodes (column_of store.old col) self.old.last }
         requires hash { tag_at (column_of store.old col) n ≡ Some hash }
         ensures builds { (xs : List Node) → IsDistinct (xs ++ n ∷ []) →
-            Builds (column_of store.old col) self.old xs →
-            Builds (column_of store.new col) self.new (xs ++ n ∷ []) }
+            Builds (age_of store.old) (column_of store.old col) self.old xs →
+            Builds (age_of store.old) (column_of store.new col) self.new (xs ++ n ∷ []) }
         ensures tags { KeepsTags (column_of store.old col) (column_of store.new col) }
         ensures same { (m : Node) → m ≢ n → self.old.last ≢ Some m →
             column_of store.new col m ≡ column_of store.old col m }
@@ -141,6 +144,7 @@ impl Chain {
         ensures others { KeepsOthers (column_of store.old) (column_of store.new) col }
         ensures contents { contents store.new ≡ contents store.old }
     {
+        let rises = self.rises && is_after(store, self.last, n);
         let link = Link {
             a: self.last,
             b: None,
@@ -152,15 +156,15 @@ impl Chain {
         store.set_link(n, col, link);
         set_next(store, col, self.last, Some(n));
         self.first = first_beside(self.last, self.first, Some(n));
-        self.rises = self.rises && is_after(self.last, n);
+        self.rises = rises;
         self.last = Some(n);
     }
 
     // Makes the first node of a chain that rises lead up to the last.
     pub(crate) fn close<R>(&self, store: &mut NodeStore<R>, col: usize)
         requires { AreNodes (column_of store.old col) self.now.first }
-        ensures rising { (xs : List Node) → Builds (column_of store.old col) self.now xs →
-            IsRising (column_of store.new col) xs }
+        ensures rising { (xs : List Node) → Builds (age_of store.old) (column_of store.old col) self.now xs →
+            IsRising (age_of store.old) (column_of store.new col) xs }
         ensures links { (m : Node) → untagged (column_of store.new col) m ≡
             untagged (column_of store.old col) m }
         ensures tags { KeepsTags (column_of store.old col) (column_of store.new col) }

@@ -81,8 +81,8 @@ impl HashIndex {
     // The node after the one that has this link.
     pub(crate) fn after(&self, link: Link) -> Option<Node>
         requires { 0 < self.now.chains.len }
-        ensures { (cs : ℕ → Column) (xs : List Node) (n : Node) (ys : List Node) →
-            Spells cs self.now (xs ++ n ∷ ys) → cs self.now.col n ≡ Some link →
+        ensures { (ages : Node → ℕ) (cs : ℕ → Column) (xs : List Node) (n : Node) (ys : List Node) →
+            Spells ages cs self.now (xs ++ n ∷ ys) → cs self.now.col n ≡ Some link →
             result ≡ first_or ys None }
     {
         match link.b {

@@ -1,6 +1,8 @@
 //! Look-ups of the node that was added first.
 ghost use Rattle.std.specs.Prelude.{◌≡◌, IsTrue, None};
 ghost use Rattle.node_store.specs.ByNode.{column_of};
+ghost use Rattle.node_store.specs.Store.{IsNodeOf, age_of};
+ghost use Rattle.seq_index.specs.Links.{AreNodesOf};
 ghost use Rattle.hash_index.specs.Earliest.{earlier as the_earlier, earliest_of};
 ghost use Rattle.hash_index.specs.Hashed.{matches};
 ghost use Rattle.hash_index.specs.Spelled.{index_of};
@@ -12,11 +14,13 @@ use key_extract::Extract;
 use node_store::{Node, NodeStore};
 
 // The one of two nodes that was added first.
-fn earlier(first: Option<Node>, n: Node) -> Node
-    ensures { result ≡ the_earlier first n }
+fn earlier<R>(store: &NodeStore<R>, first: Option<Node>, n: Node) -> Node
+    requires first { AreNodesOf store.now first }
+    requires node { IsNodeOf store.now n }
+    ensures { result ≡ the_earlier (age_of store.now) first n }
 {
     match first {
-        Some(m) if m.number() <= n.number() => m,
+        Some(m) if store.age(m) <= store.age(n) => m,
         _ => n,
     }
 }
@@ -32,7 +36,7 @@ impl HashIndex {
         probe: &E::Probe,
     ) -> Option<Node>
         requires { CanSearch E.Extract self.now store.now keys.now probe.now }
-        ensures { result ≡ earliest_of None
+        ensures { result ≡ earliest_of (age_of store.now) None
             (matches_in E.Extract self.now store.now keys.now probe.now) }
     {
         let hash = keys.hash_probe(self.index, probe);
@@ -67,7 +71,7 @@ impl HashIndex {
         requires hash { hash ≡ E.probe_hash_of keys.now (index_of self.now) probe.now }
         requires has_key { HasKey E.Extract self.now keys.now }
         requires whole { IsTrue (E.is_whole keys.now (index_of self.now) probe.now) }
-        ensures { result ≡ earliest_of None
+        ensures { result ≡ earliest_of (age_of store.now) None
             (matches (side_in E.Extract self.now store.now keys.now probe.now)
             (rest_of (column_of store.now) self.now at)) }
     {
@@ -76,7 +80,7 @@ impl HashIndex {
         while let Some(n) = at {
             let link = store.link(n, self.col);
             if self.has_key(store, keys, probe, hash, n, link.tag) {
-                first = Some(earlier(first, n));
+                first = Some(earlier(store, first, n));
             }
             at = link.b;
         }

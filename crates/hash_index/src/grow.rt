@@ -2,6 +2,7 @@
 ghost use Rattle.std.specs.Prelude.{◌≡◌, ℕ, ◌+◌, ◌*◌, ◌<◌, ◌≤◌, None, OnOk, OnErr, IsPermutation, length};
 ghost use Rattle.node_store.specs.declared.Node.{Node};
 ghost use Rattle.node_store.specs.ByNode.{column_of, contents};
+ghost use Rattle.node_store.specs.Store.{age_of};
 ghost use Rattle.node_store.specs.Column.{KeepsOthers};
 ghost use Rattle.node_store.specs.Nodes.{IsDistinct, Lacks};
 ghost use Rattle.hash_index.specs.Spelled.{col_of, buckets_of, grown, leads_to, HasRoom, KeepsTags};
@@ -165,18 +166,18 @@ impl HashIndex {
         requires distinct { IsDistinct (rest_of (column_of store.old) self.now at) }
         requires runs { Runs (untagged (column_of store.old (col_of self.now))) None
             (rest_of (column_of store.old) self.now at) None }
-        requires rising { IsRising (column_of store.old (col_of self.now))
+        requires rising { IsRising (age_of store.old) (column_of store.old (col_of self.now))
             (rest_of (column_of store.old) self.now at) }
-        ensures stay { Builds (column_of store.new (col_of self.now)) result.0
+        ensures stay { Builds (age_of store.old) (column_of store.new (col_of self.now)) result.0
             (left (column_of store.old (col_of self.now)) self.now
             (rest_of (column_of store.old) self.now at)) }
-        ensures moved { Builds (column_of store.new (col_of self.now)) result.1
+        ensures moved { Builds (age_of store.old) (column_of store.new (col_of self.now)) result.1
             (taken (column_of store.old (col_of self.now)) self.now
             (rest_of (column_of store.old) self.now at)) }
-        ensures stay_rising { IsRising (column_of store.new (col_of self.now))
+        ensures stay_rising { IsRising (age_of store.old) (column_of store.new (col_of self.now))
             (left (column_of store.old (col_of self.now)) self.now
             (rest_of (column_of store.old) self.now at)) }
-        ensures moved_rising { IsRising (column_of store.new (col_of self.now))
+        ensures moved_rising { IsRising (age_of store.old) (column_of store.new (col_of self.now))
             (taken (column_of store.old (col_of self.now)) self.now
             (rest_of (column_of store.old) self.now at)) }
         ensures tags { KeepsTags (column_of store.old (col_of self.now))
@@ -205,16 +206,16 @@ impl HashIndex {
     fn cut_links<R>(&self, store: &mut NodeStore<R>, at: Option<Node>) -> (Chain, Chain)
         requires ends { Ends (column_of store.old) self.now at }
         requires distinct { IsDistinct (rest_of (column_of store.old) self.now at) }
-        ensures stay { Builds (column_of store.new (col_of self.now)) result.0
+        ensures stay { Builds (age_of store.old) (column_of store.new (col_of self.now)) result.0
             (left (column_of store.old (col_of self.now)) self.now
             (rest_of (column_of store.old) self.now at)) }
-        ensures moved { Builds (column_of store.new (col_of self.now)) result.1
+        ensures moved { Builds (age_of store.old) (column_of store.new (col_of self.now)) result.1
             (taken (column_of store.old (col_of self.now)) self.now
             (rest_of (column_of store.old) self.now at)) }
-        ensures stay_rising { IsRising (column_of store.new (col_of self.now))
+        ensures stay_rising { IsRising (age_of store.old) (column_of store.new (col_of self.now))
             (left (column_of store.old (col_of self.now)) self.now
             (rest_of (column_of store.old) self.now at)) }
-        ensures moved_rising { IsRising (column_of store.new (col_of self.now))
+        ensures moved_rising { IsRising (age_of store.old) (column_of store.new (col_of self.now))
             (taken (column_of store.old (col_of self.now)) self.now
             (rest_of (column_of store.old) self.now at)) }
         ensures tags { KeepsTags (column_of store.old (col_of self.now))

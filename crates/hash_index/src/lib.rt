@@ -9,6 +9,7 @@ ghost use Rattle.node_store.specs.declared.Node.{Node};
 ghost use Rattle.node_store.specs.Column.{Column, IsNode};
 ghost use Rattle.node_store.specs.Nodes.{Lacks};
 ghost use Rattle.node_store.specs.ByNode.{column_of, same_node};
+ghost use Rattle.node_store.specs.Store.{age_of};
 ghost use Rattle.list_model.specs.Walk.{without};
 ghost use Rattle.seq_index.specs.Links.{AreNodes, end_beside};
 ghost use Rattle.hash_index.specs.Mask.{HasMask, HasMask_prop};
@@ -63,7 +64,7 @@ impl HashIndex {
         ensures col { col_of result ≡ col }
         ensures index { index_of result ≡ index }
         ensures buckets { buckets_of result ≡ 0 }
-        ensures empty { (cs : ℕ → Column) → Spells cs result [] }
+        ensures empty { (ages : Node → ℕ) (cs : ℕ → Column) → Spells ages cs result [] }
     {
         HashIndex {
             alloc,
@@ -80,8 +81,8 @@ impl HashIndex {
     pub fn renumber(&mut self, index: usize)
         ensures index { index_of self.new ≡ index }
         ensures col { col_of self.new ≡ col_of self.old }
-        ensures list { (cs : ℕ → Column) (xs : List Node) → Spells cs self.old xs →
-            Spells cs self.new xs }
+        ensures list { (ages : Node → ℕ) (cs : ℕ → Column) (xs : List Node) →
+            Spells ages cs self.old xs → Spells ages cs self.new xs }
         ensures spelled { (cs : ℕ → Column) → spelled cs self.new ≡ spelled cs self.old }
         ensures buckets { buckets_of self.new ≡ buckets_of self.old }
         ensures room { HasRoom self.old → HasRoom self.new }
@@ -112,7 +113,7 @@ impl HashIndex {
     /// Takes `n` out. It reads no record, so the node's may have changed. It leaves room for one node. O(1).
     pub fn unlink<R>(&mut self, store: &mut NodeStore<R>, n: Node)
         requires { HasNode self.old store.old n }
-        ensures list { Spells (column_of store.new) self.new
+        ensures list { Spells (age_of store.new) (column_of store.new) self.new
             (without (same_node n) (nodes_of self.old store.old)) }
         ensures tags { KeepsTags (column_of store.old (col_of self.old))
             (column_of store.new (col_of self.old)) }

@@ -2,7 +2,7 @@
 ghost use Rattle.std.specs.Prelude.{◌≡◌, ◌+◌, ◌<◌, get_or, slice_get, option_and_then, Some, None};
 ghost use Rattle.std.specs.Option.{is_some};
 ghost use Rattle.node_store.specs.declared.Node.{Node};
-ghost use Rattle.node_store.specs.Store.{number_of};
+ghost use Rattle.node_store.specs.Store.{age_of};
 ghost use Rattle.node_store.specs.Column.{IsNode, KeepsOthers};
 ghost use Rattle.node_store.specs.Nodes.{Lacks, first_or, last_or};
 ghost use Rattle.node_store.specs.ByNode.{column_of, contents};
@@ -65,7 +65,7 @@ impl HashIndex {
     {
         let link = store.link(first, self.col);
         let last = last_of(first, link);
-        if first.number() < n.number() {
+        if store.age(first) < store.age(n) {
             let (at, up) = self.place(store, n, first, last);
             self.put_behind(store, n, hash, head, first, at, up);
         } else if last.is_some() || link.tag == hash {
@@ -89,8 +89,8 @@ impl HashIndex {
         requires first { first_or (rest_of (column_of store.now) self.now (Some first)) None ≡ Some first }
         requires runs { Runs (untagged (column_of store.now (col_of self.now))) None
             (rest_of (column_of store.now) self.now (Some first)) None }
-        requires last { IsLast (rest_of (column_of store.now) self.now (Some first)) last }
-        ensures { IsBehind (rest_of (column_of store.now) self.now (Some first)) result.0 n result.1 }
+        requires last { IsLast (age_of store.now) (rest_of (column_of store.now) self.now (Some first)) last }
+        ensures { IsBehind (age_of store.now) (rest_of (column_of store.now) self.now (Some first)) result.0 n result.1 }
     {
         match last {
             Some(end) => self.place_near(store, n, first, end),
@@ -112,15 +112,15 @@ impl HashIndex {
         requires runs { Runs (untagged (column_of store.now (col_of self.now))) None
             (rest_of (column_of store.now) self.now (Some first)) None }
         requires last { last_or (rest_of (column_of store.now) self.now (Some first)) None ≡ Some end }
-        requires rises { Rises (rest_of (column_of store.now) self.now (Some first)) }
-        ensures { IsBehind (rest_of (column_of store.now) self.now (Some first)) result.0 n result.1 }
+        requires rises { Rises (age_of store.now) (rest_of (column_of store.now) self.now (Some first)) }
+        ensures { IsBehind (age_of store.now) (rest_of (column_of store.now) self.now (Some first)) result.0 n result.1 }
     {
-        let number = n.number();
+        let age = store.age(n);
         let mut steps = STEPS;
         let mut top = n;
         let mut at = Some(end);
         while let Some(m) = at {
-            if m.number() < number {
+            if store.age(m) < age {
                 return (m, Some(top));
             }
             if steps == 0 {
@@ -136,7 +136,7 @@ impl HashIndex {
     // Puts `n` first into the chain of a hash, and makes it lead up to `up`.
     fn put_first<R>(&mut self, store: &mut NodeStore<R>, n: Node, hash: u64, up: Option<Node>)
         requires put { CanPut self.old store.old n }
-        requires up { IsBefore (rest_of (column_of store.old) self.old
+        requires up { IsBefore (age_of store.old) (rest_of (column_of store.old) self.old
             (get_or (heads_of self.old) (leads_to self.old hash) None)) n up }
         ensures { IsPut self.old self.new store.old store.new n hash }
     {
@@ -170,9 +170,9 @@ impl HashIndex {
         requires put { CanPut self.old store.old n }
         requires head { slice_get (all_of self.old) (leads_to self.old hash) ≡ Some head }
         requires first { first_in head ≡ Some first }
-        requires at { IsBehind (rest_of (column_of store.old) self.old (Some first)) at n up }
+        requires at { IsBehind (age_of store.old) (rest_of (column_of store.old) self.old (Some first)) at n up }
         requires later { tag_at (column_of store.old (col_of self.old)) first ≡ Some hash →
-            number_of first < number_of n }
+            age_of store.old first < age_of store.old n }
         ensures { IsPut self.old self.new store.old store.new n hash }
     {
         let chain = self.chain(hash);

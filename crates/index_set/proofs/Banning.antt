@@ -3,8 +3,8 @@ use Rattle.std.proofs.Common.{◌≡◌, ℕ, ◌+◌, ◌<◌, Bool, true, fals
 use Rattle.std.specs.Option.{option_map_or}
 use Rattle.std.specs.declared.cmp.Ordering.{Ordering}
 use Rattle.std.proofs.lemmas.List.{drop_more, get_or-map}
+use Rattle.node_store.specs.ByNode.{Columns}
 use Rattle.node_store.specs.declared.Node.{Node}
-use Rattle.node_store.specs.Column.{Column}
 use Rattle.container_model.specs.declared.handle.Spec.{Spec}
 use Rattle.container_model.specs.State.{has_key_kind}
 use Rattle.std.specs.Prelude.{IsTrue}
@@ -15,7 +15,7 @@ use Rattle.index_set.specs.Each.{list_at}
 use Rattle.index_set.specs.Indices.{ArePlaced, lists_in}
 use Rattle.index_set.specs.Lists.{ban_from}
 
-module _ {R : Type 0} (order : ℕ → R → R → Ordering) (records : Node → Option R) (cs : ℕ → Column) (specs : List Spec) (is : List AnyIndex) (except : Option Node) (row : R) where
+module _ {R : Type 0} (order : ℕ → R → R → Ordering) (records : Node → Option R) (cs : Columns) (specs : List Spec) (is : List AnyIndex) (except : Option Node) (row : R) where
   abbrev lists : List (List Node)
   lists = lists_in cs is
 

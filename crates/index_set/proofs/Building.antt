@@ -10,9 +10,9 @@ use Rattle.std.proofs.lemmas.List.Sorted.{IsPermutation-refl, IsPermutation-sym,
 use Rattle.node_store.specs.declared.Node.{Node}
 use Rattle.node_store.specs.Column.{KeepsOthers}
 use Rattle.node_store.specs.Nodes.{Lacks, IsDistinct}
-use Rattle.node_store.specs.Store.{Store}
-use Rattle.node_store.specs.ByNode.{column_of, record_of, contents}
-use Rattle.node_store.proofs.ByNode.{records_kept}
+use Rattle.node_store.specs.Store.{Store, age_of}
+use Rattle.node_store.specs.ByNode.{column_of, record_of, contents, columns_in}
+use Rattle.node_store.proofs.ByNode.{records_kept, ages_kept}
 use Rattle.container_model.specs.declared.handle.Kind.{Kind}
 use Rattle.container_model.specs.declared.handle.Spec.{Spec}
 use Rattle.container_model.specs.State.{has_key_kind}
@@ -21,26 +21,26 @@ use Rattle.any_index.specs.Spelled.{IsSound, list_of, kind_of, col_of, index_of}
 use Rattle.any_index.specs.Keyed.{IsKeyed}
 use Rattle.any_index.specs.Side.{side_of, order_at, equal_but}
 use Rattle.any_index.specs.Lists.{entered, entry_place}
-use Rattle.any_index.proofs.ByNumber.{Lacks_moved}
+use Rattle.any_index.proofs.ByAge.{Lacks_moved}
 use Rattle.index_set.specs.Added.{entered_all, HasEachKeyOnce, clash_from, clash}
 use Rattle.index_set.proofs.Clashing.{clash_here, clash_later, found_moved, once_entered}
 use Rattle.index_set.proofs.Walk.{entered_alike}
 
-module _ (f : Node → Node → Ordering) (kind : Kind) where
-  pub all_push : (xs ns : List Node) (n : Node) → entered_all f kind xs (ns ++ n ∷ []) ≡ entered kind f None n (entered_all f kind xs ns)
+module _ (ages : Node → ℕ) (f : Node → Node → Ordering) (kind : Kind) where
+  pub all_push : (xs ns : List Node) (n : Node) → entered_all ages f kind xs (ns ++ n ∷ []) ≡ entered kind ages f None n (entered_all ages f kind xs ns)
   all_push xs [] n = refl
-  all_push xs (m ∷ ns) n = all_push (entered kind f None m xs) ns n
+  all_push xs (m ∷ ns) n = all_push (entered kind ages f None m xs) ns n
 
-  pub all_more : (ns : List Node) (k : ℕ) (d : Node) → k < length ns → entered_all f kind [] (take (k + 1) ns) ≡ entered kind f None (get_or ns k d) (entered_all f kind [] (take k ns))
-  all_more ns k d lt = ap (entered_all f kind []) (take_more ns k d lt) ∙ all_push [] (take k ns) (get_or ns k d)
+  pub all_more : (ns : List Node) (k : ℕ) (d : Node) → k < length ns → entered_all ages f kind [] (take (k + 1) ns) ≡ entered kind ages f None (get_or ns k d) (entered_all ages f kind [] (take k ns))
+  all_more ns k d lt = ap (entered_all ages f kind []) (take_more ns k d lt) ∙ all_push [] (take k ns) (get_or ns k d)
 
-  all_members : (done ns : List Node) → IsPermutation (done ++ ns) (entered_all f kind done ns)
+  all_members : (done ns : List Node) → IsPermutation (done ++ ns) (entered_all ages f kind done ns)
   all_members done [] = subst (λ l. IsPermutation l done) (sym (append-nil done)) (IsPermutation-refl done)
   all_members done (n ∷ ns) =
       IsPermutation-trans _ _ _ (IsPermutation-middle done n ns)
-      (IsPermutation-trans _ _ _ (IsPermutation-append_left ns (n ∷ done) (entered kind f None n done) (IsPermutation-insert done (entry_place kind f None n done) n)) (all_members (entered kind f None n done) ns))
+      (IsPermutation-trans _ _ _ (IsPermutation-append_left ns (n ∷ done) (entered kind ages f None n done) (IsPermutation-insert done (entry_place kind ages f None n done) n)) (all_members (entered kind ages f None n done) ns))
 
-  pub members_all : (ns : List Node) → IsPermutation ns (entered_all f kind [] ns)
+  pub members_all : (ns : List Node) → IsPermutation ns (entered_all ages f kind [] ns)
   members_all ns = all_members [] ns
 
 -- no node of a list of distinct ones stands among those before it
@@ -63,13 +63,13 @@ take_whole k ns all = sym (append-nil (take k ns)) ∙ ap (λ l. take k ns ++ l)
 
 -- so far
 pub record Built {R : Type 0} (order : ℕ → R → R → Ordering) (marks : ℕ → R → Marks) (s : Store R) (spec : Spec) (column index : ℕ) (nodes : List Node) (k : ℕ) (t : Store R) (made : AnyIndex) : Type 0 where
-  pub sound : IsSound (column_of t) made
+  pub sound : IsSound (columns_in t) made
   pub kind : kind_of made ≡ spec.kind
   pub col : col_of made ≡ column
   pub number : IsTrue (has_key_kind spec.kind) → index_of made ≡ index
-  pub list : list_of (column_of t) made ≡ entered_all (order_at (record_of s) (order index)) spec.kind [] (take k nodes)
+  pub list : list_of (columns_in t) made ≡ entered_all (age_of s) (order_at (record_of s) (order index)) spec.kind [] (take k nodes)
   pub keyed : IsKeyed order marks t made
-  pub unique : IsTrue spec.unique → HasEachKeyOnce (order_at (record_of s) (order index)) (list_of (column_of t) made)
+  pub unique : IsTrue spec.unique → HasEachKeyOnce (order_at (record_of s) (order index)) (list_of (columns_in t) made)
   -- a clash is found among the nodes that come, or not at all
   pub clash : cond spec.unique (clash_from (order_at (record_of s) (order index)) (take k nodes) (drop k nodes)) None ≡ clash (order_at (record_of s) (order index)) spec.unique nodes
   pub others : KeepsOthers (column_of s) (column_of t) column
@@ -77,11 +77,11 @@ pub record Built {R : Type 0} (order : ℕ → R → R → Ordering) (marks : �
 
 module _ {R : Type 0} (order : ℕ → R → R → Ordering) (marks : ℕ → R → Marks) (s : Store R) (spec : Spec) (column index : ℕ) (nodes : List Node) (k : ℕ) (t u : Store R) (made new : AnyIndex)
     (b : Built order marks s spec column index nodes k t made) (col : col_of new ≡ col_of made) (kind : kind_of new ≡ kind_of made) (number : index_of new ≡ index_of made)
-    (others : KeepsOthers (column_of t) (column_of u) (col_of made)) (same : contents u ≡ contents t) (sound : IsSound (column_of u) new) (keyed : IsKeyed order marks u new) where
+    (others : KeepsOthers (column_of t) (column_of u) (col_of made)) (same : contents u ≡ contents t) (sound : IsSound (columns_in u) new) (keyed : IsKeyed order marks u new) where
   kept : KeepsOthers (column_of s) (column_of u) column
   kept j apart = subst (KeepsOthers (column_of t) (column_of u)) b.col others j apart ∙ b.others j apart
 
-  pub built_room : list_of (column_of u) new ≡ list_of (column_of t) made → Built order marks s spec column index nodes k u new
+  pub built_room : list_of (columns_in u) new ≡ list_of (columns_in t) made → Built order marks s spec column index nodes k u new
   built_room listed = record {
     sound = sound;
     kind = kind ∙ b.kind;
@@ -95,13 +95,14 @@ module _ {R : Type 0} (order : ℕ → R → R → Ordering) (marks : ℕ → R 
     contents = same ∙ b.contents;
   }
 
-  pub built_more : (n : Node) → k < length nodes → n ≡ get_or nodes k n → list_of (column_of u) new ≡ entered (kind_of made) (order_at (record_of t) (order (index_of made))) None n (list_of (column_of t) made) →
-      (IsTrue spec.unique → HasEachKeyOnce (order_at (record_of s) (order index)) (list_of (column_of u) new)) →
+  pub built_more : (n : Node) → k < length nodes → n ≡ get_or nodes k n → list_of (columns_in u) new ≡ entered (kind_of made) (age_of t) (order_at (record_of t) (order (index_of made))) None n (list_of (columns_in t) made) →
+      (IsTrue spec.unique → HasEachKeyOnce (order_at (record_of s) (order index)) (list_of (columns_in u) new)) →
       cond spec.unique (clash_from (order_at (record_of s) (order index)) (take (k + 1) nodes) (drop (k + 1) nodes)) None ≡ clash (order_at (record_of s) (order index)) spec.unique nodes →
       Built order marks s spec column index nodes (k + 1) u new
   built_more n lt is listed unique searched =
       let f = order_at (record_of s) (order index) in
       let records : record_of t ≡ record_of s = records_kept s t b.contents in
+      let ages : age_of t ≡ age_of s = ages_kept s t b.contents in
       record {
         sound = sound;
         kind = kind ∙ b.kind;
@@ -109,11 +110,11 @@ module _ {R : Type 0} (order : ℕ → R → R → Ordering) (marks : ℕ → R 
         number = λ has. number ∙ b.number has;
         list =
             listed
-            ∙ ap (λ z. entered z (order_at (record_of t) (order (index_of made))) None n (list_of (column_of t) made)) b.kind
-            ∙ entered_alike spec.kind _ f None n (list_of (column_of t) made) (λ has. λ i. order_at (records i) (order (b.number has i)))
-            ∙ ap (entered spec.kind f None n) b.list
-            ∙ ap (λ m. entered spec.kind f None m (entered_all f spec.kind [] (take k nodes))) is
-            ∙ sym (all_more f spec.kind nodes k n lt);
+            ∙ ap (λ z. entered z (age_of t) (order_at (record_of t) (order (index_of made))) None n (list_of (columns_in t) made)) b.kind
+            ∙ entered_alike spec.kind (age_of t) _ f None n (list_of (columns_in t) made) (λ has. λ i. order_at (records i) (order (b.number has i)))
+            ∙ (λ i. entered spec.kind (ages i) f None n (b.list i))
+            ∙ ap (λ m. entered spec.kind (age_of s) f None m (entered_all (age_of s) f spec.kind [] (take k nodes))) is
+            ∙ sym (all_more (age_of s) f spec.kind nodes k n lt);
         keyed = keyed;
         unique = unique;
         clash = searched;
@@ -123,15 +124,15 @@ module _ {R : Type 0} (order : ℕ → R → R → Ordering) (marks : ℕ → R 
 
 module _ {R : Type 0} (order : ℕ → R → R → Ordering) (marks : ℕ → R → Marks) (s : Store R) (spec : Spec) (column index : ℕ) (nodes : List Node) (k : ℕ) (t : Store R) (made : AnyIndex) (b : Built order marks s spec column index nodes k t made) where
   -- the next node is not in yet
-  pub built_lacks : (n : Node) → k < length nodes → n ≡ get_or nodes k n → IsDistinct nodes → Lacks (list_of (column_of t) made) n
+  pub built_lacks : (n : Node) → k < length nodes → n ≡ get_or nodes k n → IsDistinct nodes → Lacks (list_of (columns_in t) made) n
   built_lacks n lt is distinct =
       subst (λ l. Lacks l n) (sym b.list)
-      (Lacks_moved (take k nodes) _ n (members_all (order_at (record_of s) (order index)) spec.kind (take k nodes)) (subst (Lacks (take k nodes)) (sym is) (lacks_later nodes k n lt distinct)))
+      (Lacks_moved (take k nodes) _ n (members_all (age_of s) (order_at (record_of s) (order index)) spec.kind (take k nodes)) (subst (Lacks (take k nodes)) (sym is) (lacks_later nodes k n lt distinct)))
 
   -- all are in
   module _ (all : length nodes ≤ k) where
-    pub built_whole : list_of (column_of t) made ≡ entered_all (order_at (record_of s) (order index)) spec.kind [] nodes
-    built_whole = b.list ∙ ap (entered_all (order_at (record_of s) (order index)) spec.kind []) (take_whole k nodes all)
+    pub built_whole : list_of (columns_in t) made ≡ entered_all (age_of s) (order_at (record_of s) (order index)) spec.kind [] nodes
+    built_whole = b.list ∙ ap (entered_all (age_of s) (order_at (record_of s) (order index)) spec.kind []) (take_whole k nodes all)
 
     pub built_clear : clash (order_at (record_of s) (order index)) spec.unique nodes ≡ None
     built_clear = sym b.clash ∙ ap (λ l. cond spec.unique (clash_from (order_at (record_of s) (order index)) (take k nodes) l) None) (drop_all k nodes all) ∙ either spec.unique
@@ -142,7 +143,7 @@ module _ {R : Type 0} (order : ℕ → R → R → Ordering) (marks : ℕ → R 
 
   module _ (n : Node) (lt : k < length nodes) (is : n ≡ get_or nodes k n) (row : R) (has : record_of t n ≡ Some row) (keyed : IsTrue spec.unique → IsTrue (has_key_kind spec.kind)) (total : IsTrue (has_key_kind spec.kind) → IsTotalOrder (order index)) where
     abbrev listed : List Node
-    listed = list_of (column_of t) made
+    listed = list_of (columns_in t) made
 
     -- the node of the index that has the record's key
     abbrev holder : Option Node
@@ -158,7 +159,7 @@ module _ {R : Type 0} (order : ℕ → R → R → Ordering) (marks : ℕ → R 
     same_side one = λ i. equal_but None (side_of (records i) (λ a. order (b.number (keyed one) i) a row)) listed
 
     moved : IsPermutation listed (take k nodes)
-    moved = subst (λ xs. IsPermutation xs (take k nodes)) (sym b.list) (IsPermutation-sym (take k nodes) _ (members_all (order_at (record_of s) (order index)) spec.kind (take k nodes)))
+    moved = subst (λ xs. IsPermutation xs (take k nodes)) (sym b.list) (IsPermutation-sym (take k nodes) _ (members_all (age_of s) (order_at (record_of s) (order index)) spec.kind (take k nodes)))
 
     rest_is : drop k nodes ≡ n ∷ drop (k + 1) nodes
     rest_is = drop_more nodes k n lt ∙ ap (λ z. z ∷ drop (k + 1) nodes) (sym is)

@@ -8,9 +8,9 @@ use Rattle.std.proofs.lemmas.Bool.{cases_lt}
 use Rattle.std.proofs.lemmas.List.{length-map, get_or-map}
 use Rattle.std.proofs.lemmas.List.Edits.{length-remove, get_or-remove_below, get_or-remove_above}
 use Rattle.list_model.specs.Order.{EachPair}
+use Rattle.node_store.specs.ByNode.{columns_in}
 use Rattle.node_store.specs.declared.Node.{Node}
 use Rattle.node_store.specs.Store.{Store}
-use Rattle.node_store.specs.ByNode.{column_of}
 use Rattle.container_model.specs.declared.handle.Kind.TheVariants.{Sequenced}
 use Rattle.container_model.specs.declared.handle.Spec.{Spec}
 use Rattle.container_model.specs.Indices.{KeepsRest}
@@ -62,13 +62,13 @@ same_key old new specs gone j d w keeps has =
     w.side
 
 -- the links of those that stay are those of the store
-pub sound_left : {R : Type 0} (s : Store R) (specs : List Spec) (is : List AnyIndex) (gone : ℕ) → gone < length specs → ArePlaced (column_of s) specs is → AreSound s (remove is gone)
+pub sound_left : {R : Type 0} (s : Store R) (specs : List Spec) (is : List AnyIndex) (gone : ℕ) → gone < length specs → ArePlaced (columns_in s) specs is → AreSound s (remove is gone)
 sound_left s specs is gone lt p j d below =
     let there : gone < length is = omega (arith, lt, p.one_each) in
     let w = was gone j (length specs) (length (remove is gone)) (length-remove is gone there ∙ p.one_each) below in
-    subst (IsSound (column_of s)) (sym (read is d gone j (length specs) w there)) (p.each w.number (record { kind = Sequenced; unique = false }) d w.below).sound
+    subst (IsSound (columns_in s)) (sym (read is d gone j (length specs) w there)) (p.each w.number (record { kind = Sequenced; unique = false }) d w.below).sound
 
-module _ {R : Type 0} (s : Store R) (specs : List Spec) (is fin : List AnyIndex) (gone : ℕ) (lt : gone < length specs) (p : ArePlaced (column_of s) specs is)
+module _ {R : Type 0} (s : Store R) (specs : List Spec) (is fin : List AnyIndex) (gone : ℕ) (lt : gone < length specs) (p : ArePlaced (columns_in s) specs is)
     (count : length fin ≡ length (remove is gone)) (each : AreRenumbered s (remove is gone) fin) where
   there : gone < length is
   there = omega (arith, lt, p.one_each)
@@ -97,7 +97,7 @@ module _ {R : Type 0} (s : Store R) (specs : List Spec) (is fin : List AnyIndex)
   col_was : (j : ℕ) (d : AnyIndex) (below : j < length (remove specs gone)) → col_of (get_or fin j d) ≡ col_of (get_or is (before j below).number d)
   col_was j d below = (each j d (here j below)).col ∙ ap col_of (index_was j d below)
 
-  pub dropped_placed : ArePlaced (column_of s) (remove specs gone) fin
+  pub dropped_placed : ArePlaced (columns_in s) (remove specs gone) fin
   dropped_placed = record {
     one_each = one;
     each = λ j d e below.
@@ -119,15 +119,15 @@ module _ {R : Type 0} (s : Store R) (specs : List Spec) (is fin : List AnyIndex)
   pub dropped_room : HaveRoom specs is → HaveRoom (remove specs gone) fin
   dropped_room h = record { each = λ j d e below. (each j e (here j below)).room (subst HasRoom (sym (index_was j e below)) (h.each (before j below).number d e (before j below).below)) }
 
-  pub dropped_lists : AnyIndex → lists_in (column_of s) fin ≡ remove (lists_in (column_of s) is) gone
+  pub dropped_lists : AnyIndex → lists_in (columns_in s) fin ≡ remove (lists_in (columns_in s) is) gone
   dropped_lists i =
-      same_lists (lists_in (column_of s) fin) (lists_in (column_of s) (remove is gone)) (length-map fin (list_of (column_of s)) ∙ count ∙ sym (length-map (remove is gone) (list_of (column_of s))))
+      same_lists (lists_in (columns_in s) fin) (lists_in (columns_in s) (remove is gone)) (length-map fin (list_of (columns_in s)) ∙ count ∙ sym (length-map (remove is gone) (list_of (columns_in s))))
       (λ j below.
-      let within : j < length fin = omega (arith, below, length-map fin (list_of (column_of s))) in
-      get_or-map (list_of (column_of s)) fin j i [] within
+      let within : j < length fin = omega (arith, below, length-map fin (list_of (columns_in s))) in
+      get_or-map (list_of (columns_in s)) fin j i [] within
       ∙ (each j i (omega (arith, within, count))).list
-      ∙ sym (get_or-map (list_of (column_of s)) (remove is gone) j i [] (omega (arith, within, count))))
-      ∙ map_removed (list_of (column_of s)) is gone
+      ∙ sym (get_or-map (list_of (columns_in s)) (remove is gone) j i [] (omega (arith, within, count))))
+      ∙ map_removed (list_of (columns_in s)) is gone
 
   module _ (order after : ℕ → R → R → Ordering) (orders : KeepsRest order after specs gone) where
     pub dropped_keyed : (marks marks_after : ℕ → R → Marks) → KeepsRest marks marks_after specs gone → AreKeyed order marks s specs is → AreKeyed after marks_after s (remove specs gone) fin

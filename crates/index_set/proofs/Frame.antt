@@ -6,10 +6,10 @@ use Rattle.std.specs.declared.cmp.Ordering.{Ordering}
 use Rattle.std.proofs.lemmas.Bool.{cases_eq}
 use Rattle.std.proofs.lemmas.List.{length-set, get_or-set_same, get_or-set_other, get_or_default}
 use Rattle.node_store.specs.declared.Node.{Node}
-use Rattle.node_store.specs.Column.{Column, IsNode, KeepsOthers}
+use Rattle.node_store.specs.Column.{IsNode, KeepsOthers}
 use Rattle.node_store.specs.Store.{Store, IsNodeOf, width_of}
-use Rattle.node_store.specs.ByNode.{column_of, contents}
-use Rattle.node_store.proofs.ByNode.{records_kept, node_in_column}
+use Rattle.node_store.specs.ByNode.{column_of, contents, columns_in, Columns}
+use Rattle.node_store.proofs.ByNode.{records_kept, ages_kept, node_in_column}
 use Rattle.container_model.specs.declared.handle.Spec.{Spec}
 use Rattle.container_model.specs.State.{KeysMatch, has_key_kind}
 use Rattle.any_index.specs.declared.index.AnyIndex.{AnyIndex}
@@ -22,19 +22,20 @@ use Rattle.index_set.specs.Indices.{IsPlaced, ArePlaced, AreApart, AreWithin}
 use Rattle.index_set.proofs.Each.{each_set}
 
 -- the index at one number changed, in its own column alone
-pub record Steps (cs ds : ℕ → Column) (old new : AnyIndex) : Type 0 where
-  pub sound : IsSound ds new
+pub record Steps {R : Type 0} (s t : Store R) (old new : AnyIndex) : Type 0 where
+  pub sound : IsSound (columns_in t) new
   pub kind : kind_of new ≡ kind_of old
   pub col : col_of new ≡ col_of old
   pub number : index_of new ≡ index_of old
-  pub others : KeepsOthers cs ds (col_of old)
+  pub others : KeepsOthers (column_of s) (column_of t) (col_of old)
+  pub contents : contents t ≡ contents s
 
-pub steps_of : {cs ds : ℕ → Column} {old new : AnyIndex} → IsSound ds new → kind_of new ≡ kind_of old → col_of new ≡ col_of old → index_of new ≡ index_of old → KeepsOthers cs ds (col_of old) → Steps cs ds old new
-steps_of sound kind col number others = record { sound = sound; kind = kind; col = col; number = number; others = others }
+pub steps_of : {R : Type 0} {s t : Store R} {old new : AnyIndex} → IsSound (columns_in t) new → kind_of new ≡ kind_of old → col_of new ≡ col_of old → index_of new ≡ index_of old → KeepsOthers (column_of s) (column_of t) (col_of old) → contents t ≡ contents s → Steps s t old new
+steps_of sound kind col number others same = record { sound = sound; kind = kind; col = col; number = number; others = others; contents = same }
 
 -- the one at this number, which was placed, stays so
-pub placed_here : (cs ds : ℕ → Column) (k : ℕ) (spec : Spec) (old new : AnyIndex) → IsPlaced cs k spec old → Steps cs ds old new → IsPlaced ds k spec new
-placed_here cs ds k spec old new p s = record { sound = s.sound; kind = s.kind ∙ p.kind; number = λ has. s.number ∙ p.number (subst (λ z. IsTrue (has_key_kind z)) s.kind has) }
+pub placed_here : {R : Type 0} (s t : Store R) (k : ℕ) (spec : Spec) (old new : AnyIndex) → IsPlaced (columns_in s) k spec old → Steps s t old new → IsPlaced (columns_in t) k spec new
+placed_here s t k spec old new p step = record { sound = step.sound; kind = step.kind ∙ p.kind; number = λ has. step.number ∙ p.number (subst (λ z. IsTrue (has_key_kind z)) step.kind has) }
 
 -- a node of the store is one of the column of each index
 pub node_there : {R : Type 0} (s : Store R) (n : Node) (specs : List Spec) (is : List AnyIndex) (k : ℕ) (e : Spec) (d : AnyIndex) → k < length specs → AreWithin (width_of s) specs is → IsNodeOf s n → IsNode (column_of s (col_of (get_or is k d))) n
@@ -66,32 +67,32 @@ pub within_more : (few columns : ℕ) (specs : List Spec) (is : List AnyIndex) �
 within_more few columns specs is le h = record { each = λ j d e lt. let below = h.each j d e lt in omega (arith, below, le) }
 
 -- those in other columns stay as they were
-module _ (cs ds : ℕ → Column) (k j : ℕ) (spec : Spec) (i : AnyIndex) (p : IsPlaced cs j spec i) (keep : KeepsOthers cs ds k) (apart : col_of i ≢ k) where
-  pub column_kept : ds (col_of i) ≡ cs (col_of i)
+module _ {R : Type 0} (s t : Store R) (k j : ℕ) (spec : Spec) (i : AnyIndex) (p : IsPlaced (columns_in s) j spec i) (keep : KeepsOthers (column_of s) (column_of t) k) (apart : col_of i ≢ k) (same : contents t ≡ contents s) where
+  column_kept : column_of t (col_of i) ≡ column_of s (col_of i)
   column_kept = keep (col_of i) apart
 
-  pub placed_kept : IsPlaced ds j spec i
-  placed_kept = record { sound = IsSound_kept cs ds i column_kept p.sound; kind = p.kind; number = p.number }
+  pub placed_kept : IsPlaced (columns_in t) j spec i
+  placed_kept = record { sound = IsSound_kept (columns_in s) (columns_in t) i column_kept (ages_kept s t same) p.sound; kind = p.kind; number = p.number }
 
-  pub list_kept : list_of ds i ≡ list_of cs i
-  list_kept = list_of_kept cs ds i column_kept
+  pub list_kept : list_of (columns_in t) i ≡ list_of (columns_in s) i
+  list_kept = list_of_kept (columns_in s) (columns_in t) i column_kept (ages_kept s t same)
 
 pub keyed_kept : {R : Type 0} (order : ℕ → R → R → Ordering) (marks : ℕ → R → Marks) (s t : Store R) (k j : ℕ) (spec : Spec) (i : AnyIndex) (xs ys : List Node) →
-    IsPlaced (column_of s) j spec i → KeepsOthers (column_of s) (column_of t) k → contents t ≡ contents s → col_of i ≢ k → ys ≡ xs → AreKeyed order marks s i xs → AreKeyed order marks t i ys
+    IsPlaced (columns_in s) j spec i → KeepsOthers (column_of s) (column_of t) k → contents t ≡ contents s → col_of i ≢ k → ys ≡ xs → AreKeyed order marks s i xs → AreKeyed order marks t i ys
 keyed_kept order marks s t k j spec i xs ys p keep same apart e h =
     subst (λ z. AreKeyed order marks t i z) (sym e)
-    (AreKeyed_kept order marks s t i xs (column_kept (column_of s) (column_of t) k j spec i p keep apart) (records_kept s t same) h)
+    (AreKeyed_kept order marks s t i xs (column_kept s t k j spec i p keep apart same) (records_kept s t same) h)
 
-pub placed_set : (cs ds : ℕ → Column) (specs : List Spec) (is : List AnyIndex) (k : ℕ) (d new : AnyIndex) → k < length specs → ArePlaced cs specs is → Steps cs ds (get_or is k d) new → ArePlaced ds specs (set is k new)
-placed_set cs ds specs is k d new lt p s = record {
+pub placed_set : {R : Type 0} (s t : Store R) (specs : List Spec) (is : List AnyIndex) (k : ℕ) (d new : AnyIndex) → k < length specs → ArePlaced (columns_in s) specs is → Steps s t (get_or is k d) new → ArePlaced (columns_in t) specs (set is k new)
+placed_set s t specs is k d new lt p step = record {
   one_each = length-set is k new ∙ p.one_each;
   each =
-      each_set (λ j spec i. IsPlaced cs j spec i × IsFar is k d j i) (IsPlaced ds) specs is k new p.one_each lt
+      each_set (λ j spec i. IsPlaced (columns_in s) j spec i × IsFar is k d j i) (IsPlaced (columns_in t)) specs is k new p.one_each lt
       (λ j e f below. (p.each j e f below, are_far specs is k d lt p.apart j e f below))
-      (λ e. placed_here cs ds k (get_or specs k e) (get_or is k d) new (p.each k e d lt) s)
-      (λ j spec i apart q. placed_kept cs ds (col_of (get_or is k d)) j spec i q.0 s.others (q.1 apart));
+      (λ e. placed_here s t k (get_or specs k e) (get_or is k d) new (p.each k e d lt) step)
+      (λ j spec i apart q. placed_kept s t (col_of (get_or is k d)) j spec i q.0 step.others (q.1 apart) step.contents);
   apart = λ i j e f below within differ.
-      λ same. p.apart i j e f below within differ (sym (col_set is k d new e i s.col (omega (arith, lt, p.one_each))) ∙ (same ∙ col_set is k d new f j s.col (omega (arith, lt, p.one_each))));
+      λ same. p.apart i j e f below within differ (sym (col_set is k d new e i step.col (omega (arith, lt, p.one_each))) ∙ (same ∙ col_set is k d new f j step.col (omega (arith, lt, p.one_each))));
 }
 
 -- an index that has its key where its kind has one
@@ -103,7 +104,7 @@ key_of has_key (Ranked i) h = h refl
 key_of has_key (Hashed i) h = h refl
 
 -- an index of a kind that has a key has it
-pub key_here : (has_key : ℕ → Bool) (cs : ℕ → Column) (specs : List Spec) (is : List AnyIndex) (k : ℕ) (e : Spec) (d : AnyIndex) → k < length specs → KeysMatch has_key specs → ArePlaced cs specs is → HasItsKey has_key (get_or is k d)
+pub key_here : (has_key : ℕ → Bool) (cs : Columns) (specs : List Spec) (is : List AnyIndex) (k : ℕ) (e : Spec) (d : AnyIndex) → k < length specs → KeysMatch has_key specs → ArePlaced cs specs is → HasItsKey has_key (get_or is k d)
 key_here has_key cs specs is k e d lt keys p =
     let q = p.each k e d lt in
     key_of has_key (get_or is k d)

@@ -8,9 +8,8 @@ use Rattle.std.proofs.lemmas.Bool.{eqb-true}
 use Rattle.std.proofs.lemmas.List.{drop_more}
 use Rattle.std.proofs.lemmas.Option.{same_Some}
 use Rattle.node_store.specs.declared.Node.{Node}
-use Rattle.node_store.specs.Column.{Column}
 use Rattle.node_store.specs.Store.{Store}
-use Rattle.node_store.specs.ByNode.{column_of, record_of}
+use Rattle.node_store.specs.ByNode.{columns_in, record_of, Columns}
 use Rattle.node_store.proofs.ByNode.{records_kept}
 use Rattle.container_model.specs.declared.handle.Spec.{Spec}
 use Rattle.container_model.specs.State.{has_key_kind, is_sorted_kind}
@@ -73,7 +72,7 @@ or_none None = refl
 or_none (Some p) = refl
 
 -- what one index answers, in the words of all lists
-pub last_at : {R : Type 0} (order : ℕ → R → R → Ordering) (records : Node → Option R) (cs : ℕ → Column) (specs : List Spec) (is : List AnyIndex) (row : R) → ArePlaced cs specs is → (k : ℕ) (e : Spec) (i : AnyIndex) → k < length specs →
+pub last_at : {R : Type 0} (order : ℕ → R → R → Ordering) (records : Node → Option R) (cs : Columns) (specs : List Spec) (is : List AnyIndex) (row : R) → ArePlaced cs specs is → (k : ℕ) (e : Spec) (i : AnyIndex) → k < length specs →
     IsTrue (has_key_kind (get_or specs k e).kind) → i ≡ get_or is k i → (last : Option Node) →
     last ≡ cond (is_sorted_kind (kind_of i)) (last_that (λ n. is_le (side_of records (λ a. order (index_of i) a row) n)) (list_of cs i)) None →
     last ≡ cond (is_sorted_kind (get_or specs k e).kind) (last_before order records (lists_in cs is) row k) None
@@ -96,10 +95,10 @@ known_at order records lists n (Some place) h k m e = here (place.index == k) re
 
 -- the same in the words of the index, on a walk through all of them
 pub known_here : {R : Type 0} (order : ℕ → R → R → Ordering) (change : ℕ → Spec → List Node → List Node) (s : Store R) (specs : List Spec) (is : List AnyIndex) (k : ℕ) (t : Store R) (now : List AnyIndex) (e : Spec) (d : AnyIndex) → k < length specs → Walks change s specs is k t now →
-    (n : Node) (known : Option FreePlace) → IfSome known (IsPlaceAt order (record_of s) (lists_in (column_of s) is) n) → (m : Node) → last_in known k ≡ Some m → IsTrue (has_key_kind (kind_of (get_or now k d))) →
-    last_that (λ x. is_le (order_at (record_of t) (order (index_of (get_or now k d))) x n)) (list_of (column_of t) (get_or now k d)) ≡ Some m
+    (n : Node) (known : Option FreePlace) → IfSome known (IsPlaceAt order (record_of s) (lists_in (columns_in s) is) n) → (m : Node) → last_in known k ≡ Some m → IsTrue (has_key_kind (kind_of (get_or now k d))) →
+    last_that (λ x. is_le (order_at (record_of t) (order (index_of (get_or now k d))) x n)) (list_of (columns_in t) (get_or now k d)) ≡ Some m
 known_here order change s specs is k t now e d lt w n known place m last has =
     let same = records_kept s t w.contents in
     let number = (w.placed.each k e d lt).number has in
     let listed = walk_here change s specs is k t now d lt w in
-    (λ i. last_that (λ x. is_le (order_at (same i) (order (number i)) x n)) (listed i)) ∙ known_at order (record_of s) (lists_in (column_of s) is) n known place k m last
+    (λ i. last_that (λ x. is_le (order_at (same i) (order (number i)) x n)) (listed i)) ∙ known_at order (record_of s) (lists_in (columns_in s) is) n known place k m last

@@ -9,9 +9,9 @@ use Rattle.std.proofs.lemmas.Bool.Decides.{nat_tests}
 use Rattle.std.proofs.lemmas.List.{length_push, get_or_append_left, get_or_push}
 use Rattle.std.proofs.lemmas.List.Folds.{list_any_at}
 use Rattle.node_store.specs.declared.Node.{Node}
-use Rattle.node_store.specs.Column.{Column, KeepsOthers}
+use Rattle.node_store.specs.Column.{KeepsOthers}
 use Rattle.node_store.specs.Store.{Store}
-use Rattle.node_store.specs.ByNode.{column_of, contents}
+use Rattle.node_store.specs.ByNode.{column_of, contents, columns_in, Columns}
 use Rattle.container_model.specs.declared.handle.Spec.{Spec}
 use Rattle.container_model.specs.State.{KeysMatch, has_key_kind}
 use Rattle.any_index.specs.declared.index.AnyIndex.{AnyIndex}
@@ -35,23 +35,23 @@ unused is column free j d lt e =
 
 -- ---- links were written in a column that none of them has
 
-module _ {R : Type 0} (s t : Store R) (specs : List Spec) (is : List AnyIndex) (column : ℕ) (p : ArePlaced (column_of s) specs is)
+module _ {R : Type 0} (s t : Store R) (specs : List Spec) (is : List AnyIndex) (column : ℕ) (p : ArePlaced (columns_in s) specs is)
     (apart : (j : ℕ) (d : AnyIndex) → j < length specs → col_of (get_or is j d) ≢ column) (others : KeepsOthers (column_of s) (column_of t) column) where
-  pub placed_beside : ArePlaced (column_of t) specs is
-  placed_beside = record {
+  pub placed_beside : contents t ≡ contents s → ArePlaced (columns_in t) specs is
+  placed_beside same = record {
     one_each = p.one_each;
-    each = λ j d e lt. placed_kept (column_of s) (column_of t) column j (get_or specs j d) (get_or is j e) (p.each j d e lt) others (apart j e lt);
+    each = λ j d e lt. placed_kept s t column j (get_or specs j d) (get_or is j e) (p.each j d e lt) others (apart j e lt) same;
     apart = p.apart;
   }
 
-  pub lists_beside : lists_in (column_of t) is ≡ lists_in (column_of s) is
-  lists_beside = lists_kept (column_of s) (column_of t) specs is p.one_each (λ j d e lt. list_kept (column_of s) (column_of t) column j (get_or specs j d) (get_or is j e) (p.each j d e lt) others (apart j e lt))
+  pub lists_beside : contents t ≡ contents s → lists_in (columns_in t) is ≡ lists_in (columns_in s) is
+  lists_beside same = lists_kept s t specs is p.one_each (λ j d e lt. list_kept s t column j (get_or specs j d) (get_or is j e) (p.each j d e lt) others (apart j e lt) same)
 
   pub keyed_beside : contents t ≡ contents s → (order : ℕ → R → R → Ordering) (marks : ℕ → R → Marks) → AreKeyed order marks s specs is → AreKeyed order marks t specs is
   keyed_beside same order marks h = record {
     each = λ j d e lt.
         let here = p.each j d e lt in
-        let kept = list_kept (column_of s) (column_of t) column j (get_or specs j d) (get_or is j e) here others (apart j e lt) in
+        let kept = list_kept s t column j (get_or specs j d) (get_or is j e) here others (apart j e lt) same in
         keyed_kept order marks s t column j (get_or specs j d) (get_or is j e) _ _ here others same (apart j e lt) kept (h.each j d e lt);
   }
 
@@ -78,7 +78,7 @@ module _ (specs : List Spec) (is : List AnyIndex) (spec : Spec) (i : AnyIndex) (
   last_of : (j : ℕ) → length specs ≤ j → j < length (specs ++ spec ∷ []) → length specs ≡ j
   last_of j above within = omega (arith, above, within, length_push specs spec)
 
-  pub placed_next : (cs : ℕ → Column) → ArePlaced cs specs is → IsPlaced cs (length specs) spec i → ((j : ℕ) (d : AnyIndex) → j < length specs → col_of (get_or is j d) ≢ col_of i) → ArePlaced cs (specs ++ spec ∷ []) (is ++ i ∷ [])
+  pub placed_next : (cs : Columns) → ArePlaced cs specs is → IsPlaced cs (length specs) spec i → ((j : ℕ) (d : AnyIndex) → j < length specs → col_of (get_or is j d) ≢ col_of i) → ArePlaced cs (specs ++ spec ∷ []) (is ++ i ∷ [])
   placed_next cs p here far = record {
     one_each = length_push is i ∙ (ap (λ n. n + 1) one ∙ sym (length_push specs spec));
     each = each_push (IsPlaced cs) specs is spec i one here p.each;

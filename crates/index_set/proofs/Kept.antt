@@ -16,6 +16,7 @@ use Rattle.node_store.specs.Column.{Column}
 use Rattle.node_store.specs.Store.{IsNodeOf}
 use Rattle.node_store.specs.Store as store
 use Rattle.node_store.specs.ByNode.{record_of}
+use Rattle.node_store.proofs.StoreLemmas.{ages_with_record}
 use Rattle.container_model.specs.declared.handle.Spec.{Spec}
 use Rattle.container_model.specs.declared.handle.Kind.TheVariants.{Sequenced}
 use Rattle.container_model.specs.State.{has_key_kind}
@@ -76,7 +77,7 @@ module _ {R E : Type 0} {has_key : E → ℕ → Bool} (order : E → ℕ → R 
       each = λ j d i lt kept.
           let x = get_or s.indices.items j i in
           IsKeyed_alike (order s.keys) (marks s.keys) s.store (store.with_record s.store n row) n before row x (ap (λ (cs : ℕ → Column). cs (col_of x)) (columns_written s.store n row)) had (record_written s.store n row is)
-          (others_written s.store n row is) (one_key_at j lt kept x (get_or_default s.indices.items j i x (omega (arith, lt, sound.placed.one_each)))) (h.each j d i lt);
+          (others_written s.store n row is) (one_key_at j lt kept x (get_or_default s.indices.items j i x (omega (arith, lt, sound.placed.one_each)))) (ages_with_record s.store n row) (h.each j d i lt);
     }
 
   -- and no other node has a key of its record

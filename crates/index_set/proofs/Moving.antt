@@ -8,7 +8,7 @@ use Rattle.std.proofs.lemmas.List.{length-map, length-set, get_or-map, get_or-se
 use Rattle.node_store.specs.declared.Node.{Node}
 use Rattle.node_store.specs.Column.{KeepsOthers}
 use Rattle.node_store.specs.Store.{Store}
-use Rattle.node_store.specs.ByNode.{column_of, contents}
+use Rattle.node_store.specs.ByNode.{column_of, contents, columns_in}
 use Rattle.container_model.specs.State.{is_sequence_kind}
 use Rattle.any_index.specs.declared.index.AnyIndex.{AnyIndex}
 use Rattle.any_index.specs.Spelled.{HasRoom, list_of, col_of}
@@ -22,37 +22,37 @@ use Rattle.index_set.proofs.Frame.{Steps, IsFar, are_far, placed_set, within_set
 use Rattle.index_set.proofs.Reading.{some_spec, kind_here}
 
 module _ {R E : Type 0} {has_key : E → ℕ → Bool} (s : IndexSet R E) (sound : IsSound has_key s) (k : ℕ) (lt : k < length s.specs.items) (i new : AnyIndex) (e : i ≡ get_or s.indices.items k i)
-    (t : Store R) (step : Steps (column_of s.store) (column_of t) i new) where
+    (t : Store R) (step : Steps s.store t i new) where
   keep : KeepsOthers (column_of s.store) (column_of t) (col_of (get_or s.indices.items k i))
   keep = subst (KeepsOthers (column_of s.store) (column_of t)) (ap col_of e) step.others
 
-  pub placed_moved : ArePlaced (column_of t) s.specs.items (set s.indices.items k new)
-  placed_moved = placed_set (column_of s.store) (column_of t) s.specs.items s.indices.items k i new lt sound.placed (subst (λ (z : AnyIndex). Steps (column_of s.store) (column_of t) z new) e step)
+  pub placed_moved : ArePlaced (columns_in t) s.specs.items (set s.indices.items k new)
+  placed_moved = placed_set s.store t s.specs.items s.indices.items k i new lt sound.placed (subst (λ (z : AnyIndex). Steps s.store t z new) e step)
 
   pub within_moved : AreWithin s.columns s.specs.items (set s.indices.items k new)
   within_moved = within_set s.columns s.specs.items s.indices.items k i new (step.col ∙ ap col_of e) lt sound.placed.one_each sound.within
 
-  pub lists_moved : (xs : List Node) → list_of (column_of t) new ≡ xs → lists_in (column_of t) (set s.indices.items k new) ≡ set (lists_of s) k xs
+  pub lists_moved : (xs : List Node) → list_of (columns_in t) new ≡ xs → lists_in (columns_in t) (set s.indices.items k new) ≡ set (lists_of s) k xs
   lists_moved xs is =
-      same_lists (lists_in (column_of t) (set s.indices.items k new)) (set (lists_of s) k xs)
-      (length-map (set s.indices.items k new) (list_of (column_of t)) ∙ (length-set s.indices.items k new ∙ sym (length-set (lists_of s) k xs ∙ length-map s.indices.items (list_of (column_of s.store)))))
+      same_lists (lists_in (columns_in t) (set s.indices.items k new)) (set (lists_of s) k xs)
+      (length-map (set s.indices.items k new) (list_of (columns_in t)) ∙ (length-set s.indices.items k new ∙ sym (length-set (lists_of s) k xs ∙ length-map s.indices.items (list_of (columns_in s.store)))))
       (λ j below.
-      let within : j < length s.indices.items = omega (arith, below, length-map (set s.indices.items k new) (list_of (column_of t)), length-set s.indices.items k new) in
+      let within : j < length s.indices.items = omega (arith, below, length-map (set s.indices.items k new) (list_of (columns_in t)), length-set s.indices.items k new) in
       let one = sound.placed.one_each in
-      let seen : get_or (lists_in (column_of t) (set s.indices.items k new)) j [] ≡ list_of (column_of t) (get_or (set s.indices.items k new) j i) =
-      get_or-map (list_of (column_of t)) (set s.indices.items k new) j i [] (omega (arith, within, length-set s.indices.items k new)) in
+      let seen : get_or (lists_in (columns_in t) (set s.indices.items k new)) j [] ≡ list_of (columns_in t) (get_or (set s.indices.items k new) j i) =
+      get_or-map (list_of (columns_in t)) (set s.indices.items k new) j i [] (omega (arith, within, length-set s.indices.items k new)) in
       ⊎_elim
       (λ (same : j ≡ k).
       seen
-      ∙ (ap (λ z. list_of (column_of t) (get_or (set s.indices.items k new) z i)) same
-      ∙ (ap (list_of (column_of t)) (get_or-set_same s.indices.items k new i (omega (arith, lt, one)))
-      ∙ (is ∙ sym (ap (λ z. get_or (set (lists_of s) k xs) z []) same ∙ get_or-set_same (lists_of s) k xs [] (omega (arith, lt, one, length-map s.indices.items (list_of (column_of s.store)))))))))
+      ∙ (ap (λ z. list_of (columns_in t) (get_or (set s.indices.items k new) z i)) same
+      ∙ (ap (list_of (columns_in t)) (get_or-set_same s.indices.items k new i (omega (arith, lt, one)))
+      ∙ (is ∙ sym (ap (λ z. get_or (set (lists_of s) k xs) z []) same ∙ get_or-set_same (lists_of s) k xs [] (omega (arith, lt, one, length-map s.indices.items (list_of (columns_in s.store)))))))))
       (λ (apart : j ≢ k).
       let there : j < length s.specs.items = omega (arith, within, one) in
       seen
-      ∙ (ap (list_of (column_of t)) (get_or-set_other s.indices.items k j new i apart)
-      ∙ (list_kept (column_of s.store) (column_of t) _ j _ (get_or s.indices.items j i) (sound.placed.each j some_spec i there) keep (sound.placed.apart j k i i there lt apart)
-      ∙ (each_listed (list_of (column_of s.store)) s.specs.items s.indices.items one j some_spec i there ∙ sym (get_or-set_other (lists_of s) k j xs [] apart)))))
+      ∙ (ap (list_of (columns_in t)) (get_or-set_other s.indices.items k j new i apart)
+      ∙ (list_kept s.store t _ j _ (get_or s.indices.items j i) (sound.placed.each j some_spec i there) keep (sound.placed.apart j k i i there lt apart) step.contents
+      ∙ (each_listed (list_of (columns_in s.store)) s.specs.items s.indices.items one j some_spec i there ∙ sym (get_or-set_other (lists_of s) k j xs [] apart)))))
       (cases_eq j k))
 
   pub room_moved : (HasRoom i → HasRoom new) → HaveRoom s.specs.items s.indices.items → HaveRoom s.specs.items (set s.indices.items k new)
@@ -67,10 +67,10 @@ module _ {R E : Type 0} {has_key : E → ℕ → Bool} (s : IndexSet R E) (sound
   pub keyed_put : contents t ≡ contents s.store → (order : ℕ → R → R → Ordering) (marks : ℕ → R → Marks) → any.IsKeyed order marks t new → AreKeyed order marks s.store s.specs.items s.indices.items → AreKeyed order marks t s.specs.items (set s.indices.items k new)
   keyed_put same order marks here h = record {
     each =
-        each_set (λ j spec x. (IsPlaced (column_of s.store) j spec x × IsFar s.indices.items k i j x) × any.IsKeyed order marks s.store x) (λ _ _ x. any.IsKeyed order marks t x) s.specs.items s.indices.items k new sound.placed.one_each lt
+        each_set (λ j spec x. (IsPlaced (columns_in s.store) j spec x × IsFar s.indices.items k i j x) × any.IsKeyed order marks s.store x) (λ _ _ x. any.IsKeyed order marks t x) s.specs.items s.indices.items k new sound.placed.one_each lt
         (λ j d x below. ((sound.placed.each j d x below, are_far s.specs.items s.indices.items k i lt sound.placed.apart j d x below), h.each j d x below))
         (λ d. here)
-        (λ j spec x apart p. keyed_kept order marks s.store t _ j spec x _ _ p.0.0 keep same (p.0.1 apart) (list_kept (column_of s.store) (column_of t) _ j spec x p.0.0 keep (p.0.1 apart)) p.1);
+        (λ j spec x apart p. keyed_kept order marks s.store t _ j spec x _ _ p.0.0 keep same (p.0.1 apart) (list_kept s.store t _ j spec x p.0.0 keep (p.0.1 apart) same) p.1);
   }
 
   -- a sequence has no keys, and the others are as they were

@@ -7,7 +7,7 @@ use Rattle.std.specs.Option.{option_map_or}
 use Rattle.std.specs.declared.cmp.Ordering.{Ordering}
 use Rattle.list_model.proofs.Lists.{slice_get_at}
 use Rattle.node_store.specs.declared.Node.{Node}
-use Rattle.node_store.specs.ByNode.{column_of, record_of}
+use Rattle.node_store.specs.ByNode.{record_of, columns_in}
 use Rattle.container_model.specs.declared.handle.Spec.{Spec}
 use Rattle.container_model.specs.declared.handle.Kind.{Kind}
 use Rattle.container_model.specs.declared.handle.Kind.TheVariants.{Sequenced, Random, Ordered, Ranked, Hashed}
@@ -50,8 +50,8 @@ has_its_key s sound k lt key =
     ∙ (ap (λ (o : Option Spec). has_key_kind (option_map_or (λ (d : Spec). d.kind) o Sequenced)) (sym (slice_get_at s.specs.items k some_spec lt)) ∙ key)
 
 module _ {R E : Type 0} {has_key : E → ℕ → Bool} (s : IndexSet R E) (sound : IsSound has_key s) (k : ℕ) (lt : k < length s.specs.items) (i : AnyIndex) (e : i ≡ get_or s.indices.items k i) where
-  pub sound_here : any.IsSound (column_of s.store) i
-  sound_here = subst (λ (z : AnyIndex). any.IsSound (column_of s.store) z) (sym e) (sound.placed.each k some_spec i lt).sound
+  pub sound_here : any.IsSound (columns_in s.store) i
+  sound_here = subst (λ (z : AnyIndex). any.IsSound (columns_in s.store) z) (sym e) (sound.placed.each k some_spec i lt).sound
 
   pub kind_here : any.kind_of i ≡ kind_at s k
   kind_here =
@@ -63,14 +63,14 @@ module _ {R E : Type 0} {has_key : E → ℕ → Bool} (s : IndexSet R E) (sound
       ap any.index_of e
       ∙ (sound.placed.each k some_spec i lt).number (subst (λ z. IsTrue (has_key_kind z)) (sym kind_here ∙ ap any.kind_of e) has)
 
-  pub list_here : any.list_of (column_of s.store) i ≡ list_of s k
-  list_here = ap (any.list_of (column_of s.store)) e ∙ each_listed (any.list_of (column_of s.store)) s.specs.items s.indices.items sound.placed.one_each k some_spec i lt
+  pub list_here : any.list_of (columns_in s.store) i ≡ list_of s k
+  list_here = ap (any.list_of (columns_in s.store)) e ∙ each_listed (any.list_of (columns_in s.store)) s.specs.items s.indices.items sound.placed.one_each k some_spec i lt
 
   pub is_kind : (p : _ → Bool) → IsTrue (p (kind_at s k)) → IsTrue (p (any.kind_of i))
   is_kind p h = subst (λ z. IsTrue (p z)) (sym kind_here) h
 
   pub its_key : keyed.HasItsKey (has_key s.keys) i
-  its_key = subst (λ (z : AnyIndex). keyed.HasItsKey (has_key s.keys) z) (sym e) (key_here (has_key s.keys) (column_of s.store) s.specs.items s.indices.items k some_spec i lt sound.keys sound.placed)
+  its_key = subst (λ (z : AnyIndex). keyed.HasItsKey (has_key s.keys) z) (sym e) (key_here (has_key s.keys) (columns_in s.store) s.specs.items s.indices.items k some_spec i lt sound.keys sound.placed)
 
   pub keyed_here : (order : E → ℕ → R → R → Ordering) (marks : E → ℕ → R → Marks) → IsKeyed order marks s → keyed.IsKeyed (order s.keys) (marks s.keys) s.store i
   keyed_here order marks h = subst (λ (z : AnyIndex). keyed.IsKeyed (order s.keys) (marks s.keys) s.store z) (sym e) (h.each k some_spec i lt)
@@ -85,18 +85,18 @@ module _ {R E : Type 0} {has_key : E → ℕ → Bool} (s : IndexSet R E) (sound
       (λ h. fits_here key is_whole (whole (subst (λ z. IsTrue (is_hashed_kind z)) kind_here h)))
 
   -- what the index answers, in the words of the set
-  pub read_here : {A : Type 0} (f : List Node → A) (answer : A) → answer ≡ f (any.list_of (column_of s.store) i) → answer ≡ f (list_of s k)
+  pub read_here : {A : Type 0} (f : List Node → A) (answer : A) → answer ≡ f (any.list_of (columns_in s.store) i) → answer ≡ f (list_of s k)
   read_here f answer h = h ∙ ap f list_here
 
   pub sought_here : {A P : Type 0} → IsTrue (has_key_kind (kind_at s k)) → (f : (Node → Ordering) → List Node → A) (order : E → ℕ → R → P → Ordering) (probe : P) (answer : A) →
-      answer ≡ f (side_of (record_of s.store) (λ a. order s.keys (any.index_of i) a probe)) (any.list_of (column_of s.store) i) → answer ≡ f (probe_side order s k probe) (list_of s k)
+      answer ≡ f (side_of (record_of s.store) (λ a. order s.keys (any.index_of i) a probe)) (any.list_of (columns_in s.store) i) → answer ≡ f (probe_side order s k probe) (list_of s k)
   sought_here has f order probe answer h =
       h ∙ (λ z. f (side_of (record_of s.store) (λ a. order s.keys (number_here has z) a probe)) (list_here z))
 
   -- the same of what the index says of its answer
   pub told_here : {P : Type 0} → IsTrue (has_key_kind (kind_at s k)) → (says : (Node → Ordering) → List Node → Type 0) (order : E → ℕ → R → P → Ordering) (probe : P) →
-      says (side_of (record_of s.store) (λ a. order s.keys (any.index_of i) a probe)) (any.list_of (column_of s.store) i) → says (probe_side order s k probe) (list_of s k)
-  told_here has says order probe h = subst (λ z. says (probe_side order s k probe) z) list_here (subst (λ z. says (side_of (record_of s.store) (λ a. order s.keys z a probe)) (any.list_of (column_of s.store) i)) (number_here has) h)
+      says (side_of (record_of s.store) (λ a. order s.keys (any.index_of i) a probe)) (any.list_of (columns_in s.store) i) → says (probe_side order s k probe) (list_of s k)
+  told_here has says order probe h = subst (λ z. says (probe_side order s k probe) z) list_here (subst (λ z. says (side_of (record_of s.store) (λ a. order s.keys z a probe)) (any.list_of (columns_in s.store) i)) (number_here has) h)
 
 module _ {R E P : Type 0} (X : Ghosts E R P) (s : IndexSet R E) (sound : IsSound X.has_key s) (k : ℕ) (lt : k < length s.specs.items) (i : AnyIndex) (e : i ≡ get_or s.indices.items k i) where
   -- so nodes can be looked for there by a probe of the index's key

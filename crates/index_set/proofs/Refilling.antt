@@ -4,8 +4,10 @@ use Rattle.std.specs.Prelude.{IsTrue}
 use Rattle.std.specs.declared.cmp.Ordering.{Ordering}
 use Rattle.std.proofs.lemmas.Bool.{cases_eq}
 use Rattle.std.proofs.lemmas.List.{get_or_default, get_or-set_same, get_or-set_other}
+use Rattle.node_store.specs.Store.{Store}
+use Rattle.node_store.specs.ByNode.{column_of, columns_in, contents}
 use Rattle.node_store.specs.declared.Node.{Node}
-use Rattle.node_store.specs.Column.{Column, KeepsOthers}
+use Rattle.node_store.specs.Column.{KeepsOthers}
 use Rattle.container_model.specs.declared.handle.Spec.{Spec}
 use Rattle.container_model.specs.State.{has_key_kind}
 use Rattle.any_index.specs.declared.index.AnyIndex.{AnyIndex}
@@ -36,13 +38,14 @@ same_number i j k kinds cols here there = by_kind i ∙ (by_key (has_key_kind (k
     by_key false true e p q = cc
     by_key false false e p q = cols
 
-pub refilled_step : (cs ds : ℕ → Column) (k : ℕ) (spec : Spec) (old new : AnyIndex) → IsPlaced cs k spec old → IsPlaced ds k spec new → col_of new ≡ col_of old → KeepsOthers cs ds (col_of old) → Steps cs ds old new
-refilled_step cs ds k spec old new was now col others = record {
+pub refilled_step : {R : Type 0} (s t : Store R) (k : ℕ) (spec : Spec) (old new : AnyIndex) → IsPlaced (columns_in s) k spec old → IsPlaced (columns_in t) k spec new → col_of new ≡ col_of old → KeepsOthers (column_of s) (column_of t) (col_of old) → contents t ≡ contents s → Steps s t old new
+refilled_step s t k spec old new was now col others same = record {
   sound = now.sound;
   kind = now.kind ∙ sym was.kind;
   col = col;
   number = same_number new old k (now.kind ∙ sym was.kind) col now.number was.number;
   others = others;
+  contents = same;
 }
 
 -- each key stands once in the other lists, and in the new one

@@ -3,9 +3,9 @@ use Rattle.key_extract.specs.Digests.{Marks}
 use Rattle.std.proofs.Common.{◌≡◌, ℕ, ◌<◌, List, length, get_or, refl, sym, ap, ◌∙◌, subst}
 use Rattle.std.specs.Prelude.{IsTrue}
 use Rattle.std.specs.declared.cmp.Ordering.{Ordering}
+use Rattle.node_store.specs.ByNode.{columns_in}
 use Rattle.node_store.specs.declared.Node.{Node}
 use Rattle.node_store.specs.Store.{Store}
-use Rattle.node_store.specs.ByNode.{column_of}
 use Rattle.container_model.specs.declared.handle.Spec.{Spec}
 use Rattle.container_model.specs.State.{has_key_kind}
 use Rattle.any_index.specs.declared.index.AnyIndex.{AnyIndex}
@@ -25,7 +25,7 @@ module _ {R : Type 0} (order order' : ℕ → R → R → Ordering) (marks marks
   one_rekeyed (Hashed i) xs same marked h = subst (λ (f : R → Marks). any.AreKeyed order' (λ _. f) s (Hashed i) xs) (sym (marked refl)) h
 
   -- so do all
-  pub rekeyed : (specs : List Spec) (is : List AnyIndex) → ArePlaced (column_of s) specs is →
+  pub rekeyed : (specs : List Spec) (is : List AnyIndex) → ArePlaced (columns_in s) specs is →
       ((k : ℕ) (d : Spec) → k < length specs → IsTrue (has_key_kind (get_or specs k d).kind) → order' k ≡ order k) →
       ((k : ℕ) (d : Spec) → k < length specs → IsTrue (has_key_kind (get_or specs k d).kind) → marks' k ≡ marks k) →
       AreKeyed order marks s specs is → AreKeyed order' marks' s specs is
@@ -33,7 +33,7 @@ module _ {R : Type 0} (order order' : ℕ → R → R → Ordering) (marks marks
     each = λ j d e lt.
         let here = p.each j d e lt in
         let i = get_or is j e in
-        one_rekeyed i (list_of (column_of s) i)
+        one_rekeyed i (list_of (columns_in s) i)
         (λ has. ap order' (here.number has) ∙ same j d lt (subst (λ z. IsTrue (has_key_kind z)) here.kind has) ∙ ap order (sym (here.number has)))
         (λ has. ap marks' (here.number has) ∙ marked j d lt (subst (λ z. IsTrue (has_key_kind z)) here.kind has) ∙ ap marks (sym (here.number has)))
         (h.each j d e lt);

@@ -8,7 +8,7 @@ use Rattle.node_store.proofs.Members.{each_held}
 use Rattle.node_store.specs.Column.{KeepsOthers}
 use Rattle.std.proofs.lemmas.List.{get_or-set_same, get_or_default}
 use Rattle.node_store.specs.declared.Node.{Node}
-use Rattle.node_store.specs.ByNode.{column_of}
+use Rattle.node_store.specs.ByNode.{column_of, columns_in, contents}
 use Rattle.node_store.specs.Store.{Store}
 use Rattle.container_model.specs.declared.handle.Kind.{Kind}
 use Rattle.container_model.specs.declared.handle.Kind.TheVariants.{Sequenced, Random, Ordered, Ranked, Hashed}
@@ -33,25 +33,25 @@ by_key_kind Ranked key sorted hashed = sorted refl
 by_key_kind Hashed key sorted hashed = hashed refl
 
 module _ {R E : Type 0} {has_key : E → ℕ → Bool} (s : IndexSet R E) (sound : IsSound has_key s) where
-  module _ (k : ℕ) (lt : k < length s.specs.items) (i new : AnyIndex) (e : i ≡ get_or s.indices.items k i) (t : Store R) (step : Steps (column_of s.store) (column_of t) i new) where
+  module _ (k : ℕ) (lt : k < length s.specs.items) (i new : AnyIndex) (e : i ≡ get_or s.indices.items k i) (t : Store R) (step : Steps s.store t i new) where
     abbrev lists : List (List Node)
-    lists = lists_in (column_of t) (set s.indices.items k new)
+    lists = lists_in (columns_in t) (set s.indices.items k new)
 
-    moved : lists ≡ set (lists_of s) k (any.list_of (column_of t) new)
-    moved = lists_moved s sound k lt i new e t step (any.list_of (column_of t) new) refl
+    moved : lists ≡ set (lists_of s) k (any.list_of (columns_in t) new)
+    moved = lists_moved s sound k lt i new e t step (any.list_of (columns_in t) new) refl
 
-    its_list : get_or lists k [] ≡ any.list_of (column_of t) new
-    its_list = ap (λ (l : List (List Node)). get_or l k []) moved ∙ get_or-set_same (lists_of s) k (any.list_of (column_of t) new) [] (omega (arith, lt, one_list_each s sound))
+    its_list : get_or lists k [] ≡ any.list_of (columns_in t) new
+    its_list = ap (λ (l : List (List Node)). get_or l k []) moved ∙ get_or-set_same (lists_of s) k (any.list_of (columns_in t) new) [] (omega (arith, lt, one_list_each s sound))
 
     -- the other lists stay
     pub lists_sunk : lists ≡ set (lists_of s) k (get_or lists k [])
     lists_sunk = moved ∙ ap (set (lists_of s) k) (sym its_list)
 
     -- and that of the row is sunk where the row is
-    pub list_sunk : (has : Node → Bool) → IsSunk has (any.list_of (column_of s.store) i) (any.list_of (column_of t) new) → IsSunk has (list_of s k) (get_or lists k [])
+    pub list_sunk : (has : Node → Bool) → IsSunk has (any.list_of (columns_in s.store) i) (any.list_of (columns_in t) new) → IsSunk has (list_of s k) (get_or lists k [])
     list_sunk has h =
         subst (λ (l : List Node). IsSunk has (list_of s k) l) (sym its_list)
-        (subst (λ (l : List Node). IsSunk has l (any.list_of (column_of t) new)) (list_here s sound k lt i e) h)
+        (subst (λ (l : List Node). IsSunk has l (any.list_of (columns_in t) new)) (list_here s sound k lt i e) h)
 
 -- ---- the nodes of the key are marked in the row
 
@@ -72,13 +72,14 @@ sunk_alike p q old new alike h = record {
 }
 
 -- a row that was marked and then closed up has changed in its column alone
-pub two_steps : {R : Type 0} (first mid last : Store R) (marked old new : AnyIndex) → marked ≡ old → KeepsOthers (column_of first) (column_of mid) (any.col_of marked) → Steps (column_of mid) (column_of last) old new → Steps (column_of first) (column_of last) old new
-two_steps first mid last marked old new same marks step = record {
+pub two_steps : {R : Type 0} (first mid last : Store R) (marked old new : AnyIndex) → marked ≡ old → KeepsOthers (column_of first) (column_of mid) (any.col_of marked) → contents mid ≡ contents first → Steps mid last old new → Steps first last old new
+two_steps first mid last marked old new same marks kept step = record {
   sound = step.sound;
   kind = step.kind;
   col = step.col;
   number = step.number;
   others = λ j ne. step.others j ne ∙ marks j (λ e. ne (e ∙ ap any.col_of same));
+  contents = step.contents ∙ kept;
 }
 
 module _ {R E : Type 0} {has_key : E → ℕ → Bool} (s : IndexSet R E) (sound : IsSound has_key s) where

@@ -11,7 +11,7 @@ use Rattle.list_model.specs.Walk.{without}
 use Rattle.list_model.proofs.Lists.{slice_get_at}
 use Rattle.node_store.specs.declared.Node.{Node}
 use Rattle.node_store.specs.Nodes.{Holds}
-use Rattle.node_store.specs.Store.{IsNodeOf}
+use Rattle.node_store.specs.Store.{IsNodeOf, age_of}
 use Rattle.node_store.specs.ByNode.{record_of, contents, same_node, AddsNode, RemovesNode}
 use Rattle.node_store.proofs.ByNode.{records_kept}
 use Rattle.container_model.specs.declared.handle.Spec.{Spec}
@@ -129,13 +129,13 @@ module _ {R E : Type 0} {has_key : E → ℕ → Bool} (order : E → ℕ → R 
     -- a record that nothing bans was added and entered
     pub unique_after_enter : (s t u : IndexSet R E) → IsSound has_key s → IsOfSame s t → IsOfSame t u → (n : Node) (row : R) (at : At) →
         lists_of t ≡ lists_of s → AddsNode s.store t.store n row → LackIt (lists_of t) n →
-        lists_of u ≡ changed_from (entered_at (order t.keys) (record_of t.store) at n) 0 t.specs.items (lists_of t) → contents u.store ≡ contents t.store →
+        lists_of u ≡ changed_from (entered_at (order t.keys) (record_of t.store) (age_of t.store) at n) 0 t.specs.items (lists_of t) → contents u.store ≡ contents t.store →
         ban_from (order s.keys) (record_of s.store) (lists_of s) None row 0 s.specs.items ≡ None → IsUniqueExcept order s None → IsUniqueExcept order u None
     unique_after_enter s t u sound first second n row at listed adds lacks entered kept none h =
-        from_lists order s u (record_of t.store) (changed_from (entered_at (order s.keys) (record_of t.store) at n) 0 s.specs.items (lists_of s)) None
+        from_lists order s u (record_of t.store) (changed_from (entered_at (order s.keys) (record_of t.store) (age_of t.store) at n) 0 s.specs.items (lists_of s)) None
         (record { keys = second.keys ∙ first.keys; specs = second.specs ∙ first.specs; columns = second.columns ∙ first.columns }) (records_kept t.store u.store kept)
-        (entered ∙ (λ i. changed_from (entered_at (order (first.keys i)) (record_of t.store) at n) 0 (first.specs i) (listed i)))
-        (unique_entered (order s.keys) s.specs.items (lists_of s) (one_list_each s sound) (record_of s.store) (record_of t.store) n adds.records.others (total_at s sound) row adds.records.changed at
+        (entered ∙ (λ i. changed_from (entered_at (order (first.keys i)) (record_of t.store) (age_of t.store) at n) 0 (first.specs i) (listed i)))
+        (unique_entered (order s.keys) s.specs.items (lists_of s) (one_list_each s sound) (record_of s.store) (record_of t.store) n adds.records.others (total_at s sound) row adds.records.changed (age_of t.store) at
         (subst (λ ls. LackIt ls n) listed lacks) none (to_lists s None sound h))
 
     -- a node whose record nothing else bans was settled

@@ -154,11 +154,11 @@ module _ {R : Type 0} (order : ℕ → R → R → Ordering) (specs : List Spec)
 
     module _ (total : (j : ℕ) → j < length specs → IsTrue (get_or specs j some_spec).unique → IsTotalOrder (order j)) (row : R) (has : new n ≡ Some row) where
       -- a node that nothing bans was added and entered everywhere
-      pub unique_entered : (at : At) → LackIt lists n → ban_from order old lists None row 0 specs ≡ None → AreUnique order old specs lists None →
-          AreUnique order new specs (changed_from (entered_at order new at n) 0 specs lists) None
-      unique_entered at lacks none h j lt unique =
+      pub unique_entered : (ages : Node → ℕ) (at : At) → LackIt lists n → ban_from order old lists None row 0 specs ≡ None → AreUnique order old specs lists None →
+          AreUnique order new specs (changed_from (entered_at order new ages at n) 0 specs lists) None
+      unique_entered ages at lacks none h j lt unique =
           let xs = list_at lists j in
-          subst (EachPair (λ a b. is_eq (order_at new (order j) a b) ≡ false)) (sym (changed_at (entered_at order new at n) 0 specs lists j one lt))
+          subst (EachPair (λ a b. is_eq (order_at new (order j) a b) ≡ false)) (sym (changed_at (entered_at order new ages at n) 0 specs lists j one lt))
           (pairs_inserted (order j) old new n others (total j lt unique) row has xs _ (All-at (λ ys. Lacks ys n) lists j [] (within j lt) lacks)
           (no_ban order old lists None row specs none j lt unique) (h j lt unique))
 

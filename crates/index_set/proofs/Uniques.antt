@@ -7,7 +7,7 @@ use Rattle.std.proofs.lemmas.List.{length-map}
 use Rattle.list_model.specs.Order.{EachPair}
 use Rattle.node_store.specs.declared.Node.{Node}
 use Rattle.node_store.specs.Store.{Store}
-use Rattle.node_store.specs.ByNode.{column_of, record_of}
+use Rattle.node_store.specs.ByNode.{record_of, columns_in}
 use Rattle.container_model.specs.declared.handle.Spec.{Spec}
 use Rattle.container_model.specs.State.{has_key_kind}
 use Rattle.any_index.specs.declared.index.AnyIndex.{AnyIndex}
@@ -54,19 +54,19 @@ module _ {R : Type 0} (order : ℕ → R → R → Ordering) where
   unique_from records except specs lists h = listed_unique records except 0 specs lists (λ k e lt unique. subst (λ z. OneOfEach records except z (get_or lists k [])) (omega arith) (h k e lt unique))
 
   -- of a hashed index that is what its search for a record of one key asks for
-  pub one_of_each : (s : Store R) (except : Option Node) (i : AnyIndex) → OneOfEach (record_of s) except (index_of i) (list_of (column_of s) i) → HasOneOfEachKey order s i except
+  pub one_of_each : (s : Store R) (except : Option Node) (i : AnyIndex) → OneOfEach (record_of s) except (index_of i) (list_of (columns_in s) i) → HasOneOfEachKey order s i except
   one_of_each s except (Sequenced i) h = tt
   one_of_each s except (Random i) h = tt
   one_of_each s except (Ordered i) h = tt
   one_of_each s except (Ranked i) h = tt
   one_of_each s except (Hashed i) h = h
 
-  pub unique_here : (s : Store R) (specs : List Spec) (is : List AnyIndex) (except : Option Node) → ArePlaced (column_of s) specs is → AreUniqueFrom order (record_of s) except 0 specs (lists_in (column_of s) is) →
+  pub unique_here : (s : Store R) (specs : List Spec) (is : List AnyIndex) (except : Option Node) → ArePlaced (columns_in s) specs is → AreUniqueFrom order (record_of s) except 0 specs (lists_in (columns_in s) is) →
       (k : ℕ) (e : Spec) (d : AnyIndex) → k < length specs → IsTrue (has_key_kind (get_or specs k e).kind) → IsTrue (get_or specs k e).unique → HasOneOfEachKey order s (get_or is k d) except
   unique_here s specs is except p h k e d lt has unique =
       let number : index_of (get_or is k d) ≡ k = (p.each k e d lt).number (subst (λ z. IsTrue (has_key_kind z)) (sym (p.each k e d lt).kind) has) in
-      let listed = each_listed (list_of (column_of s)) specs is p.one_each k e d lt in
+      let listed = each_listed (list_of (columns_in s)) specs is p.one_each k e d lt in
       one_of_each s except (get_or is k d)
-      (subst (λ j. OneOfEach (record_of s) except j (list_of (column_of s) (get_or is k d))) (sym number)
+      (subst (λ j. OneOfEach (record_of s) except j (list_of (columns_in s) (get_or is k d))) (sym number)
       (subst (λ xs. OneOfEach (record_of s) except k xs) (sym listed)
-      (unique_at (record_of s) except specs (lists_in (column_of s) is) (length-map is (list_of (column_of s)) ∙ p.one_each) h k e lt unique)))
+      (unique_at (record_of s) except specs (lists_in (columns_in s) is) (length-map is (list_of (columns_in s)) ∙ p.one_each) h k e lt unique)))

@@ -11,10 +11,10 @@ use Rattle.node_store.specs.declared.Node.{Node}
 use Rattle.node_store.specs.Column.{Column}
 use Rattle.node_store.specs.Store.{Store, IsNodeOf, nodes, records, number_of}
 use Rattle.node_store.specs.Store as store
-use Rattle.node_store.specs.ByNode.{column_of, record_of, of_node, same_node}
+use Rattle.node_store.specs.ByNode.{column_of, record_of, of_node, same_node, columns_in, Columns}
 use Rattle.node_store.proofs.ByNode.{node_cases, record_of-at, column_of_with_record}
 use Rattle.node_store.proofs.Members.{same_node-false}
-use Rattle.node_store.proofs.StoreLemmas.{nodes_with_record, added_with_record, width_with_record, Rewrites-with_record}
+use Rattle.node_store.proofs.StoreLemmas.{nodes_with_record, aged_with_record, ages_with_record, added_with_record, width_with_record, Rewrites-with_record}
 use Rattle.container_model.specs.State.{has_key_kind}
 use Rattle.any_index.specs.declared.index.AnyIndex.{AnyIndex}
 use Rattle.any_index.specs.Side.{order_at}
@@ -31,6 +31,10 @@ module _ {R : Type 0} (s : Store R) (n : Node) (r : R) where
   -- the columns stay
   pub columns_written : column_of (store.with_record s n r) ≡ column_of s
   columns_written = λ i col. column_of_with_record s n r col i
+
+  -- and the ages
+  pub links_written : columns_in (store.with_record s n r) ≡ columns_in s
+  links_written = λ i. record { links = columns_written i; ages = ages_with_record s n r i }
 
   module _ (is : IsNodeOf s n) where
     pub record_written : record_of (store.with_record s n r) n ≡ Some r
@@ -62,19 +66,19 @@ module _ {R : Type 0} (s : Store R) (n : Node) (r : R) where
 
 module _ {R E : Type 0} (s : IndexSet R E) (n : Node) (r : R) where
   pub lists_written : lists_of (with_record s n r) ≡ lists_of s
-  lists_written = ap (λ (cs : ℕ → Column). lists_in cs s.indices.items) (columns_written s.store n r)
+  lists_written = ap (λ (cs : Columns). lists_in cs s.indices.items) (links_written s.store n r)
 
   pub sound_written : (has_key : E → ℕ → Bool) → IsSound has_key s → IsSound has_key (with_record s n r)
   sound_written has_key h = record {
     some = h.some;
     few = h.few;
     keys = h.keys;
-    nodes = IsStore_same s.store (store.with_record s.store n r) (nodes_with_record s.store n r) (added_with_record s.store n r) h.nodes;
+    nodes = IsStore_same s.store (store.with_record s.store n r) (nodes_with_record s.store n r) (aged_with_record s.store n r) (ages_with_record s.store n r) (added_with_record s.store n r) h.nodes;
     columns = h.columns;
     most = h.most;
     within = h.within;
     wide = omega (arith, h.wide, width_with_record s.store n r);
-    placed = subst (λ (cs : ℕ → Column). ArePlaced cs s.specs.items s.indices.items) (sym (columns_written s.store n r)) h.placed;
+    placed = subst (λ (cs : Columns). ArePlaced cs s.specs.items s.indices.items) (sym (links_written s.store n r)) h.placed;
   }
 
   module _ (is : IsNodeOf s.store n) (order : E → ℕ → R → R → Ordering) (marks : E → ℕ → R → Marks) where
@@ -83,7 +87,7 @@ module _ {R E : Type 0} (s : IndexSet R E) (n : Node) (r : R) where
     keyed_but_written h = record {
       each = λ j d i lt.
           let x = get_or s.indices.items j i in
-          IsKeyedBut_rewritten (order s.keys) (marks s.keys) s.store (store.with_record s.store n r) n x (ap (λ (cs : ℕ → Column). cs (col_of x)) (columns_written s.store n r)) (others_written s.store n r is) (h.each j d i lt);
+          IsKeyedBut_rewritten (order s.keys) (marks s.keys) s.store (store.with_record s.store n r) n x (ap (λ (cs : ℕ → Column). cs (col_of x)) (columns_written s.store n r)) (others_written s.store n r is) (ages_with_record s.store n r) (h.each j d i lt);
     }
 
 module _ {R E : Type 0} (s : IndexSet R E) (n : Node) (r w : R) (had : record_of s.store n ≡ Some r) (is : IsNodeOf s.store n) where
@@ -104,7 +108,7 @@ module _ {R E : Type 0} (s : IndexSet R E) (n : Node) (r w : R) (had : record_of
     each = λ j d i lt.
         let x = get_or s.indices.items j i in
         IsKeyed_restored (order s.keys) (marks s.keys) s.store (store.with_record (store.with_record s.store n w) n r) x
-        (ap (λ (cs : ℕ → Column). cs (col_of x)) (columns_written (store.with_record s.store n w) n r ∙ columns_written s.store n w)) written_back (h.each j d i lt);
+        (ap (λ (cs : ℕ → Column). cs (col_of x)) (columns_written (store.with_record s.store n w) n r ∙ columns_written s.store n w)) written_back (ages_with_record (store.with_record s.store n w) n r ∙ ages_with_record s.store n w) (h.each j d i lt);
   }
 
   -- and one whose record has other contents with the same keys is restored
@@ -143,5 +147,5 @@ module _ {R E : Type 0} {has_key : E → ℕ → Bool} (order : E → ℕ → R 
           let x = get_or s.indices.items j i in
           IsKeyed_alike (order s.keys) (marks s.keys) (store.with_record s.store n before) s.store n before keys.row x
           (sym (ap (λ (cs : ℕ → Column). cs (col_of x)) (columns_written s.store n before))) (record_written s.store n before is) keys.is (λ m ne. sym (others_written s.store n before is m ne))
-          (one_key_at j lt x (get_or_default s.indices.items j i x (omega (arith, lt, sound.placed.one_each)))) (h.each j d i lt);
+          (one_key_at j lt x (get_or_default s.indices.items j i x (omega (arith, lt, sound.placed.one_each)))) (sym (ages_with_record s.store n before)) (h.each j d i lt);
     }

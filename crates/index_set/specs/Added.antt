@@ -5,10 +5,10 @@ use Rattle.std.specs.Option.{option_map_or}
 use Rattle.std.specs.Ordering.{is_eq}
 use Rattle.std.specs.declared.cmp.Ordering.{Ordering}
 use Rattle.list_model.specs.Order.{EachPair}
+use Rattle.node_store.specs.ByNode.{columns_in}
 use Rattle.node_store.specs.declared.Node.{Node}
 use Rattle.node_store.specs.Nodes.{IsDistinct}
-use Rattle.node_store.specs.Store.{IsNodeOf}
-use Rattle.node_store.specs.ByNode.{column_of}
+use Rattle.node_store.specs.Store.{IsNodeOf, age_of}
 use Rattle.container_model.specs.declared.handle.Kind.{Kind}
 use Rattle.container_model.specs.declared.handle.Spec.{Spec}
 use Rattle.container_model.specs.State.{KeysMatch}
@@ -26,10 +26,10 @@ use Rattle.index_set.specs.Asked.{IsFiled}
 use Rattle.index_set.specs.Indices.{IsPlaced}
 use Rattle.index_set.specs.Set.{store_of, keys_of, specs_of, columns_of, record_of}
 
--- the list of one index with these nodes put in one after the other
-abbrev pub entered_all : (Node → Node → Ordering) → Kind → List Node → List Node → List Node
-entered_all compare kind xs [] = xs
-entered_all compare kind xs (n ∷ ns) = entered_all compare kind (entered kind compare None n xs) ns
+-- the list of one index with these nodes, of these ages, put in one after the other
+abbrev pub entered_all : (Node → ℕ) → (Node → Node → Ordering) → Kind → List Node → List Node → List Node
+entered_all ages compare kind xs [] = xs
+entered_all ages compare kind xs (n ∷ ns) = entered_all ages compare kind (entered kind ages compare None n xs) ns
 
 -- no two of these nodes have one key
 abbrev pub HasEachKeyOnce : (Node → Node → Ordering) → List Node → Type 0
@@ -61,7 +61,7 @@ module _ {R E P : Type 0} (X : Ghosts E R P) (s : IndexSet R E) (spec : Spec) (g
 
   -- the list of the new index
   abbrev pub new_list : List Node
-  new_list = entered_all new_order spec.kind [] ns
+  new_list = entered_all (age_of (store_of s)) new_order spec.kind [] ns
 
   -- the keys are those of the set and one more, and the nodes are of the set, each once
   pub record CanAdd : Type 0 where
@@ -75,9 +75,9 @@ module _ {R E P : Type 0} (X : Ghosts E R P) (s : IndexSet R E) (spec : Spec) (g
   -- this index is the next of a set that is now like this: of the number, the kind, the nodes and the keys that it is to have,
   -- in a column of its own
   pub record IsNext (now : IndexSet R E) (made : AnyIndex) : Type 0 where
-    pub placed : IsPlaced (column_of (store_of now)) (length (specs_of now)) spec made
+    pub placed : IsPlaced (columns_in (store_of now)) (length (specs_of now)) spec made
     pub within : col_of made < columns_of now
     pub apart : (j : ℕ) (d : AnyIndex) → j < length (specs_of now) → col_of (slice_index_or now.indices.items j d) ≢ col_of made
-    pub list : list_of (column_of (store_of now)) made ≡ new_list
+    pub list : list_of (columns_in (store_of now)) made ≡ new_list
     pub keyed : IsKeyed (X.order_of given) (marks_of X given) (store_of now) made
-    pub unique : IsTrue spec.unique → HasEachKeyOnce new_order (list_of (column_of (store_of now)) made)
+    pub unique : IsTrue spec.unique → HasEachKeyOnce new_order (list_of (columns_in (store_of now)) made)

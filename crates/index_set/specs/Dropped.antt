@@ -2,8 +2,8 @@
 use Rattle.key_extract.specs.Digests.{Marks}
 use Rattle.std.specs.Prelude.{◌≡◌, ℕ, ◌<◌, cond, List, length, remove, slice_index_or}
 use Rattle.std.specs.declared.cmp.Ordering.{Ordering}
+use Rattle.node_store.specs.ByNode.{columns_in}
 use Rattle.node_store.specs.Store.{Store}
-use Rattle.node_store.specs.ByNode.{column_of}
 use Rattle.container_model.specs.State.{KeysMatch, has_key_kind}
 use Rattle.container_model.specs.Indices.{KeepsRest}
 use Rattle.key_extract.specs.declared.extract.Extract.{Ghosts}
@@ -16,8 +16,8 @@ use Rattle.index_set.specs.Set.{keys_of, specs_of}
 
 -- an index goes by the keys of this number now, if it has a key, and is else as it was
 pub record IsRenumbered {R : Type 0} (s : Store R) (index : ℕ) (old new : AnyIndex) : Type 0 where
-  pub sound : IsSound (column_of s) new
-  pub list : list_of (column_of s) new ≡ list_of (column_of s) old
+  pub sound : IsSound (columns_in s) new
+  pub list : list_of (columns_in s) new ≡ list_of (columns_in s) old
   pub kind : kind_of new ≡ kind_of old
   pub col : col_of new ≡ col_of old
   pub number : index_of new ≡ cond (has_key_kind (kind_of old)) index (index_of old)
@@ -28,7 +28,7 @@ pub record IsRenumbered {R : Type 0} (s : Store R) (index : ℕ) (old new : AnyI
 module _ {R : Type 0} (s : Store R) where
   -- the links of each are those of the store
   abbrev pub AreSound : List AnyIndex → Type 0
-  AreSound is = (j : ℕ) (d : AnyIndex) → j < length is → IsSound (column_of s) (slice_index_or is j d)
+  AreSound is = (j : ℕ) (d : AnyIndex) → j < length is → IsSound (columns_in s) (slice_index_or is j d)
 
   -- each goes by the keys of its own number
   abbrev pub AreRenumbered : (old new : List AnyIndex) → Type 0

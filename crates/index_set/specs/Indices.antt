@@ -3,8 +3,8 @@ use Rattle.key_extract.specs.Digests.{Marks}
 use Rattle.std.specs.Prelude.{◌≡◌, ◌≢◌, ℕ, ◌<◌, List, length, map, slice_index_or, Option, IsTrue}
 use Rattle.std.specs.List.{AllByRecursion}
 use Rattle.std.specs.declared.cmp.Ordering.{Ordering}
+use Rattle.node_store.specs.ByNode.{Columns}
 use Rattle.node_store.specs.declared.Node.{Node}
-use Rattle.node_store.specs.Column.{Column}
 use Rattle.node_store.specs.Nodes.{Lacks, Holds}
 use Rattle.node_store.specs.Store.{Store}
 use Rattle.container_model.specs.declared.handle.Spec.{Spec}
@@ -15,7 +15,7 @@ use Rattle.any_index.specs.Keyed.{IsKeyed, IsKeyedBut, IsKeyedExcept}
 use Rattle.index_set.specs.Each.{EachOf}
 
 -- the index is sound and of the kind that it is to be; the number of its key, if it has one, is its own number
-pub record IsPlaced (cs : ℕ → Column) (j : ℕ) (spec : Spec) (i : AnyIndex) : Type 0 where
+pub record IsPlaced (cs : Columns) (j : ℕ) (spec : Spec) (i : AnyIndex) : Type 0 where
   pub sound : IsSound cs i
   pub kind : kind_of i ≡ spec.kind
   pub number : IsTrue (has_key_kind (kind_of i)) → index_of i ≡ j
@@ -29,13 +29,13 @@ pub record AreWithin (columns : ℕ) (specs : List Spec) (indices : List AnyInde
   pub each : EachOf (λ _ _ i. col_of i < columns) specs indices
 
 -- each is placed, in a column of its own, and there is one for each that is to be
-pub record ArePlaced (cs : ℕ → Column) (specs : List Spec) (indices : List AnyIndex) : Type 0 where
+pub record ArePlaced (cs : Columns) (specs : List Spec) (indices : List AnyIndex) : Type 0 where
   pub one_each : length indices ≡ length specs
   pub each : EachOf (IsPlaced cs) specs indices
   pub apart : AreApart specs indices
 
 -- their lists
-abbrev pub lists_in : (ℕ → Column) → List AnyIndex → List (List Node)
+abbrev pub lists_in : Columns → List AnyIndex → List (List Node)
 lists_in cs indices = map (list_of cs) indices
 
 -- each has room for one more node

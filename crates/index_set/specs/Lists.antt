@@ -13,9 +13,9 @@ pub use Rattle.any_index.specs.Lists.{IsSunk}
 pub use Rattle.any_index.specs.Marks.{is_match}
 
 module _ {R : Type 0} (order : ℕ → R → R → Ordering) (records : Node → Option R) where
-  -- the list of one index with a new node at its place
-  abbrev pub entered_at : At → Node → ℕ → Spec → List Node → List Node
-  entered_at at n index spec xs = entered spec.kind (order_at records (order index)) (place_in at index) n xs
+  -- the list of one index with a new node at its place, which in a hashed one the ages of the nodes tell
+  abbrev pub entered_at : (Node → ℕ) → At → Node → ℕ → Spec → List Node → List Node
+  entered_at ages at n index spec xs = entered spec.kind ages (order_at records (order index)) (place_in at index) n xs
 
   -- the list of one index in which a node settles whose record has changed
   abbrev pub settled_at : Node → ℕ → Spec → List Node → List Node

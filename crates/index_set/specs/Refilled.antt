@@ -4,7 +4,7 @@ use Rattle.std.specs.List.{AllByRecursion}
 use Rattle.std.specs.declared.cmp.Ordering.{Ordering}
 use Rattle.node_store.specs.declared.Node.{Node}
 use Rattle.node_store.specs.Nodes.{IsDistinct}
-use Rattle.node_store.specs.Store.{IsNodeOf}
+use Rattle.node_store.specs.Store.{IsNodeOf, age_of}
 use Rattle.container_model.specs.declared.handle.Kind.TheVariants.{Sequenced}
 use Rattle.key_extract.specs.declared.extract.Extract.{Ghosts}
 use Rattle.any_index.specs.Side.{order_at}
@@ -24,7 +24,7 @@ module _ {R E P : Type 0} (X : Ghosts E R P) (s : IndexSet R E) (index : ℕ) (n
 
   -- its list
   abbrev pub new_list : List Node
-  new_list = added.entered_all order_here (kind_at s index) [] ns
+  new_list = added.entered_all (age_of (store_of s)) order_here (kind_at s index) [] ns
 
   -- the two nodes of one key that it may not have
   abbrev pub clash_here : Option (Node × Node)

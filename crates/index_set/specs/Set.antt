@@ -42,7 +42,7 @@ module _ {R E : Type 0} where
 
   -- the list of each index, in the order of their numbers
   abbrev pub lists_of : IndexSet R E → List (List Node)
-  lists_of s = every.lists_in (store.column_of s.store) s.indices.items
+  lists_of s = every.lists_in (store.columns_in s.store) s.indices.items
 
   -- that of one index
   abbrev pub list_of : IndexSet R E → ℕ → List Node
@@ -70,7 +70,7 @@ module _ {R E : Type 0} where
     pub some : 1 ≤ length s.specs.items
     pub few : length s.specs.items ≤ 8
     pub keys : KeysMatch (has_key s.keys) s.specs.items
-    pub placed : every.ArePlaced (store.column_of s.store) s.specs.items s.indices.items
+    pub placed : every.ArePlaced (store.columns_in s.store) s.specs.items s.indices.items
     pub nodes : IsStore s.store
     pub columns : length s.specs.items ≤ s.columns
     pub most : s.columns ≤ 8

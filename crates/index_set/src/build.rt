@@ -3,8 +3,8 @@ ghost use Rattle.std.specs.Prelude.{◌≡◌, ℕ, ◌<◌, ◌≤◌, ◌==◌
 ghost use Rattle.std.specs.List.{AllByRecursion, list_any};
 ghost use Rattle.node_store.specs.Column.{KeepsOthers};
 ghost use Rattle.node_store.specs.Nodes.{IsDistinct};
-ghost use Rattle.node_store.specs.Store.{IsNodeOf, width_of};
-ghost use Rattle.node_store.specs.ByNode.{column_of, record_of, contents};
+ghost use Rattle.node_store.specs.Store.{IsNodeOf, age_of, width_of};
+ghost use Rattle.node_store.specs.ByNode.{column_of, record_of, contents, columns_in};
 ghost use Rattle.container_model.specs.State.{has_key_kind};
 ghost use Rattle.any_index.specs.Spelled.{list_of, kind_of, col_of};
 ghost use Rattle.any_index.specs.Stored.{IsFiledOnce, nodes_of, record_side_in};
@@ -89,14 +89,14 @@ pub(crate) fn build<R, E: Extract<R>>(
     requires unique { IsTrue spec.unique → IsTrue (has_key_kind spec.kind) }
     requires nodes { AllByRecursion (IsNodeOf store.old) nodes.now }
     requires distinct { IsDistinct nodes.now }
-    ensures placed { IfOk result (λ made. IsPlaced (column_of store.new) index spec made) }
+    ensures placed { IfOk result (λ made. IsPlaced (columns_in store.new) index spec made) }
     ensures column { IfOk result (λ made. col_of made ≡ column) }
-    ensures list { IfOk result (λ made. list_of (column_of store.new) made ≡
-        entered_all (order_at (record_of store.old) (E.order_of keys.now index)) spec.kind [] nodes.now) }
+    ensures list { IfOk result (λ made. list_of (columns_in store.new) made ≡
+        entered_all (age_of store.old) (order_at (record_of store.old) (E.order_of keys.now index)) spec.kind [] nodes.now) }
     ensures keyed { IfOk result (λ made. IsKeyed (E.order_of keys.now) (marks_of E.Extract keys.now) store.new made) }
     ensures unique { IfOk result (λ made. IsTrue spec.unique → HasEachKeyOnce
         (order_at (record_of store.old) (E.order_of keys.now index))
-        (list_of (column_of store.new) made)) }
+        (list_of (columns_in store.new) made)) }
     ensures no_clash { OnOk result (clash (order_at (record_of store.old)
         (E.order_of keys.now index)) spec.unique nodes.now ≡ None) }
     ensures cause { IfErr result (IsCause (Unit {0}) (clash (order_at (record_of store.old)

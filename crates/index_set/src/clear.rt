@@ -1,7 +1,8 @@
 //! A set without records again.
 ghost use Rattle.any_index.specs.Keyed.{marks_of};
-ghost use Rattle.std.specs.Prelude.{◌≡◌, ℕ, None, [], map};
-ghost use Rattle.node_store.specs.Store.{IsStore, nodes, len_of, width_of};
+ghost use Rattle.std.specs.Prelude.{◌≡◌, None, [], map};
+ghost use Rattle.node_store.specs.declared.Node.{Node};
+ghost use Rattle.node_store.specs.Store.{IsStore, IsNodeOf, len_of, width_of};
 ghost use Rattle.node_store.specs.Age.{nodes_of};
 ghost use Rattle.index_set.specs.Set.{store_of, specs_of, lists_of, IsSound, IsKeyed, IsUniqueExcept, IsOfSame};
 
@@ -14,7 +15,7 @@ use node_store::NodeStore;
 fn remove_all<R: Drop>(store: &mut NodeStore<R>)
     requires { IsStore store.old }
     ensures sound { IsStore store.new }
-    ensures nodes { (k : ℕ) → nodes store.new k ≡ None }
+    ensures nodes { (n : Node) → ¬ IsNodeOf store.new n }
     ensures count { store.new.added ≡ store.old.added }
     ensures width { width_of store.new ≡ width_of store.old }
 {
@@ -25,14 +26,14 @@ fn remove_all<R: Drop>(store: &mut NodeStore<R>)
 
 impl<R: Drop, E: Extract<R>> IndexSet<R, E> {
     /// Takes every record out of each index, and removes it. The indices, their keys and the count of adds stay, so a new
-    /// node has a number that none had before. It takes no memory, and leaves no room that was reserved.
+    /// node has an age that none had before. It takes no memory, and leaves no room that was reserved.
     /// O(records + indices).
     pub fn clear(&mut self)
         requires { IsSound E.has_key self.old }
         ensures sound { IsSound E.has_key self.new }
         ensures same { IsOfSame self.old self.new }
         ensures lists { lists_of self.new ≡ map (λ _. []) (specs_of self.old) }
-        ensures nodes { (k : ℕ) → nodes (store_of self.new) k ≡ None }
+        ensures nodes { (n : Node) → ¬ IsNodeOf (store_of self.new) n }
         ensures none { nodes_of (store_of self.new) ≡ [] }
         ensures len { len_of (store_of self.new) ≡ 0 }
         ensures count { (store_of self.new).added ≡ (store_of self.old).added }

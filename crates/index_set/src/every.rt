@@ -3,9 +3,8 @@ ghost use Rattle.key_extract.specs.Digests.{Marks};
 ghost use Rattle.std.specs.Prelude.{◌≡◌, false, ℕ, ◌≤◌, ◌<◌, Some, OnOk, OnErr, IfOk, IfSome, [], map, length};
 ghost use Rattle.std.specs.declared.cmp.Ordering.{Ordering};
 ghost use Rattle.list_model.specs.Walk.{without};
-ghost use Rattle.node_store.specs.Column.{Column};
-ghost use Rattle.node_store.specs.Store.{IsNodeOf, width_of};
-ghost use Rattle.node_store.specs.ByNode.{column_of, record_of, contents, same_node};
+ghost use Rattle.node_store.specs.Store.{IsNodeOf, age_of, width_of};
+ghost use Rattle.node_store.specs.ByNode.{record_of, contents, same_node, columns_in, Columns};
 ghost use Rattle.container_model.specs.State.{KeysMatch};
 ghost use Rattle.container_model.specs.Insert.{place_in};
 ghost use Rattle.any_index.specs.Keyed.{marks_of, IsKeyed};
@@ -29,9 +28,9 @@ use std::alloc::{AllocError, Global};
 // An index for each that is to be, without nodes.
 pub(crate) fn empty_indices(alloc: Global, specs: &[Spec]) -> Result<Vec<AnyIndex>, AllocError>
     requires { length specs.now ≤ 8 }
-    ensures placed { IfOk result (λ made. (cs : ℕ → Column) → ArePlaced cs specs.now made.items) }
+    ensures placed { IfOk result (λ made. (cs : Columns) → ArePlaced cs specs.now made.items) }
     ensures within { IfOk result (λ made. AreWithin (length specs.now) specs.now made.items) }
-    ensures empty { IfOk result (λ made. (cs : ℕ → Column) →
+    ensures empty { IfOk result (λ made. (cs : Columns) →
         lists_in cs made.items ≡ map (λ _. []) specs.now) }
 {
     let mut indices = Vec::with_capacity(alloc, specs.len())?;
@@ -45,9 +44,9 @@ pub(crate) fn empty_indices(alloc: Global, specs: &[Spec]) -> Result<Vec<AnyInde
 pub(crate) fn empty_each(alloc: Global, specs: &[Spec], indices: &mut [AnyIndex])
     requires few { length specs.now ≤ 8 }
     requires one_each { length indices.old ≡ length specs.now }
-    ensures placed { (cs : ℕ → Column) → ArePlaced cs specs.now indices.new }
+    ensures placed { (cs : Columns) → ArePlaced cs specs.now indices.new }
     ensures within { AreWithin (length specs.now) specs.now indices.new }
-    ensures empty { (cs : ℕ → Column) → lists_in cs indices.new ≡ map (λ _. []) specs.now }
+    ensures empty { (cs : Columns) → lists_in cs indices.new ≡ map (λ _. []) specs.now }
 {
     for index in 0..specs.len() {
         indices[index] = AnyIndex::new(alloc, specs[index].kind, index, index);
@@ -60,12 +59,12 @@ pub(crate) fn reserve_each<R>(
     specs: &[Spec],
     indices: &mut [AnyIndex],
 ) -> Result<(), AllocError>
-    requires { ArePlaced (column_of store.old) specs.now indices.old }
-    ensures placed { ArePlaced (column_of store.new) specs.now indices.new }
+    requires { ArePlaced (columns_in store.old) specs.now indices.old }
+    ensures placed { ArePlaced (columns_in store.new) specs.now indices.new }
     ensures within { (columns : ℕ) → AreWithin columns specs.now indices.old →
         AreWithin columns specs.now indices.new }
-    ensures lists { lists_in (column_of store.new) indices.new ≡ lists_in
-        (column_of store.old) indices.old }
+    ensures lists { lists_in (columns_in store.new) indices.new ≡ lists_in
+        (columns_in store.old) indices.old }
     ensures room { OnOk result (HaveRoom specs.now indices.new) }
     ensures full { OnErr result (¬ HaveRoom specs.now indices.old) }
     ensures keyed { (order : ℕ → R → R → Ordering) (marks : ℕ → R → Marks) →
@@ -99,24 +98,24 @@ pub(crate) fn enter_each<R, E: Extract<R>>(
     at: Option<(usize, u64)>,
     known: Option<FreePlace>,
 )
-    requires placed { ArePlaced (column_of store.old) specs.now indices.old }
+    requires placed { ArePlaced (columns_in store.old) specs.now indices.old }
     requires keys { KeysMatch (E.has_key keys.now) specs.now }
     requires columns { AreWithin (width_of store.old) specs.now indices.old }
     requires node { IsNodeOf store.old n }
-    requires new { LackIt (lists_in (column_of store.old) indices.old) n }
+    requires new { LackIt (lists_in (columns_in store.old) indices.old) n }
     requires room { HaveRoom specs.now indices.old }
     requires place { (j p : ℕ) → at ≡ Some (j, p) →
-        p ≤ length (list_at (lists_in (column_of store.old) indices.old) j) }
+        p ≤ length (list_at (lists_in (columns_in store.old) indices.old) j) }
     requires known { IfSome known (IsPlaceAt (E.order_of keys.now) (record_of store.old)
-        (lists_in (column_of store.old) indices.old) n) }
+        (lists_in (columns_in store.old) indices.old) n) }
     requires keyed { AreKeyed (E.order_of keys.now)
         (marks_of E.Extract keys.now) store.old specs.now indices.old }
-    ensures placed { ArePlaced (column_of store.new) specs.now indices.new }
+    ensures placed { ArePlaced (columns_in store.new) specs.now indices.new }
     ensures within { (columns : ℕ) → AreWithin columns specs.now indices.old →
         AreWithin columns specs.now indices.new }
-    ensures lists { lists_in (column_of store.new) indices.new ≡ changed_from
-        (entered_at (E.order_of keys.now) (record_of store.old) at n) 0 specs.now
-        (lists_in (column_of store.old) indices.old) }
+    ensures lists { lists_in (columns_in store.new) indices.new ≡ changed_from
+        (entered_at (E.order_of keys.now) (record_of store.old) (age_of store.old) at n) 0 specs.now
+        (lists_in (columns_in store.old) indices.old) }
     ensures keyed { AreKeyed (E.order_of keys.now)
         (marks_of E.Extract keys.now) store.new specs.now indices.new }
     ensures contents { contents store.new ≡ contents store.old }
@@ -134,13 +133,13 @@ pub(crate) fn leave_each<R>(
     indices: &mut [AnyIndex],
     n: Node,
 )
-    requires placed { ArePlaced (column_of store.old) specs.now indices.old }
-    requires held { HoldIt (lists_in (column_of store.old) indices.old) n }
-    ensures placed { ArePlaced (column_of store.new) specs.now indices.new }
+    requires placed { ArePlaced (columns_in store.old) specs.now indices.old }
+    requires held { HoldIt (lists_in (columns_in store.old) indices.old) n }
+    ensures placed { ArePlaced (columns_in store.new) specs.now indices.new }
     ensures within { (columns : ℕ) → AreWithin columns specs.now indices.old →
         AreWithin columns specs.now indices.new }
-    ensures lists { lists_in (column_of store.new) indices.new ≡ map (without (same_node n))
-        (lists_in (column_of store.old) indices.old) }
+    ensures lists { lists_in (columns_in store.new) indices.new ≡ map (without (same_node n))
+        (lists_in (columns_in store.old) indices.old) }
     ensures room { HaveRoom specs.now indices.new }
     ensures keyed { (order : ℕ → R → R → Ordering) (marks : ℕ → R → Marks) →
         AreKeyedBut order marks store.old specs.now indices.old n →
@@ -184,19 +183,19 @@ pub(crate) fn settle_each<R, E: Extract<R>>(
     n: Node,
     changed: Changed,
 )
-    requires placed { ArePlaced (column_of store.old) specs.now indices.old }
+    requires placed { ArePlaced (columns_in store.old) specs.now indices.old }
     requires keys { KeysMatch (E.has_key keys.now) specs.now }
-    requires held { HoldIt (lists_in (column_of store.old) indices.old) n }
+    requires held { HoldIt (lists_in (columns_in store.old) indices.old) n }
     requires keyed { AreKeyedBut (E.order_of keys.now)
         (marks_of E.Extract keys.now) store.old specs.now indices.old n }
     requires beside { AreKeyedBeside (E.order_of keys.now) changed
         (marks_of E.Extract keys.now) store.old specs.now indices.old }
-    ensures placed { ArePlaced (column_of store.new) specs.now indices.new }
+    ensures placed { ArePlaced (columns_in store.new) specs.now indices.new }
     ensures within { (columns : ℕ) → AreWithin columns specs.now indices.old →
         AreWithin columns specs.now indices.new }
-    ensures lists { lists_in (column_of store.new) indices.new ≡ changed_from
+    ensures lists { lists_in (columns_in store.new) indices.new ≡ changed_from
         (settled_at (E.order_of keys.now) (record_of store.old) n) 0 specs.now
-        (lists_in (column_of store.old) indices.old) }
+        (lists_in (columns_in store.old) indices.old) }
     ensures keyed { AreKeyed (E.order_of keys.now)
         (marks_of E.Extract keys.now) store.new specs.now indices.new }
     ensures contents { contents store.new ≡ contents store.old }

@@ -3,7 +3,7 @@ ghost use Rattle.any_index.specs.Keyed.{marks_of};
 ghost use Rattle.std.specs.Prelude.{◌≡◌, ◌+◌, ◌≤◌, ◌<◌, ◌^◌, ℕ, [], map, length, Some, None, IfOk, IfErr, IfSome, OnOk, OnErr};
 ghost use Rattle.std.specs.Borrow.{sem};
 ghost use Rattle.list_model.specs.Walk.{without};
-ghost use Rattle.node_store.specs.Store.{IsNodeOf, nodes, number_of, len_of, width_of, empty_store};
+ghost use Rattle.node_store.specs.Store.{IsNodeOf, aged, age_of, len_of, width_of, empty_store};
 ghost use Rattle.node_store.specs.Age.{last_below};
 ghost use Rattle.node_store.specs.ByNode.{AddsNode, RemovesNode, same_node};
 ghost use Rattle.container_model.specs.State.{KeysMatch};
@@ -82,7 +82,7 @@ impl<R: Drop, E: Extract<R>> IndexSet<R, E> {
         ensures sound { IsSound E.has_key self.new }
         ensures same { IsOfSame self.old self.new }
         ensures lists { lists_of self.new ≡ lists_of self.old }
-        ensures number { IfOk result (λ n. number_of n ≡ (store_of self.old).added) }
+        ensures age { IfOk result (λ n. age_of (store_of self.new) n ≡ (store_of self.old).added) }
         ensures count { OnOk result ((store_of self.new).added ≡ (store_of self.old).added + 1) }
         ensures added { IfOk result (λ n. AddsNode (store_of self.old)
             (store_of self.new) n value) }
@@ -158,7 +158,7 @@ impl<R, E: Extract<R>> IndexSet<R, E> {
 
     /// The node that was added last, of those that are there. O(1).
     pub fn newest(&self) -> Option<Node>
-        ensures { result ≡ last_below (nodes (store_of self.now)) (store_of self.now).added }
+        ensures { result ≡ last_below (aged (store_of self.now)) (store_of self.now).added }
     {
         self.store.newest()
     }
@@ -166,7 +166,7 @@ impl<R, E: Extract<R>> IndexSet<R, E> {
     /// The node that was added last before `n`, of those that are there. O(1).
     pub fn older(&self, n: Node) -> Option<Node>
         requires { IsNodeOf (store_of self.now) n }
-        ensures { result ≡ last_below (nodes (store_of self.now)) (number_of n) }
+        ensures { result ≡ last_below (aged (store_of self.now)) (age_of (store_of self.now) n) }
     {
         self.store.older(n)
     }
@@ -220,7 +220,8 @@ impl<R, E: Extract<R>> IndexSet<R, E> {
         ensures sound { IsSound E.has_key self.new }
         ensures same { IsOfSame self.old self.new }
         ensures lists { lists_of self.new ≡ changed_from
-            (entered_at (E.order_of (keys_of self.old)) (record_of self.old) at n) 0
+            (entered_at (E.order_of (keys_of self.old)) (record_of self.old)
+            (age_of (store_of self.old)) at n) 0
             (specs_of self.old) (lists_of self.old) }
         ensures keyed { IsKeyed E.order_of (marks_of E.Extract) self.new }
         ensures contents { contents self.new ≡ contents self.old }

@@ -3,7 +3,7 @@ use Rattle.std.proofs.Common.{◌≡◌, ◌<◌, ap, sym, ◌∙◌, arith}
 use Rattle.container_model.specs.State.{has_key_kind}
 use Rattle.node_store.specs.declared.Node.{Node}
 use Rattle.node_store.specs.Column.{IsNode}
-use Rattle.node_store.specs.Store.{Store}
+use Rattle.node_store.specs.Store.{Store, IsStore}
 use Rattle.node_store.specs.ByNode.{column_of, AddsNode}
 use Rattle.node_store.proofs.ByNode.{width_kept, node_in_column, IsNodeOf_added}
 use Rattle.key_extract.specs.declared.extract.Extract.{Ghosts}
@@ -28,12 +28,12 @@ module _ {E R P : Type 0} (X : Ghosts E R P) (keys : E) (s t : Store R) (i : Any
   }
 
   -- a node comes to the store
-  module _ (n : Node) (value : R) (a : AddsNode s t n value) where
+  module _ (n : Node) (value : R) (store : IsStore t) (a : AddsNode s t n value) where
     pub lone_added : IsLone X t i keys
     lone_added = record {
       sound = IsSound_added s t n value i a h.sound;
       key = h.key;
-      keyed = IsKeyed_added (X.order_of keys) (marks_of X keys) s t n value i a h.sound h.keyed;
+      keyed = IsKeyed_added (X.order_of keys) (marks_of X keys) s t n value i store a h.sound h.keyed;
       column = omega (arith, h.column, a.width);
     }
 

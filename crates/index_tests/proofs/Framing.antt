@@ -58,7 +58,7 @@ module _ {T : Type 0} (old new : Store (Keyed T)) (e : contents new ≡ contents
   sound_kept (Row i) same h = rows.IsSound_kept (column_of old) (column_of new) i same h
   sound_kept (Ordered i) same h = tree_kept old new i e same h
   sound_kept (Ranked i) same h = tree_kept old new i.tree e same h
-  sound_kept (Hashed i) same h = buckets.IsSound_kept (column_of old) (column_of new) i same h
+  sound_kept (Hashed i) same h = buckets.Spells_contents old new (column_of new) i _ e (buckets.IsSound_kept (column_of old) (column_of new) i same h)
 
   all_kept : (col : ℕ) (is : List Index) → KeepsFrom (column_of old) (column_of new) col → AreSound old col is → AreSound new col is
   all_kept col [] keep h = tt

@@ -2,7 +2,7 @@
 use Rattle.std.specs.Prelude.{ℕ, List}
 use Rattle.node_store.specs.declared.Node.{Node}
 use Rattle.node_store.specs.Column.{Column}
-use Rattle.node_store.specs.Store.{Store}
+use Rattle.node_store.specs.Store.{Store, age_of}
 use Rattle.node_store.specs.ByNode.{column_of}
 use Rattle.seq_index.specs.Spelled as chains
 use Rattle.row_index.specs.Spelled as rows
@@ -36,4 +36,4 @@ IsSoundIn s (Chain i) = chains.IsSound (column_of s) i
 IsSoundIn s (Row i) = rows.IsSound (column_of s) i
 IsSoundIn s (Ordered i) = trees.IsSound (column_of s) i × IsByKey s (trees.col_of i) (trees.spelled (column_of s) i)
 IsSoundIn s (Ranked i) = ranked.IsSound (column_of s) i × IsByKey s (ranked.col_of i) (ranked.spelled (column_of s) i)
-IsSoundIn s (Hashed i) = buckets.IsSound (column_of s) i
+IsSoundIn s (Hashed i) = buckets.IsSound (age_of s) (column_of s) i

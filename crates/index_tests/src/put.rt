@@ -3,6 +3,7 @@ ghost use Rattle.std.specs.Prelude.{◌≡◌};
 ghost use Rattle.node_store.specs.Column.{IsNode, KeepsOthers};
 ghost use Rattle.node_store.specs.Nodes.{Lacks};
 ghost use Rattle.node_store.specs.ByNode.{column_of, contents};
+ghost use Rattle.node_store.specs.Store.{age_of};
 ghost use Rattle.seq_index.specs.Spelled as chains;
 ghost use Rattle.row_index.specs.Spelled as rows;
 ghost use Rattle.ord_tree.specs.Spelled as trees;
@@ -91,10 +92,10 @@ pub(crate) fn put_by_rank<T>(tree: &mut RankTree, store: &mut NodeStore<Keyed<T>
 }
 
 pub(crate) fn put_by_hash<T>(index: &mut HashIndex, store: &mut NodeStore<Keyed<T>>, n: Node)
-    requires sound { buckets.IsSound (column_of store.old) index.old }
+    requires sound { buckets.IsSound (age_of store.old) (column_of store.old) index.old }
     requires node { IsNode (column_of store.old (buckets.col_of index.old)) n }
     requires new { Lacks (buckets.spelled (column_of store.old) index.old) n }
-    ensures sound { buckets.IsSound (column_of store.new) index.new }
+    ensures sound { buckets.IsSound (age_of store.new) (column_of store.new) index.new }
     ensures col { buckets.col_of index.new ≡ buckets.col_of index.old }
     ensures others { KeepsOthers (column_of store.old) (column_of store.new)
         (buckets.col_of index.old) }

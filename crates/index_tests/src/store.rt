@@ -1,6 +1,6 @@
 //! Nodes and their links, how large they are, and a store that moves to another thread.
-ghost use Rattle.std.specs.Prelude.{◌≡◌, ◌<◌, ◌≤◌};
-ghost use Rattle.node_store.specs.Store.{IsNodeOf, number_of, width_of};
+ghost use Rattle.std.specs.Prelude.{◌≡◌, ◌≢◌, ◌<◌, ◌≤◌};
+ghost use Rattle.node_store.specs.Store.{IsNodeOf, width_of};
 ghost use Rattle.node_store.specs.ByNode.{contents};
 
 use node_store::{COLUMNS, Digest, LINK_BYTES, Link, Node, NodeStore};
@@ -36,8 +36,8 @@ fn loses_second(store: &mut NodeStore<u32>, a: Node, b: Node, c: Node) -> bool
     requires first { IsNodeOf store.old a }
     requires second { IsNodeOf store.old b }
     requires third { IsNodeOf store.old c }
-    requires before { number_of a < number_of b }
-    requires after { number_of b < number_of c }
+    requires before { a ≢ b }
+    requires after { c ≢ b }
 {
     *store.get_mut(c) = 31;
     let removed = store.remove(b);
@@ -46,7 +46,7 @@ fn loses_second(store: &mut NodeStore<u32>, a: Node, b: Node, c: Node) -> bool
 }
 
 /// Whether three nodes are kept in the order of their adds, with their links and records.
-#[tactic(auto, using(node_store::proofs::ByNode::nodes_kept))]
+#[tactic(auto, using(node_store::proofs::ByNode::nodes_kept, node_store::proofs::ByNode::new_node))]
 pub(crate) fn links_are_kept_by_column(alloc: Global) -> Option<bool> {
     let mut store = NodeStore::new(alloc, 3);
     let a = store.add(10u32).ok()?;
@@ -143,10 +143,10 @@ pub(crate) fn any_columns_keep_links(alloc: Global) -> Option<bool> {
 
 /// Whether a node and its links have these sizes in bytes.
 pub(crate) fn are_sizes() -> bool {
-    size_of::<Node>() == 16
-        && size_of::<Option<Node>>() == 24
-        && size_of::<Link>() == 96
-        && LINK_BYTES == 56
+    size_of::<Node>() == 4
+        && size_of::<Option<Node>>() == 8
+        && size_of::<Link>() == 48
+        && LINK_BYTES == 32
 }
 
 // A store with one more record, which is read in the store.

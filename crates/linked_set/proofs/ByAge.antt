@@ -8,7 +8,7 @@ use Rattle.list_model.proofs.Lists.{EachPair-push}
 use Rattle.list_model.proofs.Kept.{All-split}
 use Rattle.node_store.specs.declared.Node.{Node}
 use Rattle.node_store.specs.Nodes.{Lacks, IsDistinct}
-use Rattle.node_store.specs.Store.{Store, IsStore, IsNodeOf, nodes, number_of}
+use Rattle.node_store.specs.Store.{Store, IsStore, IsNodeOf, aged, age_of}
 use Rattle.node_store.specs.ByNode.{contents}
 use Rattle.node_store.specs.Age.{all_below, nodes_of}
 use Rattle.node_store.proofs.Age.{all_below-each, all_nodes_of}
@@ -17,40 +17,40 @@ use Rattle.linked_set.specs.Linked.{nodes_in}
 use Rattle.linked_set.proofs.Entered.{AreOlder}
 
 -- each node was added before those after it
-abbrev pub AreByAge : List Node → Type 0
-AreByAge ns = EachPair (λ m n. number_of m < number_of n) ns
+abbrev pub AreByAge : (Node → ℕ) → List Node → Type 0
+AreByAge ages ns = EachPair (λ m n. ages m < ages n) ns
 
 -- those before one in such a list were added before it
-pub older_before : (front : List Node) (n : Node) (back : List Node) → AreByAge (front ++ n ∷ back) → AreOlder n front
-older_before [] n back by_age = tt
-older_before (m ∷ ms) n back by_age = ((All-split (λ x. number_of m < number_of x) ms (n ∷ back) by_age.0).1.0, older_before ms n back by_age.1)
+pub older_before : (ages : Node → ℕ) (front : List Node) (n : Node) (back : List Node) → AreByAge ages (front ++ n ∷ back) → AreOlder ages n front
+older_before ages [] n back by_age = tt
+older_before ages (m ∷ ms) n back by_age = ((All-split (λ x. ages m < ages x) ms (n ∷ back) by_age.0).1.0, older_before ages ms n back by_age.1)
 
-lacks_older : (m : Node) (ns : List Node) → AllByRecursion (λ n. number_of m < number_of n) ns → Lacks ns m
-lacks_older m [] later = tt
-lacks_older m (n ∷ ns) later =
+lacks_older : (ages : Node → ℕ) (m : Node) (ns : List Node) → AllByRecursion (λ n. ages m < ages n) ns → Lacks ns m
+lacks_older ages m [] later = tt
+lacks_older ages m (n ∷ ns) later =
     let less = later.0 in
-    ((λ (same : m ≡ n). let one : number_of m ≡ number_of n = ap number_of same in absurd (omega (arith, less, one))), lacks_older m ns later.1)
+    ((λ (same : m ≡ n). let one : ages m ≡ ages n = ap ages same in absurd (omega (arith, less, one))), lacks_older ages m ns later.1)
 
 -- none stands in it twice
-pub distinct_by_age : (ns : List Node) → AreByAge ns → IsDistinct ns
-distinct_by_age [] by_age = tt
-distinct_by_age (n ∷ ns) by_age = (lacks_older n ns by_age.0, distinct_by_age ns by_age.1)
+pub distinct_by_age : (ages : Node → ℕ) (ns : List Node) → AreByAge ages ns → IsDistinct ns
+distinct_by_age ages [] by_age = tt
+distinct_by_age ages (n ∷ ns) by_age = (lacks_older ages n ns by_age.0, distinct_by_age ages ns by_age.1)
 
 module _ {R : Type 0} (s : Store (Entry R)) (store : IsStore s) where
-  rise_below : (k : ℕ) → AreByAge (all_below (nodes s) k)
+  rise_below : (k : ℕ) → AreByAge (age_of s) (all_below (aged s) k)
   rise_below zero = tt
-  rise_below (suc k) = with_last (nodes s k) refl (rise_below k)
+  rise_below (suc k) = with_last (aged s k) refl (rise_below k)
     where
-      with_last : (o : Option Node) → nodes s k ≡ o → AreByAge (all_below (nodes s) k) → AreByAge (all_below (nodes s) k ++ option_map_or (λ x. x ∷ []) o [])
-      with_last None at before = subst AreByAge (sym (append-nil (all_below (nodes s) k))) before
+      with_last : (o : Option Node) → aged s k ≡ o → AreByAge (age_of s) (all_below (aged s) k) → AreByAge (age_of s) (all_below (aged s) k ++ option_map_or (λ x. x ∷ []) o [])
+      with_last None at before = subst (AreByAge (age_of s)) (sym (append-nil (all_below (aged s) k))) before
       with_last (Some n) at before =
-          let last : number_of n ≡ k = store.numbered k n at in
-          EachPair-push (λ m n. number_of m < number_of n) (all_below (nodes s) k) n
-          (recursion_from_All _ (all_below (nodes s) k)
-          (all_below-each (λ m. number_of m < number_of n) (nodes s) k (λ i m less here. let number : number_of m ≡ i = store.numbered i m here in omega (arith, less, number, last)))) before
+          let last : age_of s n ≡ k = store.age k n at in
+          EachPair-push (λ m n. age_of s m < age_of s n) (all_below (aged s) k) n
+          (recursion_from_All _ (all_below (aged s) k)
+          (all_below-each (λ m. age_of s m < age_of s n) (aged s) k (λ i m less here. let age : age_of s m ≡ i = store.age i m here in omega (arith, less, age, last)))) before
 
   -- the nodes of a store are by age
-  pub nodes_rise : AreByAge (nodes_in (contents s))
+  pub nodes_rise : AreByAge (age_of s) (nodes_in (contents s))
   unfolding contents
   nodes_rise = rise_below s.added
 

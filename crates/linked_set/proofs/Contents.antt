@@ -7,12 +7,13 @@ use Rattle.std.proofs.lemmas.Option.{same_Some}
 use Rattle.std.proofs.lemmas.List.{length-map}
 use Rattle.std.proofs.lemmas.List.Elements.{filter_map-append, recursion_from_All}
 use Rattle.node_store.specs.declared.Node.{Node}
-use Rattle.node_store.specs.Store.{Entry as Kept, Store, IsStore, IsNodeOf, nodes, number_of, records, len_of, empty_store}
+use Rattle.node_store.specs.Store.{Entry as Kept, Store, IsStore, IsNodeOf, aged, age_of, records, len_of, empty_store}
 use Rattle.node_store.specs.ByNode.{record_of, contents, AddsNode}
 use Rattle.node_store.specs.Age.{all_below, nodes_of}
 use Rattle.node_store.proofs.StoreLemmas.{the_entry}
 use Rattle.node_store.proofs.ByNode.{record_of-at, new_node, records_kept}
 use Rattle.node_store.proofs.Age.{all_nodes_of, nodes_of-added, length-nodes_of}
+use Rattle.node_store.proofs.Ages.{at_its_age, age_below}
 use Rattle.list_model.specs.Order.{EachPair}
 use Rattle.list_model.proofs.InOrder.{All-map}
 use Rattle.list_model.proofs.Kept.{All-split}
@@ -66,14 +67,6 @@ pub has_record : {X : Type 0} (s : Store X) (n : Node) → IsNodeOf s n → (x :
 unfolding records
 has_record s n is = let p = the_entry s n is in (p.0.value, record_of-at s n is ∙ ap (option_map (λ (e : Kept _). e.value)) p.1)
 
--- the number of a node is below the count of adds
-pub number_below : {X : Type 0} (s : Store X) (n : Node) → IsStore s → IsNodeOf s n → number_of n < s.added
-number_below s n store is = by_place (cases_lt (number_of n) s.added)
-  where
-    by_place : (number_of n < s.added) ⊎ (s.added ≤ number_of n) → number_of n < s.added
-    by_place (inl less) = less
-    by_place (inr more) = let bad = sym is ∙ store.bounded (number_of n) more in cc
-
 -- a record that was there stays when another node comes
 pub record_stays : {X : Type 0} (old new : Store X) (n m : Node) (x : X) → AddsNode old new n x → IsNodeOf old m → record_of new m ≡ record_of old m
 record_stays old new n m x adds is = adds.records.others m (new_node old new n x adds m is)
@@ -85,7 +78,7 @@ module _ {R : Type 0} where
   pub member : (P : Entry R → Type 0) (s : Store (Entry R)) (n : Node) (e : Entry R) → IsStore s → IsNodeOf s n → record_of s n ≡ Some e → AllByRecursion P (entries_in (contents s)) → P e
   unfolding contents
   member P s n e store is has all =
-      all_below-at (λ m. (x : Entry R) → record_of s m ≡ Some x → P x) (nodes s) s.added (number_of n) n (number_below s n store is) is
+      all_below-at (λ m. (x : Entry R) → record_of s m ≡ Some x → P x) (aged s) s.added (age_of s n) n (age_below s store n is) (at_its_age s store n is)
       (All-in_filter_map (record_of s) P (nodes_of s) all) e has
 
   -- what holds of each node's record holds of all entries
@@ -143,10 +136,10 @@ module _ {R : Type 0} where
     all_stay ns are = All-map (IsNodeOf old) _ (λ m is. record_stays old new n m e adds is) ns are
 
     -- its record is the last entry
-    pub entries_added : IsStore old → number_of n ≡ old.added → new.added ≡ old.added + 1 → entries_in (contents new) ≡ entries_in (contents old) ++ e ∷ []
+    pub entries_added : IsStore old → new.added ≡ old.added + 1 → entries_in (contents new) ≡ entries_in (contents old) ++ e ∷ []
     unfolding contents
-    entries_added store number count =
-        ap (filter_map (record_of new)) (nodes_of-added old new n e number count adds)
+    entries_added store count =
+        ap (filter_map (record_of new)) (nodes_of-added old new n e count adds)
         ∙ filter_map-append (record_of new) (nodes_of old) (n ∷ [])
         ∙ (λ i. filter_map_same (record_of old) (record_of new) (nodes_of old) (all_stay (nodes_of old) (recursion_from_All _ (nodes_of old) (all_nodes_of old store))) i ++ cons_option (adds.records.changed i) [])
 

@@ -10,7 +10,6 @@ use Rattle.std.proofs.lemmas.List.{length-map}
 use Rattle.list_model.specs.Place.{not_above}
 use Rattle.list_model.proofs.InOrder.{All-map}
 use Rattle.node_store.specs.declared.Node.{Node}
-use Rattle.node_store.specs.Store.{number_of}
 use Rattle.container_model.specs.declared.handle.Entry.{Entry}
 use Rattle.container_model.specs.declared.handle.Spec.{Spec}
 use Rattle.container_model.specs.declared.handle.Kind.{Kind}
@@ -35,8 +34,8 @@ map-insert f (y ∷ ys) zero x = refl
 map-insert f (y ∷ ys) (suc k) x = ap (λ l. f y ∷ l) (map-insert f ys k x)
 
 -- the nodes were all added before this one
-abbrev pub AreOlder : Node → List Node → Type 0
-AreOlder n xs = AllByRecursion (λ m. number_of m < number_of n) xs
+abbrev pub AreOlder : (Node → ℕ) → Node → List Node → Type 0
+AreOlder ages n xs = AllByRecursion (λ m. ages m < ages n) xs
 
 module _ {R : Type 0} (records : Node → Option (Entry R)) (entries : List (Entry R)) (n : Node) (e : Entry R) (is : records n ≡ Some e) where
   module _ (order : R → R → Ordering) where
@@ -51,30 +50,30 @@ module _ {R : Type 0} (records : Node → Option (Entry R)) (entries : List (Ent
     above_known xs known = count_mapped (handle_of records) _ _ xs (All-map _ _ (λ m k. ap is_le (order_known m k)) xs known)
 
     -- both go to one place
-    pub place_known : (at : Option ℕ) (kind : Kind) (xs : List Node) → AllByRecursion (IsKnown records entries) xs → AreOlder n xs →
-        nodes.entry_place kind (order_at records (λ a b. order a.row b.row)) at n xs ≡ handles.entry_place order entries at e.row kind (map (handle_of records) xs)
-    place_known at Sequenced xs known older = ap (option_map_or (λ p. p) at) (sym (length-map xs (handle_of records)))
-    place_known at Random xs known older = ap (option_map_or (λ p. p) at) (sym (length-map xs (handle_of records)))
-    place_known at Ordered xs known older = above_known xs known
-    place_known at Ranked xs known older = above_known xs known
-    place_known at Hashed xs known older = entered_last (order_at records (λ a b. order a.row b.row)) at n xs older ∙ sym (length-map xs (handle_of records))
+    pub place_known : (ages : Node → ℕ) (at : Option ℕ) (kind : Kind) (xs : List Node) → AllByRecursion (IsKnown records entries) xs → AreOlder ages n xs →
+        nodes.entry_place kind ages (order_at records (λ a b. order a.row b.row)) at n xs ≡ handles.entry_place order entries at e.row kind (map (handle_of records) xs)
+    place_known ages at Sequenced xs known older = ap (option_map_or (λ p. p) at) (sym (length-map xs (handle_of records)))
+    place_known ages at Random xs known older = ap (option_map_or (λ p. p) at) (sym (length-map xs (handle_of records)))
+    place_known ages at Ordered xs known older = above_known xs known
+    place_known ages at Ranked xs known older = above_known xs known
+    place_known ages at Hashed xs known older = entered_last ages (order_at records (λ a b. order a.row b.row)) at n xs older ∙ sym (length-map xs (handle_of records))
 
     -- one list
-    pub entered_known : (at : Option ℕ) (kind : Kind) (xs : List Node) → AllByRecursion (IsKnown records entries) xs → AreOlder n xs →
-        map (handle_of records) (entered kind (order_at records (λ a b. order a.row b.row)) at n xs)
+    pub entered_known : (ages : Node → ℕ) (at : Option ℕ) (kind : Kind) (xs : List Node) → AllByRecursion (IsKnown records entries) xs → AreOlder ages n xs →
+        map (handle_of records) (entered kind ages (order_at records (λ a b. order a.row b.row)) at n xs)
         ≡ insert (map (handle_of records) xs) (handles.entry_place order entries at e.row kind (map (handle_of records) xs)) e.handle
-    entered_known at kind xs known older =
-        map-insert (handle_of records) xs (nodes.entry_place kind (order_at records (λ a b. order a.row b.row)) at n xs) n
-        ∙ (ap (λ k. insert (map (handle_of records) xs) k (handle_of records n)) (place_known at kind xs known older)
+    entered_known ages at kind xs known older =
+        map-insert (handle_of records) xs (nodes.entry_place kind ages (order_at records (λ a b. order a.row b.row)) at n xs) n
+        ∙ (ap (λ k. insert (map (handle_of records) xs) k (handle_of records n)) (place_known ages at kind xs known older)
         ∙ ap (insert (map (handle_of records) xs) (handles.entry_place order entries at e.row kind (map (handle_of records) xs))) (handle_known records entries n e is))
 
   -- the lists of all indices
-  pub entered_all : (order : ℕ → R → R → Ordering) (at : At) (index : ℕ) (specs : List Spec) (lists : List (List Node)) →
-      AllByRecursion (AllByRecursion (IsKnown records entries)) lists → AllByRecursion (AreOlder n) lists →
-      handles_in records (changed_from (entered_at (λ i a b. order i a.row b.row) records at n) index specs lists)
+  pub entered_all : (ages : Node → ℕ) (order : ℕ → R → R → Ordering) (at : At) (index : ℕ) (specs : List Spec) (lists : List (List Node)) →
+      AllByRecursion (AllByRecursion (IsKnown records entries)) lists → AllByRecursion (AreOlder ages n) lists →
+      handles_in records (changed_from (entered_at (λ i a b. order i a.row b.row) records ages at n) index specs lists)
       ≡ entered_from order entries at e.row e.handle index specs (handles_in records lists)
-  entered_all order at index [] lists known older = refl
-  entered_all order at index (spec ∷ specs) [] known older = refl
-  entered_all order at index (spec ∷ specs) (list ∷ lists) known older =
-      ap (λ l. l ∷ handles_in records (changed_from (entered_at (λ i a b. order i a.row b.row) records at n) (index + 1) specs lists)) (entered_known (order index) (place_in at index) spec.kind list known.0 older.0)
-      ∙ ap (λ ls. insert (map (handle_of records) list) (handles.entry_place (order index) entries (place_in at index) e.row spec.kind (map (handle_of records) list)) e.handle ∷ ls) (entered_all order at (index + 1) specs lists known.1 older.1)
+  entered_all ages order at index [] lists known older = refl
+  entered_all ages order at index (spec ∷ specs) [] known older = refl
+  entered_all ages order at index (spec ∷ specs) (list ∷ lists) known older =
+      ap (λ l. l ∷ handles_in records (changed_from (entered_at (λ i a b. order i a.row b.row) records ages at n) (index + 1) specs lists)) (entered_known (order index) ages (place_in at index) spec.kind list known.0 older.0)
+      ∙ ap (λ ls. insert (map (handle_of records) list) (handles.entry_place (order index) entries (place_in at index) e.row spec.kind (map (handle_of records) list)) e.handle ∷ ls) (entered_all ages order at (index + 1) specs lists known.1 older.1)

@@ -10,8 +10,9 @@ use Rattle.list_model.specs.Order.{EachPair}
 use Rattle.list_model.proofs.InOrder.{All-map}
 use Rattle.list_model.proofs.Lists.{EachPair-push}
 use Rattle.node_store.specs.declared.Node.{Node}
-use Rattle.node_store.specs.Store.{Store, IsStore, IsNodeOf, number_of}
+use Rattle.node_store.specs.Store.{Store, IsStore, IsNodeOf, age_of}
 use Rattle.node_store.specs.ByNode.{contents, record_of, AddsNode}
+use Rattle.node_store.proofs.Ages.{age_below}
 use Rattle.container_model.specs.declared.handle.Entry.{Entry}
 use Rattle.container_model.specs.declared.handle.Spec.{Spec}
 use Rattle.container_model.specs.Insert.{At, entered_from, is_free, ban_from as ban_of_handles}
@@ -22,7 +23,7 @@ use Rattle.index_set.specs.declared.set.IndexSet.{IndexSet}
 use Rattle.index_set.specs.Set as set
 use Rattle.index_set.specs.Set.{store_of, keys_of, specs_of, lists_of, IsSound, IsKeyed, IsOfSame}
 use Rattle.index_set.specs.Indices.{LackIt}
-use Rattle.index_set.proofs.Members.{nodes_held, older}
+use Rattle.index_set.proofs.Members.{nodes_held}
 use Rattle.index_set.proofs.Keys.{unique_kept}
 use Rattle.index_set.proofs.StaysUnique.{unique_after_enter}
 use Rattle.index_set.specs.Each.{changed_from}
@@ -44,8 +45,8 @@ none_before f (Some a) e = absurd (cc)
 
 module _ {R : Type 0} (order : ℕ → R → R → Ordering) (specs : List Spec) (at : At) (s t u : Store (Entry R)) (lists : List (List Node)) (n : Node) (e : Entry R) (slots : List (Option Node))
     (store : IsStore s) (apart : EachPair (λ a b. (b.handle.slot == a.handle.slot) ≡ false) (entries_in (contents s))) (leads : LeadsTo s slots)
-    (nodes : AllByRecursion (AllByRecursion (IsNodeOf s)) lists) (older : AllByRecursion (AllByRecursion (λ m. number_of m < s.added)) lists)
-    (adds : AddsNode s t n e) (number : number_of n ≡ s.added) (count : t.added ≡ s.added + 1) (after : contents u ≡ contents t) (slot : e.handle.slot ≡ first_free slots) where
+    (nodes : AllByRecursion (AllByRecursion (IsNodeOf s)) lists)
+    (adds : AddsNode s t n e) (age : age_of t n ≡ s.added) (count : t.added ≡ s.added + 1) (after : contents u ≡ contents t) (slot : e.handle.slot ≡ first_free slots) where
   abbrev by_rows : ℕ → Entry R → Entry R → Ordering
   by_rows index a b = order index a.row b.row
 
@@ -55,18 +56,18 @@ module _ {R : Type 0} (order : ℕ → R → R → Ordering) (specs : List Spec)
   known_now : AllByRecursion (AllByRecursion (IsKnown (record_of t) (entries_in (contents s)))) lists
   known_now = All-map _ _ (λ xs are. All-map _ _ (λ m is. known_added s t n e adds (entries_in (contents s)) m is (known s m store apart is)) xs are) lists nodes
 
-  older_now : AllByRecursion (AreOlder n) lists
-  older_now = All-map _ _ (λ xs are. All-map _ _ (λ m less. omega (arith, less, number)) xs are) lists older
+  older_now : AllByRecursion (AreOlder (age_of t) n) lists
+  older_now = All-map _ _ (λ xs are. All-map _ _ (λ m is. omega (arith, adds.ages m is, age_below s store m is, age)) xs are) lists nodes
 
   -- its record is the last entry
   pub entries_joined : entries_in (contents u) ≡ entries_in (contents s) ++ e ∷ []
-  entries_joined = entries_kept t u after ∙ entries_added s t n e adds store number count
+  entries_joined = entries_kept t u after ∙ entries_added s t n e adds store count
 
   -- its handle stands where a row is put in
-  pub lists_joined : handles_in (record_of u) (changed_from (entered_at by_rows (record_of t) at n) 0 specs lists) ≡ entered_from order (entries_in (contents s)) at e.row e.handle 0 specs (handles_in (record_of s) lists)
+  pub lists_joined : handles_in (record_of u) (changed_from (entered_at by_rows (record_of t) (age_of t) at n) 0 specs lists) ≡ entered_from order (entries_in (contents s)) at e.row e.handle 0 specs (handles_in (record_of s) lists)
   lists_joined =
-      handles_kept t u (changed_from (entered_at by_rows (record_of t) at n) 0 specs lists) after
-      ∙ (entered_all (record_of t) (entries_in (contents s)) n e (record_added s t n e adds) order at 0 specs lists known_now older_now
+      handles_kept t u (changed_from (entered_at by_rows (record_of t) (age_of t) at n) 0 specs lists) after
+      ∙ (entered_all (record_of t) (entries_in (contents s)) n e (record_added s t n e adds) (age_of t) order at 0 specs lists known_now older_now
       ∙ ap (entered_from order (entries_in (contents s)) at e.row e.handle 0 specs) (handles_added s t n e adds lists nodes))
 
   -- no two records lie in one slot
@@ -98,22 +99,22 @@ module _ {E R : Type 0} (has_key : E → ℕ → Bool) (order : E → ℕ → R 
 
   -- a set whose store a node has joined, and then each list
   module _ (total : (keys : E) (i : ℕ) → IsTrue (has_key keys i) → IsTotalOrder (order keys i)) (old mid new : IndexSet (Entry R) (ByRow E)) (slots : List (Option Node)) (at : At) (n : Node) (e : Entry R) (linked : IsLinked has_key order marks old slots)
-      (same : IsOfSame old mid) (before : lists_of mid ≡ lists_of old) (adds : AddsNode (store_of old) (store_of mid) n e) (number : number_of n ≡ (store_of old).added) (count : (store_of mid).added ≡ (store_of old).added + 1)
-      (kept : IsOfSame mid new) (entered : lists_of new ≡ changed_from (entered_at (order_by_row order (keys_of mid)) (set.record_of mid) at n) 0 (specs_of mid) (lists_of mid)) (after : set.contents new ≡ set.contents mid)
+      (same : IsOfSame old mid) (before : lists_of mid ≡ lists_of old) (adds : AddsNode (store_of old) (store_of mid) n e) (age : age_of (store_of mid) n ≡ (store_of old).added) (count : (store_of mid).added ≡ (store_of old).added + 1)
+      (kept : IsOfSame mid new) (entered : lists_of new ≡ changed_from (entered_at (order_by_row order (keys_of mid)) (set.record_of mid) (age_of (store_of mid)) at n) 0 (specs_of mid) (lists_of mid)) (after : set.contents new ≡ set.contents mid)
       (slot : e.handle.slot ≡ first_free slots) where
-    new_lists : lists_of new ≡ changed_from (entered_at (order_by_row order (keys_of old)) (set.record_of mid) at n) 0 (specs_of old) (lists_of old)
-    new_lists = entered ∙ (λ i. changed_from (entered_at (order_by_row order (same.keys i)) (set.record_of mid) at n) 0 (same.specs i) (before i))
+    new_lists : lists_of new ≡ changed_from (entered_at (order_by_row order (keys_of old)) (set.record_of mid) (age_of (store_of mid)) at n) 0 (specs_of old) (lists_of old)
+    new_lists = entered ∙ (λ i. changed_from (entered_at (order_by_row order (same.keys i)) (set.record_of mid) (age_of (store_of mid)) at n) 0 (same.specs i) (before i))
 
     pub entries_grown : entries_in (set.contents new) ≡ entries_in (set.contents old) ++ e ∷ []
     entries_grown =
         entries_joined (order (keys_of old).keys) (specs_of old) at (store_of old) (store_of mid) (store_of new) (lists_of old) n e slots linked.sound.nodes linked.apart linked.leads
-        (nodes_held old linked.sound) (older old linked.sound) adds number count after slot
+        (nodes_held old linked.sound) adds age count after slot
 
     pub lists_grown : handles_in (set.record_of new) (lists_of new) ≡ entered_from (order (keys_of old).keys) (entries_in (set.contents old)) at e.row e.handle 0 (specs_of old) (handles_in (set.record_of old) (lists_of old))
     lists_grown =
         ap (handles_in (set.record_of new)) new_lists
         ∙ lists_joined (order (keys_of old).keys) (specs_of old) at (store_of old) (store_of mid) (store_of new) (lists_of old) n e slots linked.sound.nodes linked.apart linked.leads
-        (nodes_held old linked.sound) (older old linked.sound) adds number count after slot
+        (nodes_held old linked.sound) adds age count after slot
 
     pub IsLinked_grown : LackIt (lists_of mid) n → IsSound (has_by_row has_key) new → IsKeyed (order_by_row order) (marks_by_row marks) new →
         ban_of_handles (order (keys_of old).keys) (entries_in (set.contents old)) (handles_in (set.record_of old) (lists_of old)) None e.row 0 (specs_of old) ≡ None →
@@ -124,12 +125,12 @@ module _ {E R : Type 0} (has_key : E → ℕ → Bool) (order : E → ℕ → R 
       unique =
           unique_after_enter (order_by_row order) (λ keys index has. on_total (λ (x : Entry R). x.row) (total keys.keys index has)) old mid new linked.sound same kept n e at before adds loose entered after
           (allowed_joined (order (keys_of old).keys) (specs_of old) at (store_of old) (store_of mid) (store_of new) (lists_of old) n e slots linked.sound.nodes linked.apart linked.leads
-          (nodes_held old linked.sound) (older old linked.sound) adds number count after slot allowed)
+          (nodes_held old linked.sound) adds age count after slot allowed)
           linked.unique;
       apart =
           apart_joined (order (keys_of old).keys) (specs_of old) at (store_of old) (store_of mid) (store_of new) (lists_of old) n e slots linked.sound.nodes linked.apart linked.leads
-          (nodes_held old linked.sound) (older old linked.sound) adds number count after slot;
+          (nodes_held old linked.sound) adds age count after slot;
       leads =
           leads_joined (order (keys_of old).keys) (specs_of old) at (store_of old) (store_of mid) (store_of new) (lists_of old) n e slots linked.sound.nodes linked.apart linked.leads
-          (nodes_held old linked.sound) (older old linked.sound) adds number count after slot;
+          (nodes_held old linked.sound) adds age count after slot;
     }

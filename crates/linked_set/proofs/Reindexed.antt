@@ -8,7 +8,7 @@ use Rattle.std.proofs.lemmas.List.{map-append}
 use Rattle.list_model.specs.Order.{EachPair}
 use Rattle.list_model.proofs.InOrder.{All-map}
 use Rattle.node_store.specs.declared.Node.{Node}
-use Rattle.node_store.specs.Store.{IsNodeOf}
+use Rattle.node_store.specs.Store.{IsNodeOf, age_of}
 use Rattle.node_store.specs.ByNode as store
 use Rattle.node_store.proofs.ByNode.{records_kept, IsNodeOf_kept}
 use Rattle.container_model.specs.declared.handle.Entry.{Entry}
@@ -100,13 +100,13 @@ module _ {E R : Type 0} {has_key : E → ℕ → Bool} {order : E → ℕ → R 
 
     -- the container is the one with the new index
     pub seen_indexed : (new : IndexSet (Entry R) (ByRow E)) (max writes : ℕ) → (keys_of new).keys ≡ keys → specs_of new ≡ specs_of old ++ spec ∷ [] → columns_of new ≡ columns_of old → contents new ≡ contents old →
-        (ns : List Node) → ns ≡ nodes_in (contents old) → lists_of new ≡ lists_of old ++ nodes.entered_all (by_rows (record_of old) (entries_in (contents old)) new_order) spec.kind [] ns ∷ [] →
+        (ns : List Node) → ns ≡ nodes_in (contents old) → lists_of new ≡ lists_of old ++ nodes.entered_all (age_of (store_of old)) (by_rows (record_of old) (entries_in (contents old)) new_order) spec.kind [] ns ∷ [] →
         seen new max (writes + 1) ≡ with_index order (seen old max writes) spec keys
     seen_indexed new max writes same_keys specs columns kept ns is lists =
         let f = handle_of (record_of old) in
         let by_age = nodes_in (contents old) in
-        let at_new = nodes.entered_all (by_rows (record_of old) (entries_in (contents old)) new_order) spec.kind [] in
-        let list = new_list_seen (record_of old) (entries_in (contents old)) new_order spec.kind by_age known_by_age (nodes_rise (store_of old) linked.sound.nodes) (handles_by_age (store_of old) linked.sound.nodes) in
+        let at_new = nodes.entered_all (age_of (store_of old)) (by_rows (record_of old) (entries_in (contents old)) new_order) spec.kind [] in
+        let list = new_list_seen (record_of old) (entries_in (contents old)) new_order (age_of (store_of old)) spec.kind by_age known_by_age (nodes_rise (store_of old) linked.sound.nodes) (handles_by_age (store_of old) linked.sound.nodes) in
         let handles : handles_in (record_of new) (lists_of new) ≡ handles_in (record_of old) (lists_of old) ++ new_list new_order (entries_in (contents old)) spec.kind ∷ [] =
         handles_kept (store_of old) (store_of new) (lists_of new) kept ∙ ap (handles_in (record_of old)) lists
         ∙ map-append (map f) (lists_of old) (at_new ns ∷ []) ∙ ap (λ l. handles_in (record_of old) (lists_of old) ++ l ∷ []) (ap (λ l. map f (at_new l)) is ∙ list) in

@@ -25,7 +25,7 @@ use Rattle.list_model.proofs.Orders.{not_gt_le}
 use Rattle.list_model.proofs.Permuted.{count_by-permutation, none_passes}
 use Rattle.node_store.specs.declared.Node.{Node}
 use Rattle.node_store.specs.Nodes.{IsDistinct}
-use Rattle.node_store.specs.Store.{Store, IsStore, IsNodeOf, number_of}
+use Rattle.node_store.specs.Store.{Store, IsStore, IsNodeOf, age_of}
 use Rattle.node_store.specs.ByNode.{record_of, contents, AddsNode}
 use Rattle.node_store.proofs.ByNode.{records_kept}
 use Rattle.node_store.proofs.Members.{IsDistinct_moved}
@@ -154,19 +154,20 @@ module _ (compare : Node → Node → Ordering) where
   pub none_clash : (ns : List Node) → EachPair (λ m n. is_eq (compare m n) ≡ false) ns → clash_from compare [] ns ≡ None
   none_clash ns h = clashless [] ns h
 
-  in_turn : (kind : Kind) → ((n : Node) (xs : List Node) → entered kind compare None n xs ≡ xs ++ n ∷ []) → (done ns : List Node) → entered_all compare kind done ns ≡ done ++ ns
+module _ (ages : Node → ℕ) (compare : Node → Node → Ordering) where
+  in_turn : (kind : Kind) → ((n : Node) (xs : List Node) → entered kind ages compare None n xs ≡ xs ++ n ∷ []) → (done ns : List Node) → entered_all ages compare kind done ns ≡ done ++ ns
   in_turn kind last done [] = sym (append-nil done)
-  in_turn kind last done (n ∷ ns) = ap (λ xs. entered_all compare kind xs ns) (last n done) ∙ (in_turn kind last (done ++ n ∷ []) ns ∙ append_assoc done (n ∷ []) ns)
+  in_turn kind last done (n ∷ ns) = ap (λ xs. entered_all ages compare kind xs ns) (last n done) ∙ (in_turn kind last (done ++ n ∷ []) ns ∙ append_assoc done (n ∷ []) ns)
 
   -- so do buckets, where they come by age
-  pub hashed_in_turn : (ns : List Node) → AreByAge ns → entered_all compare Hashed [] ns ≡ ns
-  hashed_in_turn ns by_age = in_turn_by_age compare Hashed (last_in_buckets compare) [] ns by_age
+  pub hashed_in_turn : (ns : List Node) → AreByAge ages ns → entered_all ages compare Hashed [] ns ≡ ns
+  hashed_in_turn ns by_age = in_turn_by_age ages compare Hashed (last_in_buckets ages compare) [] ns by_age
 
   -- a sequence has its nodes in the order in which they come
-  pub sequenced_in_turn : (ns : List Node) → entered_all compare Sequenced [] ns ≡ ns
+  pub sequenced_in_turn : (ns : List Node) → entered_all ages compare Sequenced [] ns ≡ ns
   sequenced_in_turn ns = in_turn Sequenced (λ n xs. insert_end xs n) [] ns
 
-  pub random_in_turn : (ns : List Node) → entered_all compare Random [] ns ≡ ns
+  pub random_in_turn : (ns : List Node) → entered_all ages compare Random [] ns ≡ ns
   random_in_turn ns = in_turn Random (λ n xs. insert_end xs n) [] ns
 
 module _ {R : Type 0} (records : Node → Option (Entry R)) (entries : List (Entry R)) (order : R → R → Ordering) where
@@ -226,7 +227,7 @@ module _ {R : Type 0} (s : Store (Entry R)) (slots : List (Option Node)) (store 
       (subst (λ l. IsPermutation (map f ns) l) (handles_by_age s store) (subst (λ l. IsPermutation l own) (sym is) (IsPermutation-sym own list members)))
 
   pub nodes_distinct : IsDistinct ns
-  nodes_distinct = IsDistinct_moved (nodes_in (contents s)) ns (IsPermutation-sym ns (nodes_in (contents s)) nodes_moved) (distinct_by_age (nodes_in (contents s)) (nodes_rise s store))
+  nodes_distinct = IsDistinct_moved (nodes_in (contents s)) ns (IsPermutation-sym ns (nodes_in (contents s)) nodes_moved) (distinct_by_age (age_of s) (nodes_in (contents s)) (nodes_rise s store))
 
 -- ---- the list of an index that is filled
 
@@ -236,7 +237,7 @@ module _ {R : Type 0} (s : Store (Entry R)) (slots : List (Option Node)) (store 
   entries = entries_in (contents s)
 
   abbrev filled : List Node
-  filled = entered_all (by_rows (record_of s) entries order) spec.kind [] ns
+  filled = entered_all (age_of s) (by_rows (record_of s) entries order) spec.kind [] ns
 
   known_nodes : (ms : List Node) → AllByRecursion (IsNodeOf s) ms → AllByRecursion (IsKnown (record_of s) entries) ms
   known_nodes ms are = All-map (IsNodeOf s) _ (λ n at. known s n store apart at) ms are
@@ -265,12 +266,12 @@ module _ {R : Type 0} (s : Store (Entry R)) (slots : List (Option Node)) (store 
       compare : Node → Node → Ordering
       compare = by_rows (record_of s) entries order
 
-      by_kind : (kind : Kind) → (IsTrue (is_hashed_kind kind) → ns ≡ nodes_in (contents s)) → map f (entered_all compare kind [] ns) ≡ cond (is_sorted_kind kind) (stable_sorted (compare_of order entries) list) list
-      by_kind Sequenced h = ap (map f) (sequenced_in_turn compare ns) ∙ is
-      by_kind Random h = ap (map f) (random_in_turn compare ns) ∙ is
-      by_kind Ordered h = ap (map f) (ordered compare [] ns) ∙ by_key
-      by_kind Ranked h = ap (map f) (ranked compare [] ns) ∙ by_key
-      by_kind Hashed h = ap (map f) (hashed_in_turn compare ns (subst AreByAge (sym (h refl)) (nodes_rise s store))) ∙ is
+      by_kind : (kind : Kind) → (IsTrue (is_hashed_kind kind) → ns ≡ nodes_in (contents s)) → map f (entered_all (age_of s) compare kind [] ns) ≡ cond (is_sorted_kind kind) (stable_sorted (compare_of order entries) list) list
+      by_kind Sequenced h = ap (map f) (sequenced_in_turn (age_of s) compare ns) ∙ is
+      by_kind Random h = ap (map f) (random_in_turn (age_of s) compare ns) ∙ is
+      by_kind Ordered h = ap (map f) (ordered (age_of s) compare [] ns) ∙ by_key
+      by_kind Ranked h = ap (map f) (ranked (age_of s) compare [] ns) ∙ by_key
+      by_kind Hashed h = ap (map f) (hashed_in_turn (age_of s) compare ns (subst (AreByAge (age_of s)) (sym (h refl)) (nodes_rise s store))) ∙ is
 
   -- where it is the list that was told, it is that of an index
   pub fitting : (IsTrue (is_sorted_kind spec.kind) → IsTotalOrder order) → (IsTrue (is_hashed_kind spec.kind) → list ≡ map (λ e. e.handle) entries) → (IsTrue (is_sorted_kind spec.kind) → list ≡ settled) →
@@ -282,7 +283,7 @@ module _ {R : Type 0} (s : Store (Entry R)) (slots : List (Option Node)) (store 
     by_stamp = hashed;
     unique = λ one.
         let compare = by_rows (record_of s) entries order in
-        let all = IsPermutation-trans filled ns (nodes_in (contents s)) (IsPermutation-sym ns filled (members_all compare spec.kind ns)) moved in
+        let all = IsPermutation-trans filled ns (nodes_in (contents s)) (IsPermutation-sym ns filled (members_all (age_of s) compare spec.kind ns)) moved in
         records_differ (differ_moved compare (on_total (record_of s) (options_total (on_total (λ (e : Entry R). e.row) (keyed one)))) filled (nodes_in (contents s)) all (once one));
   }
     where
@@ -399,10 +400,10 @@ module _ {E R : Type 0} {has_key : E → ℕ → Bool} {order : E → ℕ → R 
   so_far = entries_in (contents_of set)
 
   pub added_one : (new : IndexSet (Entry R) (ByRow E)) (n : Node) → item_at slots e.handle.slot ≡ None → IsSound (has_by_row has_key) new → (IsKeyed (order_by_row order) (marks_by_row marks) set → IsKeyed (order_by_row order) (marks_by_row marks) new) → IsOfSame set new →
-      lists_of new ≡ lists_of set → number_of n ≡ (store_of set).added → (store_of new).added ≡ (store_of set).added + 1 → AddsNode (store_of set) (store_of new) n e →
+      lists_of new ≡ lists_of set → (store_of new).added ≡ (store_of set).added + 1 → AddsNode (store_of set) (store_of new) n e →
       AreAdded has_key order marks old new all rest (with_item slots e.handle.slot (Some n))
-  added_one new n free sound keyed same lists number count adds =
-      let entries : entries_in (contents_of new) ≡ so_far ++ e ∷ [] = entries_added (store_of set) (store_of new) n e adds h.sound.nodes number count in
+  added_one new n free sound keyed same lists count adds =
+      let entries : entries_in (contents_of new) ≡ so_far ++ e ∷ [] = entries_added (store_of set) (store_of new) n e adds h.sound.nodes count in
       record {
         sound = sound;
         keyed = keyed h.keyed;
@@ -494,3 +495,14 @@ unfit_misfit es order specs lists index unfit.Memory lt h = tt
 unfit_misfit es order specs lists index unfit.Members lt h = (lt, h)
 unfit_misfit es order specs lists index unfit.Order lt h = (lt, h)
 unfit_misfit es order specs lists index unfit.Clash lt h = (lt, h)
+
+module _ {E R : Type 0} {has_key : E → ℕ → Bool} {order : E → ℕ → R → R → Ordering} {marks : E → ℕ → R → Marks} (slots : List (Option Node)) (old set : IndexSet (Entry R) (ByRow E)) (lists : List (List Handle)) (index : ℕ) (h : AreFilled has_key order marks slots old set lists index) (one : length lists ≡ length (specs_of old)) where
+  -- what does not fit the next index does not fit all
+  pub misfit_next : (list : List Handle) (why : Unfit) → index < length lists → list ≡ list_at lists index → IsUnfit (entries_in (contents_of set)) (order (keys_of set).keys index) (spec_at (specs_of set) index) list why →
+      IsMisfit (entries_in (contents_of old)) (order (keys_of old).keys) (specs_of old) lists (misfit_of why index)
+  misfit_next list why within is unfit =
+      unfit_misfit (entries_in (contents_of old)) (order (keys_of old).keys) (specs_of old) lists index why (omega (arith, within, one))
+      (subst (λ l. IsUnfit (entries_in (contents_of old)) (order (keys_of old).keys index) (spec_at (specs_of old) index) l why) is
+      (subst (λ es. IsUnfit (entries_in es) (order (keys_of old).keys index) (spec_at (specs_of old) index) list why) h.contents
+      (subst (λ ds. IsUnfit (entries_in (contents_of set)) (order (keys_of old).keys index) (spec_at ds index) list why) h.same.specs
+      (subst (λ (k : ByRow E). IsUnfit (entries_in (contents_of set)) (order k.keys index) (spec_at (specs_of set) index) list why) h.same.keys unfit))))

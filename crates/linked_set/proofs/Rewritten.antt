@@ -13,14 +13,14 @@ use Rattle.list_model.proofs.Lists.{All-both}
 use Rattle.list_model.proofs.Moved.{settled_same}
 use Rattle.node_store.specs.declared.Node.{Node}
 use Rattle.node_store.specs.Nodes.{Holds, IsDistinct}
-use Rattle.node_store.specs.Store.{Store, IsStore, IsNodeOf, nodes, number_of, with_record}
+use Rattle.node_store.specs.Store.{Store, IsStore, IsNodeOf, nodes, number_of, with_record, aged}
 use Rattle.node_store.specs.ByNode.{contents, record_of, same_node}
 use Rattle.node_store.specs.Age.{nodes_of, all_below}
 use Rattle.node_store.proofs.Age.{all_nodes_of}
-use Rattle.node_store.proofs.ByNode.{node_cases, same_node-refl, nodes_kept, records_kept, added_kept}
+use Rattle.node_store.proofs.ByNode.{node_cases, same_node-refl, nodes_kept, records_kept, added_kept, aged_kept}
 use Rattle.node_store.proofs.Members.{same_node-false, others_differ}
 use Rattle.node_store.proofs.NodeLists.{IsDistinct-parts, AreApart-head}
-use Rattle.node_store.proofs.StoreLemmas.{nodes_with_record, added_with_record}
+use Rattle.node_store.proofs.StoreLemmas.{nodes_with_record, added_with_record, aged_with_record}
 use Rattle.container_model.specs.declared.handle.Handle.{Handle}
 use Rattle.container_model.specs.declared.handle.Entry.{Entry}
 use Rattle.container_model.specs.declared.handle.Spec.{Spec}
@@ -63,6 +63,9 @@ module _ {R : Type 0} (s u : Store (Entry R)) (n : Node) (h : Handle) (row : R) 
 
   pub same_nodes : nodes u ≡ nodes s
   same_nodes = nodes_kept (with_record s n entry) u after ∙ nodes_with_record s n entry
+
+  same_aged : aged u ≡ aged s
+  same_aged = aged_kept (with_record s n entry) u after ∙ aged_with_record s n entry
 
   pub same_count : u.added ≡ s.added
   same_count = added_kept (with_record s n entry) u after ∙ added_with_record s n entry
@@ -110,7 +113,7 @@ module _ {R : Type 0} (s u : Store (Entry R)) (n : Node) (h : Handle) (row : R) 
   pub entries_rewritten : entries_in (contents u) ≡ with_row h row (entries_in (contents s))
   unfolding contents
   entries_rewritten =
-      (λ i. filter_map (record_of u) (all_below (same_nodes i) (same_count i)))
+      (λ i. filter_map (record_of u) (all_below (same_aged i) (same_count i)))
       ∙ map-filter_map (changed h row) (record_of s) (record_of u) (nodes_of s) (All-map (IsNodeOf s) _ changed_record (nodes_of s) (recursion_from_All _ (nodes_of s) (all_nodes_of s store)))
 
   -- no two lie in one slot

@@ -27,7 +27,7 @@ use Rattle.container_model.specs.declared.handle.Kind.TheVariants.{Sequenced, Ra
 use Rattle.container_model.specs.declared.handle.Spec.{Spec}
 use Rattle.container_model.specs.State.{is_sequence_kind, side_of as handle_side}
 use Rattle.any_index.specs.Side.{side_of}
-use Rattle.any_index.proofs.ByNumber.{Holds_moved}
+use Rattle.any_index.proofs.ByAge.{Holds_moved}
 use Rattle.any_index.proofs.Laws.{Holds_last}
 use Rattle.any_index.proofs.Marking.{held_passes, match_held}
 use Rattle.index_set.specs.declared.set.IndexSet.{IndexSet}

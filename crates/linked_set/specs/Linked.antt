@@ -16,7 +16,7 @@ module _ {R : Type 0} where
 
   -- the nodes, in the order of their adds
   abbrev pub nodes_in : Contents (Entry R) → List Node
-  nodes_in c = all_below c.nodes c.added
+  nodes_in c = all_below c.aged c.added
 
   -- their records
   abbrev pub entries_in : Contents (Entry R) → List (Entry R)

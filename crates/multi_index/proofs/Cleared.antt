@@ -5,7 +5,7 @@ use Rattle.std.specs.List.{filter_map}
 use Rattle.std.specs.declared.cmp.Ordering.{Ordering}
 use Rattle.list_model.specs.Order.{EachPair}
 use Rattle.node_store.specs.declared.Node.{Node}
-use Rattle.node_store.specs.Store.{Store, nodes, number_of}
+use Rattle.node_store.specs.Store.{Store, IsNodeOf}
 use Rattle.node_store.specs.Age.{nodes_of}
 use Rattle.node_store.specs.ByNode as node
 use Rattle.container_model.specs.declared.handle.Entry.{Entry}
@@ -27,9 +27,9 @@ no_records : {R : Type 0} (s : Store (Entry R)) → nodes_of s ≡ [] → entrie
 unfolding node.contents
 no_records s none = ap (filter_map (node.record_of s)) none
 
-leads_nowhere : {R : Type 0} (s : Store (Entry R)) → ((k : ℕ) → nodes s k ≡ None) → LeadsTo s []
+leads_nowhere : {R : Type 0} (s : Store (Entry R)) → ((n : Node) → ¬ IsNodeOf s n) → LeadsTo s []
 leads_nowhere s none = record {
-  node_at = λ n is. let bad = sym is ∙ none (number_of n) in cc;
+  node_at = λ n is. absurd (none n is);
   slot_of = λ k n at. cc;
 }
 
@@ -44,7 +44,7 @@ module _ {E R : Type 0} (old new : IndexSet (Entry R) (ByRow E)) (max writes : �
 
   pub IsContainer_cleared : (has_key : E → ℕ → Bool) (order : E → ℕ → R → R → Ordering) (marks : E → ℕ → R → Marks) (slots : List (Option Node)) →
       IsSound (has_by_row has_key) new → IsKeyed (order_by_row order) (marks_by_row marks) new → IsUniqueExcept (order_by_row order) new None →
-      ((k : ℕ) → nodes (store_of new) k ≡ None) → (store_of new).added ≡ (store_of old).added → writes + 1 < 2 ^ 64 → IsContainer has_key order marks old slots max writes → IsContainer has_key order marks new [] max (writes + 1)
+      ((n : Node) → ¬ IsNodeOf (store_of new) n) → (store_of new).added ≡ (store_of old).added → writes + 1 < 2 ^ 64 → IsContainer has_key order marks old slots max writes → IsContainer has_key order marks new [] max (writes + 1)
   IsContainer_cleared has_key order marks slots sound keyed unique empty count next was = record {
     linked = record {
       sound = sound;

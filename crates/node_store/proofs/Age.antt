@@ -10,13 +10,14 @@ use Rattle.std.proofs.lemmas.Option.{same_Some}
 use Rattle.std.proofs.lemmas.List.{append-nil, length-append, length-map, map-append}
 use Rattle.std.proofs.lemmas.List.Elements.{All-append, All-from_recursion, filter-append}
 use Rattle.node_store.specs.declared.Node.{Node}
-use Rattle.node_store.specs.Store.{Entry, Store, IsStore, IsNodeOf, nodes, number_of, len_of}
+use Rattle.node_store.specs.Store.{Entry, Store, IsStore, IsNodeOf, nodes, aged, age_of, without, len_of}
 use Rattle.node_store.specs.ByNode.{same_node, AddsNode, RemovesNode}
 use Rattle.node_store.specs.Age.{last_below, all_below, nodes_of}
 use Rattle.node_store.proofs.Keyed.{same_map, remove_same, remove_other}
-use Rattle.node_store.proofs.StoreLemmas.{len_positive}
-use Rattle.node_store.proofs.ByNode.{same_node-refl}
+use Rattle.node_store.proofs.StoreLemmas.{Removes-without, len-without}
+use Rattle.node_store.proofs.ByNode.{same_node-refl, RemovesNode-removed}
 use Rattle.node_store.proofs.Members.{same_node-false}
+use Rattle.node_store.proofs.Ages.{at_its_age, IsStore_removed}
 
 module _ {A : Type 0} where
   -- what stands at j is the last below k
@@ -122,86 +123,102 @@ module _ {R : Type 0} where
   -- the node that was added last before k
   pub record IsLastNode (s : Store R) (k : ℕ) (m : Node) : Type 0 where
     pub node : IsNodeOf s m
-    pub below : number_of m < k
-    pub before : all_below (nodes s) k ≡ all_below (nodes s) (number_of m) ++ m ∷ []
+    pub below : age_of s m < k
+    pub before : all_below (aged s) k ≡ all_below (aged s) (age_of s m) ++ m ∷ []
 
-  pub last_node : (s : Store R) (k : ℕ) (m : Node) → IsStore s → last_below (nodes s) k ≡ Some m → IsLastNode s k m
+  pub last_node : (s : Store R) (k : ℕ) (m : Node) → IsStore s → last_below (aged s) k ≡ Some m → IsLastNode s k m
   last_node s k m store e =
-      let r = IsLast-found (nodes s) k m e in
-      let number : number_of m ≡ r.0 = store.numbered r.0 m r.1.at in
+      let r = IsLast-found (aged s) k m e in
+      let age : age_of s m ≡ r.0 = store.age r.0 m r.1.at in
       let below = r.1.below in
       record {
-        node = ap (nodes s) number ∙ r.1.at;
+        node = store.node r.0 m r.1.at;
         below = omega arith;
-        before = all_below-last (nodes s) k r.0 m r.1 ∙ ap (λ j. all_below (nodes s) j ++ m ∷ []) (sym number);
+        before = all_below-last (aged s) k r.0 m r.1 ∙ ap (λ j. all_below (aged s) j ++ m ∷ []) (sym age);
       }
 
-  -- all that stands up to a node is what stands below its number, and it
-  pub up_to_node : (s : Store R) (n : Node) → IsNodeOf s n → all_below (nodes s) (number_of n + 1) ≡ all_below (nodes s) (number_of n) ++ n ∷ []
-  up_to_node s n is = all_below-last (nodes s) (number_of n + 1) (number_of n) n (record { at = is; below = omega arith; last = λ i more less. absurd (omega arith) })
+  -- all that stands up to what stands at an age is what stands below that age, and it
+  pub up_to_age : (s : Store R) (k : ℕ) (n : Node) → aged s k ≡ Some n → all_below (aged s) (k + 1) ≡ all_below (aged s) k ++ n ∷ []
+  up_to_age s k n at = all_below-last (aged s) (k + 1) k n (record { at = at; below = omega arith; last = λ i more less. absurd (omega arith) })
+
+  -- the same for a node at its age
+  pub up_to_node : (s : Store R) (n : Node) → IsStore s → IsNodeOf s n → all_below (aged s) (age_of s n + 1) ≡ all_below (aged s) (age_of s n) ++ n ∷ []
+  up_to_node s n store is = up_to_age s (age_of s n) n (at_its_age s store n is)
 
   pub all_nodes_of : (s : Store R) → IsStore s → All (IsNodeOf s) (nodes_of s)
-  all_nodes_of s store = all_below-each (IsNodeOf s) (nodes s) s.added (λ i n less e. ap (nodes s) (store.numbered i n e) ∙ e)
+  all_nodes_of s store = all_below-each (IsNodeOf s) (aged s) s.added (λ i n less e. store.node i n e)
 
-  pub nodes_of-added : (old new : Store R) (n : Node) (value : R) → number_of n ≡ old.added → new.added ≡ old.added + 1 → AddsNode old new n value → nodes_of new ≡ nodes_of old ++ n ∷ []
-  nodes_of-added old new n value number count adds =
-      ap (all_below (nodes new)) (count ∙ ap (λ k. k + 1) (sym number))
-      ∙ up_to_node new n adds.nodes.changed
-      ∙ ap (λ xs. xs ++ n ∷ []) (all_below-same (nodes old) (nodes new) (number_of n) (λ i less. adds.nodes.others i (λ q. absurd (omega arith))) ∙ ap (all_below (nodes old)) number)
+  pub nodes_of-added : (old new : Store R) (n : Node) (value : R) → new.added ≡ old.added + 1 → AddsNode old new n value → nodes_of new ≡ nodes_of old ++ n ∷ []
+  nodes_of-added old new n value count adds =
+      ap (all_below (aged new)) count
+      ∙ up_to_age new old.added n adds.aged.changed
+      ∙ ap (λ xs. xs ++ n ∷ []) (all_below-same (aged old) (aged new) old.added (λ i less. adds.aged.others i (λ q. absurd (omega arith))))
 
-  below_removed : (old new : Store R) (n : Node) → IsStore old → IsNodeOf old n → RemovesNode old new n → (k : ℕ) → all_below (nodes new) k ≡ filter (λ m. not (same_node n m)) (all_below (nodes old) k)
+  below_removed : (old new : Store R) (n : Node) → IsStore old → IsNodeOf old n → RemovesNode old new n → (k : ℕ) → all_below (aged new) k ≡ filter (λ m. not (same_node n m)) (all_below (aged old) k)
   below_removed old new n store is removes zero = refl
   below_removed old new n store is removes (suc k) =
       let keep : Node → Bool = λ m. not (same_node n m) in
-      let to_filter : filter keep (all_below (nodes old) (suc k)) ≡ filter keep (all_below (nodes old) k) ++ filter keep (option_map_or (λ x. x ∷ []) (nodes old k) []) =
-      filter-append keep (all_below (nodes old) k) (option_map_or (λ x. x ∷ []) (nodes old k) []) in
-      let one : option_map_or (λ x. x ∷ []) (nodes new k) [] ≡ filter keep (option_map_or (λ x. x ∷ []) (nodes old k) []) =
+      let to_filter : filter keep (all_below (aged old) (suc k)) ≡ filter keep (all_below (aged old) k) ++ filter keep (option_map_or (λ x. x ∷ []) (aged old k) []) =
+      filter-append keep (all_below (aged old) k) (option_map_or (λ x. x ∷ []) (aged old k) []) in
+      let one : option_map_or (λ x. x ∷ []) (aged new k) [] ≡ filter keep (option_map_or (λ x. x ∷ []) (aged old k) []) =
       ⊎_elim
-      (λ (z : k ≡ number_of n). ap (λ o. option_map_or (λ x. x ∷ []) o []) (ap (nodes new) z ∙ removes.nodes.changed)
-      ∙ sym (ap (λ o. filter keep (option_map_or (λ x. x ∷ []) o [])) (ap (nodes old) z ∙ is) ∙ ap (λ b. cond (not b) (n ∷ []) []) (same_node-refl n)))
-      (λ (z : k ≢ number_of n). ap (λ o. option_map_or (λ x. x ∷ []) o []) (removes.nodes.others k z)
-      ∙ (elim (nodes old k) as (λ o. nodes old k ≡ o → option_map_or (λ x. x ∷ []) o [] ≡ filter keep (option_map_or (λ x. x ∷ []) o [])) [
+      (λ (z : k ≡ age_of old n). ap (λ o. option_map_or (λ x. x ∷ []) o []) (ap (aged new) z ∙ removes.aged.changed)
+      ∙ sym (ap (λ o. filter keep (option_map_or (λ x. x ∷ []) o [])) (ap (aged old) z ∙ at_its_age old store n is) ∙ ap (λ b. cond (not b) (n ∷ []) []) (same_node-refl n)))
+      (λ (z : k ≢ age_of old n). ap (λ o. option_map_or (λ x. x ∷ []) o []) (removes.aged.others k z)
+      ∙ (elim (aged old k) as (λ o. aged old k ≡ o → option_map_or (λ x. x ∷ []) o [] ≡ filter keep (option_map_or (λ x. x ∷ []) o [])) [
         | None ↦ λ p. refl
         | Some m ↦ λ p.
-            let apart : n ≢ m = λ q. z (sym (store.numbered k m p) ∙ ap number_of (sym q)) in
+            let apart : n ≢ m = λ q. z (sym (store.age k m p) ∙ ap (age_of old) (sym q)) in
             sym (ap (λ b. cond (not b) (m ∷ []) []) (same_node-false n m apart))
       ] refl))
-      (cases_eq k (number_of n)) in
+      (cases_eq k (age_of old n)) in
       (λ i. below_removed old new n store is removes k i ++ one i) ∙ sym to_filter
 
   pub nodes_of-removed : (old new : Store R) (n : Node) → IsStore old → IsNodeOf old n → new.added ≡ old.added → RemovesNode old new n → nodes_of new ≡ filter (λ m. not (same_node n m)) (nodes_of old)
-  nodes_of-removed old new n store is count removes = ap (all_below (nodes new)) count ∙ below_removed old new n store is removes old.added
+  nodes_of-removed old new n store is count removes = ap (all_below (aged new)) count ∙ below_removed old new n store is removes old.added
 
 -- ---- how many there are
 
-entries_below : {X : Type 0} (k : ℕ) (m : map.FinMap nat_cmp X) → ((i : ℕ) → k ≤ i → map.get m i ≡ None) → length (all_below (map.get m) k) ≡ map.len m
-entries_below {X} zero m bound =
-    let empty : m ≡ map.empty = same_map m map.empty (λ q. bound q (omega arith) ∙ sym (map.get-empty nat_cmp q)) in
-    sym (ap map.len empty ∙ map.len-empty nat_cmp X)
-entries_below {X} (suc k) m bound =
-    elim (map.get m k) as (λ o. map.get m k ≡ o → length (all_below (map.get m) (suc k)) ≡ map.len m) [
-      | None ↦ λ p.
-          ap (λ o. length (all_below (map.get m) k ++ option_map_or (λ x. x ∷ []) o [])) p
-          ∙ ap length (append-nil (all_below (map.get m) k))
-          ∙ entries_below k m (λ i le. ⊎_elim (λ (z : i ≡ k). ap (map.get m) z ∙ p) (λ (z : i ≢ k). bound i (omega arith)) (cases_eq i k))
-      | Some e ↦ λ p.
-          let rest = map.remove m k in
-          let less : length (all_below (map.get rest) k) ≡ map.len rest = entries_below k rest (λ i le. ⊎_elim (λ (z : i ≡ k). remove_same m k i z) (λ (z : i ≢ k). remove_other m k i z ∙ bound i (omega arith)) (cases_eq i k)) in
-          let same = ap length (all_below-same (map.get m) (map.get rest) k (λ i below. remove_other m k i (λ z. absurd (omega arith)))) in
-          let more = ap (λ o. length (all_below (map.get m) k ++ option_map_or (λ x. x ∷ []) o [])) p ∙ length-append (all_below (map.get m) k) (e ∷ []) in
-          let gone : map.len rest ≡ map.len m - 1 = map.len-remove nat_cmp_total m k ∙ ap (λ o. cond (is_some o) (map.len m - 1) (map.len m)) p in
-          let some = len_positive m k e p in
-          omega arith
-    ] refl
-
 module _ {R : Type 0} where
-  pub length-nodes_of : (s : Store R) → IsStore s → length (nodes_of s) ≡ len_of s
+  no_entry : (o : Option (Entry R)) → option_map (λ (e : Entry R). e.node) o ≡ None → o ≡ None
+  no_entry None p = refl
+  no_entry (Some e) p = absurd (cc)
+
+  -- where nothing stands at an age there is no node
+  none_left : (s : Store R) → IsStore s → ((i : ℕ) → aged s i ≡ None) → map.len s.nodes ≡ 0
   unfolding nodes
-  length-nodes_of s store =
-      ap length (all_below-map (λ (e : Entry R). e.node) (map.get s.nodes) s.added)
-      ∙ length-map (all_below (map.get s.nodes) s.added) (λ (e : Entry R). e.node)
-      ∙ entries_below s.added s.nodes (λ i le. no_entry (map.get s.nodes i) (store.bounded i le))
-    where
-      no_entry : (o : Option (Entry R)) → option_map (λ (e : Entry R). e.node) o ≡ None → o ≡ None
-      no_entry None p = refl
-      no_entry (Some e) p = absurd (cc)
+  none_left s store none =
+      let no_node : (k : ℕ) → nodes s k ≡ None = λ k. elim (nodes s k) as (λ o. nodes s k ≡ o → o ≡ None) [
+        | None ↦ λ p. refl
+        | Some n ↦ λ p.
+            let is = ap (nodes s) (store.numbered k n p) ∙ p in
+            let bad = sym (store.stands n is) ∙ none (age_of s n) in absurd (cc)
+      ] refl in
+      let empty : s.nodes ≡ map.empty = same_map s.nodes map.empty (λ q. no_entry (map.get s.nodes q) (no_node q) ∙ sym (map.get-empty nat_cmp q)) in
+      ap map.len empty ∙ map.len-empty nat_cmp (Entry R)
+
+  lens : (k : ℕ) (s : Store R) → IsStore s → ((i : ℕ) → k ≤ i → aged s i ≡ None) → length (all_below (aged s) k) ≡ map.len s.nodes
+  lens zero s store none = sym (none_left s store (λ i. none i (omega arith)))
+  lens (suc k) s store none =
+      elim (aged s k) as (λ o. aged s k ≡ o → length (all_below (aged s) (suc k)) ≡ map.len s.nodes) [
+        | None ↦ λ p.
+            ap (λ o. length (all_below (aged s) k ++ option_map_or (λ x. x ∷ []) o [])) p
+            ∙ ap length (append-nil (all_below (aged s) k))
+            ∙ lens k s store (λ i le. ⊎_elim (λ (z : i ≡ k). ap (aged s) z ∙ p) (λ (z : i ≢ k). none i (omega arith)) (cases_eq i k))
+        | Some n ↦ λ p.
+            let is = store.node k n p in
+            let age = store.age k n p in
+            let t = without s n in
+            let gone : RemovesNode s t n = RemovesNode-removed s t n is (Removes-without s n) in
+            let left = IsStore_removed s t n is gone refl store in
+            let same : (i : ℕ) → i ≢ k → aged t i ≡ aged s i = λ i apart. gone.aged.others i (λ e. apart (e ∙ age)) in
+            let less = lens k t left (λ i le. ⊎_elim (λ (z : i ≡ k). ap (aged t) (z ∙ sym age) ∙ gone.aged.changed) (λ (z : i ≢ k). same i z ∙ none i (omega arith)) (cases_eq i k)) in
+            let below = ap length (all_below-same (aged s) (aged t) k (λ i less. same i (λ z. absurd (omega arith)))) in
+            let more = ap (λ o. length (all_below (aged s) k ++ option_map_or (λ x. x ∷ []) o [])) p ∙ length-append (all_below (aged s) k) (n ∷ []) in
+            let one : length (n ∷ []) ≡ 1 = refl in
+            let fewer = len-without s n is in
+            omega arith
+      ] refl
+
+  pub length-nodes_of : (s : Store R) → IsStore s → length (nodes_of s) ≡ len_of s
+  length-nodes_of s store = lens s.added s store store.bounded

@@ -45,17 +45,22 @@ module _ {A : Type 0} where
 module _ {R : Type 0} where
   -- ---- a change that the order does not see
 
-  -- the same numbers and neighbours
+  -- what an option that is not empty has
+  is_there : (o : Option (Kept R)) → o ≢ None → (g : Kept R) × (o ≡ Some g)
+  is_there None not = absurd (not refl)
+  is_there (Some g) not = (g, refl)
+
+  -- the same ages and neighbours
   pub record IsLike (e f : Kept R) : Type 0 where
-    pub number : e.number ≡ f.number
+    pub age : e.age ≡ f.age
     pub older : e.older ≡ f.older
     pub newer : e.newer ≡ f.newer
 
-  pub node_like : (ss new : List (Option (Kept R))) (q : ℕ) → ((f : Kept R) → at_place new q ≡ Some f → (g : Kept R) × (at_place ss q ≡ Some g) × (f.number ≡ g.number)) → (at_place new q ≡ None → at_place ss q ≡ None) → node_at new q ≡ node_at ss q
+  pub node_like : (ss new : List (Option (Kept R))) (q : ℕ) → ((f : Kept R) → at_place new q ≡ Some f → (g : Kept R) × (at_place ss q ≡ Some g)) → (at_place new q ≡ None → at_place ss q ≡ None) → node_at new q ≡ node_at ss q
   node_like ss new q some none =
       elim (at_place new q) as (λ o. at_place new q ≡ o → option_map (node_of q) o ≡ node_at ss q) [
         | None ↦ λ h. sym (ap (option_map (node_of q)) (none h))
-        | Some f ↦ λ h. let r = some f h in (λ i. Some (record { place = q; number = r.2 i })) ∙ sym (ap (option_map (node_of q)) r.1)
+        | Some f ↦ λ h. let r = some f h in sym (ap (option_map (node_of q)) r.1)
       ] refl
 
   pub chained_like : (ss new : List (Option (Kept R))) (newest added : ℕ) → AreChained ss newest added
@@ -63,17 +68,18 @@ module _ {R : Type 0} where
       → ((q : ℕ) → at_place new q ≡ None → at_place ss q ≡ None) → AreChained new newest added
   chained_like ss new newest added ch some none =
       let apart : AreApart new = λ p q e f x y same.
-      let a = some p e x in let b = some q f y in ch.apart p q a.0 b.0 a.1 b.1 (sym a.2.number ∙ same ∙ b.2.number) in
-      let node : (q : ℕ) → node_at new q ≡ node_at ss q = λ q. node_like ss new q (λ f h. let r = some q f h in (r.0, r.1, r.2.number)) (none q) in
-      let name : (k : ℕ) → named new k ≡ named ss k = λ k. named_same ss new k ch.apart apart node in
+      let a = some p e x in let b = some q f y in ch.apart p q a.0 b.0 a.1 b.1 (sym a.2.age ∙ same ∙ b.2.age) in
+      let node : (q : ℕ) → node_at new q ≡ node_at ss q = λ q. node_like ss new q (λ f h. let r = some q f h in (r.0, r.1)) (none q) in
+      let there : (q : ℕ) (f : Kept R) → at_place ss q ≡ Some f → (g : Kept R) × (at_place new q ≡ Some g) = λ q f h. is_there (at_place new q) (λ z. let bad = sym h ∙ none q z in cc bad) in
+      let name : (k : ℕ) → named new k ≡ named ss k = λ k. named_same ss new k ch.apart apart (λ q f h. let r = some q f h in (r.0, r.1, r.2.age)) there in
       record {
         apart = apart;
-        numbered = λ p e x. let a = some p e x in let k = ch.numbered p a.0 a.1 in let s = a.2.number in omega arith;
-        placed = λ p e x. let a = some p e x in ch.placed p a.0 a.1;
+        young = λ p e x. let a = some p e x in let k = ch.young p a.0 a.1 in let s = a.2.age in omega arith;
+        within = λ p e x. let a = some p e x in ch.within p a.0 a.1;
         first = node newest ∙ ch.first ∙ sym (last_below-same (named ss) (named new) added (λ i less. name i));
         older = λ p e x.
             let a = some p e x in
-            node e.older ∙ ap (node_at ss) a.2.older ∙ ch.older p a.0 a.1 ∙ ap (last_below (named ss)) (sym a.2.number) ∙ sym (last_below-same (named ss) (named new) e.number (λ i less. name i));
+            node e.older ∙ ap (node_at ss) a.2.older ∙ ch.older p a.0 a.1 ∙ ap (last_below (named ss)) (sym a.2.age) ∙ sym (last_below-same (named ss) (named new) e.age (λ i less. name i));
         newer = λ p e f x y.
             let a = some p e x in let b = some e.newer f y in
             b.2.older ∙ ch.newer p a.0 b.0 a.1 (ap (at_place ss) (sym a.2.newer) ∙ b.1);

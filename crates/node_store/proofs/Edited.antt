@@ -2,12 +2,13 @@
 use Rattle.std.proofs.Common.{◌≡◌, ◌≢◌, ℕ, zero, suc, ◌<◌, List, [], ◌∷◌, length, set, Option, Some, None, refl, sym, ap, ◌∙◌, ⊎_elim, arith, get_or-set_same, get_or-set_other}
 use Rattle.std.specs.Option.{option_map, option_map_or}
 use Rattle.std.proofs.lemmas.Bool.{cases_eq}
+use Rattle.std.proofs.lemmas.Option.{same_Some}
 use Rattle.node_store.specs.declared.Node.{Node}
 use Rattle.node_store.specs.declared.kept.Kept.{Kept}
 use Rattle.node_store.specs.Kept.{at_place, node_of, node_at, named}
 use Rattle.node_store.proofs.Keyed.{some_mapped}
 use Rattle.node_store.proofs.Places.{AreApart, listed_none}
-use Rattle.node_store.proofs.Rows.{named_here, named_found}
+use Rattle.node_store.proofs.Rows.{named_here, named_found, node_place}
 
 module _ {R : Type 0} where
   -- a place that has something is below the length
@@ -71,46 +72,50 @@ module _ {R : Type 0} where
       (λ (off : q ≢ p). edited_other g p q ss off ∙ at)
       (cases_eq q p)
 
-  -- ---- nodes by number
+  -- ---- nodes by age
 
-  -- what lies in the place of a node that is there
-  pub node_in_place : (ss : List (Option (Kept R))) (p : ℕ) (n : Node) → node_at ss p ≡ Some n → (e : Kept R) × (at_place ss p ≡ Some e) × (node_of p e ≡ n)
-  node_in_place ss p n h = some_mapped (node_of p) (at_place ss p) n h
+  -- a node of an age, and what lies in its place
+  pub named_node : (ss : List (Option (Kept R))) (k : ℕ) (n : Node) → named ss k ≡ Some n → (e : Kept R) × (at_place ss n.number ≡ Some e) × (e.age ≡ k)
+  named_node ss k n h = named_found ss k n h
 
-  pub named_node : (ss : List (Option (Kept R))) (k : ℕ) (n : Node) → named ss k ≡ Some n → (node_at ss n.place ≡ Some n) × (n.number ≡ k)
-  named_node ss k n h =
-      let r = named_found ss k n h in
-      let number : r.0.number ≡ n.number = r.2 ∙ sym r.3 in
-      (ap (option_map (node_of n.place)) r.1 ∙ (λ i. Some (record { place = n.place; number = number i })), r.3)
+  pub named_is : (ss : List (Option (Kept R))) (p k : ℕ) (e : Kept R) → AreApart ss → at_place ss p ≡ Some e → e.age ≡ k → named ss k ≡ Some (node_of p e)
+  named_is ss p k e apart h age = ap (named ss) (sym age) ∙ named_here ss p e apart h
 
-  pub named_is : (ss : List (Option (Kept R))) (p k : ℕ) (n : Node) → AreApart ss → node_at ss p ≡ Some n → n.number ≡ k → named ss k ≡ Some n
-  named_is ss p k n apart h number =
-      let r = node_in_place ss p n h in
-      ap (named ss) (sym number ∙ ap (λ (m : Node). m.number) (sym r.2)) ∙ named_here ss p r.0 apart r.1 ∙ ap Some r.2
-
-  -- a number that stands in no place but perhaps one that changed
-  pub named_but : (ss new : List (Option (Kept R))) (p k : ℕ) → AreApart ss → AreApart new → ((q : ℕ) → q ≢ p → node_at new q ≡ node_at ss q)
-      → ((n : Node) → node_at ss p ≡ Some n → n.number ≢ k) → ((n : Node) → node_at new p ≡ Some n → n.number ≢ k) → named new k ≡ named ss k
-  named_but ss new p k apart apart_new same no_old no_new =
+  -- an age that stands in no place but perhaps one that changed
+  pub named_but : (ss new : List (Option (Kept R))) (p k : ℕ) → AreApart ss → AreApart new
+      → ((q : ℕ) (f : Kept R) → q ≢ p → at_place new q ≡ Some f → (g : Kept R) × (at_place ss q ≡ Some g) × (f.age ≡ g.age))
+      → ((q : ℕ) (f : Kept R) → q ≢ p → at_place ss q ≡ Some f → (g : Kept R) × (at_place new q ≡ Some g))
+      → ((f : Kept R) → at_place ss p ≡ Some f → f.age ≢ k) → ((f : Kept R) → at_place new p ≡ Some f → f.age ≢ k) → named new k ≡ named ss k
+  named_but ss new p k apart apart_new back there no_old no_new =
       elim (named ss k) as (λ o. named ss k ≡ o → named new k ≡ o) [
-        | None ↦ λ h. listed_none node_of 0 new k (λ q e at number.
-            let there = ap (option_map (node_of q)) at in
+        | None ↦ λ h. listed_none 0 new k (λ q f at age.
             ⊎_elim
-            (λ (z : q ≡ p). no_new (node_of q e) (ap (node_at new) (sym z) ∙ there) number)
-            (λ (z : q ≢ p). let bad = sym (named_is ss q k (node_of q e) apart (sym (same q z) ∙ there) number) ∙ h in absurd (cc))
+            (λ (z : q ≡ p). no_new f (ap (at_place new) (sym z) ∙ at) age)
+            (λ (z : q ≢ p). let g = back q f z at in let bad = sym (named_is ss q k g.0 apart g.1 (sym g.2 ∙ age)) ∙ h in absurd (cc))
             (cases_eq q p))
         | Some n ↦ λ h.
             let r = named_node ss k n h in
             ⊎_elim
-            (λ (z : n.place ≡ p). absurd (no_old n (ap (node_at ss) (sym z) ∙ r.0) r.1))
-            (λ (z : n.place ≢ p). named_is new n.place k n apart_new (same n.place z ∙ r.0) r.1)
-            (cases_eq n.place p)
+            (λ (z : n.number ≡ p). absurd (no_old r.0 (ap (at_place ss) (sym z) ∙ r.1) r.2))
+            (λ (z : n.number ≢ p).
+            let g = there n.number r.0 z r.1 in
+            let b = back n.number g.0 z g.1 in
+            let same = ap (λ (x : Kept R). x.age) (same_Some b.0 r.0 (sym b.1 ∙ r.1)) in
+            named_is new n.number k g.0 apart_new g.1 (b.2 ∙ same ∙ r.2))
+            (cases_eq n.number p)
       ] refl
 
-  pub named_same : (ss new : List (Option (Kept R))) (k : ℕ) → AreApart ss → AreApart new → ((q : ℕ) → node_at new q ≡ node_at ss q) → named new k ≡ named ss k
-  named_same ss new k apart apart_new same =
+  pub named_same : (ss new : List (Option (Kept R))) (k : ℕ) → AreApart ss → AreApart new
+      → ((q : ℕ) (f : Kept R) → at_place new q ≡ Some f → (g : Kept R) × (at_place ss q ≡ Some g) × (f.age ≡ g.age))
+      → ((q : ℕ) (f : Kept R) → at_place ss q ≡ Some f → (g : Kept R) × (at_place new q ≡ Some g)) → named new k ≡ named ss k
+  named_same ss new k apart apart_new back there =
       elim (named ss k) as (λ o. named ss k ≡ o → named new k ≡ o) [
-        | None ↦ λ h. listed_none node_of 0 new k (λ q e at number.
-            let bad = sym (named_is ss q k (node_of q e) apart (sym (same q) ∙ ap (option_map (node_of q)) at) number) ∙ h in cc bad)
-        | Some n ↦ λ h. let r = named_node ss k n h in named_is new n.place k n apart_new (same n.place ∙ r.0) r.1
+        | None ↦ λ h. listed_none 0 new k (λ q f at age.
+            let g = back q f at in let bad = sym (named_is ss q k g.0 apart g.1 (sym g.2 ∙ age)) ∙ h in cc bad)
+        | Some n ↦ λ h.
+            let r = named_node ss k n h in
+            let g = there n.number r.0 r.1 in
+            let b = back n.number g.0 g.1 in
+            let same = ap (λ (x : Kept R). x.age) (same_Some b.0 r.0 (sym b.1 ∙ r.1)) in
+            named_is new n.number k g.0 apart_new g.1 (b.2 ∙ same ∙ r.2)
       ] refl

@@ -9,8 +9,8 @@ use Rattle.node_store.specs.Age.{last_below}
 use Rattle.node_store.specs.Kept.{nowhere, at_place, node_of, node_at, named, with_older, with_newer, newest_beside, AreChained}
 use Rattle.node_store.proofs.Age.{IsLast, IsLast-found}
 use Rattle.node_store.proofs.Places.{AreApart, listed_none}
-use Rattle.node_store.proofs.Rows.{named_here}
-use Rattle.node_store.proofs.Edited.{Was, edited_was, edited_there, edited_none, node_in_place, named_node, named_but}
+use Rattle.node_store.proofs.Rows.{named_here, node_place}
+use Rattle.node_store.proofs.Edited.{Was, edited_was, edited_there, edited_none, named_node, named_but}
 use Rattle.node_store.proofs.Chained.{last_gone, last_stays, node_like}
 
 module _ {R : Type 0} where
@@ -22,7 +22,7 @@ module _ {R : Type 0} where
   nowhere_empty ss newest added ch =
       elim (at_place ss nowhere) as (λ o. at_place ss nowhere ≡ o → o ≡ None) [
         | None ↦ λ h. refl
-        | Some e ↦ λ h. let bad = ch.placed nowhere e h in absurd (omega arith)
+        | Some e ↦ λ h. let bad = ch.within nowhere e h in absurd (omega arith)
       ] refl
 
   module _ (ss s1 : List (Option (Kept R))) (newest added : ℕ) (ch : AreChained ss newest added) (p : ℕ) (e : Kept R) (lies : at_place ss p ≡ Some e) (gone : at_place s1 p ≡ None) (rest : (q : ℕ) → q ≢ p → at_place s1 q ≡ at_place ss q) where
@@ -40,7 +40,7 @@ module _ {R : Type 0} where
       pub kept : Kept R
       pub other : q ≢ p
       pub at : at_place ss q ≡ Some kept
-      pub number : f.number ≡ kept.number
+      pub age : f.age ≡ kept.age
       pub value : f.value ≡ kept.value
       pub older_here : q ≡ w → f.older ≡ o
       pub older : q ≢ w → f.older ≡ kept.older
@@ -58,7 +58,7 @@ module _ {R : Type 0} where
           kept = b.kept;
           other = other;
           at = sym (rest q other) ∙ b.at;
-          number = kept_field (λ x. x.number) (λ x. record x { older = o }) (λ x. refl) w (with_newer o w s1) q f a ∙ kept_field (λ x. x.number) (λ x. record x { newer = w }) (λ x. refl) o s1 q a.kept b;
+          age = kept_field (λ x. x.age) (λ x. record x { older = o }) (λ x. refl) w (with_newer o w s1) q f a ∙ kept_field (λ x. x.age) (λ x. record x { newer = w }) (λ x. refl) o s1 q a.kept b;
           value = kept_field (λ x. x.value) (λ x. record x { older = o }) (λ x. refl) w (with_newer o w s1) q f a ∙ kept_field (λ x. x.value) (λ x. record x { newer = w }) (λ x. refl) o s1 q a.kept b;
           older_here = λ z. ap (λ (x : Kept R). x.older) (a.here z);
           older = λ z. ap (λ (x : Kept R). x.older) (a.elsewhere z) ∙ older_b;
@@ -71,7 +71,7 @@ module _ {R : Type 0} where
         let a = edited_there (λ x. record x { newer = w }) o s1 q f (rest q other ∙ h) in
         edited_there (λ x. record x { older = o }) w (with_newer o w s1) q a.0 a.1
 
-    none_was : (q : ℕ) → q ≢ p → at_place new q ≡ None → at_place ss q ≡ None
+    pub none_was : (q : ℕ) → q ≢ p → at_place new q ≡ None → at_place ss q ≡ None
     none_was q other h =
         elim (at_place ss q) as (λ x. at_place ss q ≡ x → x ≡ None) [
           | None ↦ λ z. refl
@@ -82,48 +82,51 @@ module _ {R : Type 0} where
     gone_new = edited_none (λ x. record x { older = o }) w (with_newer o w s1) p (edited_none (λ x. record x { newer = w }) o s1 p gone)
 
     pub apart_new : AreApart new
-    apart_new q r f g x y same = let a = stood q f x in let b = stood r g y in ch.apart q r a.kept b.kept a.at b.at (sym a.number ∙ same ∙ b.number)
+    apart_new q r f g x y same = let a = stood q f x in let b = stood r g y in ch.apart q r a.kept b.kept a.at b.at (sym a.age ∙ same ∙ b.age)
 
     node_new : (q : ℕ) → q ≢ p → node_at new q ≡ node_at ss q
-    node_new q other = node_like ss new q (λ f h. let r = stood q f h in (r.kept, r.at, r.number)) (none_was q other)
+    node_new q other = node_like ss new q (λ f h. let r = stood q f h in (r.kept, r.at)) (none_was q other)
 
-    named_was : named ss e.number ≡ Some (node_of p e)
+    named_was : named ss e.age ≡ Some (node_of p e)
     named_was = named_here ss p e ch.apart lies
 
-    named_gone : named new e.number ≡ None
-    named_gone = listed_none node_of 0 new e.number (λ q f h same. let r = stood q f h in r.other (ch.apart q p r.kept e r.at lies (sym r.number ∙ same)))
+    pub named_gone : named new e.age ≡ None
+    named_gone = listed_none 0 new e.age (λ q f h same. let r = stood q f h in r.other (ch.apart q p r.kept e r.at lies (sym r.age ∙ same)))
 
-    named_rest : (k : ℕ) → k ≢ e.number → named new k ≡ named ss k
+    pub named_rest : (k : ℕ) → k ≢ e.age → named new k ≡ named ss k
     named_rest k off =
-        named_but ss new p k ch.apart apart_new node_new
-        (λ n h same. let is = same_Some _ _ (sym (ap (option_map (node_of p)) lies) ∙ h) in off (sym same ∙ ap (λ (m : Node). m.number) (sym is)))
-        (λ n h same. let bad = sym (ap (option_map (node_of p)) gone_new) ∙ h in cc bad)
+        named_but ss new p k ch.apart apart_new
+        (λ q f z h. let r = stood q f h in (r.kept, r.at, r.age))
+        (λ q f z h. stays q f z h)
+        (λ f h same. off (sym same ∙ ap (λ (x : Kept R). x.age) (same_Some f e (sym h ∙ lies))))
+        (λ f h same. let bad = sym gone_new ∙ h in cc bad)
 
     -- where its node was the last one
-    was_last : (j : ℕ) → last_below (named ss) j ≡ Some (node_of p e) → IsLast (named ss) j e.number (node_of p e)
+    was_last : (j : ℕ) → last_below (named ss) j ≡ Some (node_of p e) → IsLast (named ss) j e.age (node_of p e)
     was_last j h =
         let r = IsLast-found (named ss) j (node_of p e) h in
-        let number : e.number ≡ r.0 = (named_node ss r.0 (node_of p e) r.1.at).1 in
-        subst (λ i. IsLast (named ss) j i (node_of p e)) (sym number) r.1
+        let was = named_node ss r.0 (node_of p e) r.1.at in
+        let age : e.age ≡ r.0 = ap (λ (x : Kept R). x.age) (same_Some e was.0 (sym lies ∙ was.1)) ∙ was.2 in
+        subst (λ i. IsLast (named ss) j i (node_of p e)) (sym age) r.1
 
     in_place : (q : ℕ) → node_at ss q ≡ Some (node_of p e) → q ≡ p
-    in_place q h = let r = node_in_place ss q (node_of p e) h in ap (λ (m : Node). m.place) r.2
+    in_place q h = (node_place ss q (node_of p e) h).2
 
     o_apart : o ≢ p
     o_apart z =
-        let last : last_below (named ss) e.number ≡ Some (node_of p e) = sym (ch.older p e lies) ∙ ap (node_at ss) z ∙ ap (option_map (node_of p)) lies in
-        let below = (was_last e.number last).below in
+        let last : last_below (named ss) e.age ≡ Some (node_of p e) = sym (ch.older p e lies) ∙ ap (node_at ss) z ∙ ap (option_map (node_of p)) lies in
+        let below = (was_last e.age last).below in
         omega arith
 
     w_apart : w ≢ p
     w_apart z = o_apart (ch.newer p e e lies (ap (at_place ss) z ∙ lies))
 
     last_before : (j : ℕ) → last_below (named ss) j ≡ Some (node_of p e) → node_at new o ≡ last_below (named new) j
-    last_before j h = node_new o o_apart ∙ ch.older p e lies ∙ sym (last_gone (named ss) (named new) e.number (node_of p e) named_was named_gone named_rest j (was_last j h))
+    last_before j h = node_new o o_apart ∙ ch.older p e lies ∙ sym (last_gone (named ss) (named new) e.age (node_of p e) named_was named_gone named_rest j (was_last j h))
 
     last_after : (j q : ℕ) → q ≢ p → node_at ss q ≡ last_below (named ss) j → node_at new q ≡ last_below (named new) j
     last_after j q other h =
-        node_new q other ∙ h ∙ sym (last_stays (named ss) (named new) e.number (node_of p e) named_was named_gone named_rest j (λ z. other (in_place q (h ∙ z))))
+        node_new q other ∙ h ∙ sym (last_stays (named ss) (named new) e.age (node_of p e) named_was named_gone named_rest j (λ z. other (in_place q (h ∙ z))))
 
     -- the older neighbour of a record that is left is not the one that went, but of the newer neighbour of that
     older_apart : (q : ℕ) (f : Kept R) → at_place ss q ≡ Some f → q ≢ w → f.older ≢ p
@@ -132,16 +135,16 @@ module _ {R : Type 0} where
     newer_apart : (q : ℕ) (f : Kept R) → at_place ss q ≡ Some f → q ≢ o → f.newer ≢ p
     newer_apart q f h off z = off (sym (ch.newer q f e h (ap (at_place ss) z ∙ lies)))
 
-    older_new : (q : ℕ) (f : Kept R) → at_place new q ≡ Some f → node_at new f.older ≡ last_below (named new) f.number
+    older_new : (q : ℕ) (f : Kept R) → at_place new q ≡ Some f → node_at new f.older ≡ last_below (named new) f.age
     older_new q f h =
         let r = stood q f h in
         ⊎_elim
         (λ (z : q ≡ w).
         let was : r.kept.older ≡ p = ch.newer p e r.kept lies (ap (at_place ss) (sym z) ∙ r.at) in
-        let last : last_below (named ss) f.number ≡ Some (node_of p e) =
-        ap (last_below (named ss)) r.number ∙ sym (ch.older q r.kept r.at) ∙ ap (node_at ss) was ∙ ap (option_map (node_of p)) lies in
-        ap (node_at new) (r.older_here z) ∙ last_before f.number last)
-        (λ (z : q ≢ w). ap (node_at new) (r.older z) ∙ last_after r.kept.number r.kept.older (older_apart q r.kept r.at z) (ch.older q r.kept r.at) ∙ ap (last_below (named new)) (sym r.number))
+        let last : last_below (named ss) f.age ≡ Some (node_of p e) =
+        ap (last_below (named ss)) r.age ∙ sym (ch.older q r.kept r.at) ∙ ap (node_at ss) was ∙ ap (option_map (node_of p)) lies in
+        ap (node_at new) (r.older_here z) ∙ last_before f.age last)
+        (λ (z : q ≢ w). ap (node_at new) (r.older z) ∙ last_after r.kept.age r.kept.older (older_apart q r.kept r.at z) (ch.older q r.kept r.at) ∙ ap (last_below (named new)) (sym r.age))
         (cases_eq q w)
 
     newer_new : (q : ℕ) (f g : Kept R) → at_place new q ≡ Some f → at_place new f.newer ≡ Some g → g.older ≡ q
@@ -194,8 +197,8 @@ module _ {R : Type 0} where
         → ((f : Kept R) → at_place new m ≡ Some f → f.newer ≡ nowhere) → (at_place new m ≡ None → m ≡ nowhere) → AreChained new m added
     chained_with m first last after none = record {
       apart = apart_new;
-      numbered = λ q f x. let r = stood q f x in let k = ch.numbered q r.kept r.at in let s = r.number in omega arith;
-      placed = λ q f x. let r = stood q f x in ch.placed q r.kept r.at;
+      young = λ q f x. let r = stood q f x in let k = ch.young q r.kept r.at in let s = r.age in omega arith;
+      within = λ q f x. let r = stood q f x in ch.within q r.kept r.at;
       first = first;
       older = older_new;
       newer = newer_new;
@@ -233,7 +236,7 @@ module _ {R : Type 0} where
         (λ (z : newest ≡ o).
         let back : r.kept.newer ≡ p = ch.after_older p e r.kept lies (ap (at_place ss) (sym z) ∙ r.at) in
         let end = ch.after_newest r.kept r.at in
-        let below = ch.placed p e lies in
+        let below = ch.within p e lies in
         absurd (omega arith))
         (λ (z : newest ≢ o). r.newer z ∙ ch.after_newest r.kept r.at)
         (cases_eq newest o))

@@ -14,7 +14,7 @@ use Rattle.node_store.proofs.Chained.{node_like}
 use Rattle.node_store.proofs.Gone.{kept_field}
 
 module _ {R : Type 0} (ss s1 : List (Option (Kept R))) (newest added : ℕ) (ch : AreChained ss newest added) (place : ℕ) (x : Kept R) (vacant : at_place ss place ≡ None) (below : place < nowhere)
-    (is_older : x.older ≡ newest) (is_newer : x.newer ≡ nowhere) (is_number : x.number ≡ added) (put : at_place s1 place ≡ Some x) (rest : (q : ℕ) → q ≢ place → at_place s1 q ≡ at_place ss q) where
+    (is_older : x.older ≡ newest) (is_newer : x.newer ≡ nowhere) (is_age : x.age ≡ added) (put : at_place s1 place ≡ Some x) (rest : (q : ℕ) → q ≢ place → at_place s1 q ≡ at_place ss q) where
   abbrev new : List (Option (Kept R))
   new = with_newer newest place s1
 
@@ -22,7 +22,7 @@ module _ {R : Type 0} (ss s1 : List (Option (Kept R))) (newest added : ℕ) (ch 
   pub record Stood (q : ℕ) (f : Kept R) : Type 0 where
     pub kept : Kept R
     pub at : at_place ss q ≡ Some kept
-    pub number : f.number ≡ kept.number
+    pub age : f.age ≡ kept.age
     pub value : f.value ≡ kept.value
     pub older : f.older ≡ kept.older
     pub newer_here : q ≡ newest → f.newer ≡ place
@@ -34,7 +34,7 @@ module _ {R : Type 0} (ss s1 : List (Option (Kept R))) (newest added : ℕ) (ch 
       record {
         kept = a.kept;
         at = sym (rest q other) ∙ a.at;
-        number = kept_field (λ y. y.number) (λ y. record y { newer = place }) (λ y. refl) newest s1 q f a;
+        age = kept_field (λ y. y.age) (λ y. record y { newer = place }) (λ y. refl) newest s1 q f a;
         value = kept_field (λ y. y.value) (λ y. record y { newer = place }) (λ y. refl) newest s1 q f a;
         older = kept_field (λ y. y.older) (λ y. record y { newer = place }) (λ y. refl) newest s1 q f a;
         newer_here = λ z. ap (λ (y : Kept R). y.newer) (a.here z);
@@ -58,43 +58,45 @@ module _ {R : Type 0} (ss s1 : List (Option (Kept R))) (newest added : ℕ) (ch 
   pub was_apart : (q : ℕ) (f : Kept R) → at_place ss q ≡ Some f → q ≢ place
   was_apart q f h z = let bad = sym h ∙ ap (at_place ss) z ∙ vacant in cc bad
 
-  none_was : (q : ℕ) → at_place new q ≡ None → at_place ss q ≡ None
+  pub none_was : (q : ℕ) → at_place new q ≡ None → at_place ss q ≡ None
   none_was q h =
       elim (at_place ss q) as (λ o. at_place ss q ≡ o → o ≡ None) [
         | None ↦ λ z. refl
         | Some f ↦ λ z. let r = stays q f (was_apart q f z) z in let bad = sym r.1 ∙ h in absurd (cc)
       ] refl
 
-  older_number : (q : ℕ) (f : Kept R) → q ≢ place → at_place new q ≡ Some f → f.number < added
-  older_number q f other h = let r = stood q f other h in let k = ch.numbered q r.kept r.at in let s = r.number in omega arith
+  older_age : (q : ℕ) (f : Kept R) → q ≢ place → at_place new q ≡ Some f → f.age < added
+  older_age q f other h = let r = stood q f other h in let k = ch.young q r.kept r.at in let s = r.age in omega arith
 
   pub apart_new : AreApart new
   apart_new p q f g a b same =
       ⊎_elim
       (λ (y : p ≡ place). ⊎_elim
       (λ (z : q ≡ place). y ∙ sym z)
-      (λ (z : q ≢ place). let k = older_number q g z b in let m = ap (λ (u : Kept R). u.number) (is_new p f y a) in absurd (omega arith))
+      (λ (z : q ≢ place). let k = older_age q g z b in let m = ap (λ (u : Kept R). u.age) (is_new p f y a) in absurd (omega arith))
       (cases_eq q place))
       (λ (y : p ≢ place). ⊎_elim
-      (λ (z : q ≡ place). let k = older_number p f y a in let m = ap (λ (u : Kept R). u.number) (is_new q g z b) in absurd (omega arith))
-      (λ (z : q ≢ place). let r = stood p f y a in let t = stood q g z b in ch.apart p q r.kept t.kept r.at t.at (sym r.number ∙ same ∙ t.number))
+      (λ (z : q ≡ place). let k = older_age p f y a in let m = ap (λ (u : Kept R). u.age) (is_new q g z b) in absurd (omega arith))
+      (λ (z : q ≢ place). let r = stood p f y a in let t = stood q g z b in ch.apart p q r.kept t.kept r.at t.at (sym r.age ∙ same ∙ t.age))
       (cases_eq q place))
       (cases_eq p place)
 
   node_new : (q : ℕ) → q ≢ place → node_at new q ≡ node_at ss q
-  node_new q other = node_like ss new q (λ f h. let r = stood q f other h in (r.kept, r.at, r.number)) (none_was q)
+  node_new q other = node_like ss new q (λ f h. let r = stood q f other h in (r.kept, r.at)) (none_was q)
 
   node_here : node_at new place ≡ Some (node_of place x)
   node_here = ap (option_map (node_of place)) here
 
-  named_new : named new added ≡ Some (node_of place x)
-  named_new = ap (named new) (sym is_number) ∙ named_here new place x apart_new here
+  pub named_new : named new added ≡ Some (node_of place x)
+  named_new = ap (named new) (sym is_age) ∙ named_here new place x apart_new here
 
-  named_rest : (k : ℕ) → k ≢ added → named new k ≡ named ss k
+  pub named_rest : (k : ℕ) → k ≢ added → named new k ≡ named ss k
   named_rest k off =
-      named_but ss new place k ch.apart apart_new node_new
-      (λ n h same. let bad = sym (ap (option_map (node_of place)) vacant) ∙ h in cc bad)
-      (λ n h same. off (sym same ∙ ap (λ m. m.number) (same_Some _ _ (sym h ∙ node_here)) ∙ is_number))
+      named_but ss new place k ch.apart apart_new
+      (λ q f z h. let r = stood q f z h in (r.kept, r.at, r.age))
+      (λ q f z h. stays q f z h)
+      (λ f h same. let bad = sym vacant ∙ h in cc bad)
+      (λ f h same. off (sym same ∙ ap (λ (u : Kept R). u.age) (is_new place f refl h) ∙ is_age))
 
   last_same : (j : ℕ) → j ≤ added → last_below (named new) j ≡ last_below (named ss) j
   last_same j le = last_below-same (named ss) (named new) j (λ i less. named_rest i (λ z. absurd (omega arith)))
@@ -103,17 +105,17 @@ module _ {R : Type 0} (ss s1 : List (Option (Kept R))) (newest added : ℕ) (ch 
   older_apart : (q : ℕ) (f : Kept R) → at_place ss q ≡ Some f → f.older ≢ place
   older_apart q f h z = let k = ch.older_none q f h (ap (at_place ss) z ∙ vacant) in absurd (omega arith)
 
-  older_new : (q : ℕ) (f : Kept R) → at_place new q ≡ Some f → node_at new f.older ≡ last_below (named new) f.number
+  older_new : (q : ℕ) (f : Kept R) → at_place new q ≡ Some f → node_at new f.older ≡ last_below (named new) f.age
   older_new q f h =
       ⊎_elim
       (λ (z : q ≡ place).
       let is = is_new q f z h in
       ap (λ (u : Kept R). node_at new u.older) is ∙ ap (node_at new) is_older ∙ node_new newest newest_apart ∙ ch.first ∙ sym (last_same added (omega arith))
-      ∙ ap (last_below (named new)) (sym is_number ∙ ap (λ (u : Kept R). u.number) (sym is)))
+      ∙ ap (last_below (named new)) (sym is_age ∙ ap (λ (u : Kept R). u.age) (sym is)))
       (λ (z : q ≢ place).
       let r = stood q f z h in
-      let less = older_number q f z h in
-      ap (node_at new) r.older ∙ node_new r.kept.older (older_apart q r.kept r.at) ∙ ch.older q r.kept r.at ∙ ap (last_below (named ss)) (sym r.number) ∙ sym (last_same f.number (omega arith)))
+      let less = older_age q f z h in
+      ap (node_at new) r.older ∙ node_new r.kept.older (older_apart q r.kept r.at) ∙ ch.older q r.kept r.at ∙ ap (last_below (named ss)) (sym r.age) ∙ sym (last_same f.age (omega arith)))
       (cases_eq q place)
 
   nowhere_free : at_place new nowhere ≡ None
@@ -122,7 +124,7 @@ module _ {R : Type 0} (ss s1 : List (Option (Kept R))) (newest added : ℕ) (ch 
         | None ↦ λ h. refl
         | Some f ↦ λ h.
             let r = stood nowhere f (λ z. absurd (omega arith)) h in
-            let k = ch.placed nowhere r.kept r.at in
+            let k = ch.within nowhere r.kept r.at in
             absurd (omega arith)
       ] refl
 
@@ -159,7 +161,7 @@ module _ {R : Type 0} (ss s1 : List (Option (Kept R))) (newest added : ℕ) (ch 
       ⊎_elim
       (λ (s : f.older ≡ newest).
       let end = ch.after_newest t.kept (ap (at_place ss) (sym s) ∙ t.at) in
-      let less = ch.placed q r.kept r.at in
+      let less = ch.within q r.kept r.at in
       absurd (omega arith))
       (λ (s : f.older ≢ newest). t.newer s ∙ kept)
       (cases_eq f.older newest))
@@ -189,15 +191,15 @@ module _ {R : Type 0} (ss s1 : List (Option (Kept R))) (newest added : ℕ) (ch 
   pub chained_new : AreChained new place (added + 1)
   chained_new = record {
     apart = apart_new;
-    numbered = λ q f a.
+    young = λ q f a.
         ⊎_elim
-        (λ (z : q ≡ place). let k = ap (λ (u : Kept R). u.number) (is_new q f z a) in omega arith)
-        (λ (z : q ≢ place). let k = older_number q f z a in omega arith)
+        (λ (z : q ≡ place). let k = ap (λ (u : Kept R). u.age) (is_new q f z a) in omega arith)
+        (λ (z : q ≢ place). let k = older_age q f z a in omega arith)
         (cases_eq q place);
-    placed = λ q f a.
+    within = λ q f a.
         ⊎_elim
         (λ (z : q ≡ place). omega arith)
-        (λ (z : q ≢ place). let r = stood q f z a in ch.placed q r.kept r.at)
+        (λ (z : q ≢ place). let r = stood q f z a in ch.within q r.kept r.at)
         (cases_eq q place);
     first = node_here ∙ sym (last_below-is (named new) (added + 1) added (node_of place x) (record { at = named_new; below = omega arith; last = λ i more less. absurd (omega arith) }));
     older = older_new;

@@ -4,6 +4,7 @@ pub mod NodeLists
 pub mod ByNode
 pub mod Members
 pub mod Age
+pub mod Ages
 pub mod Places
 pub mod Columns
 pub mod Rows

@@ -2,7 +2,7 @@
 use Rattle.std.specs.Prelude.{ℕ, zero, suc, List, [], ◌∷◌, ◌++◌, Option, None}
 use Rattle.std.specs.Option.{option_or, option_map_or}
 use Rattle.node_store.specs.declared.Node.{Node}
-use Rattle.node_store.specs.Store.{Store, nodes}
+use Rattle.node_store.specs.Store.{Store, aged}
 
 module _ {A : Type 0} where
   -- what stands at the greatest of the numbers below this one at which something stands
@@ -17,4 +17,4 @@ module _ {A : Type 0} where
 
 -- the nodes of a store, in the order of their adds
 abbrev pub nodes_of : {R : Type 0} → Store R → List Node
-nodes_of s = all_below (nodes s) s.added
+nodes_of s = all_below (aged s) s.added

@@ -44,37 +44,43 @@ module _ {R : Type 0} where
 
   -- the node of a record in a place
   abbrev pub node_of : ℕ → Kept R → Node
-  node_of place e = record { place = place; number = e.number }
+  node_of place e = record { number = place }
 
   -- the node of what lies in a place
   abbrev pub node_at : List (Option (Kept R)) → ℕ → Option Node
   node_at ss place = option_map (node_of place) (at_place ss place)
 
-  -- something of each record, by its number, where the first lies in this place
-  abbrev pub listed : {X : Type 0} → (ℕ → Kept R → X) → ℕ → List (Option (Kept R)) → List (ℕ × X)
-  listed f place [] = []
-  listed f place (None ∷ ss) = listed f (suc place) ss
-  listed f place (Some e ∷ ss) = (e.number, f place e) ∷ listed f (suc place) ss
+  -- the node of each record, by its age, where the first lies in this place
+  abbrev pub listed : ℕ → List (Option (Kept R)) → List (ℕ × Node)
+  listed place [] = []
+  listed place (None ∷ ss) = listed (suc place) ss
+  listed place (Some e ∷ ss) = (e.age, node_of place e) ∷ listed (suc place) ss
 
   -- what a contract sees of a record
   abbrev pub entry_of : List Links → ℕ → ℕ → Kept R → Entry R
-  entry_of cs width place e = record { node = node_of place e; value = e.value; links = links_from (λ col. stored_in cs col place) 0 width }
+  entry_of cs width place e = record { node = node_of place e; age = e.age; value = e.value; links = links_from (λ col. stored_in cs col place) 0 width }
+
+  -- that of each record, by its place
+  abbrev pub placed : (ℕ → Kept R → Entry R) → ℕ → List (Option (Kept R)) → List (ℕ × Entry R)
+  placed see place [] = []
+  placed see place (None ∷ ss) = placed see (suc place) ss
+  placed see place (Some e ∷ ss) = (place, see place e) ∷ placed see (suc place) ss
 
   -- what a contract sees of all
   abbrev pub store_of : List (Option (Kept R)) → List Links → ℕ → ℕ → Store R
-  store_of ss cs width added = record { width = width; added = added; nodes = finmap.from_entries (listed (entry_of cs width) 0 ss) }
+  store_of ss cs width added = record { width = width; added = added; nodes = finmap.from_entries (placed (entry_of cs width) 0 ss); ages = finmap.from_entries (listed 0 ss) }
 
-  -- the node of each number
+  -- the node of each age
   abbrev pub named : List (Option (Kept R)) → ℕ → Option Node
-  named ss k = finmap.find nat_cmp k (listed node_of 0 ss)
+  named ss k = finmap.find nat_cmp k (listed 0 ss)
 
-  -- records have numbers of their own, and each knows the places of those that were added before and after it
+  -- records have ages of their own, and each knows the places of those that were added before and after it
   pub record AreChained (ss : List (Option (Kept R))) (newest added : ℕ) : Type 0 where
-    pub apart : (p q : ℕ) (e f : Kept R) → at_place ss p ≡ Some e → at_place ss q ≡ Some f → e.number ≡ f.number → p ≡ q
-    pub numbered : (p : ℕ) (e : Kept R) → at_place ss p ≡ Some e → e.number < added
-    pub placed : (p : ℕ) (e : Kept R) → at_place ss p ≡ Some e → p < nowhere
+    pub apart : (p q : ℕ) (e f : Kept R) → at_place ss p ≡ Some e → at_place ss q ≡ Some f → e.age ≡ f.age → p ≡ q
+    pub young : (p : ℕ) (e : Kept R) → at_place ss p ≡ Some e → e.age < added
+    pub within : (p : ℕ) (e : Kept R) → at_place ss p ≡ Some e → p < nowhere
     pub first : node_at ss newest ≡ last_below (named ss) added
-    pub older : (p : ℕ) (e : Kept R) → at_place ss p ≡ Some e → node_at ss e.older ≡ last_below (named ss) e.number
+    pub older : (p : ℕ) (e : Kept R) → at_place ss p ≡ Some e → node_at ss e.older ≡ last_below (named ss) e.age
     pub newer : (p : ℕ) (e f : Kept R) → at_place ss p ≡ Some e → at_place ss e.newer ≡ Some f → f.older ≡ p
     pub after_older : (p : ℕ) (e f : Kept R) → at_place ss p ≡ Some e → at_place ss e.older ≡ Some f → f.newer ≡ p
     pub last : (p : ℕ) (e : Kept R) → at_place ss p ≡ Some e → at_place ss e.newer ≡ None → (newest ≡ p) × (e.newer ≡ nowhere)

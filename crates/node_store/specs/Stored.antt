@@ -7,9 +7,9 @@ use Rattle.node_store.specs.declared.stored.Stored.{Stored}
 -- a node is there where its bit says so
 abbrev pub link_of : Stored → Link
 link_of s = record {
-  a = cond (nat_eq (bit_and s.there 1) 0) None (Some (record { place = s.a; number = s.number_a }));
-  b = cond (nat_eq (bit_and s.there 2) 0) None (Some (record { place = s.b; number = s.number_b }));
-  up = cond (nat_eq (bit_and s.there 4) 0) None (Some (record { place = s.up; number = s.number_up }));
+  a = cond (nat_eq (bit_and s.there 1) 0) None (Some s.a);
+  b = cond (nat_eq (bit_and s.there 2) 0) None (Some s.b);
+  up = cond (nat_eq (bit_and s.there 4) 0) None (Some s.up);
   tag = s.tag;
   height = s.height;
   digest = record { high = s.high; low = s.low };

@@ -8,12 +8,12 @@ use slab::Slab;
 /// The place of no record. The places of records are smaller.
 pub(crate) const NOWHERE: u32 = u32::MAX;
 
-/// A record with the number of its add, between the places of those that were added before and after it.
+/// A record with its age, between the places of those that were added before and after it.
 #[derive(Drop)]
 pub(crate) struct Kept<R> {
     pub(crate) older: u32,
     pub(crate) newer: u32,
-    pub(crate) number: u64,
+    pub(crate) age: u64,
     pub(crate) value: R,
 }
 
@@ -33,10 +33,11 @@ pub(crate) fn kept_at<R>(kept: &Slab<Kept<R>>, place: u32) -> &Kept<R>
 pub(crate) fn node_in<R>(kept: &Slab<Kept<R>>, place: u32) -> Option<Node>
     ensures { result ≡ node_at kept.now.slots place }
 {
-    kept.get(place as usize).map(|entry| Node {
-        place,
-        number: entry.number,
-    })
+    if kept.contains(place as usize) {
+        Some(Node { number: place })
+    } else {
+        None
+    }
 }
 
 // Names the place of the record before that in a place, if there is one.

@@ -8,7 +8,7 @@
 
 ghost use Rattle.std.specs.Prelude.{◌≡◌, ◌+◌, ◌<◌, ◌≤◌, ◌^◌, IfOk, IfErr, OnOk, OnErr, Some, IsTrue, ◌↔◌};
 ghost use Rattle.std.specs.Borrow.{sem};
-ghost use Rattle.node_store.specs.Store.{number_of, no_link, nodes, IsNodeOf, IsStore, len_of, empty_store, width_of};
+ghost use Rattle.node_store.specs.Store.{number_of, no_link, aged, age_of, IsNodeOf, IsStore, len_of, empty_store, width_of};
 ghost use Rattle.node_store.specs.Age.{last_below};
 ghost use Rattle.node_store.specs.Column.{IsNode, IsPut, KeepsOthers};
 ghost use Rattle.node_store.specs.ByNode.{column_of, record_of, contents, AddsNode, RemovesNode};
@@ -30,12 +30,10 @@ use stored::Stored;
 /// How many columns a store can have at most. A column is named by its number, the first by 0.
 pub const COLUMNS: usize = 8;
 
-/// A node of a store, until the store removes it. Nodes are compared by the number of their add, so only those of
-/// one store can be told apart.
+/// A node of a store, until the store removes it: the number of its place. Only nodes of one store can be told apart.
 #[derive(Clone, Copy)]
 pub struct Node {
-    place: u32,
-    number: u64,
+    number: u32,
 }
 
 /// The links of one node in one column, with three values that the layer above keeps there.
@@ -83,21 +81,19 @@ impl<R> Model for NodeStore<R> {
 }
 
 impl Node {
-    /// A value for places that have no node. Its number is that of no add.
+    /// A value where there is no node. Its number is that of no node.
     pub fn nowhere() -> Node
-        ensures { number_of result + 1 ≡ 2 ^ 64 }
+        ensures { number_of result + 1 ≡ 2 ^ 32 }
     {
-        Node {
-            place: NOWHERE,
-            number: u64::MAX,
-        }
+        Node { number: NOWHERE }
     }
 
-    /// The number of the node's add. The first is 0.
+    /// The number by which a store tells the node from its other ones. A later node may have it once the store has removed
+    /// this one.
     pub fn number(&self) -> u64
         ensures { result ≡ number_of self.now }
     {
-        self.number
+        self.number as u64
     }
 }
 
@@ -167,6 +163,7 @@ impl<R> NodeStore<R> {
     }
 
     /// How many nodes there are.
+    #[inline(always)]
     pub fn len(&self) -> usize
         ensures len { result ≡ len_of self.now }
         ensures sound { IsStore self.now }
@@ -182,9 +179,19 @@ impl<R> NodeStore<R> {
         self.added
     }
 
+    /// The node's age: the number of its add. The first is 0.
+    #[inline(always)]
+    pub fn age(&self, n: Node) -> u64
+        requires { IsNodeOf self.now n }
+        ensures age { result ≡ age_of self.now n }
+        ensures sound { IsStore self.now }
+    {
+        kept_at(&self.kept, n.number).age
+    }
+
     /// The node that was added last, of those that are there.
     pub fn newest(&self) -> Option<Node>
-        ensures { result ≡ last_below (nodes self.now) self.now.added }
+        ensures { result ≡ last_below (aged self.now) self.now.added }
     {
         node_in(&self.kept, self.newest)
     }
@@ -192,9 +199,9 @@ impl<R> NodeStore<R> {
     /// The node that was added last before `n`, of those that are there.
     pub fn older(&self, n: Node) -> Option<Node>
         requires { IsNodeOf self.now n }
-        ensures { result ≡ last_below (nodes self.now) (number_of n) }
+        ensures { result ≡ last_below (aged self.now) (age_of self.now n) }
     {
-        node_in(&self.kept, kept_at(&self.kept, n.place).older)
+        node_in(&self.kept, kept_at(&self.kept, n.number).older)
     }
 
     /// The node's record.
@@ -203,7 +210,7 @@ impl<R> NodeStore<R> {
         requires { IsNodeOf self.now n }
         ensures { record_of self.now n ≡ Some result.now }
     {
-        &kept_at(&self.kept, n.place).value
+        &kept_at(&self.kept, n.number).value
     }
 
     /// The node's record for writing. No link changes.
@@ -212,7 +219,7 @@ impl<R> NodeStore<R> {
         ensures* writes_back { sem 𝓛 (lends_record R.row self.entry n result) }
         ensures value { record_of self.old n ≡ Some result.now }
     {
-        match self.kept.get_mut(n.place as usize) {
+        match self.kept.get_mut(n.number as usize) {
             Some(entry) => &mut entry.value,
             None => unreachable!(),
         }
@@ -225,7 +232,7 @@ impl<R> NodeStore<R> {
         ensures { column_of self.now col n ≡ Some result }
     {
         let columns = &self.columns;
-        columns[col].get(n.place).link()
+        columns[col].get(n.number).link()
     }
 
     /// Whether `o` is the node `n`. Their numbers decide, so both must be nodes of this store.
@@ -250,7 +257,7 @@ impl<R> NodeStore<R> {
         ensures contents { contents self.new ≡ contents self.old }
     {
         let columns = &mut self.columns;
-        columns[col].set(n.place, Stored::of(link));
+        columns[col].set(n.number, Stored::of(link));
     }
 
     /// Replaces the tag of the node's links in a column, which it does not read. The links themselves, the node's record,
@@ -265,7 +272,7 @@ impl<R> NodeStore<R> {
         ensures contents { contents self.new ≡ contents self.old }
     {
         let columns = &mut self.columns;
-        columns[col].set_tag(n.place, tag);
+        columns[col].set_tag(n.number, tag);
     }
 }
 
@@ -274,7 +281,7 @@ impl<R: Drop> NodeStore<R> {
     /// back and the store stays as it was.
     pub fn add(&mut self, value: R) -> Result<Node, NoRoom<R>>
         requires { self.old.added + 1 < 2 ^ 64 }
-        ensures number { IfOk result (λ n. number_of n ≡ self.old.added) }
+        ensures age { IfOk result (λ n. age_of self.new n ≡ self.old.added) }
         ensures count { OnOk result (self.new.added ≡ self.old.added + 1) }
         ensures added { IfOk result (λ n. AddsNode self.old self.new n value) }
         ensures len { OnOk result (len_of self.new ≡ len_of self.old + 1) }
@@ -290,19 +297,19 @@ impl<R: Drop> NodeStore<R> {
             Ok(()) => {}
             Err(_) => return Err(NoRoom { value }),
         }
-        let number = self.added;
+        let age = self.added;
         let entry = Kept {
             older: self.newest,
             newer: NOWHERE,
-            number,
+            age,
             value,
         };
         match self.kept.insert(entry) {
             Ok(_) => {
                 set_newer(&mut self.kept, self.newest, place);
                 self.newest = place;
-                self.added = number + 1;
-                Ok(Node { place, number })
+                self.added = age + 1;
+                Ok(Node { number: place })
             }
             Err(failed) => {
                 let AllocFailed { value: entry } = failed;
@@ -320,12 +327,12 @@ impl<R: Drop> NodeStore<R> {
         ensures count { self.new.added ≡ self.old.added }
         ensures len { len_of self.new + 1 ≡ len_of self.old }
     {
-        match self.kept.try_remove(n.place as usize) {
+        match self.kept.try_remove(n.number as usize) {
             Some(entry) => {
                 let Kept {
                     older,
                     newer,
-                    number: _,
+                    age: _,
                     value,
                 } = entry;
                 set_newer(&mut self.kept, older, newer);

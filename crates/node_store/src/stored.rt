@@ -5,8 +5,7 @@ ghost use Rattle.node_store.specs.Stored.{link_of};
 
 use crate::{Digest, Link, Node};
 
-/// Links in which an absent node has a flag in place of a tag of its own, and nodes' places stand beside one another, so
-/// that the whole is shorter. What a way through a column reads stands before the numbers of nodes.
+/// Links in which an absent node has a flag in place of a tag of its own, so that the whole is shorter.
 #[derive(Clone, Copy)]
 pub(crate) struct Stored {
     tag: u64,
@@ -14,12 +13,9 @@ pub(crate) struct Stored {
     low: u16,
     height: u8,
     there: u8,
-    a: u32,
-    b: u32,
-    up: u32,
-    number_a: u64,
-    number_b: u64,
-    number_up: u64,
+    a: Node,
+    b: Node,
+    up: Node,
 }
 
 // The bits of `there`.
@@ -41,15 +37,11 @@ fn flags(a: bool, b: bool, up: bool) -> u8
     a | b | up
 }
 
-// The node of a place with a number, where it is there.
-fn node_if(there: bool, place: u32, number: u64) -> Option<Node>
-    ensures { result ≡ cond there (Some (record { place = place; number = number })) None }
+// The node, where it is there.
+fn node_if(there: bool, node: Node) -> Option<Node>
+    ensures { result ≡ cond there (Some node) None }
 {
-    if there {
-        Some(Node { place, number })
-    } else {
-        None
-    }
+    if there { Some(node) } else { None }
 }
 
 impl Stored {
@@ -58,21 +50,16 @@ impl Stored {
     pub(crate) fn of(link: Link) -> Stored
         ensures { link_of result ≡ link }
     {
-        let a = link.a.unwrap_or(Node::nowhere());
-        let b = link.b.unwrap_or(Node::nowhere());
-        let up = link.up.unwrap_or(Node::nowhere());
+        let absent = Node::nowhere();
         Stored {
             tag: link.tag,
             high: link.digest.high,
             low: link.digest.low,
             height: link.height,
             there: flags(link.a.is_some(), link.b.is_some(), link.up.is_some()),
-            a: a.place,
-            b: b.place,
-            up: up.place,
-            number_a: a.number,
-            number_b: b.number,
-            number_up: up.number,
+            a: link.a.unwrap_or(absent),
+            b: link.b.unwrap_or(absent),
+            up: link.up.unwrap_or(absent),
         }
     }
 
@@ -90,9 +77,9 @@ impl Stored {
         ensures { result ≡ link_of self }
     {
         Link {
-            a: node_if(self.there & HAS_A != 0, self.a, self.number_a),
-            b: node_if(self.there & HAS_B != 0, self.b, self.number_b),
-            up: node_if(self.there & HAS_UP != 0, self.up, self.number_up),
+            a: node_if(self.there & HAS_A != 0, self.a),
+            b: node_if(self.there & HAS_B != 0, self.b),
+            up: node_if(self.there & HAS_UP != 0, self.up),
             tag: self.tag,
             height: self.height,
             digest: Digest {

@@ -1,6 +1,7 @@
 use Rattle.hash_index.specs.Spelled as buckets
 use Rattle.hash_index.proofs.Laws.{IsHashed_moved}
-use Rattle.any_index.proofs.ByNumber.{moved_back}
+use Rattle.any_index.proofs.ByAge.{moved_back}
+use Rattle.node_store.specs.Store.{age_of}
 use Rattle.any_index.proofs.marks.next_match.Goals as goal
 
 pub next_of-requires-clause-search : goal.next_of-requires-clause-search
@@ -13,5 +14,5 @@ next_of-requires-clause-search g c =
       chain = sound;
       has_key = key;
       whole = fits;
-      hashed = IsHashed_moved (g.E.Extract.hash_of c.args.keys.now (buckets.index_of c.in-Hashed.buckets)) c.args.store.now (buckets.col_of c.in-Hashed.buckets) _ _ (moved_back _) keyed;
+      hashed = IsHashed_moved (g.E.Extract.hash_of c.args.keys.now (buckets.index_of c.in-Hashed.buckets)) c.args.store.now (buckets.col_of c.in-Hashed.buckets) _ _ (moved_back (age_of c.args.store.now) _) keyed;
     }

@@ -9,6 +9,8 @@ use Rattle.hash_index.proofs.Oldest.{cut_right, cut_oldest}
 use Rattle.hash_index.proofs.Changes.{head_there}
 use Rattle.hash_index.specs.Spelled.{all_of, heads_of}
 use Rattle.hash_index.specs.LinearHashing.{chain_of}
+use Rattle.hash_index.proofs.Aged.{Spells_contents}
+use Rattle.node_store.specs.Store.{age_of}
 use Rattle.hash_index.proofs.HashIndex.add_chain.Goals as goal
 
 pub cut-requires-clause-ends : goal.cut-requires-clause-ends
@@ -50,11 +52,12 @@ returns-clause-chain g c =
     let i = c.args.self.now in
     let within : c.len.result - i.level < i.chains.len = omega (arith, c.len.ensures, c.requires.some, i.some_level) in
     let at = (c.node.ensures ∙ slice_first (heads_of i) (all_of i) (c.len.result - i.level) refl c.head-head.result c.head-head.ensures) in
-    grown_sound i _ refl (c.push_reserved.ensures.len ∙ ap (λ k. k + 1) c.set.ensures.len) c.requires.some (column_of c.args.store.now) (column_of c.cut.new.store) c.cut.result.0 c.cut.result.1 c.node.result (c.len.result - i.level) c.requires.chain (ap (λ k. k - i.level) c.len.ensures) at
+    Spells_contents c.args.store.now c.cut.new.store _ _ _ c.cut.ensures.contents
+    (grown_sound i _ refl (c.push_reserved.ensures.len ∙ ap (λ k. k + 1) c.set.ensures.len) c.requires.some (column_of c.args.store.now) (column_of c.cut.new.store) c.cut.result.0 c.cut.result.1 c.node.result (c.len.result - i.level) c.requires.chain (ap (λ k. k - i.level) c.len.ensures) at
     c.cut.ensures.stay c.cut.ensures.moved c.cut.ensures.stay_rising c.cut.ensures.moved_rising c.cut.ensures.tags c.cut.ensures.same refl refl (record { stays = c.cut_from.result; goes = c.cut_from-2.result; stay_is = c.cut_from.ensures.first ∙ c.head_of-stay.ensures.first; moved_is = c.cut_from-2.ensures.first ∙ c.head_of-moved.ensures.first; heads = c.push_reserved.ensures.heads ∙ ap (λ z. z ++ c.cut_from-2.result ∷ []) c.set.ensures.heads })
     (cut_right _ _ c.cut_from.result c.cut_from.ensures.kept c.head_of-stay.ensures.right) (cut_right _ _ c.cut_from-2.result c.cut_from-2.ensures.kept c.head_of-moved.ensures.right)
-    (cut_oldest c.cut.new.store i.col _ (all_of i) _ (c.len.result - i.level) c.head-head.result c.cut_from.result c.requires.chain.oldest c.head-head.ensures c.cut_from.ensures.oldest c.cut_from.ensures.same c.cut.ensures.tags (head_there c.args.store.now i (c.len.result - i.level) c.head-head.result within c.head-head.ensures c.requires.chain) (λ n e. first_node _ _ _ c.cut.ensures.stay n (sym (c.cut_from.ensures.first ∙ c.head_of-stay.ensures.first) ∙ e)))
-    (cut_oldest c.cut.new.store i.col _ (all_of i) _ (c.len.result - i.level) c.head-head.result c.cut_from-2.result c.requires.chain.oldest c.head-head.ensures c.cut_from-2.ensures.oldest c.cut_from-2.ensures.same c.cut.ensures.tags (head_there c.args.store.now i (c.len.result - i.level) c.head-head.result within c.head-head.ensures c.requires.chain) (λ n e. first_node _ _ _ c.cut.ensures.moved n (sym (c.cut_from-2.ensures.first ∙ c.head_of-moved.ensures.first) ∙ e)))
+    (cut_oldest (age_of c.args.store.now) c.cut.new.store i.col _ (all_of i) _ (c.len.result - i.level) c.head-head.result c.cut_from.result c.requires.chain.oldest c.head-head.ensures c.cut_from.ensures.oldest c.cut_from.ensures.same c.cut.ensures.tags (head_there c.args.store.now i (c.len.result - i.level) c.head-head.result within c.head-head.ensures c.requires.chain) (λ n e. first_node _ _ _ c.cut.ensures.stay n (sym (c.cut_from.ensures.first ∙ c.head_of-stay.ensures.first) ∙ e)))
+    (cut_oldest (age_of c.args.store.now) c.cut.new.store i.col _ (all_of i) _ (c.len.result - i.level) c.head-head.result c.cut_from-2.result c.requires.chain.oldest c.head-head.ensures c.cut_from-2.ensures.oldest c.cut_from-2.ensures.same c.cut.ensures.tags (head_there c.args.store.now i (c.len.result - i.level) c.head-head.result within c.head-head.ensures c.requires.chain) (λ n e. first_node _ _ _ c.cut.ensures.moved n (sym (c.cut_from-2.ensures.first ∙ c.head_of-moved.ensures.first) ∙ e))))
 
 pub returns-clause-list : goal.returns-clause-list
 returns-clause-list g c =
@@ -64,8 +67,8 @@ returns-clause-list g c =
     grown_moved i _ refl (c.push_reserved.ensures.len ∙ ap (λ k. k + 1) c.set.ensures.len) c.requires.some (column_of c.args.store.now) (column_of c.cut.new.store) c.cut.result.0 c.cut.result.1 c.node.result (c.len.result - i.level) c.requires.chain (ap (λ k. k - i.level) c.len.ensures) at
     c.cut.ensures.stay c.cut.ensures.moved c.cut.ensures.stay_rising c.cut.ensures.moved_rising c.cut.ensures.tags c.cut.ensures.same refl refl (record { stays = c.cut_from.result; goes = c.cut_from-2.result; stay_is = c.cut_from.ensures.first ∙ c.head_of-stay.ensures.first; moved_is = c.cut_from-2.ensures.first ∙ c.head_of-moved.ensures.first; heads = c.push_reserved.ensures.heads ∙ ap (λ z. z ++ c.cut_from-2.result ∷ []) c.set.ensures.heads })
     (cut_right _ _ c.cut_from.result c.cut_from.ensures.kept c.head_of-stay.ensures.right) (cut_right _ _ c.cut_from-2.result c.cut_from-2.ensures.kept c.head_of-moved.ensures.right)
-    (cut_oldest c.cut.new.store i.col _ (all_of i) _ (c.len.result - i.level) c.head-head.result c.cut_from.result c.requires.chain.oldest c.head-head.ensures c.cut_from.ensures.oldest c.cut_from.ensures.same c.cut.ensures.tags (head_there c.args.store.now i (c.len.result - i.level) c.head-head.result within c.head-head.ensures c.requires.chain) (λ n e. first_node _ _ _ c.cut.ensures.stay n (sym (c.cut_from.ensures.first ∙ c.head_of-stay.ensures.first) ∙ e)))
-    (cut_oldest c.cut.new.store i.col _ (all_of i) _ (c.len.result - i.level) c.head-head.result c.cut_from-2.result c.requires.chain.oldest c.head-head.ensures c.cut_from-2.ensures.oldest c.cut_from-2.ensures.same c.cut.ensures.tags (head_there c.args.store.now i (c.len.result - i.level) c.head-head.result within c.head-head.ensures c.requires.chain) (λ n e. first_node _ _ _ c.cut.ensures.moved n (sym (c.cut_from-2.ensures.first ∙ c.head_of-moved.ensures.first) ∙ e)))
+    (cut_oldest (age_of c.args.store.now) c.cut.new.store i.col _ (all_of i) _ (c.len.result - i.level) c.head-head.result c.cut_from.result c.requires.chain.oldest c.head-head.ensures c.cut_from.ensures.oldest c.cut_from.ensures.same c.cut.ensures.tags (head_there c.args.store.now i (c.len.result - i.level) c.head-head.result within c.head-head.ensures c.requires.chain) (λ n e. first_node _ _ _ c.cut.ensures.stay n (sym (c.cut_from.ensures.first ∙ c.head_of-stay.ensures.first) ∙ e)))
+    (cut_oldest (age_of c.args.store.now) c.cut.new.store i.col _ (all_of i) _ (c.len.result - i.level) c.head-head.result c.cut_from-2.result c.requires.chain.oldest c.head-head.ensures c.cut_from-2.ensures.oldest c.cut_from-2.ensures.same c.cut.ensures.tags (head_there c.args.store.now i (c.len.result - i.level) c.head-head.result within c.head-head.ensures c.requires.chain) (λ n e. first_node _ _ _ c.cut.ensures.moved n (sym (c.cut_from-2.ensures.first ∙ c.head_of-moved.ensures.first) ∙ e)))
 
 pub returns-clause-order : goal.returns-clause-order
 returns-clause-order g c =
@@ -75,8 +78,8 @@ returns-clause-order g c =
     grown_order i _ refl (c.push_reserved.ensures.len ∙ ap (λ k. k + 1) c.set.ensures.len) c.requires.some (column_of c.args.store.now) (column_of c.cut.new.store) c.cut.result.0 c.cut.result.1 c.node.result (c.len.result - i.level) c.requires.chain (ap (λ k. k - i.level) c.len.ensures) at
     c.cut.ensures.stay c.cut.ensures.moved c.cut.ensures.stay_rising c.cut.ensures.moved_rising c.cut.ensures.tags c.cut.ensures.same refl refl (record { stays = c.cut_from.result; goes = c.cut_from-2.result; stay_is = c.cut_from.ensures.first ∙ c.head_of-stay.ensures.first; moved_is = c.cut_from-2.ensures.first ∙ c.head_of-moved.ensures.first; heads = c.push_reserved.ensures.heads ∙ ap (λ z. z ++ c.cut_from-2.result ∷ []) c.set.ensures.heads })
     (cut_right _ _ c.cut_from.result c.cut_from.ensures.kept c.head_of-stay.ensures.right) (cut_right _ _ c.cut_from-2.result c.cut_from-2.ensures.kept c.head_of-moved.ensures.right)
-    (cut_oldest c.cut.new.store i.col _ (all_of i) _ (c.len.result - i.level) c.head-head.result c.cut_from.result c.requires.chain.oldest c.head-head.ensures c.cut_from.ensures.oldest c.cut_from.ensures.same c.cut.ensures.tags (head_there c.args.store.now i (c.len.result - i.level) c.head-head.result within c.head-head.ensures c.requires.chain) (λ n e. first_node _ _ _ c.cut.ensures.stay n (sym (c.cut_from.ensures.first ∙ c.head_of-stay.ensures.first) ∙ e)))
-    (cut_oldest c.cut.new.store i.col _ (all_of i) _ (c.len.result - i.level) c.head-head.result c.cut_from-2.result c.requires.chain.oldest c.head-head.ensures c.cut_from-2.ensures.oldest c.cut_from-2.ensures.same c.cut.ensures.tags (head_there c.args.store.now i (c.len.result - i.level) c.head-head.result within c.head-head.ensures c.requires.chain) (λ n e. first_node _ _ _ c.cut.ensures.moved n (sym (c.cut_from-2.ensures.first ∙ c.head_of-moved.ensures.first) ∙ e)))
+    (cut_oldest (age_of c.args.store.now) c.cut.new.store i.col _ (all_of i) _ (c.len.result - i.level) c.head-head.result c.cut_from.result c.requires.chain.oldest c.head-head.ensures c.cut_from.ensures.oldest c.cut_from.ensures.same c.cut.ensures.tags (head_there c.args.store.now i (c.len.result - i.level) c.head-head.result within c.head-head.ensures c.requires.chain) (λ n e. first_node _ _ _ c.cut.ensures.stay n (sym (c.cut_from.ensures.first ∙ c.head_of-stay.ensures.first) ∙ e)))
+    (cut_oldest (age_of c.args.store.now) c.cut.new.store i.col _ (all_of i) _ (c.len.result - i.level) c.head-head.result c.cut_from-2.result c.requires.chain.oldest c.head-head.ensures c.cut_from-2.ensures.oldest c.cut_from-2.ensures.same c.cut.ensures.tags (head_there c.args.store.now i (c.len.result - i.level) c.head-head.result within c.head-head.ensures c.requires.chain) (λ n e. first_node _ _ _ c.cut.ensures.moved n (sym (c.cut_from-2.ensures.first ∙ c.head_of-moved.ensures.first) ∙ e)))
 
 pub returns-clause-leads : goal.returns-clause-leads
 returns-clause-leads g c = λ hash.

@@ -6,14 +6,14 @@ use Rattle.hash_index.proofs.Spelling.{after_node}
 use Rattle.hash_index.proofs.HashIndex.after.Goals as goal
 
 pub returns-in-Some : goal.returns-in-Some
-returns-in-Some c = λ cs xs n ys h is.
+returns-in-Some c = λ ages cs xs n ys h is.
     let i = c.args.self.now in
     let some = c.requires in
     let within = leads_within i c.args.link.tag some in
     (after_node cs i xs n ys c.args.link within h is).some c.in-Some.n c.in-Some.is
 
 pub returns-in-None : goal.returns-in-None
-returns-in-None c = λ cs xs n ys h is.
+returns-in-None c = λ ages cs xs n ys h is.
     let i = c.args.self.now in
     let some = c.requires in
     let within = leads_within i c.args.link.tag some in

@@ -7,13 +7,14 @@ use Rattle.hash_index.specs.Split.{Builds, goes, left, taken}
 use Rattle.hash_index.specs.Walks.{rest_of}
 use Rattle.hash_index.proofs.Untagged.{tag_is, leads_there, leads_elsewhere}
 use Rattle.hash_index.proofs.Matching.{rest_none}
-use Rattle.hash_index.proofs.Cutting.{first_node, Lacks_filter, builds_links, rising_apart, last_node, halves_start, halves_flip, halves_step, halves_done, done_is, never_both, either_both, ready}
+use Rattle.hash_index.proofs.Cutting.{builds_aged, rising_still, first_node, Lacks_filter, builds_links, rising_apart, last_node, halves_start, halves_flip, halves_step, halves_done, done_is, never_both, either_both, ready}
+use Rattle.node_store.specs.Store.{age_of}
 use Rattle.hash_index.proofs.HashIndex.cut_links.Goals as goal
 
 pub loop-at-init : goal.loop-at-init
 loop-at-init g c = record {
   ends = c.requires.ends;
-  halves = halves_start _ _ _ _ c.new-moved.result c.new-stay.result (c.new-moved.ensures _) (c.new-stay.ensures _);
+  halves = halves_start _ _ _ _ c.new-moved.result c.new-stay.result (c.new-moved.ensures _ _) (c.new-stay.ensures _ _);
   others = λ j ne. refl;
   contents = refl;
 }
@@ -43,7 +44,7 @@ loop-at-preserved-then-remainder-len g c =
     record {
       ends = r.ends;
       halves = halves_step old _ _ (goes old i) (λ n. not (goes old i n)) (never_both (goes old i)) _ c.in-Some.n _ c.loop-at.moved c.append.new.self c.loop-at.stay c.requires.distinct r.halves passes (ap not passes)
-          c.append.ensures.builds c.append.ensures.tags c.append.ensures.same c.append.ensures.nodes;
+          (builds_aged c.args.store.now c.loop-at.store _ _ _ _ _ c.loop-at.invariant.contents c.append.ensures.builds) c.append.ensures.tags c.append.ensures.same c.append.ensures.nodes;
       others = λ j ne. c.append.ensures.others j ne ∙ c.loop-at.invariant.others j ne;
       contents = c.append.ensures.contents ∙ c.loop-at.invariant.contents;
     }
@@ -57,7 +58,7 @@ loop-at-preserved g c =
     record {
       ends = r.ends;
       halves = halves_flip _ _ _ _ _ _ _ _ (halves_step old _ _ (λ n. not (goes old i n)) (goes old i) (either_both (goes old i)) _ c.in-Some.n _ c.loop-at.stay c.append-else-remainder-len.new.self c.loop-at.moved c.requires.distinct
-          (halves_flip _ _ _ _ _ _ _ _ r.halves) (ap not fails) fails c.append-else-remainder-len.ensures.builds c.append-else-remainder-len.ensures.tags c.append-else-remainder-len.ensures.same c.append-else-remainder-len.ensures.nodes);
+          (halves_flip _ _ _ _ _ _ _ _ r.halves) (ap not fails) fails (builds_aged c.args.store.now c.loop-at.store _ _ _ _ _ c.loop-at.invariant.contents c.append-else-remainder-len.ensures.builds) c.append-else-remainder-len.ensures.tags c.append-else-remainder-len.ensures.same c.append-else-remainder-len.ensures.nodes);
       others = λ j ne. c.append-else-remainder-len.ensures.others j ne ∙ c.loop-at.invariant.others j ne;
       contents = c.append-else-remainder-len.ensures.contents ∙ c.loop-at.invariant.contents;
     }
@@ -69,8 +70,8 @@ close-requires g c =
     let none = ap (λ o. rest_of (column_of c.args.store.now) i o) c.in_default.is ∙ rest_none (column_of c.args.store.now) i in
     let h = halves_done _ _ _ _ _ _ _ _ c.loop-at.invariant.halves none in
     let all = done_is _ _ _ _ _ _ _ h in
-    let stay = subst (λ z. Builds (column_of c.loop-at.store (col_of i)) c.loop-at.stay (left old i z)) all h.other_is in
-    let moved = subst (λ z. Builds (column_of c.loop-at.store (col_of i)) c.loop-at.moved (taken old i z)) all h.one_is in
+    let stay = subst (λ z. Builds (age_of c.args.store.now) (column_of c.loop-at.store (col_of i)) c.loop-at.stay (left old i z)) all h.other_is in
+    let moved = subst (λ z. Builds (age_of c.args.store.now) (column_of c.loop-at.store (col_of i)) c.loop-at.moved (taken old i z)) all h.one_is in
     first_node _ _ _ stay
 
 pub close-requires-2 : goal.close-requires-2
@@ -80,8 +81,8 @@ close-requires-2 g c = λ m e.
     let none = ap (λ o. rest_of (column_of c.args.store.now) i o) c.in_default.is ∙ rest_none (column_of c.args.store.now) i in
     let h = halves_done _ _ _ _ _ _ _ _ c.loop-at.invariant.halves none in
     let all = done_is _ _ _ _ _ _ _ h in
-    let stay = subst (λ z. Builds (column_of c.loop-at.store (col_of i)) c.loop-at.stay (left old i z)) all h.other_is in
-    let moved = subst (λ z. Builds (column_of c.loop-at.store (col_of i)) c.loop-at.moved (taken old i z)) all h.one_is in
+    let stay = subst (λ z. Builds (age_of c.args.store.now) (column_of c.loop-at.store (col_of i)) c.loop-at.stay (left old i z)) all h.other_is in
+    let moved = subst (λ z. Builds (age_of c.args.store.now) (column_of c.loop-at.store (col_of i)) c.loop-at.moved (taken old i z)) all h.one_is in
     c.close.ensures.nodes m (first_node _ _ _ moved m e)
 
 pub returns-clause-stay : goal.returns-clause-stay
@@ -91,8 +92,8 @@ returns-clause-stay g c =
     let none = ap (λ o. rest_of (column_of c.args.store.now) i o) c.in_default.is ∙ rest_none (column_of c.args.store.now) i in
     let h = halves_done _ _ _ _ _ _ _ _ c.loop-at.invariant.halves none in
     let all = done_is _ _ _ _ _ _ _ h in
-    let stay = subst (λ z. Builds (column_of c.loop-at.store (col_of i)) c.loop-at.stay (left old i z)) all h.other_is in
-    let moved = subst (λ z. Builds (column_of c.loop-at.store (col_of i)) c.loop-at.moved (taken old i z)) all h.one_is in
+    let stay = subst (λ z. Builds (age_of c.args.store.now) (column_of c.loop-at.store (col_of i)) c.loop-at.stay (left old i z)) all h.other_is in
+    let moved = subst (λ z. Builds (age_of c.args.store.now) (column_of c.loop-at.store (col_of i)) c.loop-at.moved (taken old i z)) all h.one_is in
     builds_links _ _ _ _ (λ m. c.close-2.ensures.links m ∙ c.close.ensures.links m) stay
 
 pub returns-clause-moved : goal.returns-clause-moved
@@ -102,8 +103,8 @@ returns-clause-moved g c =
     let none = ap (λ o. rest_of (column_of c.args.store.now) i o) c.in_default.is ∙ rest_none (column_of c.args.store.now) i in
     let h = halves_done _ _ _ _ _ _ _ _ c.loop-at.invariant.halves none in
     let all = done_is _ _ _ _ _ _ _ h in
-    let stay = subst (λ z. Builds (column_of c.loop-at.store (col_of i)) c.loop-at.stay (left old i z)) all h.other_is in
-    let moved = subst (λ z. Builds (column_of c.loop-at.store (col_of i)) c.loop-at.moved (taken old i z)) all h.one_is in
+    let stay = subst (λ z. Builds (age_of c.args.store.now) (column_of c.loop-at.store (col_of i)) c.loop-at.stay (left old i z)) all h.other_is in
+    let moved = subst (λ z. Builds (age_of c.args.store.now) (column_of c.loop-at.store (col_of i)) c.loop-at.moved (taken old i z)) all h.one_is in
     builds_links _ _ _ _ (λ m. c.close-2.ensures.links m ∙ c.close.ensures.links m) moved
 
 pub returns-clause-stay_rising : goal.returns-clause-stay_rising
@@ -113,9 +114,9 @@ returns-clause-stay_rising g c =
     let none = ap (λ o. rest_of (column_of c.args.store.now) i o) c.in_default.is ∙ rest_none (column_of c.args.store.now) i in
     let h = halves_done _ _ _ _ _ _ _ _ c.loop-at.invariant.halves none in
     let all = done_is _ _ _ _ _ _ _ h in
-    let stay = subst (λ z. Builds (column_of c.loop-at.store (col_of i)) c.loop-at.stay (left old i z)) all h.other_is in
-    let moved = subst (λ z. Builds (column_of c.loop-at.store (col_of i)) c.loop-at.moved (taken old i z)) all h.one_is in
-    rising_apart _ _ _ _ (goes old i) _ moved c.close-2.ensures.same (c.close.ensures.rising _ stay)
+    let stay = subst (λ z. Builds (age_of c.args.store.now) (column_of c.loop-at.store (col_of i)) c.loop-at.stay (left old i z)) all h.other_is in
+    let moved = subst (λ z. Builds (age_of c.args.store.now) (column_of c.loop-at.store (col_of i)) c.loop-at.moved (taken old i z)) all h.one_is in
+    rising_apart _ _ _ _ (goes old i) _ moved c.close-2.ensures.same (rising_still c.args.store.now c.loop-at.store _ (column_of c.close.new.store (col_of i)) _ c.loop-at.invariant.contents c.close.ensures.rising _ stay)
 
 pub returns-clause-moved_rising : goal.returns-clause-moved_rising
 returns-clause-moved_rising g c =
@@ -124,9 +125,9 @@ returns-clause-moved_rising g c =
     let none = ap (λ o. rest_of (column_of c.args.store.now) i o) c.in_default.is ∙ rest_none (column_of c.args.store.now) i in
     let h = halves_done _ _ _ _ _ _ _ _ c.loop-at.invariant.halves none in
     let all = done_is _ _ _ _ _ _ _ h in
-    let stay = subst (λ z. Builds (column_of c.loop-at.store (col_of i)) c.loop-at.stay (left old i z)) all h.other_is in
-    let moved = subst (λ z. Builds (column_of c.loop-at.store (col_of i)) c.loop-at.moved (taken old i z)) all h.one_is in
-    c.close-2.ensures.rising _ (builds_links _ _ _ _ c.close.ensures.links moved)
+    let stay = subst (λ z. Builds (age_of c.args.store.now) (column_of c.loop-at.store (col_of i)) c.loop-at.stay (left old i z)) all h.other_is in
+    let moved = subst (λ z. Builds (age_of c.args.store.now) (column_of c.loop-at.store (col_of i)) c.loop-at.moved (taken old i z)) all h.one_is in
+    rising_still c.args.store.now c.close.new.store _ (column_of c.close-2.new.store (col_of i)) _ (c.close.ensures.contents ∙ c.loop-at.invariant.contents) c.close-2.ensures.rising _ (builds_links _ _ _ _ c.close.ensures.links moved)
 
 pub returns-clause-same : goal.returns-clause-same
 returns-clause-same g c = λ m lacks.
@@ -135,7 +136,7 @@ returns-clause-same g c = λ m lacks.
     let none = ap (λ o. rest_of (column_of c.args.store.now) i o) c.in_default.is ∙ rest_none (column_of c.args.store.now) i in
     let h = halves_done _ _ _ _ _ _ _ _ c.loop-at.invariant.halves none in
     let all = done_is _ _ _ _ _ _ _ h in
-    let stay = subst (λ z. Builds (column_of c.loop-at.store (col_of i)) c.loop-at.stay (left old i z)) all h.other_is in
-    let moved = subst (λ z. Builds (column_of c.loop-at.store (col_of i)) c.loop-at.moved (taken old i z)) all h.one_is in
+    let stay = subst (λ z. Builds (age_of c.args.store.now) (column_of c.loop-at.store (col_of i)) c.loop-at.stay (left old i z)) all h.other_is in
+    let moved = subst (λ z. Builds (age_of c.args.store.now) (column_of c.loop-at.store (col_of i)) c.loop-at.moved (taken old i z)) all h.one_is in
     c.close-2.ensures.same m (λ e. Lacks-first _ m (Lacks_filter (goes old i) _ m lacks) (sym moved.first ∙ e))
     ∙ (c.close.ensures.same m (λ e. Lacks-first _ m (Lacks_filter (λ n. not (goes old i n)) _ m lacks) (sym stay.first ∙ e)) ∙ h.kept m (subst (λ z. Lacks z m) (sym all) lacks))

@@ -15,6 +15,7 @@ use Rattle.hash_index.specs.Hashed.{side_of, matches}
 use Rattle.hash_index.proofs.Heads.{hinted_first}
 use Rattle.hash_index.proofs.Spelling.{has_start, held_in}
 use Rattle.hash_index.proofs.Matching.{walk_node, walk_rest, matched_in, rest_hashed, same_tags, Holds_kept}
+use Rattle.node_store.specs.Store.{age_of}
 use Rattle.hash_index.proofs.HashIndex.earliest_of.Goals as goal
 
 pub earliest_from-requires-clause-ends : goal.earliest_from-requires-clause-ends
@@ -49,7 +50,7 @@ returns-then-rises g c =
     let at = has_start cs i c.hash_probe-hash.result c.node-first.result (c.node-first.ensures ∙ c.head-head.ensures.first) c.requires.chain in
     let matched = matched_in c.args.store.now i (g.E.Extract.hash_of c.args.keys.now (index_of i)) c.hash_probe-hash.result (λ a. g.E.Extract.probe_order_of c.args.keys.now (index_of i) a c.args.probe.now) (λ a e. g.met.E.Extract.whole_hash c.args.keys.now (index_of i) a c.args.probe.now c.requires.has_key c.requires.whole e ∙ sym c.hash_probe-hash.ensures) c.node-first.result at c.requires.hashed in
     let rises = rising_rest cs i c.hash_probe-hash.result c.head-head.result c.node-first.result c.requires.chain c.node-first.ensures c.head-head.ensures.head (sym c.rises.ensures ∙ c.if-rises.true) in
-    c.match_from.ensures ∙ (sym (least_first (λ m. is_eq (side m)) (rest_of cs i c.node-first.result) rises) ∙ ap (earliest_of None) (sym matched))
+    c.match_from.ensures ∙ (sym (least_first (age_of c.args.store.now) (λ m. is_eq (side m)) (rest_of cs i c.node-first.result) rises) ∙ ap (earliest_of (age_of c.args.store.now) None) (sym matched))
 
 pub is_match-requires-clause-node : goal.is_match-requires-clause-node
 is_match-requires-clause-node g c =
@@ -73,12 +74,12 @@ returns-then-is_match g c =
     let passed = sym c.is_match.ensures ∙ c.if-is_match.true in
     let held : Holds (matches side (spelled cs i)) n = subst (λ l. Holds l n) (sym (matched ∙ (ap (matches side) rest.1 ∙ ap (λ b. cond b (n ∷ matches side rest.0) (matches side rest.0)) passed))) (record { before = []; after = matches side rest.0; is = refl }) in
     let there = c.head-head.ensures.head (λ e. cc) in
-    let old = oldest_at (cs i.col) (all_of i) (spelled cs i) (leads_to i hash) head c.requires.chain.oldest there (c.is_oldest.ensures.0 c.if-is_oldest.true) n begin in
-    sym (oldest_is (λ m. is_eq (side m)) (spelled cs i) n (λ m. tag_at (cs i.col) m ≡ tag_at (cs i.col) n) held old (same_tags s i.col (g.E.Extract.hash_of c.args.keys.now (index_of c.args.self.now)) hash (λ a. g.E.Extract.probe_order_of c.args.keys.now (index_of c.args.self.now) a c.args.probe.now) (λ a e. g.met.E.Extract.whole_hash c.args.keys.now (index_of c.args.self.now) a c.args.probe.now c.requires.has_key c.requires.whole e ∙ sym c.hash_probe-hash.ensures) n passed (spelled cs i) c.requires.hashed (held_in _ (spelled cs i) n c.requires.hashed (Holds_kept (λ m. is_eq (side m)) (spelled cs i) n held))))
+    let old = oldest_at (age_of c.args.store.now) (cs i.col) (all_of i) (spelled cs i) (leads_to i hash) head c.requires.chain.oldest there (c.is_oldest.ensures.0 c.if-is_oldest.true) n begin in
+    sym (oldest_is (age_of c.args.store.now) (λ m. is_eq (side m)) (spelled cs i) n (λ m. tag_at (cs i.col) m ≡ tag_at (cs i.col) n) held old (same_tags s i.col (g.E.Extract.hash_of c.args.keys.now (index_of c.args.self.now)) hash (λ a. g.E.Extract.probe_order_of c.args.keys.now (index_of c.args.self.now) a c.args.probe.now) (λ a e. g.met.E.Extract.whole_hash c.args.keys.now (index_of c.args.self.now) a c.args.probe.now c.requires.has_key c.requires.whole e ∙ sym c.hash_probe-hash.ensures) n passed (spelled cs i) c.requires.hashed (held_in _ (spelled cs i) n c.requires.hashed (Holds_kept (λ m. is_eq (side m)) (spelled cs i) n held))))
 
 pub returns : goal.returns
 returns g c =
     let side = (side_of (λ a. g.E.Extract.probe_order_of c.args.keys.now (index_of c.args.self.now) a c.args.probe.now) c.args.store.now) in
     let at = has_start (column_of c.args.store.now) c.args.self.now c.hash_probe-hash.result c.node-first.result (c.node-first.ensures ∙ c.head-head.ensures.first) c.requires.chain in
     let matched = matched_in c.args.store.now c.args.self.now (g.E.Extract.hash_of c.args.keys.now (index_of c.args.self.now)) c.hash_probe-hash.result (λ a. g.E.Extract.probe_order_of c.args.keys.now (index_of c.args.self.now) a c.args.probe.now) (λ a e. g.met.E.Extract.whole_hash c.args.keys.now (index_of c.args.self.now) a c.args.probe.now c.requires.has_key c.requires.whole e ∙ sym c.hash_probe-hash.ensures) c.node-first.result at c.requires.hashed in
-    c.earliest_from.ensures ∙ ap (earliest_of None) (sym matched)
+    c.earliest_from.ensures ∙ ap (earliest_of (age_of c.args.store.now) None) (sym matched)

@@ -8,6 +8,7 @@ use Rattle.hash_index.specs.Chains.{members}
 use Rattle.hash_index.specs.Spelled.{spelled, col_of, leads_to}
 use Rattle.hash_index.proofs.Spelling.{no_nodes}
 use Rattle.hash_index.proofs.Growing.{same_sound, same_spelled, first_chain}
+use Rattle.node_store.specs.Store.{age_of}
 use Rattle.hash_index.proofs.HashIndex.grow.Goals as goal
 
 pub add_chain-requires-clause-chain : goal.add_chain-requires-clause-chain
@@ -27,7 +28,7 @@ returns-then-is_empty-clause-list g c =
     let none = eqb-true i.chains.len 0 (sym c.is_empty.ensures ∙ c.if-is_empty.true) in
     let sound = same_sound (column_of c.args.store.now) c.args.self.now i c.raise_level.ensures.same c.requires.chain in
     let len : i.len ≡ 0 = omega (arith, sound.load, none) in
-    let new = first_chain (column_of c.args.store.now) i _ _ none c.none.ensures c.push_reserved.ensures.heads len in
+    let new = first_chain {ages = age_of c.args.store.now} (column_of c.args.store.now) i _ _ none c.none.ensures c.push_reserved.ensures.heads len in
     let was = sym (same_spelled (column_of c.args.store.now) c.args.self.now i c.raise_level.ensures.same c.requires.chain) ∙ no_nodes (column_of c.args.store.now) i sound len in
     subst (λ (z : List Node). IsPermutation (spelled (column_of c.args.store.now) c.args.self.now) z) (was ∙ sym (no_nodes (column_of c.args.store.now) _ new len)) (IsPermutation-refl (spelled (column_of c.args.store.now) c.args.self.now))
 
@@ -37,7 +38,7 @@ returns-then-is_empty-clause-order g c = λ b.
     let none = eqb-true i.chains.len 0 (sym c.is_empty.ensures ∙ c.if-is_empty.true) in
     let sound = same_sound (column_of c.args.store.now) c.args.self.now i c.raise_level.ensures.same c.requires.chain in
     let len : i.len ≡ 0 = omega (arith, sound.load, none) in
-    let new = first_chain (column_of c.args.store.now) i _ _ none c.none.ensures c.push_reserved.ensures.heads len in
+    let new = first_chain {ages = age_of c.args.store.now} (column_of c.args.store.now) i _ _ none c.none.ensures c.push_reserved.ensures.heads len in
     let was = sym (same_spelled (column_of c.args.store.now) c.args.self.now i c.raise_level.ensures.same c.requires.chain) ∙ no_nodes (column_of c.args.store.now) i sound len in
     ap (members (column_of c.args.store.now (col_of c.args.self.now)) _ b) (no_nodes (column_of c.args.store.now) _ new len ∙ sym was)
 

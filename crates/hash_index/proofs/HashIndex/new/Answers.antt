@@ -7,5 +7,5 @@ use Rattle.hash_index.proofs.Spelling.{Spells_from, empty_hangs}
 use Rattle.hash_index.proofs.HashIndex.new.Goals as goal
 
 pub returns-clause-empty : goal.returns-clause-empty
-returns-clause-empty c = λ cs.
-    Spells_from cs _ _ (empty_hangs _ _ 0 _ (subst (λ z. AllByRecursion (λ o. o ≡ None) (map first_in z)) (sym c.new.ensures) tt)) tt refl (omega arith) (subst (AreRight _) (sym c.new.ensures) tt) (subst (AreOldest (cs c.args.col) []) (sym c.new.ensures) tt)
+returns-clause-empty c = λ ages cs.
+    Spells_from cs _ _ (empty_hangs _ _ 0 _ (subst (λ z. AllByRecursion (λ o. o ≡ None) (map first_in z)) (sym c.new.ensures) tt)) tt refl (omega arith) (subst (AreRight _) (sym c.new.ensures) tt) (subst (AreOldest ages (cs c.args.col) []) (sym c.new.ensures) tt)

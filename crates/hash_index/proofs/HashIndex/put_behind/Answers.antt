@@ -6,6 +6,7 @@ use Rattle.hash_index.proofs.Heads.{slice_first}
 use Rattle.hash_index.proofs.Untagged.{tagged_node, untagged_node}
 use Rattle.hash_index.proofs.Spelling.{held_node, has_neighbours}
 use Rattle.hash_index.proofs.Changes.{head_there, stands_held, behind_stands, joined_oldest, behind_same, behind_sound, behind_moved}
+use Rattle.hash_index.proofs.Aged.{Spells_contents}
 use Rattle.hash_index.proofs.HashIndex.put_behind.Goals as goal
 
 pub link-after-requires : goal.link-after-requires
@@ -62,7 +63,7 @@ returns g c =
     let load : (i.len + 1) * 4 ≤ c.set.new.self.len = omega (arith, c.requires.put.room, c.set.ensures.len) in
     let begin = head_there c.args.store.now i b c.args.head within at c.requires.put.chain c.args.first c.requires.first in
     record {
-      chain = behind_sound cs (column_of c.set_up.new.store) _ _ (column_of c.set_prev.new.store i.col) i _ c.args.n c.args.first c.args.at b c.args.hash c.link-after.result c.args.up c.joined.result c.requires.put.chain within (record { col = refl; level = refl; count = c.set.ensures.len; heads = c.set.ensures.heads }) (c.joined.ensures.first ∙ c.requires.first) c.joined.ensures.followed refl load c.requires.put.new c.chain-chain.ensures.is began c.requires.at c.link-after.ensures c.set_link.ensures.put c.set_next.ensures.ends c.set_next.ensures.same c.set_prev.ensures.ends c.set_prev.ensures.same c.set_up.ensures.links c.set_up.ensures.same (c.set_up.ensures.up c.args.first refl) (λ m. c.set_up.ensures.tags m ∙ (c.set_prev.ensures.tags m ∙ c.set_next.ensures.tags m)) (joined_oldest cs i b c.args.head c.joined.result c.args.first begin.block within at c.requires.first begin.is c.requires.put.chain c.joined.ensures.oldest) c.requires.later;
+      chain = Spells_contents c.args.store.now c.set_up.new.store _ _ _ (c.set_up.ensures.contents ∙ (c.set_prev.ensures.contents ∙ (c.set_next.ensures.contents ∙ c.set_link.ensures.contents))) (behind_sound cs (column_of c.set_up.new.store) _ _ (column_of c.set_prev.new.store i.col) i _ c.args.n c.args.first c.args.at b c.args.hash c.link-after.result c.args.up c.joined.result c.requires.put.chain within (record { col = refl; level = refl; count = c.set.ensures.len; heads = c.set.ensures.heads }) (c.joined.ensures.first ∙ c.requires.first) c.joined.ensures.followed refl load c.requires.put.new c.chain-chain.ensures.is began c.requires.at c.link-after.ensures c.set_link.ensures.put c.set_next.ensures.ends c.set_next.ensures.same c.set_prev.ensures.ends c.set_prev.ensures.same c.set_up.ensures.links c.set_up.ensures.same (c.set_up.ensures.up c.args.first refl) (λ m. c.set_up.ensures.tags m ∙ (c.set_prev.ensures.tags m ∙ c.set_next.ensures.tags m)) (joined_oldest cs i b c.args.head c.joined.result c.args.first begin.block within at c.requires.first begin.is c.requires.put.chain c.joined.ensures.oldest) c.requires.later);
       list = behind_moved cs (column_of c.set_up.new.store) _ _ (column_of c.set_prev.new.store i.col) i _ c.args.n c.args.first c.args.at b c.args.hash c.link-after.result c.args.up c.joined.result c.requires.put.chain within (record { col = refl; level = refl; count = c.set.ensures.len; heads = c.set.ensures.heads }) (c.joined.ensures.first ∙ c.requires.first) c.joined.ensures.followed refl load c.requires.put.new c.chain-chain.ensures.is began c.requires.at c.link-after.ensures c.set_link.ensures.put c.set_next.ensures.ends c.set_next.ensures.same c.set_prev.ensures.ends c.set_prev.ensures.same c.set_up.ensures.links c.set_up.ensures.same (c.set_up.ensures.up c.args.first refl) (λ m. c.set_up.ensures.tags m ∙ (c.set_prev.ensures.tags m ∙ c.set_next.ensures.tags m)) (joined_oldest cs i b c.args.head c.joined.result c.args.first begin.block within at c.requires.first begin.is c.requires.put.chain c.joined.ensures.oldest) c.requires.later;
       tag = search rules;
       tags = search rules;

@@ -1,6 +1,7 @@
 use Rattle.std.proofs.Common.{◌≡◌, ◌<◌, get_or, Some, None, refl, sym, ◌∙◌, subst, arith}
-use Rattle.node_store.specs.Store.{number_of}
+use Rattle.node_store.specs.Store.{age_of}
 use Rattle.node_store.specs.ByNode.{column_of}
+use Rattle.node_store.proofs.ByNode.{node_of_column}
 use Rattle.hash_index.specs.Rising.{IsBefore}
 use Rattle.hash_index.specs.Walks.{rest_of}
 use Rattle.hash_index.specs.Spelled.{all_of, heads_of, leads_to}
@@ -18,6 +19,15 @@ link-link-requires g c =
     let within = leads_within i c.args.hash (some_room i c.requires.put.room) in
     let began : get_or (heads_of i) b None ≡ Some c.args.first = sym (slice_first (heads_of i) (all_of i) b refl c.args.head c.requires.head) ∙ c.requires.first in
     head_there c.args.store.now i b c.args.head within c.requires.head c.requires.put.chain c.args.first c.requires.first
+
+pub age-requires : goal.age-requires
+age-requires g c =
+    let i = c.args.self.now in
+    let within = leads_within i c.args.hash (some_room i c.requires.put.room) in
+    node_of_column c.args.store.now i.col c.args.first (head_there c.args.store.now i (leads_to i c.args.hash) c.args.head within c.requires.head c.requires.put.chain c.args.first c.requires.first)
+
+pub age-requires-2 : goal.age-requires-2
+age-requires-2 g c = node_of_column c.args.store.now c.args.self.now.col c.args.n c.requires.put.node
 
 pub place-up-requires-clause-new : goal.place-up-requires-clause-new
 place-up-requires-clause-new g c =
@@ -63,9 +73,9 @@ put_first-requires-clause-up g c =
     let within = leads_within i c.args.hash (some_room i c.requires.put.room) in
     let began : get_or (heads_of i) b None ≡ Some c.args.first = sym (slice_first (heads_of i) (all_of i) b refl c.args.head c.requires.head) ∙ c.requires.first in
     let there = head_there c.args.store.now i b c.args.head within c.requires.head c.requires.put.chain c.args.first c.requires.first in
-    let later : ¬ (number_of c.args.first < number_of c.args.n) = λ lt. omega (arith, lt, c.if-number.false, c.number.ensures, c.number-2.ensures) in
-    subst (λ o. IsBefore (rest_of cs i o) c.args.n c.last_of-last.result) (sym began)
-    (older_first c.args.store.now i b c.args.first c.args.n c.requires.put.chain within began there c.requires.put.node c.requires.put.new later c.last_of-last.result
+    let later : ¬ (age_of c.args.store.now c.args.first < age_of c.args.store.now c.args.n) = λ lt. omega (arith, lt, c.if-age.false, c.age.ensures.age, c.age-2.ensures.age) in
+    subst (λ o. IsBefore (age_of c.args.store.now) (rest_of cs i o) c.args.n c.last_of-last.result) (sym began)
+    (older_first c.args.store.now c.age.ensures.sound i b c.args.first c.args.n c.requires.put.chain within began there c.requires.put.node c.requires.put.new later c.last_of-last.result
     (λ m e. known_rising cs i b c.args.first c.link-link.result c.requires.put.chain within began c.link-link.ensures m (sym c.last_of-last.ensures ∙ e)))
 
 pub put_behind-requires-else-link-hash-clause-at : goal.put_behind-requires-else-link-hash-clause-at

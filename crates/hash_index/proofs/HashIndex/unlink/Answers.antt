@@ -6,6 +6,7 @@ use Rattle.hash_index.specs.Chains.{KeepsOtherNodes}
 use Rattle.hash_index.proofs.Untagged.{tagged_node, untagged_node}
 use Rattle.hash_index.proofs.Spelling.{held_node, has_neighbours, some_chain, some_node}
 use Rattle.hash_index.proofs.Changes.{new_first, out_done}
+use Rattle.hash_index.proofs.Aged.{Spells_contents}
 use Rattle.hash_index.proofs.HashIndex.unlink.Goals as goal
 
 pub link-before-requires : goal.link-before-requires
@@ -39,7 +40,8 @@ returns-clause-list g c =
     let some = some_node _ i _ c.args.n c.requires.chain c.requires.held in
     let len : (i.len - 1) + 1 ≡ i.len = omega arith in
     let load : (i.len - 1) * 4 ≤ c.set.new.self.len = omega (arith, c.requires.chain.load, c.set.ensures.len) in
-    out_done (column_of c.args.store.now) (column_of c.set_top.new.store) _ i _ c.args.n c.chain-chain.result c.requires.chain c.chain-chain.ensures.within
+    Spells_contents c.args.store.now c.set_top.new.store _ _ _ (c.set_top.ensures.contents ∙ (c.set_prev.ensures.contents ∙ c.set_next.ensures.contents))
+    (out_done (column_of c.args.store.now) (column_of c.set_top.new.store) _ i _ c.args.n c.chain-chain.result c.requires.chain c.chain-chain.ensures.within
     (column_of c.set_prev.new.store i.col) c.link-before.result c.head_beside-head.result (record { col = refl; level = refl; count = c.set.ensures.len; heads = c.set.ensures.heads }) c.head_beside-head.ensures.first c.head_beside-head.ensures.kept c.head_beside-head.ensures.right c.head_beside-head.ensures.plain len load c.requires.held c.chain-chain.ensures.is c.link-before.ensures
     c.set_next.ensures.ends c.set_next.ensures.same c.set_prev.ensures.ends c.set_prev.ensures.same (λ m. c.set_prev.ensures.tags m ∙ c.set_next.ensures.tags m) (λ m. c.set_prev.ensures.ups m ∙ c.set_next.ensures.ups m)
-    c.set_top.ensures.links c.set_top.ensures.tags (subst (KeepsOtherNodes (column_of c.set_prev.new.store i.col) (column_of c.set_top.new.store i.col)) c.node.ensures c.set_top.ensures.same) (λ m e. c.set_top.ensures.up m (c.node.ensures ∙ e))
+    c.set_top.ensures.links c.set_top.ensures.tags (subst (KeepsOtherNodes (column_of c.set_prev.new.store i.col) (column_of c.set_top.new.store i.col)) c.node.ensures c.set_top.ensures.same) (λ m e. c.set_top.ensures.up m (c.node.ensures ∙ e)))

@@ -1,7 +1,7 @@
 use Rattle.std.proofs.Common.{◌∙◌, ap, sym, subst, Option, None, Some, drop, ◌+◌}
 use Rattle.std.specs.Prelude.{IsTrue}
 use Rattle.std.specs.Option.{option_or}
-use Rattle.node_store.specs.ByNode.{column_of, record_of}
+use Rattle.node_store.specs.ByNode.{columns_in, record_of}
 use Rattle.container_model.specs.State.{has_key_kind}
 use Rattle.any_index.specs.Spelled.{kind_of}
 use Rattle.any_index.specs.Stored.{IsIn}
@@ -27,7 +27,7 @@ free_place-requires-clause-filed g c = record {
   sound = subst (λ i. IsIn i c.args.store.now) (sym c.index-indices-index.is) (c.requires.placed.each c.loop-index.index some_spec c.index-indices-index.result c.loop-index-test.true).sound;
   key =
       subst (λ i. HasItsKey (g.E.Extract.has_key c.args.keys.now) i) (sym c.index-indices-index.is)
-      (key_here (g.E.Extract.has_key c.args.keys.now) (column_of c.args.store.now) c.args.specs.now c.args.indices.now c.loop-index.index some_spec c.index-indices-index.result c.loop-index-test.true c.requires.keys c.requires.placed);
+      (key_here (g.E.Extract.has_key c.args.keys.now) (columns_in c.args.store.now) c.args.specs.now c.args.indices.now c.loop-index.index some_spec c.index-indices-index.result c.loop-index-test.true c.requires.keys c.requires.placed);
   keyed =
       subst (λ i. IsKeyedExcept (g.E.Extract.order_of c.args.keys.now) (marks_of g.E.Extract c.args.keys.now) c.args.store.now i None) (sym c.index-indices-index.is)
       (c.requires.keyed.each c.loop-index.index some_spec c.index-indices-index.result c.loop-index-test.true);
@@ -38,15 +38,15 @@ free_place-requires-clause-filed g c = record {
 
 pub returns-in-Err-clause-taken : goal.returns-in-Err-clause-taken
 returns-in-Err-clause-taken g c =
-    let answer = same_at (g.E.Extract.order_of c.args.keys.now) (record_of c.args.store.now) (column_of c.args.store.now) c.args.specs.now c.args.indices.now None c.args.r.now c.requires.placed c.loop-index.index some_spec c.index-indices-index.result c.loop-index-test.true (c.requires.keys.unique c.loop-index.index some_spec c.loop-index-test.true c.if-specs-index.true) c.index-indices-index.is (Some c.in-Err.by) (sym c.in-Err.ensures.taken) in
+    let answer = same_at (g.E.Extract.order_of c.args.keys.now) (record_of c.args.store.now) (columns_in c.args.store.now) c.args.specs.now c.args.indices.now None c.args.r.now c.requires.placed c.loop-index.index some_spec c.index-indices-index.result c.loop-index-test.true (c.requires.keys.unique c.loop-index.index some_spec c.loop-index-test.true c.if-specs-index.true) c.index-indices-index.is (Some c.in-Err.by) (sym c.in-Err.ensures.taken) in
     sym c.loop-index.invariant.ban
-    ∙ ban_here (g.E.Extract.order_of c.args.keys.now) (record_of c.args.store.now) (column_of c.args.store.now) c.args.specs.now c.args.indices.now None c.args.r.now c.loop-index.index some_spec c.in-Err.by c.loop-index-test.true c.if-specs-index.true (sym answer)
+    ∙ ban_here (g.E.Extract.order_of c.args.keys.now) (record_of c.args.store.now) (columns_in c.args.store.now) c.args.specs.now c.args.indices.now None c.args.r.now c.loop-index.index some_spec c.in-Err.by c.loop-index-test.true c.if-specs-index.true (sym answer)
 
 pub loop-index-preserved : goal.loop-index-preserved
 loop-index-preserved g c =
     let order = g.E.Extract.order_of c.args.keys.now in
     let records = record_of c.args.store.now in
-    let cs = column_of c.args.store.now in
+    let cs = columns_in c.args.store.now in
     let specs = c.args.specs.now in
     let is = c.args.indices.now in
     let k = c.loop-index.index in

@@ -6,7 +6,7 @@ use Rattle.list_model.proofs.Lists.{All-at}
 use Rattle.container_model.specs.State.{has_key_kind}
 use Rattle.node_store.specs.declared.Node.{Node}
 use Rattle.node_store.specs.Store.{IsNodeOf}
-use Rattle.node_store.specs.ByNode.{column_of, record_of}
+use Rattle.node_store.specs.ByNode.{record_of, columns_in}
 use Rattle.node_store.proofs.ByNode.{IsNodeOf_kept, node_in_column, width_kept, records_kept}
 use Rattle.any_index.specs.Keyed.{marks_of, AreKeyed}
 use Rattle.any_index.specs.Side.{order_at}
@@ -24,9 +24,9 @@ loop-n-init g c =
     let order = g.E.Extract.order_of c.args.keys.now in
     let marks = marks_of g.E.Extract c.args.keys.now in
     let new = c.new-made.ensures in
-    let empty = new.empty (column_of c.args.store.now) in
+    let empty = new.empty (columns_in c.args.store.now) in
     record {
-      sound = new.sound (column_of c.args.store.now);
+      sound = new.sound (columns_in c.args.store.now);
       kind = new.kind;
       col = new.col;
       number = keyed_number _ _ _ _ new.index;
@@ -52,7 +52,7 @@ rival-requires-clause-once g c one =
       key = key_of (g.E.Extract.has_key c.args.keys.now) c.loop-n.made (λ _. subst (λ z. IsTrue (g.E.Extract.has_key c.args.keys.now z)) (sym (b.number has)) (c.requires.key has));
       keyed = b.keyed;
       unique = one_of_each order c.loop-n.store _ c.loop-n.made
-          (subst (λ (h : Node → Node → Ordering). HasEachKeyOnce h (list_of (column_of c.loop-n.store) c.loop-n.made)) (sym (λ i. order_at (records i) (order (b.number has i)))) (b.unique one));
+          (subst (λ (h : Node → Node → Ordering). HasEachKeyOnce h (list_of (columns_in c.loop-n.store) c.loop-n.made)) (sym (λ i. order_at (records i) (order (b.number has i)))) (b.unique one));
     }
 
 pub returns-in-Some-clause-cause : goal.returns-in-Some-clause-cause
@@ -104,7 +104,7 @@ loop-n-preserved g c =
     e.rest.col e.rest.kind e.rest.index e.rest.others e.rest.contents e.sound e.keyed _ lt is e.list
     (λ one. subst (HasEachKeyOnce (order_at (record_of s) (order c.args.index))) (sym e.list)
     (built_once order marks s c.args.spec c.args.column c.args.index ns k c.loop-n.store c.loop-n.made b _ lt is c.get.result.now c.get.ensures c.requires.unique (λ has. g.met.E.Extract.order_total c.args.keys.now c.args.index (c.requires.key has)) c.rival.result c.rival.ensures c.in_default.is c.requires.distinct
-    (list_of (column_of c.reserve_one.new.store) c.reserve_one.new.self)
+    (list_of (columns_in c.reserve_one.new.store) c.reserve_one.new.self)
     _ r.list one))
     (built_no_clash order marks s c.args.spec c.args.column c.args.index ns k c.loop-n.store c.loop-n.made b _ lt is c.get.result.now c.get.ensures c.requires.unique (λ has. g.met.E.Extract.order_total c.args.keys.now c.args.index (c.requires.key has)) c.rival.result c.rival.ensures c.in_default.is)
 

@@ -26,7 +26,7 @@ returns-clause-placed c cs =
 pub returns-clause-within : goal.returns-clause-within
 returns-clause-within c =
     let here = c.loop-index.invariant in
-    bare_within c.args.specs.now c.loop-index.indices here.one_each (all_bare c.args.specs.now c.loop-index.indices c.loop-index.index here.one_each (omega arith) here.bare) (λ _ _. None)
+    bare_within c.args.specs.now c.loop-index.indices here.one_each (all_bare c.args.specs.now c.loop-index.indices c.loop-index.index here.one_each (omega arith) here.bare) (record { links = λ _ _. None; ages = λ _. 0 })
 
 pub returns-clause-empty : goal.returns-clause-empty
 returns-clause-empty c cs =

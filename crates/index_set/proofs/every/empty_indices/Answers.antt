@@ -21,7 +21,7 @@ pub returns-clause-placed : goal.returns-clause-placed
 returns-clause-placed c cs = all_placed cs c.args.specs.now c.loop-index.indices.items c.loop-index.index (omega arith) (c.loop-index.invariant.placed cs)
 
 pub returns-clause-within : goal.returns-clause-within
-returns-clause-within c = all_within (λ _ _. None) c.args.specs.now c.loop-index.indices.items c.loop-index.index (omega arith) (c.loop-index.invariant.placed (λ _ _. None))
+returns-clause-within c = all_within (record { links = λ _ _. None; ages = λ _. 0 }) c.args.specs.now c.loop-index.indices.items c.loop-index.index (omega arith) (c.loop-index.invariant.placed (record { links = λ _ _. None; ages = λ _. 0 }))
 
 pub returns-clause-empty : goal.returns-clause-empty
 returns-clause-empty c cs = c.loop-index.invariant.empty cs ∙ ap (map (λ _. [])) (take_all c.loop-index.index c.args.specs.now (omega arith))

@@ -1,9 +1,9 @@
+use Rattle.node_store.specs.ByNode.{columns_in}
 use Rattle.any_index.specs.Keyed.{marks_of}
 use Rattle.std.proofs.Common.{◌∙◌, sym, subst, length, ◌≤◌, arith, false}
 use Rattle.std.proofs.lemmas.List.{length-map}
 use Rattle.node_store.specs.Nodes.{Lacks}
 use Rattle.node_store.specs.Store.{width_of}
-use Rattle.node_store.specs.ByNode.{column_of}
 use Rattle.node_store.proofs.ByNode.{IsNodeOf_kept, width_kept}
 use Rattle.container_model.specs.declared.handle.Kind.TheVariants.{Sequenced}
 use Rattle.any_index.specs.Spelled.{list_of}
@@ -24,7 +24,7 @@ loop-index-init g c = record {
 pub enter-requires-clause-filed : goal.enter-requires-clause-filed
 enter-requires-clause-filed g c = record {
   sound = (c.loop-index.invariant.walk.placed.each c.loop-index.index (record { kind = Sequenced; unique = false }) _ c.loop-index-test.true).sound;
-  key = key_here (g.E.Extract.has_key c.args.keys.now) (column_of c.loop-index.store) c.args.specs.now c.loop-index.indices c.loop-index.index (record { kind = Sequenced; unique = false }) _ c.loop-index-test.true c.requires.keys c.loop-index.invariant.walk.placed;
+  key = key_here (g.E.Extract.has_key c.args.keys.now) (columns_in c.loop-index.store) c.args.specs.now c.loop-index.indices c.loop-index.index (record { kind = Sequenced; unique = false }) _ c.loop-index-test.true c.requires.keys c.loop-index.invariant.walk.placed;
   keyed = keyed_here (g.E.Extract.order_of c.args.keys.now) (marks_of g.E.Extract c.args.keys.now) (λ xs. xs) c.args.specs.now c.loop-index.store c.loop-index.indices c.loop-index.index _ c.loop-index-test.true c.loop-index.invariant.keyed;
 }
 
@@ -38,7 +38,7 @@ enter-requires-clause-node g c =
 pub enter-requires-clause-new : goal.enter-requires-clause-new
 enter-requires-clause-new g c =
     subst (λ z. Lacks z c.args.n) (sym (walk_here _ _ _ _ _ _ _ _ c.loop-index-test.true c.loop-index.invariant.walk))
-    (all_listed (λ xs. Lacks xs c.args.n) c.args.specs.now _ (length-map c.args.indices.now (list_of (column_of c.args.store.now)) ∙ c.requires.placed.one_each) c.requires.new c.loop-index.index c.loop-index-test.true)
+    (all_listed (λ xs. Lacks xs c.args.n) c.args.specs.now _ (length-map c.args.indices.now (list_of (columns_in c.args.store.now)) ∙ c.requires.placed.one_each) c.requires.new c.loop-index.index c.loop-index-test.true)
 
 pub enter-requires-clause-room : goal.enter-requires-clause-room
 enter-requires-clause-room g c = c.loop-index.invariant.room c.loop-index.index (record { kind = Sequenced; unique = false }) _ c.loop-index-test.true (omega arith)
@@ -51,13 +51,13 @@ enter-requires-clause-place g c p e =
 pub loop-index-preserved : goal.loop-index-preserved
 loop-index-preserved g c =
     let new = c.enter.ensures in
-    let step = steps_of new.sound new.rest.kind new.rest.col new.rest.index new.rest.others in
+    let step = steps_of new.sound new.rest.kind new.rest.col new.rest.index new.rest.others new.rest.contents in
     let walk = c.loop-index.invariant.walk in
     let lt = c.loop-index-test.true in
     record {
       walk =
           walk_step _ c.args.store.now c.args.specs.now c.args.indices.now c.loop-index.index c.loop-index.store c.enter.new.store c.loop-index.indices _ c.enter.new.self lt walk step new.rest.contents
-          (entered_here (g.E.Extract.order_of c.args.keys.now) c.args.store.now c.args.specs.now c.args.indices.now c.args.n c.args.at c.loop-index.index c.loop-index.store _ c.loop-index.indices _ c.enter.new.self _ lt walk c.place_in.ensures new.list);
+          (entered_here (g.E.Extract.order_of c.args.keys.now) c.args.store.now c.args.specs.now c.args.indices.now c.args.n c.args.at c.loop-index.index c.loop-index.store c.enter.new.store c.loop-index.indices _ c.enter.new.self _ lt walk c.place_in.ensures new.list);
       keyed = keyed_step (g.E.Extract.order_of c.args.keys.now) (marks_of g.E.Extract c.args.keys.now) (λ xs. xs) c.args.specs.now c.loop-index.index c.loop-index.store c.enter.new.store c.loop-index.indices _ c.enter.new.self lt walk.placed step new.rest.contents new.keyed c.loop-index.invariant.keyed;
       room = room_from_step c.args.specs.now c.loop-index.indices c.loop-index.index c.enter.new.self walk.placed.one_each lt c.loop-index.invariant.room;
     }

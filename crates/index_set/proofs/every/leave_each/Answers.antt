@@ -2,7 +2,7 @@ use Rattle.std.proofs.Common.{◌∙◌, sym, subst, arith, false}
 use Rattle.std.proofs.lemmas.List.{length-map}
 use Rattle.node_store.specs.Nodes.{Holds}
 use Rattle.list_model.specs.Walk.{without}
-use Rattle.node_store.specs.ByNode.{column_of, same_node}
+use Rattle.node_store.specs.ByNode.{same_node, columns_in}
 use Rattle.container_model.specs.declared.handle.Kind.TheVariants.{Sequenced}
 use Rattle.any_index.specs.Spelled.{list_of}
 use Rattle.index_set.proofs.Each.{all_listed, changed_alike}
@@ -22,13 +22,13 @@ leave-requires g c = record {
   sound = (c.loop-index.invariant.walk.placed.each c.loop-index.index (record { kind = Sequenced; unique = false }) _ c.loop-index-test.true).sound;
   held =
       subst (λ z. Holds z c.args.n) (sym (walk_here _ _ _ _ _ _ _ _ c.loop-index-test.true c.loop-index.invariant.walk))
-      (all_listed (λ xs. Holds xs c.args.n) c.args.specs.now _ (length-map c.args.indices.now (list_of (column_of c.args.store.now)) ∙ c.requires.placed.one_each) c.requires.held c.loop-index.index c.loop-index-test.true);
+      (all_listed (λ xs. Holds xs c.args.n) c.args.specs.now _ (length-map c.args.indices.now (list_of (columns_in c.args.store.now)) ∙ c.requires.placed.one_each) c.requires.held c.loop-index.index c.loop-index-test.true);
 }
 
 pub loop-index-preserved : goal.loop-index-preserved
 loop-index-preserved g c =
     let new = c.leave.ensures in
-    let step = steps_of new.sound new.rest.kind new.rest.col new.rest.index new.rest.others in
+    let step = steps_of new.sound new.rest.kind new.rest.col new.rest.index new.rest.others new.rest.contents in
     let walk = c.loop-index.invariant.walk in
     let lt = c.loop-index-test.true in
     record {
@@ -43,7 +43,7 @@ loop-index-preserved g c =
 pub returns-clause-lists : goal.returns-clause-lists
 returns-clause-lists g c =
     walk_end _ c.args.store.now c.args.specs.now c.args.indices.now c.loop-index.index c.loop-index.store c.loop-index.indices (omega arith) c.requires.placed.one_each c.loop-index.invariant.walk
-    ∙ changed_alike (without (same_node c.args.n)) 0 c.args.specs.now _ (length-map c.args.indices.now (list_of (column_of c.args.store.now)) ∙ c.requires.placed.one_each)
+    ∙ changed_alike (without (same_node c.args.n)) 0 c.args.specs.now _ (length-map c.args.indices.now (list_of (columns_in c.args.store.now)) ∙ c.requires.placed.one_each)
 
 pub returns-clause-keyed : goal.returns-clause-keyed
 returns-clause-keyed g c order marks h = record { each = keyed_end order marks (without (same_node c.args.n)) c.args.specs.now c.loop-index.store c.loop-index.indices c.loop-index.index (omega arith) (c.loop-index.invariant.keyed order marks h) }

@@ -3,7 +3,7 @@ use Rattle.std.proofs.Common.{◌∙◌, sym, subst, arith, false}
 use Rattle.std.proofs.lemmas.List.{length-map}
 use Rattle.node_store.specs.Nodes.{Holds}
 use Rattle.list_model.specs.Walk.{without}
-use Rattle.node_store.specs.ByNode.{column_of, same_node}
+use Rattle.node_store.specs.ByNode.{same_node, columns_in}
 use Rattle.container_model.specs.declared.handle.Kind.TheVariants.{Sequenced}
 use Rattle.any_index.specs.Spelled.{list_of}
 use Rattle.index_set.proofs.Beside.{beside_step}
@@ -25,13 +25,13 @@ settle_where-requires-clause-node g c = record {
   sound = (c.loop-index.invariant.walk.placed.each c.loop-index.index (record { kind = Sequenced; unique = false }) _ c.loop-index-test.true).sound;
   held =
       subst (λ z. Holds z c.args.n) (sym (walk_here _ _ _ _ _ _ _ _ c.loop-index-test.true c.loop-index.invariant.walk))
-      (all_listed (λ xs. Holds xs c.args.n) c.args.specs.now _ (length-map c.args.indices.now (list_of (column_of c.args.store.now)) ∙ c.requires.placed.one_each) c.requires.held c.loop-index.index c.loop-index-test.true);
+      (all_listed (λ xs. Holds xs c.args.n) c.args.specs.now _ (length-map c.args.indices.now (list_of (columns_in c.args.store.now)) ∙ c.requires.placed.one_each) c.requires.held c.loop-index.index c.loop-index-test.true);
 }
 
 pub settle_where-requires-clause-others : goal.settle_where-requires-clause-others
 settle_where-requires-clause-others g c = record {
   sound = (c.loop-index.invariant.walk.placed.each c.loop-index.index (record { kind = Sequenced; unique = false }) _ c.loop-index-test.true).sound;
-  key = key_here (g.E.Extract.has_key c.args.keys.now) (column_of c.loop-index.store) c.args.specs.now c.loop-index.indices c.loop-index.index (record { kind = Sequenced; unique = false }) _ c.loop-index-test.true c.requires.keys c.loop-index.invariant.walk.placed;
+  key = key_here (g.E.Extract.has_key c.args.keys.now) (columns_in c.loop-index.store) c.args.specs.now c.loop-index.indices c.loop-index.index (record { kind = Sequenced; unique = false }) _ c.loop-index-test.true c.requires.keys c.loop-index.invariant.walk.placed;
   keyed = keyed_here (g.E.Extract.order_of c.args.keys.now) (marks_of g.E.Extract c.args.keys.now) (without (same_node c.args.n)) c.args.specs.now c.loop-index.store c.loop-index.indices c.loop-index.index _ c.loop-index-test.true c.loop-index.invariant.keyed;
 }
 
@@ -41,7 +41,7 @@ settle_where-requires-clause-kept g c kept = c.loop-index.invariant.beside c.loo
 pub loop-index-preserved : goal.loop-index-preserved
 loop-index-preserved g c =
     let new = c.settle_where.ensures in
-    let step = steps_of new.sound new.rest.kind new.rest.col new.rest.index new.rest.others in
+    let step = steps_of new.sound new.rest.kind new.rest.col new.rest.index new.rest.others new.rest.contents in
     let walk = c.loop-index.invariant.walk in
     let lt = c.loop-index-test.true in
     let order = g.E.Extract.order_of c.args.keys.now in
@@ -49,7 +49,7 @@ loop-index-preserved g c =
     record {
       walk =
           walk_step _ c.args.store.now c.args.specs.now c.args.indices.now c.loop-index.index c.loop-index.store c.settle_where.new.store c.loop-index.indices _ c.settle_where.new.index lt walk step new.rest.contents
-          (settled_here order c.args.store.now c.args.specs.now c.args.indices.now c.args.n c.loop-index.index c.loop-index.store _ c.loop-index.indices _ c.settle_where.new.index lt walk new.list);
+          (settled_here order c.args.store.now c.args.specs.now c.args.indices.now c.args.n c.loop-index.index c.loop-index.store c.settle_where.new.store c.loop-index.indices _ c.settle_where.new.index lt walk new.list);
       keyed = keyed_step order marks (without (same_node c.args.n)) c.args.specs.now c.loop-index.index c.loop-index.store c.settle_where.new.store c.loop-index.indices _ c.settle_where.new.index lt walk.placed step new.rest.contents new.keyed c.loop-index.invariant.keyed;
       beside = beside_step order marks c.args.specs.now c.args.changed c.loop-index.index c.loop-index.store c.settle_where.new.store c.loop-index.indices _ c.settle_where.new.index lt walk.placed step new.rest.contents c.loop-index.invariant.beside;
     }

@@ -1,4 +1,5 @@
 use Rattle.node_store.specs.ByNode.{column_of}
+use Rattle.node_store.specs.Store.{age_of}
 use Rattle.seq_index.proofs.Laws as chains
 use Rattle.row_index.proofs.Laws as rows
 use Rattle.hash_index.proofs.Laws as buckets
@@ -26,8 +27,8 @@ returns c = λ s. (
             tree_empty s c.new-6.result.tree (c.new-6.ensures.empty (column_of s)),
             (
               c.new-7.ensures.col,
-              buckets.IsSound_from (column_of s) _ _ (c.new-7.ensures.empty (column_of s)),
-              (c.new-8.ensures.col, buckets.IsSound_from (column_of s) _ _ (c.new-8.ensures.empty (column_of s)), tt),
+              buckets.IsSound_from (column_of s) _ _ (c.new-7.ensures.empty (age_of s) (column_of s)),
+              (c.new-8.ensures.col, buckets.IsSound_from (column_of s) _ _ (c.new-8.ensures.empty (age_of s) (column_of s)), tt),
             ),
           ),
         ),

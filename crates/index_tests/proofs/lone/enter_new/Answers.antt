@@ -1,5 +1,6 @@
 use Rattle.std.proofs.Common.{subst, sym}
 use Rattle.node_store.specs.Store.{Store}
+use Rattle.node_store.proofs.Ages.{IsStore_added}
 use Rattle.any_index.proofs.Laws.{Lacks_added}
 use Rattle.index_tests.specs.Lone.{IsLone}
 use Rattle.index_tests.proofs.Alone.{lone_filed, lone_steps, lone_added, node_added}
@@ -10,15 +11,15 @@ returns-in_default-clause-lone g c = subst (λ (s : Store g.row.R.Denot). IsLone
 
 pub enter-requires-clause-filed : goal.enter-requires-clause-filed
 enter-requires-clause-filed g c =
-    lone_filed g.E.Extract c.args.keys.now c.add.new.self c.add.new.self c.make_room.new.index (lone_added g.E.Extract c.args.keys.now c.make_room.new.store c.add.new.self c.make_room.new.index c.make_room.ensures.lone c.in-Ok.n c.args.value c.in-Ok.ensures.added)
+    lone_filed g.E.Extract c.args.keys.now c.add.new.self c.add.new.self c.make_room.new.index (lone_added g.E.Extract c.args.keys.now c.make_room.new.store c.add.new.self c.make_room.new.index c.make_room.ensures.lone c.in-Ok.n c.args.value (IsStore_added c.make_room.new.store c.add.new.self c.in-Ok.n c.args.value c.in-Ok.ensures.added c.in-Ok.ensures.age c.in-Ok.ensures.count c.added.ensures.sound) c.in-Ok.ensures.added)
 
 pub enter-requires-clause-node : goal.enter-requires-clause-node
-enter-requires-clause-node g c = node_added g.E.Extract c.args.keys.now c.make_room.new.store c.add.new.self c.make_room.new.index c.make_room.ensures.lone c.in-Ok.n c.args.value c.in-Ok.ensures.added
+enter-requires-clause-node g c = node_added g.E.Extract c.args.keys.now c.make_room.new.store c.add.new.self c.make_room.new.index c.make_room.ensures.lone c.in-Ok.n c.args.value (IsStore_added c.make_room.new.store c.add.new.self c.in-Ok.n c.args.value c.in-Ok.ensures.added c.in-Ok.ensures.age c.in-Ok.ensures.count c.added.ensures.sound) c.in-Ok.ensures.added
 
 pub enter-requires-clause-new : goal.enter-requires-clause-new
 enter-requires-clause-new g c = Lacks_added c.make_room.new.store c.add.new.self c.in-Ok.n c.args.value c.make_room.new.index c.in-Ok.ensures.added c.make_room.ensures.lone.sound
 
 pub returns-clause-lone : goal.returns-clause-lone
 returns-clause-lone g c =
-    let added = lone_added g.E.Extract c.args.keys.now c.make_room.new.store c.add.new.self c.make_room.new.index c.make_room.ensures.lone c.in-Ok.n c.args.value c.in-Ok.ensures.added in
+    let added = lone_added g.E.Extract c.args.keys.now c.make_room.new.store c.add.new.self c.make_room.new.index c.make_room.ensures.lone c.in-Ok.n c.args.value (IsStore_added c.make_room.new.store c.add.new.self c.in-Ok.n c.args.value c.in-Ok.ensures.added c.in-Ok.ensures.age c.in-Ok.ensures.count c.added.ensures.sound) c.in-Ok.ensures.added in
     lone_steps g.E.Extract c.args.keys.now c.add.new.self c.enter.new.store c.make_room.new.index added c.enter.new.self c.enter.ensures.sound c.enter.ensures.rest c.enter.ensures.keyed

@@ -1,5 +1,5 @@
 use Rattle.node_store.proofs.ByNode.{IsNode_kept}
-use Rattle.any_index.proofs.ByNumber.{Lacks_moved}
+use Rattle.any_index.proofs.ByAge.{Lacks_moved}
 use Rattle.index_tests.proofs.put.put_by_hash.Goals as goal
 
 pub link-requires-clause-node : goal.link-requires-clause-node

@@ -4,7 +4,7 @@ use Rattle.std.specs.Prelude.{slice_set, IsTrue}
 use Rattle.std.specs.List.{AllByRecursion}
 use Rattle.list_model.specs.Place.{stable_sorted}
 use Rattle.node_store.specs.Nodes.{IsDistinct}
-use Rattle.node_store.specs.Store.{IsNodeOf}
+use Rattle.node_store.specs.Store.{IsNodeOf, age_of}
 use Rattle.container_model.specs.State.{compare_of, is_hashed_kind, is_sorted_kind}
 use Rattle.index_set.specs.Added.{entered_all}
 use Rattle.index_set.specs.Set.{store_of, keys_of, specs_of, contents, record_of, lists_of}
@@ -72,9 +72,9 @@ returns-then-not-in_place-clause-cause g c fits =
     let made = c.in-Ok-refilled.made in
     let m = c.in-Ok-refilled.ensures in
     let one = one_list_each set linked.sound in
-    let kinds = ap (λ kind. entered_all (by_rows (record_of set) (entries_in (contents set)) order) kind [] ns) (kind_is (specs_of set) c.args.index c.requires.index) in
+    let kinds = ap (λ kind. entered_all (age_of (store_of set)) (by_rows (record_of set) (entries_in (contents set)) order) kind [] ns) (kind_is (specs_of set) c.args.index c.requires.index) in
     let lists = m.lists ∙ ap (λ xs. slice_set (lists_of set) c.args.index xs) kinds in
-    let xs = entered_all (by_rows (record_of set) (entries_in (contents set)) order) spec.kind [] ns in
+    let xs = entered_all (age_of (store_of set)) (by_rows (record_of set) (entries_in (contents set)) order) spec.kind [] ns in
     let handles = filled_handles s c.args.slots.now.items linked.sound.nodes linked.leads linked.apart order spec ns held c.args.order.now is e.members aged in
     let seen = listed_at set made c.args.index c.requires.index one m.same m.contents xs lists ∙ handles in
     c.in-Ok-is_in_place.ensures.no c.if-not-in_place.true (listed s c.args.slots.now.items linked.sound.nodes linked.leads linked.apart order spec ns held c.args.order.now is e.members aged fits ∙ sym seen)
@@ -100,9 +100,9 @@ returns-clause-lists g c =
     let made = c.in-Ok-refilled.made in
     let m = c.in-Ok-refilled.ensures in
     let one = one_list_each set linked.sound in
-    let kinds = ap (λ kind. entered_all (by_rows (record_of set) (entries_in (contents set)) order) kind [] ns) (kind_is (specs_of set) c.args.index c.requires.index) in
+    let kinds = ap (λ kind. entered_all (age_of (store_of set)) (by_rows (record_of set) (entries_in (contents set)) order) kind [] ns) (kind_is (specs_of set) c.args.index c.requires.index) in
     let lists = m.lists ∙ ap (λ xs. slice_set (lists_of set) c.args.index xs) kinds in
-    let xs = entered_all (by_rows (record_of set) (entries_in (contents set)) order) spec.kind [] ns in
+    let xs = entered_all (age_of (store_of set)) (by_rows (record_of set) (entries_in (contents set)) order) spec.kind [] ns in
     let handles = filled_handles s c.args.slots.now.items linked.sound.nodes linked.leads linked.apart order spec ns held c.args.order.now is e.members aged in
     let seen = listed_at set made c.args.index c.requires.index one m.same m.contents xs lists ∙ handles in
     let same : IsTrue (is_sorted_kind spec.kind) → c.args.order.now ≡ cond (is_sorted_kind spec.kind) (stable_sorted (compare_of order (entries_in (contents set))) c.args.order.now) c.args.order.now =
@@ -125,9 +125,9 @@ returns-clause-fits g c =
     let made = c.in-Ok-refilled.made in
     let m = c.in-Ok-refilled.ensures in
     let one = one_list_each set linked.sound in
-    let kinds = ap (λ kind. entered_all (by_rows (record_of set) (entries_in (contents set)) order) kind [] ns) (kind_is (specs_of set) c.args.index c.requires.index) in
+    let kinds = ap (λ kind. entered_all (age_of (store_of set)) (by_rows (record_of set) (entries_in (contents set)) order) kind [] ns) (kind_is (specs_of set) c.args.index c.requires.index) in
     let lists = m.lists ∙ ap (λ xs. slice_set (lists_of set) c.args.index xs) kinds in
-    let xs = entered_all (by_rows (record_of set) (entries_in (contents set)) order) spec.kind [] ns in
+    let xs = entered_all (age_of (store_of set)) (by_rows (record_of set) (entries_in (contents set)) order) spec.kind [] ns in
     let handles = filled_handles s c.args.slots.now.items linked.sound.nodes linked.leads linked.apart order spec ns held c.args.order.now is e.members aged in
     let seen = listed_at set made c.args.index c.requires.index one m.same m.contents xs lists ∙ handles in
     let same : IsTrue (is_sorted_kind spec.kind) → c.args.order.now ≡ cond (is_sorted_kind spec.kind) (stable_sorted (compare_of order (entries_in (contents set))) c.args.order.now) c.args.order.now =

@@ -1,7 +1,7 @@
 use Rattle.std.proofs.Common.{ap, sym, subst, ◌∙◌}
 use Rattle.std.specs.List.{AllByRecursion}
 use Rattle.node_store.specs.Nodes.{IsDistinct}
-use Rattle.node_store.specs.Store.{IsNodeOf}
+use Rattle.node_store.specs.Store.{IsNodeOf, age_of}
 use Rattle.node_store.proofs.ByNode.{added_kept}
 use Rattle.index_set.specs.Set.{store_of, contents}
 use Rattle.linked_set.specs.Linked.{nodes_in}
@@ -21,7 +21,7 @@ check_index-requires g c =
       orders = λ k d lt has. ap (λ order a b. order a.row b.row) (c.requires.orders k d lt has);
       hashes = λ k d lt has. ap (λ marks a. marks a.row) (c.requires.hashes k d lt has);
       nodes = subst (AllByRecursion (IsNodeOf (store_of set))) (sym by_age) (nodes_held (store_of set) linked.sound.nodes);
-      distinct = subst IsDistinct (sym by_age) (distinct_by_age (nodes_in (contents set)) (nodes_rise (store_of set) linked.sound.nodes));
+      distinct = subst IsDistinct (sym by_age) (distinct_by_age (age_of (store_of set)) (nodes_in (contents set)) (nodes_rise (store_of set) linked.sound.nodes));
     }
 
 pub returns-in-Ok-check_index-clause-linked : goal.returns-in-Ok-check_index-clause-linked

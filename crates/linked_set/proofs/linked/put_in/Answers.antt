@@ -87,7 +87,7 @@ returns-clause-linked g c =
     let entered = c.enter.ensures in
     subst (λ slots. IsLinked has_key order marks c.enter.new.self slots) (sym c.take.ensures.items)
     (IsLinked_grown has_key order marks g.met.E.Extract.order_total now c.add.new.self c.enter.new.self c.reserve_one.new.slots.items c.args.at c.in_ok-node.node c.args.entry c.reserve_one.ensures.linked
-    added.same added.lists added.added added.number added.count entered.same entered.lists entered.contents slot added.loose entered.sound entered.keyed allowed)
+    added.same added.lists added.added added.age added.count entered.same entered.lists entered.contents slot added.loose entered.sound entered.keyed allowed)
 
 pub returns-clause-entries : goal.returns-clause-entries
 returns-clause-entries g c =
@@ -97,7 +97,7 @@ returns-clause-entries g c =
     let added = c.in_ok-node.ensures in
     let entered = c.enter.ensures in
     entries_grown g.E.Extract.has_key g.E.Extract.order_of (marks_of g.E.Extract) g.met.E.Extract.order_total now c.add.new.self c.enter.new.self c.reserve_one.new.slots.items c.args.at c.in_ok-node.node c.args.entry c.reserve_one.ensures.linked
-    added.same added.lists added.added added.number added.count entered.same entered.lists entered.contents slot
+    added.same added.lists added.added added.age added.count entered.same entered.lists entered.contents slot
     ∙ ap (λ es. es ++ c.args.entry ∷ []) (entries_kept (store_of old) (store_of now) c.reserve_one.ensures.contents)
 
 pub returns-clause-lists : goal.returns-clause-lists
@@ -112,7 +112,7 @@ returns-clause-lists g c =
     let added = c.in_ok-node.ensures in
     let entered = c.enter.ensures in
     lists_grown g.E.Extract.has_key order (marks_of g.E.Extract) g.met.E.Extract.order_total now c.add.new.self c.enter.new.self c.reserve_one.new.slots.items c.args.at c.in_ok-node.node c.args.entry c.reserve_one.ensures.linked
-    added.same added.lists added.added added.number added.count entered.same entered.lists entered.contents slot
+    added.same added.lists added.added added.age added.count entered.same entered.lists entered.contents slot
     ∙ (λ i. entered_from (order (same.keys i).keys) (entries i) c.args.at c.args.entry.row c.args.entry.handle 0 (same.specs i) (handles i))
 
 pub returns-clause-count : goal.returns-clause-count

@@ -1,8 +1,8 @@
-use Rattle.std.proofs.Common.{◌≡◌, length, map, [], sym, ap, ◌∙◌, arith}
+use Rattle.std.proofs.Common.{◌≡◌, length, map, [], sym, subst, ap, ◌∙◌, arith}
 use Rattle.std.proofs.lemmas.List.{length-map, get_or-map}
 use Rattle.container_model.specs.declared.handle.Handle.{Handle}
 use Rattle.index_set.specs.Set.{specs_of}
-use Rattle.linked_set.proofs.Restored.{filled_one, filled_lists, filled_indices}
+use Rattle.linked_set.proofs.Restored.{filled_one, filled_lists, filled_indices, misfit_next}
 use Rattle.linked_set.proofs.restoring.fill_all.Goals as goal
 
 pub filled-requires-clause-linked : goal.filled-requires-clause-linked
@@ -32,3 +32,11 @@ returns-clause-fits g c =
     let orders = c.args.orders.now in
     filled_indices c.args.slots.now.items c.args.set c.loop-index.set (map (λ order. order.items) orders) c.loop-index.index c.loop-index.invariant (length-map orders (λ order. order.items) ∙ c.requires.one_each)
     (omega (arith, c.loop-index-test.false, length-map orders (λ order. order.items)))
+
+pub returns-in-Err-clause-cause : goal.returns-in-Err-clause-cause
+returns-in-Err-clause-cause g c =
+    let orders = c.args.orders.now in
+    let one = length-map orders (λ order. order.items) ∙ c.requires.one_each in
+    let listed = c.deref.ensures.value ∙ (ap (λ order. order.items) c.index-orders-index.is ∙ sym (get_or-map (λ order. order.items) orders c.loop-index.index c.index-orders-index.result [] c.loop-index-test.true)) in
+    rw c.told.ensures
+    (misfit_next c.args.slots.now.items c.args.set c.loop-index.set (map (λ order. order.items) orders) c.loop-index.index c.loop-index.invariant one c.deref.result.now c.in-Err.why (omega (arith, c.loop-index-test.true, length-map orders (λ order. order.items))) listed c.in-Err.ensures.cause)

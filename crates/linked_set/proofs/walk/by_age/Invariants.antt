@@ -11,4 +11,4 @@ invariant-loop-next g l = record {
 }
 
 abbrev pub decreases-loop-next : goal.decreases-loop-next
-decreases-loop-next g l = left l.next
+decreases-loop-next g l = left (store_of l.set) l.next

@@ -1,7 +1,7 @@
 use Rattle.std.proofs.Common.{◌≡◌, ◌++◌, ◌∷◌, [], ap, sym, ◌∙◌, subst, arith}
 use Rattle.std.proofs.lemmas.List.{map-id}
 use Rattle.node_store.specs.declared.Node.{Node}
-use Rattle.node_store.specs.Store.{nodes, number_of}
+use Rattle.node_store.specs.Store.{aged, age_of}
 use Rattle.node_store.specs.Age.{last_below}
 use Rattle.index_set.specs.Set.{store_of, contents}
 use Rattle.linked_set.specs.Linked.{nodes_in}
@@ -12,7 +12,7 @@ pub loop-next-init : goal.loop-next-init
 loop-next-init g c =
     let s = store_of c.args.set.now in
     let f : Node → Node = λ n. n in
-    let newest = last_below (nodes s) s.added in
+    let newest = last_below (aged s) s.added in
     record {
       nodes = λ m e. last_held s c.requires.nodes s.added m (sym c.newest-next.ensures ∙ e);
       passed = subst (λ o. HasPassed f s o c.in_ok-nodes.nodes.items) (sym c.newest-next.ensures)
@@ -22,10 +22,10 @@ loop-next-init g c =
 pub loop-next-smaller : goal.loop-next-smaller
 loop-next-smaller g c =
     let s = store_of c.args.set.now in
-    let k = number_of c.in-Some.node in
+    let k = age_of s c.in-Some.node in
     let few = fewer_left s c.requires.nodes k in
-    let now = ap left c.older-next.ensures in
-    let was = ap left c.in-Some.is in
+    let now = ap (left s) c.older-next.ensures in
+    let was = ap (left s) c.in-Some.is in
     omega (arith, few, now, was)
 
 pub loop-next-preserved : goal.loop-next-preserved
@@ -35,9 +35,9 @@ loop-next-preserved g c =
     let n = c.in-Some.node in
     let met = c.loop-next.nodes.items in
     let pushed : c.push.new.self.items ≡ met ++ f n ∷ [] = c.in_ok-push.ensures.items in
-    let older = last_below (nodes s) (number_of n) in
+    let older = last_below (aged s) (age_of s n) in
     record {
-      nodes = λ m e. last_held s c.requires.nodes (number_of n) m (sym c.older-next.ensures ∙ e);
+      nodes = λ m e. last_held s c.requires.nodes (age_of s n) m (sym c.older-next.ensures ∙ e);
       passed = subst (λ o. HasPassed f s o c.push.new.self.items) (sym c.older-next.ensures)
           (subst (HasPassed f s older) (sym pushed)
           (one_passed s c.requires.nodes f c.loop-next.next met n (c.loop-next.invariant.nodes n c.in-Some.is) c.in-Some.is c.loop-next.invariant.passed));

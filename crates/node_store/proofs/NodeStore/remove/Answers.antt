@@ -1,7 +1,5 @@
 use Rattle.std.proofs.Common.{ap, ◌+◌, ◌∙◌, sym, subst}
 use Rattle.std.specs.Option.{option_map}
-use Rattle.std.specs.FinMap as map
-use Rattle.std.proofs.lemmas.Option.{same_Some}
 use Rattle.node_store.specs.Store.{records, len_of}
 use Rattle.node_store.specs.Kept.{store_of, with_older, newest_beside, IsSound}
 use Rattle.node_store.proofs.StoreLemmas.{Removes-without, len-without}
@@ -22,11 +20,9 @@ invariant_of-self g c =
     let cs = c.self.inside.columns in
     let s = store_of ss cs c.self.inside.width c.self.inside.added in
     let node = rw (← c.self.view_is) at c.requires in
-    let k = node_kept ss cs c.self.inside.width c.self.inside.added c.args.n node in
     let lies = sym c.try_remove.ensures.value ∙ c.in-Some.is in
-    let number = ap (λ e. e.number) (same_Some _ _ (sym lies ∙ k.1)) ∙ k.2 in
     let slots = c.set_older.ensures.slots ∙ ap (with_older c.in-Some.entry.newer c.in-Some.entry.older) c.set_newer.ensures.slots in
-    let sound = IsSound-removed ss c.try_remove.new.self.slots cs c.self.inside.width c.self.inside.newest c.self.inside.added c.self.invariant c.args.n c.in-Some.entry lies number c.in-Some.ensures.updates.changed c.in-Some.ensures.updates.others in
+    let sound = IsSound-removed ss c.try_remove.new.self.slots cs c.self.inside.width c.self.inside.newest c.self.inside.added c.self.invariant c.args.n c.in-Some.entry lies c.in-Some.ensures.updates.changed c.in-Some.ensures.updates.others in
     subst (λ m. IsSound c.set_older.new.kept.slots cs c.self.inside.width m c.self.inside.added) (sym c.newest_without-self-inside.ensures)
     (subst (λ xs. IsSound xs cs c.self.inside.width (newest_beside c.in-Some.entry.older c.in-Some.entry.newer c.self.inside.newest) c.self.inside.added) (sym slots) sound)
 
@@ -37,12 +33,9 @@ returns-clause-value g c =
     let cs = c.self.inside.columns in
     let s = store_of ss cs c.self.inside.width c.self.inside.added in
     let node = rw (← c.self.view_is) at c.requires in
-    let k = node_kept ss cs c.self.inside.width c.self.inside.added c.args.n node in
     let lies = sym c.try_remove.ensures.value ∙ c.in-Some.is in
-    let number = ap (λ e. e.number) (same_Some _ _ (sym lies ∙ k.1)) ∙ k.2 in
     rw (← c.self.view_is) (record_of-at s c.args.n node
-    ∙ ap (λ z. option_map (λ e. e.value) (map.get s.nodes z)) (sym number)
-    ∙ ap (option_map (λ e. e.value)) (look ss cs c.self.inside.width c.self.inside.added c.args.n.place c.in-Some.entry c.self.invariant.chained.apart lies))
+    ∙ ap (option_map (λ e. e.value)) (look ss cs c.self.inside.width c.self.inside.added c.args.n.number c.in-Some.entry lies))
 
 pub returns-clause-removed : goal.returns-clause-removed
 returns-clause-removed g c =
@@ -50,12 +43,10 @@ returns-clause-removed g c =
     let cs = c.self.inside.columns in
     let s = store_of ss cs c.self.inside.width c.self.inside.added in
     let node = rw (← c.self.view_is) at c.requires in
-    let k = node_kept ss cs c.self.inside.width c.self.inside.added c.args.n node in
     let lies = sym c.try_remove.ensures.value ∙ c.in-Some.is in
-    let number = ap (λ e. e.number) (same_Some _ _ (sym lies ∙ k.1)) ∙ k.2 in
     let slots = c.set_older.ensures.slots ∙ ap (with_older c.in-Some.entry.newer c.in-Some.entry.older) c.set_newer.ensures.slots in
     let to = ap (λ xs. store_of xs cs c.self.inside.width c.self.inside.added) slots
-    ∙ store_removed ss c.try_remove.new.self.slots cs c.self.inside.width c.self.inside.newest c.self.inside.added c.self.invariant c.args.n c.in-Some.entry lies number c.in-Some.ensures.updates.changed c.in-Some.ensures.updates.others in
+    ∙ store_removed ss c.try_remove.new.self.slots cs c.self.inside.width c.self.inside.newest c.self.inside.added c.self.invariant c.args.n c.in-Some.entry lies c.in-Some.ensures.updates.changed c.in-Some.ensures.updates.others in
     rw (← c.self.view_is, to) (RemovesNode-removed _ _ c.args.n node (Removes-without s c.args.n))
 
 pub returns-clause-len : goal.returns-clause-len
@@ -64,10 +55,8 @@ returns-clause-len g c =
     let cs = c.self.inside.columns in
     let s = store_of ss cs c.self.inside.width c.self.inside.added in
     let node = rw (← c.self.view_is) at c.requires in
-    let k = node_kept ss cs c.self.inside.width c.self.inside.added c.args.n node in
     let lies = sym c.try_remove.ensures.value ∙ c.in-Some.is in
-    let number = ap (λ e. e.number) (same_Some _ _ (sym lies ∙ k.1)) ∙ k.2 in
     let slots = c.set_older.ensures.slots ∙ ap (with_older c.in-Some.entry.newer c.in-Some.entry.older) c.set_newer.ensures.slots in
     let to = ap (λ xs. store_of xs cs c.self.inside.width c.self.inside.added) slots
-    ∙ store_removed ss c.try_remove.new.self.slots cs c.self.inside.width c.self.inside.newest c.self.inside.added c.self.invariant c.args.n c.in-Some.entry lies number c.in-Some.ensures.updates.changed c.in-Some.ensures.updates.others in
+    ∙ store_removed ss c.try_remove.new.self.slots cs c.self.inside.width c.self.inside.newest c.self.inside.added c.self.invariant c.args.n c.in-Some.entry lies c.in-Some.ensures.updates.changed c.in-Some.ensures.updates.others in
     ap (λ t. len_of t + 1) to ∙ len-without s c.args.n node ∙ ap len_of c.self.view_is

@@ -36,7 +36,7 @@ set_tag-requires g c =
     let narrow = c.self.invariant.narrow in
     let told = c.self.invariant.columns in
     let within : c.args.col < length cs = omega arith in
-    subst IsSome (stored_there cs c.args.col c.args.n.place _ within) (c.self.invariant.linked c.args.n.place k.0 c.args.col k.1 there)
+    subst IsSome (stored_there cs c.args.col c.args.n.number _ within) (c.self.invariant.linked c.args.n.number k.0 c.args.col k.1 there)
 
 pub invariant_of-self : goal.invariant_of-self
 invariant_of-self g c =
@@ -49,10 +49,10 @@ invariant_of-self g c =
     let narrow = c.self.invariant.narrow in
     let told = c.self.invariant.columns in
     let within : c.args.col < length cs = omega arith in
-    let kept = the_some _ (c.self.invariant.linked c.args.n.place k.0 c.args.col k.1 there) in
-    let changed = c.set_tag.ensures kept.0 (sym (stored_there cs c.args.col c.args.n.place c.index-columns-col.result within) ∙ kept.1) in
+    let kept = the_some _ (c.self.invariant.linked c.args.n.number k.0 c.args.col k.1 there) in
+    let changed = c.set_tag.ensures kept.0 (sym (stored_there cs c.args.col c.args.n.number c.index-columns-col.result within) ∙ kept.1) in
     let later = record kept.0 { tag = c.args.tag } in
-    IsSound-linked ss cs c.self.inside.width c.self.inside.newest c.self.inside.added c.self.invariant c.args.n k.0 k.1 k.2 c.args.col there within c.index-columns-col.result _ later changed
+    IsSound-linked ss cs c.self.inside.width c.self.inside.added c.self.inside.newest c.self.invariant c.args.n k.0 k.1 c.args.col there within c.index-columns-col.result _ later changed
 
 pub returns-clause-put : goal.returns-clause-put
 returns-clause-put g c = λ link is.
@@ -65,12 +65,12 @@ returns-clause-put g c = λ link is.
     let narrow = c.self.invariant.narrow in
     let told = c.self.invariant.columns in
     let within : c.args.col < length cs = omega arith in
-    let kept = the_some _ (c.self.invariant.linked c.args.n.place k.0 c.args.col k.1 there) in
-    let changed = c.set_tag.ensures kept.0 (sym (stored_there cs c.args.col c.args.n.place c.index-columns-col.result within) ∙ kept.1) in
+    let kept = the_some _ (c.self.invariant.linked c.args.n.number k.0 c.args.col k.1 there) in
+    let changed = c.set_tag.ensures kept.0 (sym (stored_there cs c.args.col c.args.n.number c.index-columns-col.result within) ∙ kept.1) in
     let later = record kept.0 { tag = c.args.tag } in
-    let to = store_linked ss cs c.self.inside.width c.self.inside.newest c.self.inside.added c.self.invariant c.args.n k.0 k.1 k.2 c.args.col there within c.index-columns-col.result c.set_tag.new.self later changed (link_of later) refl in
+    let to = store_linked ss cs c.self.inside.width c.self.inside.added c.self.inside.newest c.self.invariant c.args.n k.0 k.1 c.args.col there within c.index-columns-col.result c.set_tag.new.self later changed (link_of later) refl in
     let relinked = Relinks-with_link s c.args.n c.args.col (link_of later) (HasBlocks-view ss cs c.self.inside.width c.self.inside.added) node there in
-    let read = column_read ss cs c.self.inside.width c.self.inside.added c.args.n k.0 c.args.col kept.0 c.self.invariant.chained.apart node k.1 k.2 there kept.1 in
+    let read = column_read ss cs c.self.inside.width c.self.inside.added c.args.n k.0 c.args.col kept.0 k.1 there kept.1 in
     let same = same_Some _ _ (sym (rw (← c.self.view_is) at is) ∙ read) in
     rw (← c.self.view_is, same, to) (IsPut-relinked _ _ c.args.n c.args.col (link_of later) node relinked)
 
@@ -85,10 +85,10 @@ returns-clause-others g c =
     let narrow = c.self.invariant.narrow in
     let told = c.self.invariant.columns in
     let within : c.args.col < length cs = omega arith in
-    let kept = the_some _ (c.self.invariant.linked c.args.n.place k.0 c.args.col k.1 there) in
-    let changed = c.set_tag.ensures kept.0 (sym (stored_there cs c.args.col c.args.n.place c.index-columns-col.result within) ∙ kept.1) in
+    let kept = the_some _ (c.self.invariant.linked c.args.n.number k.0 c.args.col k.1 there) in
+    let changed = c.set_tag.ensures kept.0 (sym (stored_there cs c.args.col c.args.n.number c.index-columns-col.result within) ∙ kept.1) in
     let later = record kept.0 { tag = c.args.tag } in
-    let to = store_linked ss cs c.self.inside.width c.self.inside.newest c.self.inside.added c.self.invariant c.args.n k.0 k.1 k.2 c.args.col there within c.index-columns-col.result c.set_tag.new.self later changed (link_of later) refl in
+    let to = store_linked ss cs c.self.inside.width c.self.inside.added c.self.inside.newest c.self.invariant c.args.n k.0 k.1 c.args.col there within c.index-columns-col.result c.set_tag.new.self later changed (link_of later) refl in
     let relinked = Relinks-with_link s c.args.n c.args.col (link_of later) (HasBlocks-view ss cs c.self.inside.width c.self.inside.added) node there in
     rw (← c.self.view_is, to) (others-relinked _ _ c.args.n c.args.col (link_of later) relinked)
 
@@ -103,9 +103,9 @@ returns-clause-contents g c =
     let narrow = c.self.invariant.narrow in
     let told = c.self.invariant.columns in
     let within : c.args.col < length cs = omega arith in
-    let kept = the_some _ (c.self.invariant.linked c.args.n.place k.0 c.args.col k.1 there) in
-    let changed = c.set_tag.ensures kept.0 (sym (stored_there cs c.args.col c.args.n.place c.index-columns-col.result within) ∙ kept.1) in
+    let kept = the_some _ (c.self.invariant.linked c.args.n.number k.0 c.args.col k.1 there) in
+    let changed = c.set_tag.ensures kept.0 (sym (stored_there cs c.args.col c.args.n.number c.index-columns-col.result within) ∙ kept.1) in
     let later = record kept.0 { tag = c.args.tag } in
-    let to = store_linked ss cs c.self.inside.width c.self.inside.newest c.self.inside.added c.self.invariant c.args.n k.0 k.1 k.2 c.args.col there within c.index-columns-col.result c.set_tag.new.self later changed (link_of later) refl in
+    let to = store_linked ss cs c.self.inside.width c.self.inside.added c.self.inside.newest c.self.invariant c.args.n k.0 k.1 c.args.col there within c.index-columns-col.result c.set_tag.new.self later changed (link_of later) refl in
     let relinked = Relinks-with_link s c.args.n c.args.col (link_of later) (HasBlocks-view ss cs c.self.inside.width c.self.inside.added) node there in
     rw (← c.self.view_is, to) (contents-relinked _ _ c.args.n c.args.col (link_of later) relinked (added-with_link s c.args.n c.args.col (link_of later)) (len-with_link s c.args.n c.args.col (link_of later)))

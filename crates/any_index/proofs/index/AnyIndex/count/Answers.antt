@@ -7,7 +7,8 @@ use Rattle.ord_tree.specs.Side.{side_of}
 use Rattle.rank_tree.specs.Spelled as ranked
 use Rattle.hash_index.specs.Spelled as buckets
 use Rattle.hash_index.proofs.Laws.{IsHashed_moved}
-use Rattle.any_index.proofs.ByNumber.{moved_back, moved_by_number}
+use Rattle.any_index.proofs.ByAge.{moved_back, moved_by_age}
+use Rattle.node_store.specs.Store.{age_of}
 use Rattle.any_index.proofs.index.AnyIndex.count.Goals as goal
 
 pub overflow_sub-result : goal.overflow_sub-result
@@ -30,14 +31,14 @@ count-requires g c =
       chain = sound;
       has_key = key;
       whole = fits;
-      hashed = IsHashed_moved (g.E.Extract.hash_of c.args.keys.now (buckets.index_of c.in-Hashed.buckets)) c.args.store.now (buckets.col_of c.in-Hashed.buckets) _ _ (moved_back _) keyed;
+      hashed = IsHashed_moved (g.E.Extract.hash_of c.args.keys.now (buckets.index_of c.in-Hashed.buckets)) c.args.store.now (buckets.col_of c.in-Hashed.buckets) _ _ (moved_back (age_of c.args.store.now) _) keyed;
     }
 
 pub returns-in-Hashed : goal.returns-in-Hashed
 returns-in-Hashed g c =
     let side = side_of (record_of c.args.store.now) (λ a. g.E.Extract.probe_order_of c.args.keys.now (buckets.index_of c.in-Hashed.buckets) a c.args.probe.now) in
     let xs = buckets.spelled (column_of c.args.store.now) c.in-Hashed.buckets in
-    rw c.in-Hashed.is (c.count.ensures ∙ sym (count_by-permutation (λ n. is_eq (side n)) xs _ (moved_by_number xs)))
+    rw c.in-Hashed.is (c.count.ensures ∙ sym (count_by-permutation (λ n. is_eq (side n)) xs _ (moved_by_age (age_of c.args.store.now) xs)))
 
 pub returns-in-Ordered : goal.returns-in-Ordered
 returns-in-Ordered g c = rw c.in-Ordered.is c.run_length.ensures

@@ -10,16 +10,17 @@ use Rattle.rank_tree.proofs.Laws as rank
 use Rattle.ord_tree.proofs.Ordered.{IsInOrder_placed}
 use Rattle.any_index.specs.Keyed.{marks_of}
 use Rattle.any_index.proofs.InTrees.{ordered_at}
-use Rattle.any_index.proofs.ByNumber.{Lacks_moved, moved_by_number, moved_back}
-use Rattle.any_index.proofs.Hashed.{list_entered, hashed_at}
+use Rattle.any_index.proofs.ByAge.{Lacks_moved, moved_by_age, moved_back}
+use Rattle.any_index.proofs.Hashed.{list_entered_late, hashed_at}
 use Rattle.hash_index.proofs.Laws.{IsHashed_moved}
 use Rattle.any_index.proofs.Places.{insert_last}
+use Rattle.node_store.specs.Store.{age_of}
 use Rattle.any_index.proofs.index.AnyIndex.enter.Goals as goal
 
 pub link-requires-in-Hashed-clause-new : goal.link-requires-in-Hashed-clause-new
 link-requires-in-Hashed-clause-new g c =
     let new = rw c.in-Hashed.is at c.requires.new in
-    Lacks_moved _ _ c.args.n (moved_back _) new
+    Lacks_moved _ _ c.args.n (moved_back (age_of c.args.store.now) _) new
 
 pub returns-in-Some-clause-sound : goal.returns-in-Some-clause-sound
 returns-in-Some-clause-sound g c = seq.IsSound_from _ _ _ c.insert_at.ensures.list
@@ -80,7 +81,7 @@ returns-in-Ranked-clause-keyed g c =
     (IsInOrder_placed (record_of c.args.store.now) (compare index) total c.args.n xs keyed.in_order) c.link-in-Ranked.ensures.digested
 
 pub returns-in-Hashed-clause-list : goal.returns-in-Hashed-clause-list
-returns-in-Hashed-clause-list g c = rw c.in-Hashed.is (list_entered c.link-in-Hashed.new.store c.link-in-Hashed.new.self c.args.n _ c.link-in-Hashed.ensures.chain c.link-in-Hashed.ensures.list)
+returns-in-Hashed-clause-list g c = rw c.in-Hashed.is (list_entered_late c.args.store.now c.link-in-Hashed.new.store c.sound.ensures c.link-in-Hashed.new.self c.args.n _ c.link-in-Hashed.ensures.rest.contents c.link-in-Hashed.ensures.chain c.link-in-Hashed.ensures.list)
 
 pub returns-in-Hashed-clause-keyed : goal.returns-in-Hashed-clause-keyed
 returns-in-Hashed-clause-keyed g c =
@@ -88,8 +89,8 @@ returns-in-Hashed-clause-keyed g c =
     let hash = g.E.Extract.hash_of c.args.keys.now in
     let index = buckets.index_of c.in-Hashed.buckets in
     let col = buckets.col_of c.in-Hashed.buckets in
-    hashed_at hash c.link-in-Hashed.new.store _ index _ col _ _ c.link-in-Hashed.ensures.rest.index c.link-in-Hashed.ensures.rest.col (moved_by_number _)
-    (c.link-in-Hashed.ensures.hashed (IsHashed_moved (hash index) c.args.store.now col _ _ (moved_back _) keyed))
+    hashed_at hash c.link-in-Hashed.new.store _ index _ col _ _ c.link-in-Hashed.ensures.rest.index c.link-in-Hashed.ensures.rest.col (moved_by_age (age_of c.link-in-Hashed.new.store) _)
+    (c.link-in-Hashed.ensures.hashed (IsHashed_moved (hash index) c.args.store.now col _ _ (moved_back (age_of c.args.store.now) _) keyed))
 
 pub link-requires-clause-last : goal.link-requires-clause-last
 link-requires-clause-last g c = let last = rw c.in-Ordered.is at c.requires.last in λ m e. last m e refl

@@ -4,8 +4,9 @@ use Rattle.node_store.specs.ByNode.{column_of, record_of}
 use Rattle.hash_index.specs.Hashed.{IsHashed}
 use Rattle.hash_index.specs.Spelled as buckets
 use Rattle.hash_index.proofs.Laws.{IsHashed_moved}
-use Rattle.any_index.proofs.ByNumber.{moved_back}
+use Rattle.any_index.proofs.ByAge.{moved_back}
 use Rattle.any_index.proofs.Same.{others_is, same_answer, excepted_moved}
+use Rattle.node_store.specs.Store.{age_of}
 use Rattle.any_index.proofs.index.AnyIndex.free_place.Goals as goal
 
 pub returns-in-Ordered-clause-place : goal.returns-in-Ordered-clause-place
@@ -32,7 +33,7 @@ same_as-requires-clause-others g c =
       chain = sound;
       has_key = key;
       hashed = subst (λ (z : List Node). IsHashed hash c.args.store.now col z) (sym (others_is None xs))
-          (IsHashed_moved hash c.args.store.now col _ _ (excepted_moved None _ xs (moved_back xs)) keyed);
+          (IsHashed_moved hash c.args.store.now col _ _ (excepted_moved None _ xs (moved_back (age_of c.args.store.now) xs)) keyed);
     }
 
 pub returns-in-Some-clause-taken : goal.returns-in-Some-clause-taken
@@ -41,7 +42,7 @@ returns-in-Some-clause-taken g c =
     let unique = rw c.in-Hashed.is at c.requires.filed.unique in
     let index = buckets.index_of c.in-Hashed.buckets in
     let order = g.E.Extract.order_of c.args.keys.now index in
-    rw c.in-Hashed.is (sym (c.same_as.ensures ∙ same_answer (record_of c.args.store.now) order (g.met.E.Extract.order_total c.args.keys.now index key) c.args.r.now None (buckets.spelled (column_of c.args.store.now) c.in-Hashed.buckets) unique) ∙ c.in-Some.is)
+    rw c.in-Hashed.is (sym (c.same_as.ensures ∙ same_answer (record_of c.args.store.now) order (g.met.E.Extract.order_total c.args.keys.now index key) c.args.r.now (age_of c.args.store.now) None (buckets.spelled (column_of c.args.store.now) c.in-Hashed.buckets) unique) ∙ c.in-Some.is)
 
 pub returns-in-None-clause-free : goal.returns-in-None-clause-free
 returns-in-None-clause-free g c =
@@ -49,4 +50,4 @@ returns-in-None-clause-free g c =
     let unique = rw c.in-Hashed.is at c.requires.filed.unique in
     let index = buckets.index_of c.in-Hashed.buckets in
     let order = g.E.Extract.order_of c.args.keys.now index in
-    rw c.in-Hashed.is (sym (c.same_as.ensures ∙ same_answer (record_of c.args.store.now) order (g.met.E.Extract.order_total c.args.keys.now index key) c.args.r.now None (buckets.spelled (column_of c.args.store.now) c.in-Hashed.buckets) unique) ∙ c.in-None.is)
+    rw c.in-Hashed.is (sym (c.same_as.ensures ∙ same_answer (record_of c.args.store.now) order (g.met.E.Extract.order_total c.args.keys.now index key) c.args.r.now (age_of c.args.store.now) None (buckets.spelled (column_of c.args.store.now) c.in-Hashed.buckets) unique) ∙ c.in-None.is)

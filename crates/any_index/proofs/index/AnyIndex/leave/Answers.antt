@@ -6,15 +6,16 @@ use Rattle.rank_tree.proofs.Laws as rank
 use Rattle.hash_index.proofs.Laws as hash
 use Rattle.any_index.specs.Keyed.{hash_by}
 use Rattle.any_index.proofs.InTrees.{ordered_left}
-use Rattle.any_index.specs.Spelled.{by_number}
-use Rattle.any_index.proofs.ByNumber.{Holds_moved, moved_back}
-use Rattle.any_index.proofs.Hashed.{list_left, keeps_hashed_list}
+use Rattle.any_index.specs.Spelled.{by_age}
+use Rattle.any_index.proofs.ByAge.{Holds_moved, moved_back}
+use Rattle.any_index.proofs.Hashed.{list_leaves, keeps_hashed_list}
+use Rattle.node_store.specs.Store.{age_of}
 use Rattle.any_index.proofs.index.AnyIndex.leave.Goals as goal
 
 pub unlink-requires-in-Hashed : goal.unlink-requires-in-Hashed
 unlink-requires-in-Hashed g c =
     let node = rw c.in-Hashed.is at c.requires in
-    record { chain = node.sound; held = Holds_moved _ _ c.args.n (moved_back _) node.held }
+    record { chain = node.sound; held = Holds_moved _ _ c.args.n (moved_back (age_of c.args.store.now) _) node.held }
 
 pub returns-in-Sequenced-clause-sound : goal.returns-in-Sequenced-clause-sound
 returns-in-Sequenced-clause-sound g c = seq.IsSound_from _ _ _ c.unlink.ensures.chain.list
@@ -53,11 +54,11 @@ returns-in-Ranked-clause-keyed g c = λ order marks h.
 pub returns-in-Hashed-clause-list : goal.returns-in-Hashed-clause-list
 returns-in-Hashed-clause-list g c =
     let sound = rw c.in-Hashed.is at c.requires.sound in
-    rw c.in-Hashed.is (ap by_number (hash.spelled_is _ _ _ c.unlink-in-Hashed.ensures.list) ∙ list_left c.args.store.now c.in-Hashed.buckets c.args.n sound)
+    rw c.in-Hashed.is (list_leaves c.args.store.now c.unlink-in-Hashed.new.store c.sound.ensures c.in-Hashed.buckets c.args.n _ c.unlink-in-Hashed.ensures.rest.contents sound (hash.spelled_is _ _ _ c.unlink-in-Hashed.ensures.list))
 
 pub returns-in-Hashed-clause-keyed : goal.returns-in-Hashed-clause-keyed
 returns-in-Hashed-clause-keyed g c = λ order marks h.
     let sound = rw c.in-Hashed.is at c.requires.sound in
     let keyed = rw c.in-Hashed.is at h in
     keeps_hashed_list (λ k. hash_by (marks k)) c.args.store.now c.unlink-in-Hashed.new.store c.in-Hashed.buckets c.unlink-in-Hashed.new.self _ _ c.unlink-in-Hashed.ensures.rest.index c.unlink-in-Hashed.ensures.rest.col c.unlink-in-Hashed.ensures.tags c.unlink-in-Hashed.ensures.rest.contents
-    (ap by_number (hash.spelled_is _ _ _ c.unlink-in-Hashed.ensures.list) ∙ list_left c.args.store.now c.in-Hashed.buckets c.args.n sound) keyed
+    (list_leaves c.args.store.now c.unlink-in-Hashed.new.store c.sound.ensures c.in-Hashed.buckets c.args.n _ c.unlink-in-Hashed.ensures.rest.contents sound (hash.spelled_is _ _ _ c.unlink-in-Hashed.ensures.list)) keyed

@@ -3,10 +3,12 @@ use Rattle.node_store.specs.ByNode.{column_of}
 use Rattle.ord_tree.specs.Spelled as trees
 use Rattle.rank_tree.specs.Spelled as ranked
 use Rattle.hash_index.specs.Spelled as buckets
-use Rattle.any_index.specs.Spelled.{by_number}
+use Rattle.hash_index.proofs.Laws as hash
+use Rattle.any_index.specs.Spelled.{by_age}
 use Rattle.key_extract.specs.Digests.{Marks}
 use Rattle.any_index.specs.Keyed.{hash_by}
 use Rattle.any_index.proofs.Renumbered.{ordered_by, hashed_by}
+use Rattle.node_store.specs.Store.{age_of}
 use Rattle.any_index.proofs.index.AnyIndex.renumber.Goals as goal
 
 pub returns-in-Ordered-clause-keyed : goal.returns-in-Ordered-clause-keyed
@@ -29,5 +31,10 @@ pub returns-in-Hashed-clause-keyed : goal.returns-in-Hashed-clause-keyed
 returns-in-Hashed-clause-keyed g c = λ order after marks marks_after same same_marks h.
     let keyed = rw c.in-Hashed.is at h in
     let key = (rw c.in-Hashed.is at same_marks) refl in
-    hashed_by c.args.store.now (hash_by (marks (buckets.index_of c.in-Hashed.buckets))) (hash_by (marks_after (buckets.index_of c.renumber-in-Hashed.new.self))) (buckets.col_of c.in-Hashed.buckets) _ (by_number (buckets.spelled (column_of c.args.store.now) c.in-Hashed.buckets)) _
-    (ap (λ (f : _ → Marks). hash_by f) (ap marks_after c.renumber-in-Hashed.ensures.index ∙ key)) c.renumber-in-Hashed.ensures.col (ap by_number (c.renumber-in-Hashed.ensures.spelled (column_of c.args.store.now))) keyed
+    hashed_by c.args.store.now (hash_by (marks (buckets.index_of c.in-Hashed.buckets))) (hash_by (marks_after (buckets.index_of c.renumber-in-Hashed.new.self))) (buckets.col_of c.in-Hashed.buckets) _ (by_age (age_of c.args.store.now) (buckets.spelled (column_of c.args.store.now) c.in-Hashed.buckets)) _
+    (ap (λ (f : _ → Marks). hash_by f) (ap marks_after c.renumber-in-Hashed.ensures.index ∙ key)) c.renumber-in-Hashed.ensures.col (ap (by_age (age_of c.args.store.now)) (c.renumber-in-Hashed.ensures.spelled (column_of c.args.store.now))) keyed
+
+pub returns-in-Hashed-clause-sound : goal.returns-in-Hashed-clause-sound
+returns-in-Hashed-clause-sound g c =
+    let sound = rw c.in-Hashed.is at c.requires in
+    hash.IsSound_from (column_of c.args.store.now) c.renumber-in-Hashed.new.self _ (c.renumber-in-Hashed.ensures.list (age_of c.args.store.now) (column_of c.args.store.now) _ sound)

@@ -1,11 +1,11 @@
 use Rattle.any_index.specs.Keyed.{hash_by}
-use Rattle.any_index.proofs.Hashed.{list_moved, keeps_hashed}
+use Rattle.any_index.proofs.Hashed.{list_stays, keeps_hashed}
 use Rattle.any_index.proofs.index.AnyIndex.reserve_one.Goals as goal
 
 pub returns-in-Hashed-clause-list : goal.returns-in-Hashed-clause-list
 returns-in-Hashed-clause-list g c =
     let sound = rw c.in-Hashed.is at c.requires in
-    rw c.in-Hashed.is (list_moved c.args.store.now c.in-Hashed.buckets _ sound c.reserve_one-in-Hashed.ensures.list)
+    rw c.in-Hashed.is (list_stays c.args.store.now c.reserve_one-in-Hashed.new.store c.sound.ensures c.in-Hashed.buckets _ c.reserve_one-in-Hashed.ensures.rest.contents sound c.reserve_one-in-Hashed.ensures.list)
 
 pub returns-in-Hashed-clause-keyed : goal.returns-in-Hashed-clause-keyed
 returns-in-Hashed-clause-keyed g c = λ order marks h.

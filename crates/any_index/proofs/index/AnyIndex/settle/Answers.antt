@@ -8,14 +8,15 @@ use Rattle.hash_index.proofs.Laws.{IsHashed_moved}
 use Rattle.ord_tree.proofs.Ordered.{IsInOrder_settled}
 use Rattle.any_index.specs.Keyed.{marks_of}
 use Rattle.any_index.proofs.InTrees.{ordered_at}
-use Rattle.any_index.proofs.ByNumber.{Holds_moved, moved_by_number, moved_back, without_moved}
-use Rattle.any_index.proofs.Hashed.{list_moved, hashed_at}
+use Rattle.any_index.proofs.ByAge.{Holds_moved, moved_by_age, moved_back, without_moved}
+use Rattle.any_index.proofs.Hashed.{list_stays, hashed_at}
+use Rattle.node_store.specs.Store.{age_of}
 use Rattle.any_index.proofs.index.AnyIndex.settle.Goals as goal
 
 pub settle-requires-in-Hashed-clause-node : goal.settle-requires-in-Hashed-clause-node
 settle-requires-in-Hashed-clause-node g c =
     let node = rw c.in-Hashed.is at c.requires.node in
-    record { chain = node.sound; held = Holds_moved _ _ c.args.n (moved_back _) node.held }
+    record { chain = node.sound; held = Holds_moved _ _ c.args.n (moved_back (age_of c.args.store.now) _) node.held }
 
 pub returns-in-Ordered-clause-sound : goal.returns-in-Ordered-clause-sound
 returns-in-Ordered-clause-sound g c = ord.IsSound_from _ _ _ c.settle.ensures.tree.list
@@ -58,7 +59,7 @@ returns-in-Ranked-clause-keyed g c =
 pub returns-in-Hashed-clause-list : goal.returns-in-Hashed-clause-list
 returns-in-Hashed-clause-list g c =
     let sound = rw c.in-Hashed.is at c.requires.node.sound in
-    rw c.in-Hashed.is (list_moved c.args.store.now c.in-Hashed.buckets _ sound c.settle-in-Hashed.ensures.list)
+    rw c.in-Hashed.is (list_stays c.args.store.now c.settle-in-Hashed.new.store c.sound.ensures c.in-Hashed.buckets _ c.settle-in-Hashed.ensures.rest.contents sound c.settle-in-Hashed.ensures.list)
 
 pub returns-in-Hashed-clause-keyed : goal.returns-in-Hashed-clause-keyed
 returns-in-Hashed-clause-keyed g c =
@@ -66,5 +67,5 @@ returns-in-Hashed-clause-keyed g c =
     let hash = g.E.Extract.hash_of c.args.keys.now in
     let index = buckets.index_of c.in-Hashed.buckets in
     let col = buckets.col_of c.in-Hashed.buckets in
-    hashed_at hash c.settle-in-Hashed.new.store _ index _ col _ _ c.settle-in-Hashed.ensures.rest.index c.settle-in-Hashed.ensures.rest.col (moved_by_number _)
-    (c.settle-in-Hashed.ensures.hashed (IsHashed_moved (hash index) c.args.store.now col _ _ (without_moved _ _ c.args.n (moved_back _)) keyed))
+    hashed_at hash c.settle-in-Hashed.new.store _ index _ col _ _ c.settle-in-Hashed.ensures.rest.index c.settle-in-Hashed.ensures.rest.col (moved_by_age (age_of c.settle-in-Hashed.new.store) _)
+    (c.settle-in-Hashed.ensures.hashed (IsHashed_moved (hash index) c.args.store.now col _ _ (without_moved _ _ c.args.n (moved_back (age_of c.args.store.now) _)) keyed))

@@ -7,12 +7,13 @@ use Rattle.index_set.proofs.set.IndexSet.add.Goals as goal
 pub returns-clause-sound : goal.returns-clause-sound
 returns-clause-sound g c =
     let old = c.requires.sound in
+    let store = IsStore_after c.args.self.now.store c.add.new.self c.args.value c.add.result c.add.ensures.added c.add.ensures.age c.add.ensures.count c.add.ensures.unchanged old.nodes in
     record {
       some = old.some;
       few = old.few;
       keys = old.keys;
-      placed = placed_after c.args.self.now.store c.add.new.self c.args.value c.args.self.now.specs.items c.args.self.now.indices.items old.placed c.add.result c.add.ensures.added c.add.ensures.unchanged;
-      nodes = IsStore_after c.args.self.now.store c.add.new.self c.args.value c.add.result c.add.ensures.added c.add.ensures.number c.add.ensures.count c.add.ensures.unchanged old.nodes;
+      placed = placed_after c.args.self.now.store c.add.new.self c.args.value c.args.self.now.specs.items c.args.self.now.indices.items store old.placed c.add.result c.add.ensures.added c.add.ensures.unchanged;
+      nodes = store;
       columns = old.columns;
       most = old.most;
       within = old.within;
@@ -20,12 +21,12 @@ returns-clause-sound g c =
     }
 
 pub returns-clause-lists : goal.returns-clause-lists
-returns-clause-lists g c = lists_after c.args.self.now.store c.add.new.self c.args.value c.args.self.now.specs.items c.args.self.now.indices.items c.requires.sound.placed c.add.result c.add.ensures.added c.add.ensures.unchanged
+returns-clause-lists g c = lists_after c.args.self.now.store c.add.new.self c.args.value c.args.self.now.specs.items c.args.self.now.indices.items (IsStore_after c.args.self.now.store c.add.new.self c.args.value c.add.result c.add.ensures.added c.add.ensures.age c.add.ensures.count c.add.ensures.unchanged c.requires.sound.nodes) c.requires.sound.placed c.add.result c.add.ensures.added c.add.ensures.unchanged
 
 pub returns-clause-loose : goal.returns-clause-loose
-returns-clause-loose g c = lacks_after c.args.self.now.store c.add.new.self c.args.value c.args.self.now.specs.items c.args.self.now.indices.items c.requires.sound.placed c.add.result c.add.ensures.added
+returns-clause-loose g c = lacks_after c.args.self.now.store c.add.new.self c.args.value c.args.self.now.specs.items c.args.self.now.indices.items (IsStore_after c.args.self.now.store c.add.new.self c.args.value c.add.result c.add.ensures.added c.add.ensures.age c.add.ensures.count c.add.ensures.unchanged c.requires.sound.nodes) c.requires.sound.placed c.add.result c.add.ensures.added
 
 pub returns-clause-keyed : goal.returns-clause-keyed
 returns-clause-keyed g c =
-    keyed_after c.args.self.now.store c.add.new.self c.args.value c.args.self.now.specs.items c.args.self.now.indices.items c.requires.sound.placed c.add.result c.add.ensures.added c.add.ensures.unchanged
+    keyed_after c.args.self.now.store c.add.new.self c.args.value c.args.self.now.specs.items c.args.self.now.indices.items (IsStore_after c.args.self.now.store c.add.new.self c.args.value c.add.result c.add.ensures.added c.add.ensures.age c.add.ensures.count c.add.ensures.unchanged c.requires.sound.nodes) c.requires.sound.placed c.add.result c.add.ensures.added c.add.ensures.unchanged
     (g.E.Extract.order_of c.args.self.now.keys) (marks_of g.E.Extract c.args.self.now.keys)

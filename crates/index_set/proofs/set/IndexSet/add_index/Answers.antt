@@ -5,7 +5,7 @@ use Rattle.std.proofs.lemmas.List.{length_push, length-map, map_push}
 use Rattle.list_model.specs.Order.{EachPair}
 use Rattle.std.specs.Ordering.{is_eq}
 use Rattle.node_store.specs.declared.Node.{Node}
-use Rattle.node_store.specs.ByNode.{column_of, record_of}
+use Rattle.node_store.specs.ByNode.{record_of, columns_in}
 use Rattle.node_store.proofs.ByNode.{records_kept}
 use Rattle.container_model.specs.Indices.{KeepsEach}
 use Rattle.container_model.specs.State.{KeysMatch}
@@ -34,9 +34,9 @@ returns-in-Ok-clause-sound g c =
       some = omega (arith, count);
       few = omega (arith, count, before, e.fits, e.same.columns, e.sound.most);
       keys = subst (λ ds. KeysMatch (g.E.Extract.has_key c.args.keys) ds) (sym (specs ∙ ap (λ ds. ds ++ c.args.spec ∷ []) e.same.specs)) c.requires.keys;
-      placed = subst (λ ds. ArePlaced (column_of m.store) ds c.push_reserved-in-Ok.new.self.items) (sym specs)
-          (subst (λ is. ArePlaced (column_of m.store) (m.specs.items ++ c.args.spec ∷ []) is) (sym indices)
-          (placed_next m.specs.items m.indices.items c.args.spec made e.sound.placed.one_each (column_of m.store) e.sound.placed e.next.placed e.next.apart));
+      placed = subst (λ ds. ArePlaced (columns_in m.store) ds c.push_reserved-in-Ok.new.self.items) (sym specs)
+          (subst (λ is. ArePlaced (columns_in m.store) (m.specs.items ++ c.args.spec ∷ []) is) (sym indices)
+          (placed_next m.specs.items m.indices.items c.args.spec made e.sound.placed.one_each (columns_in m.store) e.sound.placed e.next.placed e.next.apart));
       nodes = e.sound.nodes;
       columns = omega (arith, count, before, e.fits, e.same.columns);
       most = e.sound.most;
@@ -68,10 +68,10 @@ returns-in-Ok-clause-unique g c =
     let made = c.in-Ok.made in
     let order = g.E.Extract.order_of in
     let records = record_of m.store in
-    let lists = lists_in (column_of m.store) m.indices.items in
-    let list = list_of (column_of m.store) made in
+    let lists = lists_in (columns_in m.store) m.indices.items in
+    let list = list_of (columns_in m.store) made in
     let orders = subst (λ ds. KeepsEach (order m.keys) (order c.args.keys) ds) (sym e.same.specs) (subst (λ k. KeepsEach (order k) (order c.args.keys) s.specs.items) (sym e.same.keys) c.requires.orders) in
-    let one = length-map m.indices.items (list_of (column_of m.store)) ∙ e.sound.placed.one_each in
+    let one = length-map m.indices.items (list_of (columns_in m.store)) ∙ e.sound.placed.one_each in
     let was = unique_kept order s m c.requires.filed.sound e.same e.lists e.contents c.requires.filed.unique in
     let kept = records_kept s.store m.store e.contents in
     let all = unique_next (order c.args.keys) records m.specs.items lists c.args.spec list one
@@ -80,8 +80,8 @@ returns-in-Ok-clause-unique g c =
     (unique_at (order m.keys) records None m.specs.items lists one was k d lt unique))
     (λ unique.
     subst (λ (h : Node → Node → Ordering). HasEachKeyOnce h list) (λ i. order_at (sym kept i) (order c.args.keys (length (sym e.same.specs i)))) (e.next.unique unique)) in
-    subst (λ ds. AreUniqueFrom (order c.args.keys) records None 0 ds (lists_in (column_of m.store) c.push_reserved-in-Ok.new.self.items)) (sym c.push_reserved.ensures.items)
-    (subst (λ ls. AreUniqueFrom (order c.args.keys) records None 0 (m.specs.items ++ c.args.spec ∷ []) ls) (sym (ap (lists_in (column_of m.store)) c.push_reserved-in-Ok.ensures.items ∙ map_push (list_of (column_of m.store)) m.indices.items made)) all)
+    subst (λ ds. AreUniqueFrom (order c.args.keys) records None 0 ds (lists_in (columns_in m.store) c.push_reserved-in-Ok.new.self.items)) (sym c.push_reserved.ensures.items)
+    (subst (λ ls. AreUniqueFrom (order c.args.keys) records None 0 (m.specs.items ++ c.args.spec ∷ []) ls) (sym (ap (lists_in (columns_in m.store)) c.push_reserved-in-Ok.ensures.items ∙ map_push (list_of (columns_in m.store)) m.indices.items made)) all)
 
 pub returns-in-Err-clause-unique : goal.returns-in-Err-clause-unique
 returns-in-Err-clause-unique g c =

@@ -2,7 +2,7 @@ use Rattle.any_index.specs.Keyed.{marks_of}
 use Rattle.std.proofs.Common.{◌∙◌, sym, ap, subst, arith, length, None}
 use Rattle.std.specs.Prelude.{remove}
 use Rattle.std.proofs.lemmas.List.{length-map}
-use Rattle.node_store.specs.ByNode.{column_of, record_of}
+use Rattle.node_store.specs.ByNode.{record_of, columns_in}
 use Rattle.container_model.specs.State.{KeysMatch}
 use Rattle.any_index.specs.Spelled.{list_of}
 use Rattle.index_set.specs.Dropped.{AreSound, AreRenumbered}
@@ -33,7 +33,7 @@ returns-clause-sound g c =
       some = omega (arith, all, now, c.requires.several);
       few = omega (arith, all, now, old.few);
       keys = subst (λ ds. KeysMatch (g.E.Extract.has_key c.args.keys) ds) (sym c.remove.ensures.items) c.requires.keys;
-      placed = subst (λ ds. ArePlaced (column_of s.store) ds fin) (sym c.remove.ensures.items) (dropped_placed s.store s.specs.items s.indices.items fin c.args.index c.requires.index old.placed count each);
+      placed = subst (λ ds. ArePlaced (columns_in s.store) ds fin) (sym c.remove.ensures.items) (dropped_placed s.store s.specs.items s.indices.items fin c.args.index c.requires.index old.placed count each);
       nodes = old.nodes;
       columns = omega (arith, all, now, old.columns);
       most = old.most;
@@ -71,11 +71,11 @@ returns-clause-unique g c =
     let count = r.count ∙ ap length c.remove-2.ensures.items in
     let each = subst (λ is. AreRenumbered s.store is fin) c.remove-2.ensures.items r.each in
     let order = g.E.Extract.order_of in
-    subst (λ ds. AreUniqueFrom (order c.args.keys) (record_of s.store) None 0 ds (lists_in (column_of s.store) fin)) (sym c.remove.ensures.items)
+    subst (λ ds. AreUniqueFrom (order c.args.keys) (record_of s.store) None 0 ds (lists_in (columns_in s.store) fin)) (sym c.remove.ensures.items)
     (subst (λ ls. AreUniqueFrom (order c.args.keys) (record_of s.store) None 0 (remove s.specs.items c.args.index) ls)
     (sym (dropped_lists s.store s.specs.items s.indices.items fin c.args.index c.requires.index placed count each c.remove-2.result))
     (dropped_unique s.store s.specs.items s.indices.items fin c.args.index c.requires.index placed count each (order s.keys) (order c.args.keys) c.requires.orders (record_of s.store) (lists_of s)
-    (length-map s.indices.items (list_of (column_of s.store)) ∙ placed.one_each) c.requires.filed.sound.keys.unique c.requires.filed.unique))
+    (length-map s.indices.items (list_of (columns_in s.store)) ∙ placed.one_each) c.requires.filed.sound.keys.unique c.requires.filed.unique))
 
 pub returns-clause-room : goal.returns-clause-room
 returns-clause-room g c h =

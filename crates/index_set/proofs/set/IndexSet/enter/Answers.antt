@@ -1,5 +1,5 @@
 use Rattle.std.proofs.Common.{rules, ◌≡◌, ◌∙◌, ap, sym, subst, length}
-use Rattle.node_store.specs.ByNode.{column_of}
+use Rattle.node_store.specs.ByNode.{columns_in}
 use Rattle.index_set.specs.Indices.{ArePlaced, AreWithin}
 use Rattle.node_store.specs.Store.{width_of}
 use Rattle.index_set.proofs.Frame.{within_more}
@@ -14,7 +14,7 @@ enter_each-requires-clause-columns g c =
 pub returns-clause-sound : goal.returns-clause-sound
 returns-clause-sound g c =
     let old = c.requires.sound in
-    let placed = subst (λ ds. ArePlaced (column_of c.enter_each.new.store) ds c.enter_each.new.indices) c.deref.ensures.value c.enter_each.ensures.placed in
+    let placed = subst (λ ds. ArePlaced (columns_in c.enter_each.new.store) ds c.enter_each.new.indices) c.deref.ensures.value c.enter_each.ensures.placed in
     let was : AreWithin c.args.self.now.columns c.deref.result.now c.deref_mut.result.now = search rules in
     let within = subst (λ ds. AreWithin c.args.self.now.columns ds c.enter_each.new.indices) c.deref.ensures.value (c.enter_each.ensures.within c.args.self.now.columns was) in
     let same : length c.enter_each.new.indices ≡ length c.args.self.now.indices.items =
@@ -24,7 +24,7 @@ returns-clause-sound g c =
       some = old.some;
       few = old.few;
       keys = old.keys;
-      placed = subst (λ z. ArePlaced (column_of c.enter_each.new.store) c.args.self.now.specs.items z) (sym (refilled c.args.self.now.indices.len c.args.self.now.indices.items c.enter_each.new.indices held same)) placed;
+      placed = subst (λ z. ArePlaced (columns_in c.enter_each.new.store) c.args.self.now.specs.items z) (sym (refilled c.args.self.now.indices.len c.args.self.now.indices.items c.enter_each.new.indices held same)) placed;
       nodes = IsStore_kept c.args.self.now.store c.enter_each.new.store c.enter_each.ensures.contents old.nodes;
       columns = old.columns;
       most = old.most;

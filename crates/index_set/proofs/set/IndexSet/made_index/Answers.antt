@@ -1,7 +1,7 @@
+use Rattle.node_store.specs.ByNode.{columns_in}
 use Rattle.any_index.specs.Keyed.{marks_of}
 use Rattle.std.proofs.Common.{◌≡◌, ◌==◌, false, length, ap, ◌∙◌, subst, arith}
 use Rattle.std.specs.List.{list_any}
-use Rattle.node_store.specs.ByNode.{column_of}
 use Rattle.any_index.specs.Spelled.{col_of}
 use Rattle.index_set.specs.Indices.{lists_in}
 use Rattle.index_set.proofs.Joining.{unused, new_key, new_unique, placed_beside, lists_beside, keyed_beside}
@@ -24,7 +24,7 @@ returns-clause-sound g c =
       some = old.some;
       few = old.few;
       keys = old.keys;
-      placed = placed_beside t.store c.build.new.store t.specs.items t.indices.items c.free_column-column.result old.placed (λ j d lt. unused t.indices.items c.free_column-column.result free j d (omega (arith, lt, old.placed.one_each))) c.build.ensures.others;
+      placed = placed_beside t.store c.build.new.store t.specs.items t.indices.items c.free_column-column.result old.placed (λ j d lt. unused t.indices.items c.free_column-column.result free j d (omega (arith, lt, old.placed.one_each))) c.build.ensures.others c.build.ensures.contents;
       nodes = IsStore_kept t.store c.build.new.store c.build.ensures.contents old.nodes;
       columns = old.columns;
       most = old.most;
@@ -37,8 +37,8 @@ returns-clause-lists g c =
     let t = c.reserve_index.new.self in
     let r = c.in-Ok.ensures in
     let free = subst (λ xs. list_any (λ i. col_of i == c.free_column-column.result) xs ≡ false) c.deref.ensures.value c.free_column-column.ensures.free in
-    lists_beside t.store c.build.new.store t.specs.items t.indices.items c.free_column-column.result r.sound.placed (λ j d lt. unused t.indices.items c.free_column-column.result free j d (omega (arith, lt, r.sound.placed.one_each))) c.build.ensures.others
-    ∙ (λ i. lists_in (column_of (r.store i)) (r.indices i))
+    lists_beside t.store c.build.new.store t.specs.items t.indices.items c.free_column-column.result r.sound.placed (λ j d lt. unused t.indices.items c.free_column-column.result free j d (omega (arith, lt, r.sound.placed.one_each))) c.build.ensures.others c.build.ensures.contents
+    ∙ (λ i. lists_in (columns_in (r.store i)) (r.indices i))
 
 pub returns-clause-keyed : goal.returns-clause-keyed
 returns-clause-keyed g c =

@@ -15,25 +15,25 @@ returns-clause-sound g c =
       some = old.some;
       few = old.few;
       keys = old.keys;
-      placed = placed_moved c.args.self.now c.requires.at.sound c.args.index c.requires.at.index c.index_mut.result.now c.move_to.new.self c.index_mut.ensures.value c.move_to.new.store (steps_of c.move_to.ensures.sound c.move_to.ensures.rest.kind c.move_to.ensures.rest.col c.move_to.ensures.rest.index c.move_to.ensures.rest.others);
+      placed = placed_moved c.args.self.now c.requires.at.sound c.args.index c.requires.at.index c.index_mut.result.now c.move_to.new.self c.index_mut.ensures.value c.move_to.new.store (steps_of c.move_to.ensures.sound c.move_to.ensures.rest.kind c.move_to.ensures.rest.col c.move_to.ensures.rest.index c.move_to.ensures.rest.others c.move_to.ensures.rest.contents);
       nodes = IsStore_kept c.args.self.now.store c.move_to.new.store c.move_to.ensures.rest.contents old.nodes;
       columns = old.columns;
       most = old.most;
-      within = within_moved c.args.self.now c.requires.at.sound c.args.index c.requires.at.index c.index_mut.result.now c.move_to.new.self c.index_mut.ensures.value c.move_to.new.store (steps_of c.move_to.ensures.sound c.move_to.ensures.rest.kind c.move_to.ensures.rest.col c.move_to.ensures.rest.index c.move_to.ensures.rest.others);
+      within = within_moved c.args.self.now c.requires.at.sound c.args.index c.requires.at.index c.index_mut.result.now c.move_to.new.self c.index_mut.ensures.value c.move_to.new.store (steps_of c.move_to.ensures.sound c.move_to.ensures.rest.kind c.move_to.ensures.rest.col c.move_to.ensures.rest.index c.move_to.ensures.rest.others c.move_to.ensures.rest.contents);
       wide = columns_kept c.args.self.now.store c.move_to.new.store c.move_to.ensures.rest.contents old.wide;
     }
 
 pub returns-clause-lists : goal.returns-clause-lists
 returns-clause-lists g c =
-    lists_moved c.args.self.now c.requires.at.sound c.args.index c.requires.at.index c.index_mut.result.now c.move_to.new.self c.index_mut.ensures.value c.move_to.new.store (steps_of c.move_to.ensures.sound c.move_to.ensures.rest.kind c.move_to.ensures.rest.col c.move_to.ensures.rest.index c.move_to.ensures.rest.others)
+    lists_moved c.args.self.now c.requires.at.sound c.args.index c.requires.at.index c.index_mut.result.now c.move_to.new.self c.index_mut.ensures.value c.move_to.new.store (steps_of c.move_to.ensures.sound c.move_to.ensures.rest.kind c.move_to.ensures.rest.col c.move_to.ensures.rest.index c.move_to.ensures.rest.others c.move_to.ensures.rest.contents)
     _ (c.move_to.ensures.list ∙ ap (relocated (same_node c.args.n) c.args.n c.args.place) (list_here c.args.self.now c.requires.at.sound c.args.index c.requires.at.index c.index_mut.result.now c.index_mut.ensures.value))
 
 pub returns-clause-room : goal.returns-clause-room
 returns-clause-room g c =
-    room_moved c.args.self.now c.requires.at.sound c.args.index c.requires.at.index c.index_mut.result.now c.move_to.new.self c.index_mut.ensures.value c.move_to.new.store (steps_of c.move_to.ensures.sound c.move_to.ensures.rest.kind c.move_to.ensures.rest.col c.move_to.ensures.rest.index c.move_to.ensures.rest.others)
+    room_moved c.args.self.now c.requires.at.sound c.args.index c.requires.at.index c.index_mut.result.now c.move_to.new.self c.index_mut.ensures.value c.move_to.new.store (steps_of c.move_to.ensures.sound c.move_to.ensures.rest.kind c.move_to.ensures.rest.col c.move_to.ensures.rest.index c.move_to.ensures.rest.others c.move_to.ensures.rest.contents)
     c.move_to.ensures.room
 
 pub returns-clause-keyed : goal.returns-clause-keyed
 returns-clause-keyed g c =
-    keyed_moved c.args.self.now c.requires.at.sound c.args.index c.requires.at.index c.index_mut.result.now c.move_to.new.self c.index_mut.ensures.value c.move_to.new.store (steps_of c.move_to.ensures.sound c.move_to.ensures.rest.kind c.move_to.ensures.rest.col c.move_to.ensures.rest.index c.move_to.ensures.rest.others)
+    keyed_moved c.args.self.now c.requires.at.sound c.args.index c.requires.at.index c.index_mut.result.now c.move_to.new.self c.index_mut.ensures.value c.move_to.new.store (steps_of c.move_to.ensures.sound c.move_to.ensures.rest.kind c.move_to.ensures.rest.col c.move_to.ensures.rest.index c.move_to.ensures.rest.others c.move_to.ensures.rest.contents)
     c.requires.kind c.move_to.ensures.rest.contents (g.E.Extract.order_of c.args.self.now.keys) (marks_of g.E.Extract c.args.self.now.keys)

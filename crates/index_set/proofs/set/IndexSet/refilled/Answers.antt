@@ -4,7 +4,8 @@ use Rattle.std.specs.Prelude.{slice_set, IsTrue, Option}
 use Rattle.std.proofs.lemmas.List.{length-map, get_or_default}
 use Rattle.node_store.specs.declared.Node.{Node}
 use Rattle.node_store.specs.Column.{KeepsOthers}
-use Rattle.node_store.specs.ByNode.{column_of, record_of}
+use Rattle.node_store.specs.Store.{age_of}
+use Rattle.node_store.specs.ByNode.{column_of, record_of, columns_in}
 use Rattle.node_store.proofs.ByNode.{records_kept}
 use Rattle.container_model.specs.declared.handle.Spec.{Spec}
 use Rattle.any_index.specs.Spelled.{list_of, col_of}
@@ -36,25 +37,25 @@ column_here : (g : Over) (c : Joined-index_mut-made g) → c.col-column.result �
 column_here g c = c.col-column.ensures.col
 
 -- the new index steps into the place of the old one
-step : (g : Over) (c : Joined-index_mut-made g) → Steps (column_of c.args.self.store) (column_of c.build.new.store) c.index.result.now c.in_ok-made.made
+step : (g : Over) (c : Joined-index_mut-made g) → Steps c.args.self.store c.build.new.store c.index.result.now c.in_ok-made.made
 step g c =
     let s = c.args.self in
     let spec = c.index-spec.result.now in
     let old = c.index.result.now in
     let b = c.in_ok-made.ensures in
-    let was : IsPlaced (column_of s.store) c.args.index spec old =
-    subst (λ z. IsPlaced (column_of s.store) c.args.index z old) (sym (spec_here g c))
-    (subst (λ z. IsPlaced (column_of s.store) c.args.index (get_or s.specs.items c.args.index spec) z) (sym c.index.ensures) (c.requires.filed.sound.placed.each c.args.index spec old c.requires.within)) in
-    refilled_step (column_of s.store) (column_of c.build.new.store) c.args.index spec old c.in_ok-made.made was b.placed (b.column ∙ column_here g c)
-    (subst (KeepsOthers (column_of s.store) (column_of c.build.new.store)) (column_here g c) c.build.ensures.others)
+    let was : IsPlaced (columns_in s.store) c.args.index spec old =
+    subst (λ z. IsPlaced (columns_in s.store) c.args.index z old) (sym (spec_here g c))
+    (subst (λ z. IsPlaced (columns_in s.store) c.args.index (get_or s.specs.items c.args.index spec) z) (sym c.index.ensures) (c.requires.filed.sound.placed.each c.args.index spec old c.requires.within)) in
+    refilled_step s.store c.build.new.store c.args.index spec old c.in_ok-made.made was b.placed (b.column ∙ column_here g c)
+    (subst (KeepsOthers (column_of s.store) (column_of c.build.new.store)) (column_here g c) c.build.ensures.others) c.build.ensures.contents
 
 -- its list is the one that is defined
-listed : (g : Over) (c : Joined-index_mut-made g) → list_of (column_of c.build.new.store) c.in_ok-made.made ≡ new_list g.E.Extract c.args.self c.args.index c.args.nodes.now
+listed : (g : Over) (c : Joined-index_mut-made g) → list_of (columns_in c.build.new.store) c.in_ok-made.made ≡ new_list g.E.Extract c.args.self c.args.index c.args.nodes.now
 listed g c =
     let s = c.args.self in
     let b = c.in_ok-made.ensures in
     b.list
-    ∙ ap (λ kind. entered_all (order_here g.E.Extract s c.args.index c.args.nodes.now) kind [] c.args.nodes.now)
+    ∙ ap (λ kind. entered_all (age_of s.store) (order_here g.E.Extract s c.args.index c.args.nodes.now) kind [] c.args.nodes.now)
     (sym b.placed.kind ∙ ((step g c).kind ∙ kind_here s c.requires.filed.sound c.args.index c.requires.within c.index.result.now c.index.ensures))
 
 pub returns-clause-sound : goal.returns-clause-sound
@@ -95,7 +96,7 @@ returns-clause-unique g c =
     let sound = c.requires.filed.sound in
     let lists = lists_moved s sound k c.requires.within c.index.result.now c.in_ok-made.made c.index.ensures c.build.new.store (step g c) xs (listed g c) in
     let kept = records_kept s.store c.build.new.store c.build.ensures.contents in
-    let all = unique_refilled order (record_of s.store) s.specs.items (lists_of s) k xs (length-map s.indices.items (list_of (column_of s.store)) ∙ sound.placed.one_each) c.requires.within c.requires.filed.unique
+    let all = unique_refilled order (record_of s.store) s.specs.items (lists_of s) k xs (length-map s.indices.items (list_of (columns_in s.store)) ∙ sound.placed.one_each) c.requires.within c.requires.filed.unique
     (λ d unique.
     subst (HasEachKeyOnce (order_here g.E.Extract s k c.args.nodes.now)) (listed g c)
     (c.in_ok-made.ensures.unique (subst (λ (z : Spec). IsTrue z.unique) (get_or_default s.specs.items k d spec c.requires.within ∙ sym (spec_here g c)) unique))) in

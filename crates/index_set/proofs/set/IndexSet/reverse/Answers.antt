@@ -14,25 +14,25 @@ returns-clause-sound g c =
       some = old.some;
       few = old.few;
       keys = old.keys;
-      placed = placed_moved c.args.self.now c.requires.at.sound c.args.index c.requires.at.index c.index_mut.result.now c.reverse.new.self c.index_mut.ensures.value c.reverse.new.store (steps_of c.reverse.ensures.sound c.reverse.ensures.rest.kind c.reverse.ensures.rest.col c.reverse.ensures.rest.index c.reverse.ensures.rest.others);
+      placed = placed_moved c.args.self.now c.requires.at.sound c.args.index c.requires.at.index c.index_mut.result.now c.reverse.new.self c.index_mut.ensures.value c.reverse.new.store (steps_of c.reverse.ensures.sound c.reverse.ensures.rest.kind c.reverse.ensures.rest.col c.reverse.ensures.rest.index c.reverse.ensures.rest.others c.reverse.ensures.rest.contents);
       nodes = IsStore_kept c.args.self.now.store c.reverse.new.store c.reverse.ensures.rest.contents old.nodes;
       columns = old.columns;
       most = old.most;
-      within = within_moved c.args.self.now c.requires.at.sound c.args.index c.requires.at.index c.index_mut.result.now c.reverse.new.self c.index_mut.ensures.value c.reverse.new.store (steps_of c.reverse.ensures.sound c.reverse.ensures.rest.kind c.reverse.ensures.rest.col c.reverse.ensures.rest.index c.reverse.ensures.rest.others);
+      within = within_moved c.args.self.now c.requires.at.sound c.args.index c.requires.at.index c.index_mut.result.now c.reverse.new.self c.index_mut.ensures.value c.reverse.new.store (steps_of c.reverse.ensures.sound c.reverse.ensures.rest.kind c.reverse.ensures.rest.col c.reverse.ensures.rest.index c.reverse.ensures.rest.others c.reverse.ensures.rest.contents);
       wide = columns_kept c.args.self.now.store c.reverse.new.store c.reverse.ensures.rest.contents old.wide;
     }
 
 pub returns-clause-lists : goal.returns-clause-lists
 returns-clause-lists g c =
-    lists_moved c.args.self.now c.requires.at.sound c.args.index c.requires.at.index c.index_mut.result.now c.reverse.new.self c.index_mut.ensures.value c.reverse.new.store (steps_of c.reverse.ensures.sound c.reverse.ensures.rest.kind c.reverse.ensures.rest.col c.reverse.ensures.rest.index c.reverse.ensures.rest.others)
+    lists_moved c.args.self.now c.requires.at.sound c.args.index c.requires.at.index c.index_mut.result.now c.reverse.new.self c.index_mut.ensures.value c.reverse.new.store (steps_of c.reverse.ensures.sound c.reverse.ensures.rest.kind c.reverse.ensures.rest.col c.reverse.ensures.rest.index c.reverse.ensures.rest.others c.reverse.ensures.rest.contents)
     _ (c.reverse.ensures.list ∙ ap (reverse) (list_here c.args.self.now c.requires.at.sound c.args.index c.requires.at.index c.index_mut.result.now c.index_mut.ensures.value))
 
 pub returns-clause-room : goal.returns-clause-room
 returns-clause-room g c =
-    room_moved c.args.self.now c.requires.at.sound c.args.index c.requires.at.index c.index_mut.result.now c.reverse.new.self c.index_mut.ensures.value c.reverse.new.store (steps_of c.reverse.ensures.sound c.reverse.ensures.rest.kind c.reverse.ensures.rest.col c.reverse.ensures.rest.index c.reverse.ensures.rest.others)
+    room_moved c.args.self.now c.requires.at.sound c.args.index c.requires.at.index c.index_mut.result.now c.reverse.new.self c.index_mut.ensures.value c.reverse.new.store (steps_of c.reverse.ensures.sound c.reverse.ensures.rest.kind c.reverse.ensures.rest.col c.reverse.ensures.rest.index c.reverse.ensures.rest.others c.reverse.ensures.rest.contents)
     c.reverse.ensures.room
 
 pub returns-clause-keyed : goal.returns-clause-keyed
 returns-clause-keyed g c =
-    keyed_moved c.args.self.now c.requires.at.sound c.args.index c.requires.at.index c.index_mut.result.now c.reverse.new.self c.index_mut.ensures.value c.reverse.new.store (steps_of c.reverse.ensures.sound c.reverse.ensures.rest.kind c.reverse.ensures.rest.col c.reverse.ensures.rest.index c.reverse.ensures.rest.others)
+    keyed_moved c.args.self.now c.requires.at.sound c.args.index c.requires.at.index c.index_mut.result.now c.reverse.new.self c.index_mut.ensures.value c.reverse.new.store (steps_of c.reverse.ensures.sound c.reverse.ensures.rest.kind c.reverse.ensures.rest.col c.reverse.ensures.rest.index c.reverse.ensures.rest.others c.reverse.ensures.rest.contents)
     c.requires.kind c.reverse.ensures.rest.contents (g.E.Extract.order_of c.args.self.now.keys) (marks_of g.E.Extract c.args.self.now.keys)

@@ -1,5 +1,5 @@
 use Rattle.std.proofs.Common.{rules, ◌≡◌, ◌∙◌, ap, sym, subst, length}
-use Rattle.node_store.specs.ByNode.{column_of}
+use Rattle.node_store.specs.ByNode.{columns_in}
 use Rattle.index_set.specs.Indices.{ArePlaced, AreWithin}
 use Rattle.index_set.proofs.Refilled.{refilled}
 use Rattle.index_set.proofs.Stores.{IsStore_kept, columns_kept}
@@ -8,7 +8,7 @@ use Rattle.index_set.proofs.set.IndexSet.settle_changed.Goals as goal
 pub returns-clause-sound : goal.returns-clause-sound
 returns-clause-sound g c =
     let old = c.requires.sound in
-    let placed = subst (λ ds. ArePlaced (column_of c.settle_each.new.store) ds c.settle_each.new.indices) c.deref.ensures.value c.settle_each.ensures.placed in
+    let placed = subst (λ ds. ArePlaced (columns_in c.settle_each.new.store) ds c.settle_each.new.indices) c.deref.ensures.value c.settle_each.ensures.placed in
     let was : AreWithin c.args.self.now.columns c.deref.result.now c.deref_mut.result.now = search rules in
     let within = subst (λ ds. AreWithin c.args.self.now.columns ds c.settle_each.new.indices) c.deref.ensures.value (c.settle_each.ensures.within c.args.self.now.columns was) in
     let same : length c.settle_each.new.indices ≡ length c.args.self.now.indices.items =
@@ -18,7 +18,7 @@ returns-clause-sound g c =
       some = old.some;
       few = old.few;
       keys = old.keys;
-      placed = subst (λ z. ArePlaced (column_of c.settle_each.new.store) c.args.self.now.specs.items z) (sym (refilled c.args.self.now.indices.len c.args.self.now.indices.items c.settle_each.new.indices held same)) placed;
+      placed = subst (λ z. ArePlaced (columns_in c.settle_each.new.store) c.args.self.now.specs.items z) (sym (refilled c.args.self.now.indices.len c.args.self.now.indices.items c.settle_each.new.indices held same)) placed;
       nodes = IsStore_kept c.args.self.now.store c.settle_each.new.store c.settle_each.ensures.contents old.nodes;
       columns = old.columns;
       most = old.most;

@@ -3,7 +3,7 @@ use Rattle.any_index.specs.Keyed.{marks_of}
 use Rattle.std.proofs.Common.{arith, subst, sym, refl, ap, ◌∙◌}
 use Rattle.std.specs.Prelude.{IsTrue}
 use Rattle.node_store.specs.Nodes.{Holds}
-use Rattle.node_store.specs.ByNode.{column_of, record_of}
+use Rattle.node_store.specs.ByNode.{column_of, record_of, columns_in}
 use Rattle.any_index.proofs.Marking.{row_list_same}
 use Rattle.index_set.specs.Lists.{IsSunk, is_match}
 use Rattle.container_model.specs.State.{is_sequence_kind}
@@ -37,7 +37,7 @@ returns-clause-sound g c =
     let set = c.args.self.now in
     let mid = c.mark_key-low.new.store in
     let step = two_steps set.store mid c.close_up.new.store c.index-2.result.now c.index_mut.result.now c.close_up.new.self (same_index set.indices.items c.args.row c.index-2.result.now c.index_mut.result.now c.index-2.ensures c.index_mut.ensures.value (omega (arith, c.requires.at.index, c.requires.at.sound.placed.one_each)))
-    c.mark_key-low.ensures.others (steps_of c.close_up.ensures.sound c.close_up.ensures.rest.kind c.close_up.ensures.rest.col c.close_up.ensures.rest.index c.close_up.ensures.rest.others) in
+    c.mark_key-low.ensures.others c.mark_key-low.ensures.contents (steps_of c.close_up.ensures.sound c.close_up.ensures.rest.kind c.close_up.ensures.rest.col c.close_up.ensures.rest.index c.close_up.ensures.rest.others c.close_up.ensures.rest.contents) in
     let kept = c.close_up.ensures.rest.contents ∙ c.mark_key-low.ensures.contents in
     let old = c.requires.at.sound in
     record {
@@ -57,7 +57,7 @@ returns-clause-room g c =
     let set = c.args.self.now in
     let mid = c.mark_key-low.new.store in
     let step = two_steps set.store mid c.close_up.new.store c.index-2.result.now c.index_mut.result.now c.close_up.new.self (same_index set.indices.items c.args.row c.index-2.result.now c.index_mut.result.now c.index-2.ensures c.index_mut.ensures.value (omega (arith, c.requires.at.index, c.requires.at.sound.placed.one_each)))
-    c.mark_key-low.ensures.others (steps_of c.close_up.ensures.sound c.close_up.ensures.rest.kind c.close_up.ensures.rest.col c.close_up.ensures.rest.index c.close_up.ensures.rest.others) in
+    c.mark_key-low.ensures.others c.mark_key-low.ensures.contents (steps_of c.close_up.ensures.sound c.close_up.ensures.rest.kind c.close_up.ensures.rest.col c.close_up.ensures.rest.index c.close_up.ensures.rest.others c.close_up.ensures.rest.contents) in
     let kept = c.close_up.ensures.rest.contents ∙ c.mark_key-low.ensures.contents in
     room_moved set c.requires.at.sound c.args.row c.requires.at.index c.index_mut.result.now c.close_up.new.self c.index_mut.ensures.value c.close_up.new.store step c.close_up.ensures.room
 
@@ -66,7 +66,7 @@ returns-clause-keyed g c =
     let set = c.args.self.now in
     let mid = c.mark_key-low.new.store in
     let step = two_steps set.store mid c.close_up.new.store c.index-2.result.now c.index_mut.result.now c.close_up.new.self (same_index set.indices.items c.args.row c.index-2.result.now c.index_mut.result.now c.index-2.ensures c.index_mut.ensures.value (omega (arith, c.requires.at.index, c.requires.at.sound.placed.one_each)))
-    c.mark_key-low.ensures.others (steps_of c.close_up.ensures.sound c.close_up.ensures.rest.kind c.close_up.ensures.rest.col c.close_up.ensures.rest.index c.close_up.ensures.rest.others) in
+    c.mark_key-low.ensures.others c.mark_key-low.ensures.contents (steps_of c.close_up.ensures.sound c.close_up.ensures.rest.kind c.close_up.ensures.rest.col c.close_up.ensures.rest.index c.close_up.ensures.rest.others c.close_up.ensures.rest.contents) in
     let kept = c.close_up.ensures.rest.contents ∙ c.mark_key-low.ensures.contents in
     keyed_moved set c.requires.at.sound c.args.row c.requires.at.index c.index_mut.result.now c.close_up.new.self c.index_mut.ensures.value c.close_up.new.store step
     (subst (λ kind. IsTrue (is_sequence_kind kind)) (sym c.requires.kind) refl) kept (g.E.Extract.order_of set.keys) (marks_of g.E.Extract set.keys) c.requires.key.keyed
@@ -76,7 +76,7 @@ returns-clause-lists g c =
     let set = c.args.self.now in
     let mid = c.mark_key-low.new.store in
     let step = two_steps set.store mid c.close_up.new.store c.index-2.result.now c.index_mut.result.now c.close_up.new.self (same_index set.indices.items c.args.row c.index-2.result.now c.index_mut.result.now c.index-2.ensures c.index_mut.ensures.value (omega (arith, c.requires.at.index, c.requires.at.sound.placed.one_each)))
-    c.mark_key-low.ensures.others (steps_of c.close_up.ensures.sound c.close_up.ensures.rest.kind c.close_up.ensures.rest.col c.close_up.ensures.rest.index c.close_up.ensures.rest.others) in
+    c.mark_key-low.ensures.others c.mark_key-low.ensures.contents (steps_of c.close_up.ensures.sound c.close_up.ensures.rest.kind c.close_up.ensures.rest.col c.close_up.ensures.rest.index c.close_up.ensures.rest.others c.close_up.ensures.rest.contents) in
     let kept = c.close_up.ensures.rest.contents ∙ c.mark_key-low.ensures.contents in
     lists_sunk set c.requires.at.sound c.args.row c.requires.at.index c.index_mut.result.now c.close_up.new.self c.index_mut.ensures.value c.close_up.new.store step
 
@@ -85,21 +85,21 @@ returns-clause-sunk g c =
     let set = c.args.self.now in
     let mid = c.mark_key-low.new.store in
     let step = two_steps set.store mid c.close_up.new.store c.index-2.result.now c.index_mut.result.now c.close_up.new.self (same_index set.indices.items c.args.row c.index-2.result.now c.index_mut.result.now c.index-2.ensures c.index_mut.ensures.value (omega (arith, c.requires.at.index, c.requires.at.sound.placed.one_each)))
-    c.mark_key-low.ensures.others (steps_of c.close_up.ensures.sound c.close_up.ensures.rest.kind c.close_up.ensures.rest.col c.close_up.ensures.rest.index c.close_up.ensures.rest.others) in
+    c.mark_key-low.ensures.others c.mark_key-low.ensures.contents (steps_of c.close_up.ensures.sound c.close_up.ensures.rest.kind c.close_up.ensures.rest.col c.close_up.ensures.rest.index c.close_up.ensures.rest.others c.close_up.ensures.rest.contents) in
     let kept = c.close_up.ensures.rest.contents ∙ c.mark_key-low.ensures.contents in
     let row = c.index_mut.result.now in
     let same = same_index set.indices.items c.args.row c.index-2.result.now row c.index-2.ensures c.index_mut.ensures.value (omega (arith, c.requires.at.index, c.requires.at.sound.placed.one_each)) in
     let kind = kind_here set c.requires.at.sound c.args.row c.requires.at.index row c.index_mut.ensures.value ∙ c.requires.kind in
     let number = number_here set c.requires.key.sound c.args.index c.requires.key.index c.index.result.now c.index.ensures c.requires.key.kind in
-    let first = any.list_of (column_of set.store) row in
-    let after = any.list_of (column_of c.close_up.new.store) c.close_up.new.self in
-    let sunk = subst (λ l. IsSunk (is_marked (column_of mid (any.col_of row))) l after) (row_list_same (column_of set.store) (column_of mid) row kind) c.close_up.ensures.sunk in
+    let first = any.list_of (columns_in set.store) row in
+    let after = any.list_of (columns_in c.close_up.new.store) c.close_up.new.self in
+    let sunk = subst (λ l. IsSunk (is_marked (column_of mid (any.col_of row))) l after) (row_list_same (columns_in set.store) (columns_in mid) row kind) c.close_up.ensures.sunk in
     let by = c.index.result.now in
     let has = is_match (probe_side g.E.Extract.probe_order_of set c.args.index c.args.probe.now) (list_of set c.args.index) in
     list_sunk set c.requires.at.sound c.args.row c.requires.at.index row c.close_up.new.self c.index_mut.ensures.value c.close_up.new.store step has
     (sunk_alike (is_marked (column_of mid (any.col_of row))) has first after
     (λ n held.
     ap (λ i. is_marked (column_of mid (any.col_of i)) n) (sym same)
-    ∙ (c.mark_key-low.ensures.marked n (subst (λ i. Holds (any.list_of (column_of set.store) i) n) (sym same) held)
-    ∙ (ap (λ k. is_match (side_of (record_of set.store) (λ a. g.E.Extract.probe_order_of set.keys k a c.args.probe.now)) (any.list_of (column_of set.store) by) n) number
+    ∙ (c.mark_key-low.ensures.marked n (subst (λ i. Holds (any.list_of (columns_in set.store) i) n) (sym same) held)
+    ∙ (ap (λ k. is_match (side_of (record_of set.store) (λ a. g.E.Extract.probe_order_of set.keys k a c.args.probe.now)) (any.list_of (columns_in set.store) by) n) number
     ∙ ap (λ l. is_match (probe_side g.E.Extract.probe_order_of set c.args.index c.args.probe.now) l n) (list_here set c.requires.key.sound c.args.index c.requires.key.index by c.index.ensures)))) sunk)

@@ -1,7 +1,7 @@
 use Rattle.std.proofs.Common.{◌≡◌, cond, rules, ap, sym, subst, ◌∙◌, arith}
 use Rattle.std.specs.Prelude.{IsTrue}
 use Rattle.container_model.specs.State.{has_key_kind}
-use Rattle.node_store.specs.ByNode.{column_of}
+use Rattle.node_store.specs.ByNode.{columns_in}
 use Rattle.any_index.specs.Spelled.{index_of}
 use Rattle.any_index.specs.Keyed.{marks_of, AreKeyed}
 use Rattle.index_set.proofs.ByKind.{AreKeyed_none}
@@ -16,9 +16,9 @@ invariant_of-result g c =
     let has : IsTrue (g.E.Extract.has_key c.args.keys c.args.number) = search rules in
     let number : index_of i ≡ c.args.number = c.new-2.ensures.index ∙ ap (λ b. cond b c.args.number c.args.column) c.requires.kind in (
       record {
-        sound = c.new-2.ensures.sound (column_of s);
+        sound = c.new-2.ensures.sound (columns_in s);
         key = ap (g.E.Extract.has_key c.args.keys) number ∙ (has ∙ sym (ap has_key_kind c.new-2.ensures.kind ∙ c.requires.kind));
-        keyed = subst (AreKeyed order marks s i) (sym (c.new-2.ensures.empty (column_of s))) (AreKeyed_none order marks s i);
+        keyed = subst (AreKeyed order marks s i) (sym (c.new-2.ensures.empty (columns_in s))) (AreKeyed_none order marks s i);
         column = omega (arith, c.new-2.ensures.col, c.new.ensures.enough);
       },
       number,
