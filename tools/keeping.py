@@ -1,6 +1,7 @@
 """The program table_keeper while it runs, and what stands in the folder of its logs."""
 import contextlib
 import os
+import re
 import selectors
 import signal
 import subprocess
@@ -20,8 +21,9 @@ PROGRAM = (os.path.abspath(next((it for it in sys.argv[1:2] if not it.isdigit())
 PATIENCE = 8
 # What a shell starts in the background ignores an interrupt, and so would the program that a tool starts there.
 signal.signal(signal.SIGINT, signal.default_int_handler)
-# The status of its end: a file that can't be used, another schema, a log that can't be written, a bad line, a folder that is taken.
-FILE, DECLARED, FULL, LINE, TAKEN = 1, 3, 5, 6, 7
+# The status of its end: a file that can't be used, another schema, a log that can't be written, a bad line, a folder that is taken, a state
+# that can't be read, one that can't be written.
+FILE, DECLARED, FULL, LINE, TAKEN, STATE, UNWRITTEN = 1, 3, 5, 6, 7, 8, 9
 
 
 def found_program():
@@ -103,15 +105,51 @@ class Room:
         files = {name: it[0] for name, it in look(f"{self.folder}/data").items() if isinstance(it, tuple)}
         return {name.removesuffix(".jsonl"): text for name, text in files.items() if name.endswith(".jsonl")}
 
+    def files(self):
+        """The logs and states that stand there, by their names."""
+        files = {name: it[0] for name, it in look(f"{self.folder}/data").items() if isinstance(it, tuple)}
+        return {name: text for name, text in files.items() if name != "lock" and not name.endswith(".schema")}
+
+    def lay(self, files):
+        """Puts these logs and states there, and no others."""
+        for name in self.files():
+            os.remove(f"{self.folder}/data/{name}")
+        for name, text in files.items():
+            with open(f"{self.folder}/data/{name}", "wb") as file:
+                file.write(text)
+
+    def compacting(self, environment=None):
+        """The program that is to write the states."""
+        words = [*self.program, "--schema", f"{self.folder}/schema", "--data", f"{self.folder}/data", "--compact"]
+        how = {"stdin": subprocess.DEVNULL, "stdout": subprocess.PIPE, "stderr": subprocess.PIPE, "encoding": "utf-8"}
+        return subprocess.Popen(words, env={**os.environ, **(environment or {})}, **how)
+
+    def compact_ends(self, environment=None):
+        """Has the states written, and gives its status, what it printed, and the lines that it said."""
+        with self.compacting(environment) as process:
+            try:
+                out, said = process.communicate(timeout=SECONDS)
+            except subprocess.TimeoutExpired as why:
+                process.kill()
+                raise Wrong("the compact does not end") from why
+        return process.returncode, out, said.splitlines()
+
+    def compact(self, status=0, said="", environment=None):
+        """Has the states written, and compares the end of that, and what it says at last."""
+        found, out, told = self.compact_ends(environment)
+        wants("the end of a compact", (found, out, told[-1:]), (status, "", [said.replace("@", self.folder)] if said else []))
+
     def refused(self, status, said, words=(), **how):
-        """Compares the end of a program that may not start, and what it says at last. Every log has to be as it was."""
-        before = self.logs()
+        """Compares the end of a program that may not start, and what it says at last, where a # stands for any number. Every log and state has
+        to be as it was."""
+        before = self.files()
         with self.keeper(*words, **how) as keeper:
             out = keeper.process.stdout.readline()
             found, told = (None, "") if out else keeper.ended()
         wants("listening", out, b"")
-        wants("the status, and what it says", (found, told.splitlines()[-1:]), (status, [said.replace("@", self.folder)]))
-        wants("the logs", self.logs(), before)
+        last = [re.sub(r"\d+$", "#", it) if said.endswith("#") else it for it in told.splitlines()[-1:]]
+        wants("the status, and what it says", (found, last), (status, [said.replace("@", self.folder)]))
+        wants("the logs and states", self.files(), before)
 
 
 def wait_to_listen(keeper, seconds):

@@ -6,7 +6,10 @@ plain_keeper.py FAULT WORDS ..    FAULT is one of FAULTS, or `none`; the words a
 import argparse
 import contextlib
 import fcntl
+import hashlib
 import os
+import pickle
+import re
 import socket
 import sys
 import threading
@@ -14,7 +17,7 @@ import time
 import tomllib
 
 from command_texts import command_text
-from plain_machine import MEMORY, Fault, Machine, read
+from plain_machine import MEMORY, Fault, Machine, Record, by_age, read
 
 FAULTS = {
     "none",
@@ -26,6 +29,10 @@ FAULTS = {
     "a connection too many is closed", "a worker ends with its connection", "a failed accept ends a worker", "appends without its lock",
     "keeps each write", "a refused start empties a log", "a refused line is carried out", "a refused line has no answer",
     "a refused connection ends a worker",
+    "a state loses an order", "a state loses its number", "a state has the schema's indices alone", "a state numbers handles anew",
+    "a cut state is an empty table", "any state will do", "a half written state is read", "the old log runs on the new state", "an old log stays",
+    "a half written state stays", "a log without its state is passed over", "a compact removes the log first", "a compact renames before it syncs",
+    "a failed compact ends with status 0", "a failed compact takes the log", "a second compact empties the state", "a refused compact takes the log",
 }
 
 
@@ -71,14 +78,141 @@ class Memory:
             return self.count == self.refuse_at or self.refuses_on and self.count > self.refuse_at
 
 
+def sync_folder(folder):
+    opened = os.open(folder, os.O_RDONLY)
+    if not has_fault("its folder is never synced"):
+        os.fsync(opened)
+    os.close(opened)
+
+
+def remove(path):
+    with contextlib.suppress(FileNotFoundError):
+        os.remove(path)
+
+
+def spelled_by(text):
+    """The bytes that hexadecimal digits spell; of another text none."""
+    try:
+        return bytes.fromhex(text.decode())
+    except ValueError:
+        return b""
+
+
+class State:
+    """What a file has of a table: its records with their handles, in the order of each index, and its number of writes."""
+
+    def __init__(self, folder, table):
+        self.folder, self.table, self.number = folder, table, None
+        self.path, self.draft = f"{folder}/{table.name}.state", f"{folder}/{table.name}.state.new"
+
+    def text(self):
+        lists, writes = self.table.lists, self.table.writes
+        if has_fault("a state loses an order"):
+            lists = {it: records if it.kind in ("ordered", "ranked") else by_age(records) for it, records in lists.items()}
+        if has_fault("a state has the schema's indices alone"):
+            lists = dict(list(lists.items())[:1])
+        if has_fault("a state numbers handles anew"):
+            new = {id(it): Record(at, it.stamp, it.row) for at, it in enumerate(by_age(self.table.records))}
+            lists = {index: [new[id(it)] for it in records] for index, records in lists.items()}
+        text = pickle.dumps((self.table.name, self.table.columns, len(self.table.records) if has_fault("a state loses its number") else writes, lists))
+        return f"{hashlib.sha256(text).hexdigest()} {text.hex()}\n".encode()
+
+    def read(self):
+        """Puts the state into the empty table, where there is one."""
+        path = self.draft if has_fault("a half written state is read") and os.path.exists(self.draft) else self.path
+        if not os.path.exists(path):
+            return
+        with open(path, "rb") as file:
+            text = file.read()
+        line, newline, behind = text.partition(b"\n")
+        told, _, spelled = line.partition(b" ")
+        is_whole = newline and hashlib.sha256(spelled_by(spelled)).hexdigest().encode() == told
+        if not is_whole or behind:
+            if has_fault("a cut state is an empty table"):
+                return
+            raise Stop(8, f"state: {path}: {2 if is_whole else 1}\n")
+        name, columns, writes, lists = pickle.loads(spelled_by(spelled))
+        if (name, columns) != (self.table.name, self.table.columns) and not has_fault("any state will do"):
+            raise Stop(8, f"state: {path}: 1\n")
+        self.table.lists, self.table.writes, self.number = lists, writes, writes
+
+    def log(self, number):
+        """The path of the log behind a state, or of that which begins with the empty table."""
+        return f"{self.folder}/{self.table.name}.{'' if number is None else f'{number}.'}jsonl"
+
+    def numbers(self):
+        """The numbers of the states that logs are behind."""
+        found = [re.fullmatch(rf"{self.table.name}\.(0|[1-9]\d*)\.jsonl", it) for it in os.listdir(self.folder)]
+        return [int(it.group(1)) for it in found if it]
+
+    def refuse_later(self):
+        for number in self.numbers():
+            if (self.number is None or number > self.number) and not has_fault("a log without its state is passed over"):
+                raise Stop(8, f"state: none before: {self.log(number)}\n")
+
+    def clean(self):
+        """Removes what is older than the state."""
+        if not has_fault("a half written state stays"):
+            remove(self.draft)
+        if self.number is None or has_fault("an old log stays"):
+            return
+        for number in [None, *(it for it in self.numbers() if it < self.number)]:
+            remove(self.log(number))
+
+    def put(self):
+        """Writes the state in place of the one before, and an empty log."""
+        number = self.table.writes
+        if self.number == number:
+            if has_fault("a second compact empties the state"):
+                self.table.lists = {it: [] for it in self.table.lists}
+                self.put_text()
+            return
+        if has_fault("a compact removes the log first"):
+            remove(self.log(self.number))
+        try:
+            self.put_text()
+        except OSError:
+            if not has_fault("a half written state stays"):
+                remove(self.draft)
+            if has_fault("a failed compact takes the log"):
+                remove(self.log(self.number))
+            raise Stop(0 if has_fault("a failed compact ends with status 0") else 9, f"compact: {self.draft}\n") from None
+        try:
+            sync_folder(self.folder)
+            open(self.log(number), "wb").close()
+            sync_folder(self.folder)
+        except OSError:
+            raise Stop(1, f"device: file: {self.folder}\n") from None
+        self.number = number
+        self.clean()
+
+    def put_text(self):
+        file = os.open(self.draft, os.O_WRONLY | os.O_CREAT | os.O_TRUNC, 0o644)
+        try:
+            append(file, self.text())
+            if has_fault("a compact renames before it syncs"):
+                os.rename(self.draft, self.path)
+            os.fsync(file)
+        finally:
+            os.close(file)
+        if not has_fault("a compact renames before it syncs"):
+            os.rename(self.draft, self.path)
+
+
 class Log:
     """A table and the log of its accepted writes."""
 
     def __init__(self, folder, table):
         self.name, self.table, self.lock, self.torn, self.kept = table.name, table, threading.Lock(), b"", []
-        self.path = f"{folder}/{'x' if has_fault('the wrong file is told') else self.name}.jsonl"
+        self.state = State(folder, table)
+        self.state.read()
+        self.state.refuse_later()
+        path = self.state.log(self.state.number)
+        if has_fault("the old log runs on the new state") and os.path.exists(self.state.log(None)):
+            path = self.state.log(None)
+        self.path = f"{folder}/x.jsonl" if has_fault("the wrong file is told") else path
         try:
-            self.file = os.open(f"{folder}/{self.name}.jsonl", os.O_RDWR | os.O_CREAT | os.O_APPEND, 0o644)
+            self.file = os.open(path, os.O_RDWR | os.O_CREAT | os.O_APPEND, 0o644)
         except OSError:
             raise Stop(1, f"device: file: {self.path}\n") from None
         self.is_synced = True
@@ -166,10 +300,22 @@ class Keeper:
             raise Stop(1, "memory\n")
         for log in self.logs.values():
             log.cut()
-        folder = os.open(self.folder, os.O_RDONLY)
-        if not has_fault("its folder is never synced"):
-            os.fsync(folder)
-        os.close(folder)
+        try:
+            sync_folder(self.folder)
+        except OSError:
+            raise Stop(1, f"device: file: {self.folder}\n") from None
+        for log in self.logs.values():
+            log.state.clean()
+
+    def compact(self):
+        """Writes the state of each table."""
+        if self.memory.is_refused():
+            if has_fault("a refused compact takes the log"):
+                for log in self.logs.values():
+                    remove(log.path)
+            raise Stop(1, "memory\n")
+        for log in self.logs.values():
+            log.state.put()
 
     def hold(self, schema):
         """Takes the folder, and compares the declaration beside the logs."""
@@ -292,8 +438,10 @@ def between(low, high):
 
 def words():
     reader = argparse.ArgumentParser()
-    for name in ("--schema", "--listen", "--data"):
+    for name in ("--schema", "--data"):
         reader.add_argument(name, required=True)
+    reader.add_argument("--listen")
+    reader.add_argument("--compact", action="store_true")
     reader.add_argument("--workers", type=between(1, 256), default=16)
     reader.add_argument("--sync", choices=("each", "second", "never"), default="each")
     reader.add_argument("--idle", type=between(0, 10**6), default=0)
@@ -302,6 +450,14 @@ def words():
 
 def main():
     given = words()
+    if given.compact == (given.listen is not None):
+        stop(2, "error: either --listen ADDRESS or --compact is needed, and not both\n")
+    if given.compact:
+        try:
+            Keeper(given).compact()
+        except Stop as why:
+            stop(*why.args)
+        return
     if not given.listen.startswith(("unix:/", "tcp:127.")):
         stop(2, "listen\n")
     try:

@@ -10,7 +10,7 @@ use Rattle.clap.specs.declared.builder.value_parser.ValueParser.TheVariants.{Uns
 use Rattle.clap.proofs.ValueTestLemmas.{Accepts-accepts, accepts-Accepts}
 use Rattle.std.proofs.lemmas.Option.{none-some}
 use Rattle.program_words.specs.Asked.{number_in}
-use Rattle.keeper_words.specs.Asked.{Asking, given_in, when_named}
+use Rattle.keeper_words.specs.Asked.{Options, given_in, is_true, when_named}
 use Rattle.keeper_words.specs.declared.asked.When.{When}
 
 -- the number of a text that spells one within the bounds
@@ -48,38 +48,35 @@ sync-read o text r found read = rw (← found) read
 pub no-word : {o : Option Text} → o ≡ None → option_and_then when_named o ≡ None
 no-word absent = rw absent refl
 
--- what options that are all there ask for
-pub given : (rows : List Row) (schema listen place : Text) (workers : ℕ) (sync : When) (idle : ℕ)
-    → Some schema ≡ first_of (codes "schema") rows → Some listen ≡ first_of (codes "listen") rows → Some place ≡ first_of (codes "data") rows
+-- what options that are all there say
+pub given : (rows : List Row) (schema : Text) (listen : Option Text) (place : Text) (workers : ℕ) (sync : When) (idle : ℕ) (compact : Bool)
+    → Some schema ≡ first_of (codes "schema") rows → listen ≡ first_of (codes "listen") rows → Some place ≡ first_of (codes "data") rows
     → Some workers ≡ option_and_then (number_in 1 256) (one_of (codes "workers") rows)
     → Some sync ≡ option_and_then when_named (first_of (codes "sync") rows)
     → Some idle ≡ option_and_then (number_in 0 1000000) (one_of (codes "idle") rows)
-    → ◌≡◌ {A = Option Asking} (Some (record { schema = schema; listen = listen; folder = place; workers = workers; sync = sync; idle = idle })) (given_in rows)
-given rows schema listen place workers sync idle a b c d e f = rw (← a, ← b, ← c, ← d, ← e, ← f) refl
+    → compact ≡ is_true (first_of (codes "compact") rows)
+    → ◌≡◌ {A = Option Options} (Some (record { schema = schema; listen = listen; folder = place; workers = workers; sync = sync; idle = idle; compact = compact })) (given_in rows)
+given rows schema listen place workers sync idle compact a b c d e f g = rw (← a, b, ← c, ← d, ← e, ← f, g) refl
 
 -- there is nothing where one is missing
 pub no_schema : (rows : List Row) → first_of (codes "schema") rows ≡ None → None ≡ given_in rows
 no_schema rows a = rw a refl
 
-pub no_listen : (rows : List Row) (schema : Text) → Some schema ≡ first_of (codes "schema") rows → first_of (codes "listen") rows ≡ None → None ≡ given_in rows
-no_listen rows schema a b = rw (← a, b) refl
+pub no_folder : (rows : List Row) (schema : Text) → Some schema ≡ first_of (codes "schema") rows → first_of (codes "data") rows ≡ None → None ≡ given_in rows
+no_folder rows schema a b = rw (← a, b) refl
 
-pub no_folder : (rows : List Row) (schema listen : Text) → Some schema ≡ first_of (codes "schema") rows → Some listen ≡ first_of (codes "listen") rows
-    → first_of (codes "data") rows ≡ None → None ≡ given_in rows
-no_folder rows schema listen a b c = rw (← a, ← b, c) refl
+pub no_workers : (rows : List Row) (schema place : Text) → Some schema ≡ first_of (codes "schema") rows → Some place ≡ first_of (codes "data") rows
+    → option_and_then (number_in 1 256) (one_of (codes "workers") rows) ≡ None → None ≡ given_in rows
+no_workers rows schema place a b c = rw (← a, ← b, c) refl
 
-pub no_workers : (rows : List Row) (schema listen place : Text) → Some schema ≡ first_of (codes "schema") rows → Some listen ≡ first_of (codes "listen") rows
-    → Some place ≡ first_of (codes "data") rows → option_and_then (number_in 1 256) (one_of (codes "workers") rows) ≡ None → None ≡ given_in rows
-no_workers rows schema listen place a b c d = rw (← a, ← b, ← c, d) refl
-
-pub no_sync : (rows : List Row) (schema listen place : Text) (workers : ℕ) → Some schema ≡ first_of (codes "schema") rows → Some listen ≡ first_of (codes "listen") rows
-    → Some place ≡ first_of (codes "data") rows → Some workers ≡ option_and_then (number_in 1 256) (one_of (codes "workers") rows)
+pub no_sync : (rows : List Row) (schema place : Text) (workers : ℕ) → Some schema ≡ first_of (codes "schema") rows → Some place ≡ first_of (codes "data") rows
+    → Some workers ≡ option_and_then (number_in 1 256) (one_of (codes "workers") rows)
     → option_and_then when_named (first_of (codes "sync") rows) ≡ None → None ≡ given_in rows
-no_sync rows schema listen place workers a b c d e = rw (← a, ← b, ← c, ← d, e) refl
+no_sync rows schema place workers a b c d = rw (← a, ← b, ← c, d) refl
 
-pub no_idle : (rows : List Row) (schema listen place : Text) (workers : ℕ) (sync : When) → Some schema ≡ first_of (codes "schema") rows
-    → Some listen ≡ first_of (codes "listen") rows → Some place ≡ first_of (codes "data") rows
+pub no_idle : (rows : List Row) (schema place : Text) (workers : ℕ) (sync : When) → Some schema ≡ first_of (codes "schema") rows
+    → Some place ≡ first_of (codes "data") rows
     → Some workers ≡ option_and_then (number_in 1 256) (one_of (codes "workers") rows)
     → Some sync ≡ option_and_then when_named (first_of (codes "sync") rows)
     → option_and_then (number_in 0 1000000) (one_of (codes "idle") rows) ≡ None → None ≡ given_in rows
-no_idle rows schema listen place workers sync a b c d e f = rw (← a, ← b, ← c, ← d, ← e, f) refl
+no_idle rows schema place workers sync a b c d e = rw (← a, ← b, ← c, ← d, e) refl

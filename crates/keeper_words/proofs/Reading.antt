@@ -10,7 +10,7 @@ use Rattle.program_words.specs.Asked.{SaysWords, is_free}
 use Rattle.program_words.specs.declared.asked.WordsFault.{WordsFault}
 use Rattle.program_words.specs.declared.asked.WordsFault.TheVariants.{Words, Listen, Memory}
 use Rattle.keeper_words.specs.Keeper.{ShowsTexts, keeper}
-use Rattle.keeper_words.specs.Asked.{AnswersFor, Asking, asking_of, given_in}
+use Rattle.keeper_words.specs.Asked.{AnswersFor, Asking, asked_in, asking_of}
 
 pub is_simple-keeper : is_simple keeper ≡ true
 unfolding keeper clap_on_literals
@@ -32,12 +32,12 @@ among_some k (x ∷ xs) among = refl
 pub refused : (words : List Text) (e : Error) → HasKind (fault_of keeper words) e → (kind_of e ≡ OutOfMemory → ⊥) → asking_of words ≡ None
 unfolding asking_of
 refused words e (inl memory) other = absurd (other memory)
-refused words e (inr among) other = ap (λ b. if b then given_in (matches_of keeper words) else None) (among_some (kind_of e) (fault_of keeper words) among)
+refused words e (inr among) other = ap (λ b. if b then asked_in (matches_of keeper words) else None) (among_some (kind_of e) (fault_of keeper words) among)
 
 -- words that it takes ask for what their matches name
-pub taken : (words : List Text) → fault_of keeper words ≡ [] → asking_of words ≡ given_in (matches_of keeper words)
+pub taken : (words : List Text) → fault_of keeper words ≡ [] → asking_of words ≡ asked_in (matches_of keeper words)
 unfolding asking_of
-taken words free = ap (λ (kinds : Kinds). if is_free kinds then given_in (matches_of keeper words) else None) free
+taken words free = ap (λ (kinds : Kinds). if is_free kinds then asked_in (matches_of keeper words) else None) free
 
 -- wrong words are the answer where nothing is asked for
 pub says_words : (asking : Option Asking) (P : Type 0) (fault : WordsFault) → SaysWords P fault → (P → asking ≡ None) → AnswersFor asking (Err fault)

@@ -1,5 +1,5 @@
 -- What the words of the program that keeps its tables ask for.
-use Rattle.std.specs.Prelude.{◌≡◌, ◌≤◌, List, ℕ, Option, Some, None, Result, Ok, Err, codes, ⊤}
+use Rattle.std.specs.Prelude.{◌≡◌, ◌≤◌, Bool, true, false, List, ℕ, Option, Some, None, Result, Ok, Err, codes, ⊤}
 use Rattle.std.specs.Prelude.{option_map, option_and_then, if◌then◌else◌}
 use Rattle.std.specs.Str.{bytes_eq}
 use Rattle.clap.specs.Words.{Row, fault_of, first_of, matches_of, one_of}
@@ -8,7 +8,8 @@ use Rattle.program_words.specs.Asked.{is_free, number_in}
 use Rattle.program_words.specs.declared.asked.WordsFault.{WordsFault}
 use Rattle.program_words.specs.declared.asked.WordsFault.TheVariants.{Words, Listen, Memory}
 use Rattle.keeper_words.specs.Keeper.{keeper}
-use Rattle.keeper_words.specs.declared.asked.Keeping.{Keeping}
+use Rattle.keeper_words.specs.declared.asked.Asked.{Asked}
+use Rattle.keeper_words.specs.declared.asked.Asked.TheVariants.{Keep, Compact}
 use Rattle.keeper_words.specs.declared.asked.When.{When}
 use Rattle.keeper_words.specs.declared.asked.When.TheVariants.{Each, Second, Never}
 use Rattle.keeper_words.specs.declared.read.Given.{Given}
@@ -20,8 +21,8 @@ when_named text =
     else (if bytes_eq text (codes "second") then Some Second
     else (if bytes_eq text (codes "never") then Some Never else None))
 
--- what is asked for, with the text of the address
-pub record Asking : Type 0 where
+-- the tables that are served and kept, with the text of the address
+pub record Serving : Type 0 where
   pub schema : List ℕ
   pub listen : List ℕ
   pub folder : List ℕ
@@ -29,65 +30,115 @@ pub record Asking : Type 0 where
   pub sync : When
   pub idle : ℕ
 
--- what matches ask for, where they have all of it, and numbers in their bounds
-abbrev pub given_in : List Row → Option Asking
+-- the tables whose states are written
+pub record Tables : Type 0 where
+  pub schema : List ℕ
+  pub folder : List ℕ
+
+-- what is asked for
+pub data Asking : Type 0 where
+  keep : Serving → Asking
+  compact : Tables → Asking
+
+-- what the options say
+pub record Options : Type 0 where
+  pub schema : List ℕ
+  pub listen : Option (List ℕ)
+  pub folder : List ℕ
+  pub workers : ℕ
+  pub sync : When
+  pub idle : ℕ
+  pub compact : Bool
+
+-- the text of a flag that is set
+abbrev pub is_true : Option (List ℕ) → Bool
+is_true None = false
+is_true (Some text) = bytes_eq text (codes "true")
+
+-- what matches say, where they have all of it, and numbers in their bounds
+abbrev pub given_in : List Row → Option Options
 given_in rows =
     option_and_then (λ schema.
-    option_and_then (λ listen.
     option_and_then (λ place.
     option_and_then (λ workers.
     option_and_then (λ sync.
     option_map (λ idle. record {
       schema = schema;
-      listen = listen;
+      listen = first_of (codes "listen") rows;
       folder = place;
       workers = workers;
       sync = sync;
       idle = idle;
+      compact = is_true (first_of (codes "compact") rows);
     })
     (option_and_then (number_in 0 1000000) (one_of (codes "idle") rows)))
     (option_and_then when_named (first_of (codes "sync") rows)))
     (option_and_then (number_in 1 256) (one_of (codes "workers") rows)))
     (first_of (codes "data") rows))
-    (first_of (codes "listen") rows))
     (first_of (codes "schema") rows)
+
+-- serving at the address of this text
+abbrev pub serving_of : Options → List ℕ → Serving
+serving_of options listen = record {
+  schema = options.schema;
+  listen = listen;
+  folder = options.folder;
+  workers = options.workers;
+  sync = options.sync;
+  idle = options.idle;
+}
+
+-- what options ask for that say where to listen, or that states are to be written, and not both
+abbrev pub one_choice : Options → Bool → Option (List ℕ) → Option Asking
+one_choice options false (Some listen) = Some (keep (serving_of options listen))
+one_choice options true None = Some (compact (record { schema = options.schema; folder = options.folder }))
+one_choice options _ _ = None
+
+abbrev pub choice : Options → Option Asking
+choice options = one_choice options options.compact options.listen
+
+-- what matches ask for
+abbrev pub asked_in : List Row → Option Asking
+asked_in rows = option_and_then choice (given_in rows)
 
 -- what the words ask for, where `clap` refuses none of them
 unfoldable pub asking_of : List (List ℕ) → Option Asking
-asking_of words = if is_free (fault_of keeper words) then given_in (matches_of keeper words) else None
+asking_of words = if is_free (fault_of keeper words) then asked_in (matches_of keeper words) else None
 
 -- the answer is what is asked for, with the address that its text spells
-abbrev pub Gives : Option Asking → Keeping → Type 0
-Gives asking keeping =
-    (text : List ℕ) × IsAddress text keeping.listen × (asking ≡ Some (record {
+abbrev pub Gives : Option Asking → Asked → Type 0
+Gives asking (Keep keeping) =
+    (text : List ℕ) × IsAddress text keeping.listen × (asking ≡ Some (keep (record {
       schema = keeping.schema.now;
       listen = text;
       folder = keeping.folder.now;
       workers = keeping.workers;
       sync = keeping.sync;
       idle = keeping.idle;
-    }))
+    })))
+Gives asking (Compact compacting) = asking ≡ Some (compact (record { schema = compacting.schema.now; folder = compacting.folder.now }))
 
--- something is asked for at a text that is no address
+-- serving is asked for at a text that is no address
 abbrev pub HasNoAddress : Option Asking → Type 0
-HasNoAddress asking = (given : Asking) × (asking ≡ Some given) × IsNoAddress given.listen
+HasNoAddress asking = (serving : Serving) × (asking ≡ Some (keep serving)) × IsNoAddress serving.listen
 
 -- the answer is what is asked for; wrong words where that is nothing, the address where it is none, or want of memory
-abbrev pub AnswersFor : Option Asking → Result Keeping WordsFault → Type 0
-AnswersFor asking (Ok keeping) = Gives asking keeping
+abbrev pub AnswersFor : Option Asking → Result Asked WordsFault → Type 0
+AnswersFor asking (Ok asked) = Gives asking asked
 AnswersFor asking (Err (Words text)) = asking ≡ None
 AnswersFor asking (Err Listen) = HasNoAddress asking
 AnswersFor asking (Err Memory) = ⊤
 
--- what these values ask for
-abbrev pub giving_of : Given → Asking
+-- what these values say
+abbrev pub giving_of : Given → Options
 giving_of given = record {
   schema = given.schema.now;
-  listen = given.listen.now;
+  listen = option_map (λ s. s.now) given.listen;
   folder = given.folder.now;
   workers = given.workers;
   sync = given.sync;
   idle = given.idle;
+  compact = given.compact;
 }
 
 -- the numbers lie in their bounds
@@ -95,5 +146,6 @@ abbrev pub AreBounded : Given → Type 0
 AreBounded given = (1 ≤ given.workers) × (given.workers ≤ 256) × (given.idle ≤ 1000000)
 
 -- the same of an answer
-abbrev pub IsBounded : Keeping → Type 0
-IsBounded keeping = (1 ≤ keeping.workers) × (keeping.workers ≤ 256) × (keeping.idle ≤ 1000000)
+abbrev pub IsBounded : Asked → Type 0
+IsBounded (Keep keeping) = (1 ≤ keeping.workers) × (keeping.workers ≤ 256) × (keeping.idle ≤ 1000000)
+IsBounded (Compact compacting) = ⊤

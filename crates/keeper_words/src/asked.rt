@@ -31,6 +31,15 @@ impl When {
 
 /// What the program is asked to do.
 #[derive(Clone, Copy, Debug, PartialEq, Eq)]
+pub enum Asked<'a> {
+    /// Serve the tables, and keep them.
+    Keep(Keeping<'a>),
+    /// Write the tables' states, with an empty log behind each.
+    Compact(Compacting<'a>),
+}
+
+/// Tables that are served and kept.
+#[derive(Clone, Copy, Debug, PartialEq, Eq)]
 pub struct Keeping<'a> {
     /// The file of the schema.
     pub schema: &'a str,
@@ -44,4 +53,13 @@ pub struct Keeping<'a> {
     pub sync: When,
     /// After how many seconds a connection is closed that sends nothing, up to 1,000,000; 0 for never.
     pub idle: u32,
+}
+
+/// Tables whose states are written.
+#[derive(Clone, Copy, Debug, PartialEq, Eq)]
+pub struct Compacting<'a> {
+    /// The file of the schema.
+    pub schema: &'a str,
+    /// The folder of the logs.
+    pub folder: &'a str,
 }

@@ -5,11 +5,11 @@ ghost use Rattle.clap.specs.declared.builder.value_parser.ValueParser.TheVariant
 ghost use Rattle.clap.specs.declared.error.kind.ErrorKind.TheVariants.{OutOfMemory};
 ghost use Rattle.program_words.specs.Asked.{SaysWords};
 ghost use Rattle.program_words.specs.Program.{option_named, required_named};
-ghost use Rattle.keeper_words.specs.Keeper.{ShowsTexts, default_named, keeper, number_named};
+ghost use Rattle.keeper_words.specs.Keeper.{ShowsTexts, default_named, flag_named, keeper, number_named};
 
 use crate::help::{EXAMPLES, USAGE, VERSION};
 use clap::error::ErrorKind;
-use clap::{Arg, Command, Error, value_parser};
+use clap::{Arg, ArgAction, Command, Error, value_parser};
 use program_words::WordsFault;
 use std::alloc::{AllocError, Global};
 
@@ -26,7 +26,7 @@ pub(crate) fn command<'a>(alloc: Global) -> Result<Command<'a>, AllocError>
         .after_help(EXAMPLES)
         .no_binary_name(true)
         .arg(required(alloc, "schema", "FILE", "Schema file of the tables"))?
-        .arg(required(
+        .arg(option(
             alloc,
             "listen",
             "ADDRESS",
@@ -40,7 +40,8 @@ pub(crate) fn command<'a>(alloc: Global) -> Result<Command<'a>, AllocError>
         ))?
         .arg(workers(alloc))?
         .arg(sync(alloc))?
-        .arg(idle(alloc))
+        .arg(idle(alloc))?
+        .arg(compact(alloc))
 }
 
 /// The option of the number of threads.
@@ -85,6 +86,19 @@ fn idle<'a>(alloc: Global) -> Arg<'a>
     )
     .value_parser(value_parser!(u32).range(0..=1_000_000))
     .default_value("0")
+}
+
+/// The word that stands in place of an address.
+fn compact<'a>(alloc: Global) -> Arg<'a>
+    ensures rule { rule_of result ≡ flag_named (codes "compact") }
+    ensures local { result.global ≡ false }
+{
+    Arg::new(alloc, "compact")
+        .long("compact")
+        .action(ArgAction::SetTrue)
+        .help(
+            "In place of --listen: write the state of each table, with an empty log behind it, and end",
+        )
 }
 
 /// An option with one value, which has to be there.

@@ -6,7 +6,8 @@ pub(crate) const VERSION: &str = "0.1.0";
 /// How the program is called.
 pub(crate) const USAGE: &str = "\
 table_keeper --schema FILE --listen unix:PATH|tcp:IP:PORT --data FOLDER [--workers 1..256]
-                    [--sync each|second|never] [--idle SECONDS]";
+                    [--sync each|second|never] [--idle SECONDS]
+       table_keeper --schema FILE --data FOLDER --compact";
 
 /// What stands at the end of the program's help.
 pub(crate) const EXAMPLES: &str = "\
@@ -15,5 +16,8 @@ Examples:
     table_keeper --schema tables.toml --listen unix:tables.socket --data data
   Serve up to 64 connections at a time, sync once a second, and close connections that are silent for 10 minutes:
     table_keeper --schema tables.toml --listen tcp:127.0.0.1:7000 --data data --workers 64 --sync second --idle 600
+  While it is stopped, write the state of each table in place of its log:
+    table_keeper --schema tables.toml --data data --compact
 
-It serves until it is ended by a signal. Every signal will do. The same words start it again with what was answered.";
+It serves until it is ended by a signal. Every signal will do. The same words start it again with what was answered.
+With --compact in place of --listen it ends by itself. The other options are the same then, and no more than read.";

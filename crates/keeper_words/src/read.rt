@@ -1,56 +1,80 @@
 //! Reading the words of the program.
-ghost use Rattle.std.specs.Prelude.{◌≡◌, ◌≤◌, IfOk, IfSome, option_and_then, option_map, ⊤};
+ghost use Rattle.std.specs.Prelude.{◌≡◌, ◌≤◌, IfOk, IfSome, Some, option_and_then, option_map, ⊤};
 ghost use Rattle.clap.specs.Words.{found_of, one_text, rows_of};
 ghost use Rattle.program_words.specs.Asked.{SaysWords, number_in, texts};
-ghost use Rattle.keeper_words.specs.Asked.{AnswersFor, AreBounded, IsBounded, asking_of, given_in, giving_of};
+ghost use Rattle.keeper_words.specs.Asked.{AnswersFor, AreBounded, IsBounded, asked_in, asking_of, choice, given_in, giving_of, is_true, keep, serving_of};
 
-use crate::asked::{Keeping, When};
+use crate::asked::{Asked, Compacting, Keeping, When};
 use crate::command::{command, fault_of};
 use clap::ArgMatches;
 use program_words::{Address, WordsFault};
 use std::alloc::Global;
 
-/// Reads the words that follow the program's name.
-pub fn read_words<'a>(alloc: Global, words: &'a [String]) -> Result<Keeping<'a>, WordsFault>
+/// Reads the words that follow the program's name. They name an address, or `--compact`, and never both.
+pub fn read_words<'a>(alloc: Global, words: &'a [String]) -> Result<Asked<'a>, WordsFault>
     ensures answers { AnswersFor (asking_of (texts words.entry.now)) result }
     ensures bounds { IfOk result IsBounded }
 {
     match command(alloc)?.try_get_matches_from(words) {
-        Ok(matches) => keeping_by(alloc, &matches),
+        Ok(matches) => asked_by(alloc, &matches),
         Err(error) => Err(fault_of(alloc, &error)),
     }
 }
 
 /// What the matches ask for.
-fn keeping_by<'a>(alloc: Global, matches: &ArgMatches<'a>) -> Result<Keeping<'a>, WordsFault>
-    ensures answers { AnswersFor (given_in (rows_of (found_of matches.now))) result }
+fn asked_by<'a>(alloc: Global, matches: &ArgMatches<'a>) -> Result<Asked<'a>, WordsFault>
+    ensures answers { AnswersFor (asked_in (rows_of (found_of matches.now))) result }
     ensures bounds { IfOk result IsBounded }
 {
-    let Some(given) = given_by(matches) else {
-        return Err(not_asked(alloc));
-    };
-    let Some(listen) = Address::read(given.listen) else {
-        return Err(WordsFault::Listen);
-    };
-    Ok(Keeping {
-        schema: given.schema,
-        listen,
-        folder: given.folder,
-        workers: given.workers,
-        sync: given.sync,
-        idle: given.idle,
-    })
+    match given_by(matches) {
+        Some(given) => chosen(alloc, &given),
+        None => Err(refused(alloc, NO_WHEN)),
+    }
 }
 
 /// The values of the options.
 #[derive(Clone, Copy)]
 struct Given<'a> {
     schema: &'a str,
-    listen: &'a str,
+    listen: Option<&'a str>,
     folder: &'a str,
     workers: u32,
     sync: When,
     idle: u32,
+    compact: bool,
+}
+
+/// Which of the two the values ask for.
+fn chosen<'a>(alloc: Global, given: &Given<'a>) -> Result<Asked<'a>, WordsFault>
+    ensures answers { AnswersFor (choice (giving_of given.now)) result }
+    ensures bounds { AreBounded given.now → IfOk result IsBounded }
+{
+    match given.listen {
+        Some(listen) if !given.compact => keeping(given, listen),
+        None if given.compact => Ok(Asked::Compact(Compacting {
+            schema: given.schema,
+            folder: given.folder,
+        })),
+        _ => Err(refused(alloc, NO_CHOICE)),
+    }
+}
+
+/// Serving at the address of this text.
+fn keeping<'a>(given: &Given<'a>, listen: &'a str) -> Result<Asked<'a>, WordsFault>
+    ensures answers { AnswersFor (Some (keep (serving_of (giving_of given.now) listen.now))) result }
+    ensures bounds { AreBounded given.now → IfOk result IsBounded }
+{
+    let Some(listen) = Address::read(listen) else {
+        return Err(WordsFault::Listen);
+    };
+    Ok(Asked::Keep(Keeping {
+        schema: given.schema,
+        listen,
+        folder: given.folder,
+        workers: given.workers,
+        sync: given.sync,
+        idle: given.idle,
+    }))
 }
 
 /// The values of the options, where all that is needed is there.
@@ -60,12 +84,23 @@ fn given_by<'a>(options: &ArgMatches<'a>) -> Option<Given<'a>>
 {
     Some(Given {
         schema: options.get_str("schema")?,
-        listen: options.get_str("listen")?,
+        listen: options.get_str("listen"),
         folder: options.get_str("data")?,
         workers: number(options, "workers", 1, 256)?,
         sync: When::read(options.get_str("sync")?)?,
         idle: number(options, "idle", 0, 1_000_000)?,
+        compact: is_set(options.get_str("compact")),
     })
+}
+
+/// Whether a flag of this text is set.
+fn is_set(text: Option<&str>) -> bool
+    ensures { result ≡ is_true (option_map (λ t. t.now) text.entry) }
+{
+    match text {
+        Some(text) => text == "true",
+        None => false,
+    }
 }
 
 /// The number of an option, where it lies between these.
@@ -81,11 +116,17 @@ fn number(options: &ArgMatches, name: &str, least: u32, most: u32) -> Option<u32
     }
 }
 
-/// What is told where a value is none that `clap` refuses itself: that of `--sync`.
-fn not_asked(alloc: Global) -> WordsFault
+/// What is told where the value of `--sync` is none, which `clap` does not refuse itself.
+const NO_WHEN: &str = "error: --sync is each, second or never\n";
+
+/// What is told where neither of two words is there, or both.
+const NO_CHOICE: &str = "error: either --listen ADDRESS or --compact is needed, and not both\n";
+
+/// Words that `clap` does not refuse itself, with what is told of them.
+fn refused(alloc: Global, text: &str) -> WordsFault
     ensures { SaysWords ⊤ result }
 {
-    match String::from_str(alloc, "error: --sync is each, second or never\n") {
+    match String::from_str(alloc, text) {
         Ok(text) => WordsFault::Words(text),
         Err(_) => WordsFault::Memory,
     }

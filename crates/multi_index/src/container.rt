@@ -1,6 +1,6 @@
 //! The container.
 ghost use Rattle.any_index.specs.Keyed.{marks_of};
-ghost use Rattle.std.specs.Prelude.{◌≡◌, ◌↔◌, ◌<◌, ◌≤◌, ◌^◌, ◌-◌, ◌==◌, IsTrue, false, length, [], None, unwrap_or, Some, IfOk, IfErr, IfSome, OnOk, OnErr};
+ghost use Rattle.std.specs.Prelude.{◌≡◌, ◌↔◌, ◌<◌, ◌≤◌, ◌^◌, ◌-◌, ◌==◌, IsTrue, false, length, [], None, map, unwrap_or, Some, IfOk, IfErr, IfSome, OnOk, OnErr};
 ghost use Rattle.list_model.specs.Place.{find_equal};
 ghost use Rattle.container_model.specs.State.{IsState, KeysMatch, empty, empty_with_most, list_at, row_of, has_key_kind, is_hashed_kind, is_sorted_kind};
 ghost use Rattle.container_model.specs.Find.{counted, found, kind_at};
@@ -218,6 +218,13 @@ impl<R: Drop, E: Extract<R> + Drop> MultiIndex<R, E> {
             return by_age(self.alloc, &self.set).map_err(|_| Why::Memory);
         }
         in_order(self.alloc, &self.set, index).map_err(|_| Why::Memory)
+    }
+
+    /// The handles of the records, in the order of their insertion. O(records).
+    pub fn handles(&self) -> Result<Vec<Handle>, AllocError>
+        ensures { IfOk result (λ handles. handles.items ≡ map (λ e. e.handle) self.now.entries) }
+    {
+        by_age(self.alloc, &self.set)
     }
 
     // What the index is.

@@ -33,6 +33,14 @@ pub enum Fault {
     Line(String, u64),
     /// A log is of another declaration than the schema's. The path of the declaration.
     Declared(String),
+    /// A line of a state is not that of a state of the table. The path, and the line's number.
+    StateLine(String, u64),
+    /// What a state tells is no table of the declaration. The path.
+    State(String),
+    /// A log is behind a state that is not there. The path of the log.
+    Behind(String),
+    /// A state can't be written. The path.
+    Unwritten(String),
 }
 
 impl Fault {
@@ -52,6 +60,10 @@ impl Fault {
             Fault::Log(path) => write!(faults, "log: {path}\n"),
             Fault::Line(path, number) => write!(faults, "line: {path}: {number}\n"),
             Fault::Declared(path) => write!(faults, "schema: other: {path}\n"),
+            Fault::StateLine(path, number) => write!(faults, "state: {path}: {number}\n"),
+            Fault::State(path) => write!(faults, "state: {path}\n"),
+            Fault::Behind(path) => write!(faults, "state: none before: {path}\n"),
+            Fault::Unwritten(path) => write!(faults, "compact: {path}\n"),
         };
         self.status()
     }
@@ -67,6 +79,8 @@ impl Fault {
             Fault::Log(_) => 5,
             Fault::Line(_, _) => 6,
             Fault::Taken(_) => 7,
+            Fault::StateLine(_, _) | Fault::State(_) | Fault::Behind(_) => 8,
+            Fault::Unwritten(_) => 9,
         }
     }
 

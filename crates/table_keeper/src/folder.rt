@@ -44,16 +44,9 @@ impl Folder {
         }
     }
 
-    /// The path of a table's log.
-    pub(crate) fn log_of(&self, alloc: Global, table: &str) -> Result<String, Fault> {
-        let path = self.path.as_str();
-        Ok(format!(in alloc; "{path}/{table}.jsonl")?)
-    }
-
-    // The path of a table's declaration.
-    fn declaration_of(&self, alloc: Global, table: &str) -> Result<String, Fault> {
-        let path = self.path.as_str();
-        Ok(format!(in alloc; "{path}/{table}.schema")?)
+    /// Its path.
+    pub(crate) fn path(&self) -> &str {
+        self.path.as_str()
     }
 
     /// Refuses the declarations in the folder that are others than those of the schema.
@@ -86,12 +79,14 @@ impl Folder {
                 self.declare_table(rt, table)?;
             }
         }
-        match sync_folder(rt, self.path.as_str()) {
+        self.sync(rt)
+    }
+
+    /// Waits until the system has the folder's names where a crash leaves them.
+    pub(crate) fn sync(&self, rt: &HostRuntime) -> Result<(), Fault> {
+        match sync_folder(rt, self.path()) {
             Ok(()) => Ok(()),
-            Err(error) => Err(Fault::of_file(
-                &error,
-                String::from_str(rt.alloc(), self.path.as_str())?,
-            )),
+            Err(error) => Err(Fault::of_file(&error, String::from_str(rt.alloc(), self.path())?)),
         }
     }
 

@@ -1,49 +1,77 @@
-//! The logs of a folder, and the tables that they leave.
+//! The states and the logs of a folder, and the tables that they leave.
 
 use crate::fault::Fault;
 use crate::folder::Folder;
 use crate::shown::Shown;
+use crate::states::read_base;
 use file_disk::FileDisk;
-use logged_tables::LoggedTables;
 use std::fs::OpenOptions;
 use std::io;
 use std::io::ErrorKind;
 use table_log::{LoggedTable, OpenWhy, Opened};
 use table_schema::{Schema, TableSpec};
 
-/// The disk of a log.
+/// The disk of a log or of a state.
 pub(crate) type LogDisk = FileDisk<Shown>;
 
-/// Opens the logs of a schema's tables, which are made where they are not there. Only once all are open is any of them cut.
+/// A table with its log, which is open.
+#[derive(Drop)]
+pub(crate) struct OpenLog {
+    pub(crate) logged: LoggedTable<LogDisk>,
+    /// The path of the log.
+    pub(crate) path: String,
+    /// The write number of the state that the log is behind, where there is one.
+    pub(crate) state: Option<u64>,
+}
+
+// The same before what stands behind the log's last line is cut off.
+#[derive(Drop)]
+struct Uncut {
+    opened: Opened<LogDisk>,
+    path: String,
+    state: Option<u64>,
+}
+
+/// Reads the states of a schema's tables, and opens the logs behind them, which are made where they are not there. Only once all are
+/// open is any of them cut.
 pub(crate) fn open_logs(
     rt: &HostRuntime,
     folder: &Folder,
     schema: &Schema,
-) -> Result<LoggedTables<LogDisk>, Fault> {
-    let mut opened = Vec::new(rt.alloc());
+) -> Result<Vec<OpenLog>, Fault> {
+    let mut uncut = Vec::new(rt.alloc());
     for table in schema.tables() {
-        opened.push(open_log(rt, folder, table)?)?;
+        uncut.push(open_log(rt, folder, table)?)?;
     }
-    let mut tables = Vec::new(rt.alloc());
-    for log in opened {
-        tables.push(cut_log(rt, folder, log)?)?;
+    let mut logs = Vec::new(rt.alloc());
+    for log in uncut {
+        logs.push(cut_log(rt, log)?)?;
     }
-    Ok(LoggedTables::new(rt.alloc(), tables)?)
+    Ok(logs)
 }
 
-// Opens the log of a table.
-fn open_log(
-    rt: &HostRuntime,
-    folder: &Folder,
-    table: &TableSpec,
-) -> Result<Opened<LogDisk>, Fault> {
-    let path = folder.log_of(rt.alloc(), table.name())?;
+// Reads the state of a table, and opens the log behind it.
+fn open_log(rt: &HostRuntime, folder: &Folder, table: &TableSpec) -> Result<Uncut, Fault> {
+    let base = read_base(rt, folder, table)?;
+    let state = base
+        .as_ref()
+        .map(|base| base.records().container().writes());
+    refuse_later(rt, folder, table.name(), state)?;
+    let path = folder.log_of(rt.alloc(), table.name(), state)?;
     let disk = match open_disk(rt, path.as_str()) {
         Ok(disk) => disk,
         Err(error) => return Err(Fault::of_file(&error, path)),
     };
-    match LoggedTable::open(rt.alloc(), table, disk) {
-        Ok(opened) => Ok(opened),
+    let opened = match base {
+        Some(base) => LoggedTable::open_on(rt.alloc(), base, disk),
+        None => LoggedTable::open(rt.alloc(), table, disk),
+    };
+    match opened {
+        Ok(opened) => Ok(Uncut {
+            opened,
+            path,
+            state,
+        }),
         Err(fault) => match fault.why {
             OpenWhy::Line(number) => Err(Fault::Line(path, number)),
             OpenWhy::Memory => Err(Fault::Memory),
@@ -52,30 +80,54 @@ fn open_log(
     }
 }
 
-// Cuts off what stands behind the last line of a log, and tells how much it was.
-fn cut_log(
+// Refuses a log that is behind a later state than the one that is there.
+fn refuse_later(
     rt: &HostRuntime,
     folder: &Folder,
-    opened: Opened<LogDisk>,
-) -> Result<LoggedTable<LogDisk>, Fault> {
+    table: &str,
+    state: Option<u64>,
+) -> Result<(), Fault> {
+    for number in folder.numbers_of(rt, table)? {
+        if state.is_none_or(|state| state < number) {
+            return Err(Fault::Behind(folder.log_of(rt.alloc(), table, Some(number))?));
+        }
+    }
+    Ok(())
+}
+
+// Cuts off what stands behind the last line of a log, and tells how much it was.
+fn cut_log(rt: &HostRuntime, uncut: Uncut) -> Result<OpenLog, Fault> {
+    let Uncut {
+        opened,
+        path,
+        state,
+    } = uncut;
     let Opened { mut logged, torn } = opened;
-    let path = folder.log_of(rt.alloc(), logged.name())?;
     if logged.sync().is_err() {
         return Err(Fault::File(path));
     }
     if torn > 0 {
         let _ = eprintln!(rt; "torn: {path}: {torn} bytes were cut off");
     }
-    Ok(logged)
+    Ok(OpenLog {
+        logged,
+        path,
+        state,
+    })
 }
 
-// Opens the file of a log.
-fn open_disk(rt: &HostRuntime, path: &str) -> io::Result<LogDisk> {
-    let file = OpenOptions::new()
-        .read(true)
-        .append(true)
-        .create(true)
-        .open(rt, path)?;
+/// Opens the file of a log, which is made where it is not there.
+pub(crate) fn open_disk(rt: &HostRuntime, path: &str) -> io::Result<LogDisk> {
+    disk_of(
+        rt,
+        path,
+        OpenOptions::new().read(true).append(true).create(true),
+    )
+}
+
+/// The disk in the file of a path, opened so.
+pub(crate) fn disk_of(rt: &HostRuntime, path: &str, options: &OpenOptions) -> io::Result<LogDisk> {
+    let file = options.open(rt, path)?;
     let found = file.metadata()?;
     if !found.is_file() {
         return Err(io::Error::from(ErrorKind::InvalidInput));

@@ -7,9 +7,11 @@ mod folder;
 mod host;
 mod listen;
 mod logs;
+mod names;
 mod program;
 mod serve;
 mod shown;
+mod states;
 
 use program::run;
 use std::process::ExitCode;

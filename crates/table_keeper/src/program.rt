@@ -6,9 +6,10 @@ use crate::fault::Fault;
 use crate::folder::Folder;
 use crate::host::Host;
 use crate::listen::Listening;
-use crate::logs::{LogDisk, open_logs};
+use crate::logs::{LogDisk, OpenLog, open_logs};
 use crate::serve::{Served, serve};
-use keeper_words::{Keeping, When, read_words};
+use crate::states::{clean, compact};
+use keeper_words::{Asked, Keeping, When, read_words};
 use logged_tables::{LoggedTables, OverAt, Syncing};
 use schema_file::read_schema;
 use std::io::ErrorKind;
@@ -16,11 +17,16 @@ use std::sync::{Arc, Condvar, Mutex};
 use std::{env, fs};
 use table_schema::Schema;
 
-/// Does what the words ask for. It ends at a fault alone.
+/// Does what the words ask for. Serving ends at a fault alone.
 pub(crate) fn run<R: Host>(rt: &HostRuntime, threads: &R) -> Result<(), Fault> {
     let words = given_words(rt)?;
-    let keeping = read_words(rt.alloc(), &words)?;
-    keep(rt, threads, &keeping)
+    match read_words(rt.alloc(), &words)? {
+        Asked::Keep(keeping) => keep(rt, threads, &keeping),
+        Asked::Compact(compacting) => {
+            let started = start(rt, compacting.schema, compacting.folder)?;
+            compact(rt, &started.folder, &started.logs)
+        }
+    }
 }
 
 // The words that follow the program's name.
@@ -32,16 +38,35 @@ fn given_words(rt: &HostRuntime) -> Result<Vec<String>, Fault> {
     }
 }
 
-// Takes the folder, makes its tables, listens and serves.
-fn keep<R: Host>(rt: &HostRuntime, threads: &R, keeping: &Keeping<'_>) -> Result<(), Fault> {
-    let schema = schema_of(rt, keeping.schema)?;
-    let folder = Folder::take(rt, keeping.folder)?;
+// A folder that is taken, and its tables.
+#[derive(Drop)]
+struct Started {
+    folder: Folder,
+    logs: Vec<OpenLog>,
+}
+
+// Takes the folder and makes its tables. The system has the name of each state before a log behind it is made.
+fn start(rt: &HostRuntime, schema: &str, folder: &str) -> Result<Started, Fault> {
+    let schema = schema_of(rt, schema)?;
+    let folder = Folder::take(rt, folder)?;
     folder.check(rt, &schema)?;
-    let tables = open_logs(rt, &folder, &schema)?;
+    folder.sync(rt)?;
+    let logs = open_logs(rt, &folder, &schema)?;
     folder.declare(rt, &schema)?;
+    clean(rt, &folder, &logs)?;
+    Ok(Started { folder, logs })
+}
+
+// Starts, listens and serves.
+fn keep<R: Host>(rt: &HostRuntime, threads: &R, keeping: &Keeping<'_>) -> Result<(), Fault> {
+    let Started {
+        folder: _folder,
+        logs,
+    } = start(rt, keeping.schema, keeping.folder)?;
     let Ok(listening) = Listening::at(rt, keeping.listen) else {
         return Err(Fault::Listen);
     };
+    let Kept { tables, paths } = behind_locks(rt, logs)?;
     let served = Arc::new(
         rt.alloc(),
         Served {
@@ -57,17 +82,41 @@ fn keep<R: Host>(rt: &HostRuntime, threads: &R, keeping: &Keeping<'_>) -> Result
         return Err(Fault::Output);
     }
     let at = serve(threads, &served, keeping.workers)?;
-    Err(over(rt, &folder, &served.tables, at))
+    Err(over(rt, &paths, at))
+}
+
+// Tables behind their locks, and the paths of their logs.
+#[derive(Drop)]
+struct Kept {
+    tables: LoggedTables<LogDisk>,
+    paths: Vec<String>,
+}
+
+// Puts tables behind locks.
+fn behind_locks(rt: &HostRuntime, logs: Vec<OpenLog>) -> Result<Kept, Fault> {
+    let mut tables = Vec::with_capacity(rt.alloc(), logs.len())?;
+    let mut paths = Vec::with_capacity(rt.alloc(), logs.len())?;
+    for log in logs {
+        let OpenLog {
+            logged,
+            path,
+            state: _,
+        } = log;
+        tables.push(logged)?;
+        paths.push(path)?;
+    }
+    let tables = LoggedTables::new(rt.alloc(), tables)?;
+    Ok(Kept { tables, paths })
 }
 
 // The fault of a log that can't be written.
-fn over(rt: &HostRuntime, folder: &Folder, tables: &LoggedTables<LogDisk>, at: OverAt) -> Fault {
-    let Some(name) = tables.name(at.table) else {
+fn over(rt: &HostRuntime, paths: &[String], at: OverAt) -> Fault {
+    let Some(path) = paths.get(at.table) else {
         return Fault::Memory;
     };
-    match folder.log_of(rt.alloc(), name) {
+    match String::from_str(rt.alloc(), path) {
         Ok(path) => Fault::Log(path),
-        Err(fault) => fault,
+        Err(_) => Fault::Memory,
     }
 }
 

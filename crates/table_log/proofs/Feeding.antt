@@ -4,8 +4,7 @@ use Rattle.std.specs.Prelude.{IfErr, IfOk, Err, Option, Result, option_map}
 use Rattle.std.proofs.lemmas.Bool.Decides.{eqb_tells}
 use Rattle.std.proofs.lemmas.List.{take-append-drop}
 use Rattle.std.proofs.Math.Seq.{take-add, take-length}
-use Rattle.table_schema.specs.Shape.{TableShape}
-use Rattle.table_step.specs.Step.{TableState, new_table}
+use Rattle.table_step.specs.Step.{TableState}
 use Rattle.table_log.specs.declared.fault.OpenWhy.{OpenWhy}
 use Rattle.table_log.specs.declared.fault.OpenWhy.TheVariants as whys
 use Rattle.table_log.specs.declared.loading.Loader.{Loader}
@@ -19,41 +18,41 @@ one_more : (seen : List ℕ) (b : ℕ) → length (seen ++ b ∷ []) ≡ length 
 one_more seen b = length-append seen (b ∷ [])
 
 -- one byte that is no newline
-loading_byte : (shape : TableShape) (seen : List ℕ) (b : ℕ) (old new : Loader) → IsLoading shape seen old → (b == 10) ≡ false
-    → new.line.items ≡ old.line.items ++ b ∷ [] → new.table ≡ old.table → new.number ≡ old.number → IsLoading shape (seen ++ b ∷ []) new
-loading_byte shape seen b old new h other line table number =
+loading_byte : (start : TableState) (seen : List ℕ) (b : ℕ) (old new : Loader) → IsLoading start seen old → (b == 10) ≡ false
+    → new.line.items ≡ old.line.items ++ b ∷ [] → new.table ≡ old.table → new.number ≡ old.number → IsLoading start (seen ++ b ∷ []) new
+loading_byte start seen b old new h other line table number =
     record {
       line = begun-byte seen b other ∙ ap (λ xs. xs ++ b ∷ []) h.line ∙ sym line;
-      table = ap (after_lines (new_table shape)) (whole-byte seen b other) ∙ h.table ∙ ap Some (sym table);
+      table = ap (after_lines start) (whole-byte seen b other) ∙ h.table ∙ ap Some (sym table);
       number = ap length (whole-byte seen b other) ∙ h.number ∙ sym number;
       few = omega (arith, one_more seen b, h.few, number);
     }
 
 -- a newline
-loading_line : (shape : TableShape) (seen : List ℕ) (b : ℕ) (old new : Loader) → IsLoading shape seen old → (b == 10) ≡ true
-    → LoadsLine old new → IsLoading shape (seen ++ b ∷ []) new
-loading_line shape seen b old new h is loads =
+loading_line : (start : TableState) (seen : List ℕ) (b : ℕ) (old new : Loader) → IsLoading start seen old → (b == 10) ≡ true
+    → LoadsLine old new → IsLoading start (seen ++ b ∷ []) new
+loading_line start seen b old new h is loads =
     record {
       line = begun-newline seen b is ∙ sym loads.line;
-      table = ap (after_lines (new_table shape)) (whole-newline seen b is)
-          ∙ after_more (whole_lines seen) (begun seen) (new_table shape) old.table new.table h.table (ap (after_line old.table) h.line ∙ loads.table);
+      table = ap (after_lines start) (whole-newline seen b is)
+          ∙ after_more (whole_lines seen) (begun seen) start old.table new.table h.table (ap (after_line old.table) h.line ∙ loads.table);
       number = ap length (whole-newline seen b is) ∙ length-append (whole_lines seen) (begun seen ∷ []) ∙ ap (λ n. n + 1) h.number ∙ sym loads.number;
       few = omega (arith, one_more seen b, h.few, loads.number);
     }
 
 pub loads_none : (loader : Loader) → Loads loader [] loader
-loads_none loader shape seen h = subst (λ xs. IsLoading shape xs loader) (sym (append-nil seen)) h
+loads_none loader start seen h = subst (λ xs. IsLoading start xs loader) (sym (append-nil seen)) h
 
 pub loads_both : (old mid new : Loader) (bytes more : List ℕ) → Loads old bytes mid → Loads mid more new → Loads old (bytes ++ more) new
-loads_both old mid new bytes more go on shape seen h =
-    subst (λ xs. IsLoading shape xs new) (append_assoc seen bytes more) (on shape (seen ++ bytes) (go shape seen h))
+loads_both old mid new bytes more go on start seen h =
+    subst (λ xs. IsLoading start xs new) (append_assoc seen bytes more) (on start (seen ++ bytes) (go start seen h))
 
 pub loads_byte : (old new : Loader) (b : ℕ) → (b == 10) ≡ false
     → new.line.items ≡ old.line.items ++ b ∷ [] → new.table ≡ old.table → new.number ≡ old.number → Loads old (b ∷ []) new
-loads_byte old new b other line table number shape seen h = loading_byte shape seen b old new h other line table number
+loads_byte old new b other line table number start seen h = loading_byte start seen b old new h other line table number
 
 pub loads_newline : (old new : Loader) (b : ℕ) → (b == 10) ≡ true → LoadsLine old new → Loads old (b ∷ []) new
-loads_newline old new b is loads shape seen h = loading_line shape seen b old new h is loads
+loads_newline old new b is loads start seen h = loading_line start seen b old new h is loads
 
 pub grows_newline : (old new : Loader) → LoadsLine old new → Grows old 1 new
 grows_newline old new loads =
@@ -69,8 +68,8 @@ pub grows_both : (old mid new : Loader) (n m : ℕ) → Grows old n mid → Grow
 grows_both old mid new n m go on = record { number = omega (arith, go.number, on.number); line = omega (arith, go.line, on.line) }
 
 -- a line that is refused is so whatever follows
-pub refused_more : (shape : TableShape) (bytes later : List ℕ) (number : ℕ) → IsRefused shape bytes number → IsRefused shape (bytes ++ later) number
-refused_more shape bytes later number h =
+pub refused_more : (start : TableState) (bytes later : List ℕ) (number : ℕ) → IsRefused start bytes number → IsRefused start (bytes ++ later) number
+refused_more start bytes later number h =
     let all = front_lines bytes later in
     record {
       before = h.before;
@@ -83,9 +82,9 @@ refused_more shape bytes later number h =
       refused = h.refused;
     }
 
-refused_line : (shape : TableShape) (seen : List ℕ) (b : ℕ) (loader : Loader) (number : ℕ) → IsLoading shape seen loader → (b == 10) ≡ true
-    → after_line loader.table loader.line.items ≡ None → number ≡ loader.number + 1 → IsRefused shape (seen ++ b ∷ []) number
-refused_line shape seen b loader number h is none at =
+refused_line : (start : TableState) (seen : List ℕ) (b : ℕ) (loader : Loader) (number : ℕ) → IsLoading start seen loader → (b == 10) ≡ true
+    → after_line loader.table loader.line.items ≡ None → number ≡ loader.number + 1 → IsRefused start (seen ++ b ∷ []) number
+refused_line start seen b loader number h is none at =
     record {
       before = whole_lines seen;
       line = begun seen;
@@ -100,15 +99,15 @@ refused_line shape seen b loader number h is none at =
 pub refuses_newline : (old : Loader) (b : ℕ) (why : OpenWhy) → (b == 10) ≡ true → RefusesLine old why → Refuses old (b ∷ []) why
 refuses_newline old b whys.Disk is h = h
 refuses_newline old b whys.Memory is h = tt
-refuses_newline old b (whys.Line number) is h = λ shape seen begin. refused_line shape seen b old number begin is h.0 h.1
+refuses_newline old b (whys.Line number) is h = λ start seen begin. refused_line start seen b old number begin is h.0 h.1
 
 pub refuses_later : (old mid : Loader) (piece bytes more rest : List ℕ) (why : OpenWhy) → piece ≡ bytes ++ (more ++ rest) → Loads old bytes mid → Refuses mid more why → Refuses old piece why
 refuses_later old mid piece bytes more rest whys.Disk is go h = h
 refuses_later old mid piece bytes more rest whys.Memory is go h = tt
-refuses_later old mid piece bytes more rest (whys.Line number) is go h = λ shape seen begin.
-    subst (λ xs. IsRefused shape xs number)
+refuses_later old mid piece bytes more rest (whys.Line number) is go h = λ start seen begin.
+    subst (λ xs. IsRefused start xs number)
     (append_assoc (seen ++ bytes) more rest ∙ append_assoc seen bytes (more ++ rest) ∙ ap (λ xs. seen ++ xs) (sym is))
-    (refused_more shape ((seen ++ bytes) ++ more) rest number (h shape (seen ++ bytes) (go shape seen begin)))
+    (refused_more start ((seen ++ bytes) ++ more) rest number (h start (seen ++ bytes) (go start seen begin)))
 
 -- ---- the bytes of a disk
 
@@ -118,31 +117,31 @@ next_bytes bytes piece at count is = take-add at count bytes ∙ ap (λ xs. take
 
 pub loads_to : (contents : Option (List ℕ)) (piece : List ℕ) (at count : ℕ) (old new : Loader)
     → ((known : List ℕ) → contents ≡ Some known → take count piece ≡ take count (drop at known)) → Loads old (take count piece) new → LoadsTo contents at old (at + count) new
-loads_to contents piece at count old new is go shape bytes known h =
-    subst (λ xs. IsLoading shape xs new) (sym (next_bytes bytes piece at count (is bytes known))) (go shape (take at bytes) h)
+loads_to contents piece at count old new is go start bytes known h =
+    subst (λ xs. IsLoading start xs new) (sym (next_bytes bytes piece at count (is bytes known))) (go start (take at bytes) h)
 
 refuses_by : (contents : Option (List ℕ)) (piece : List ℕ) (at count : ℕ) (old : Loader) (why : OpenWhy)
     → ((known : List ℕ) → contents ≡ Some known → take count piece ≡ take count (drop at known)) → Refuses old (take count piece) why
-    → (shape : TableShape) (bytes : List ℕ) → contents ≡ Some bytes → IsLoading shape (take at bytes) old → IsUnloaded shape bytes why
-refuses_by contents piece at count old whys.Disk is go shape bytes known h = tt
-refuses_by contents piece at count old whys.Memory is go shape bytes known h = tt
-refuses_by contents piece at count old (whys.Line number) is go shape bytes known h =
-    subst (λ xs. IsRefused shape xs number) (take-append-drop (at + count) bytes)
-    (refused_more shape (take (at + count) bytes) (drop (at + count) bytes) number
-    (subst (λ xs. IsRefused shape xs number) (sym (next_bytes bytes piece at count (is bytes known))) (go shape (take at bytes) h)))
+    → (start : TableState) (bytes : List ℕ) → contents ≡ Some bytes → IsLoading start (take at bytes) old → IsUnloaded start bytes why
+refuses_by contents piece at count old whys.Disk is go start bytes known h = tt
+refuses_by contents piece at count old whys.Memory is go start bytes known h = tt
+refuses_by contents piece at count old (whys.Line number) is go start bytes known h =
+    subst (λ xs. IsRefused start xs number) (take-append-drop (at + count) bytes)
+    (refused_more start (take (at + count) bytes) (drop (at + count) bytes) number
+    (subst (λ xs. IsRefused start xs number) (sym (next_bytes bytes piece at count (is bytes known))) (go start (take at bytes) h)))
 
 pub refuses_from : (contents : Option (List ℕ)) (piece : List ℕ) (at count : ℕ) (old : Loader) (why : OpenWhy)
     → ((known : List ℕ) → contents ≡ Some known → take count piece ≡ take count (drop at known)) → Refuses old (take count piece) why → RefusesFrom contents at old why
 refuses_from contents piece at count old why is go = refuses_by contents piece at count old why is go
 
 pub disk_unread : (contents : Option (List ℕ)) (at : ℕ) (old : Loader) → RefusesFrom contents at old whys.Disk
-disk_unread contents at old shape bytes known h = tt
+disk_unread contents at old start bytes known h = tt
 
 -- ---- opening
 
-pub opened : (shape : TableShape) (bytes : List ℕ) (loader : Loader) (size torn : ℕ) (new : Option (List ℕ)) → IsLoading shape bytes loader
-    → size ≡ length bytes → torn ≡ length loader.line.items → new ≡ option_map (take (size - torn)) (Some bytes) → IsOpened shape bytes torn new loader.table
-opened shape bytes loader size torn new h all line is =
+pub opened : (start : TableState) (bytes : List ℕ) (loader : Loader) (size torn : ℕ) (new : Option (List ℕ)) → IsLoading start bytes loader
+    → size ≡ length bytes → torn ≡ length loader.line.items → new ≡ option_map (take (size - torn)) (Some bytes) → IsOpened start bytes torn new loader.table
+opened start bytes loader size torn new h all line is =
     let k = keeps bytes in
     let behind : torn ≡ length (begun bytes) = line ∙ ap length (sym h.line) in
     let first : take (size - torn) bytes ≡ k.0 = ap (λ n. take (n - torn) bytes) all ∙ kept_bytes bytes k.0 torn k.1 behind in
@@ -150,7 +149,7 @@ opened shape bytes loader size torn new h all line is =
     record {
       kept = k.0;
       is_kept = is ∙ ap Some first;
-      loaded = loads shape bytes k.0 loader.table k.1 h.table;
+      loaded = loads start bytes k.0 loader.table k.1 h.table;
       cut_off = omega (arith, count, behind);
     }
 
@@ -161,27 +160,27 @@ take-none [] = refl
 take-none (x ∷ xs) = refl
 
 pub loads_here : (contents : Option (List ℕ)) (at : ℕ) (loader : Loader) → LoadsTo contents at loader at loader
-loads_here contents at loader shape bytes known h = h
+loads_here contents at loader start bytes known h = h
 
 pub loads_on : (contents : Option (List ℕ)) (at mid next : ℕ) (old between new : Loader) → LoadsTo contents at old mid between → LoadsTo contents mid between next new
     → LoadsTo contents at old next new
-loads_on contents at mid next old between new go on shape bytes known h = on shape bytes known (go shape bytes known h)
+loads_on contents at mid next old between new go on start bytes known h = on start bytes known (go start bytes known h)
 
 pub refuses_on : (contents : Option (List ℕ)) (at mid : ℕ) (old between : Loader) (why : OpenWhy) → LoadsTo contents at old mid between → RefusesFrom contents mid between why
     → RefusesFrom contents at old why
-refuses_on contents at mid old between why go on shape bytes known h = on shape bytes known (go shape bytes known h)
+refuses_on contents at mid old between why go on start bytes known h = on start bytes known (go start bytes known h)
 
-from_start : (shape : TableShape) (bytes : List ℕ) (loader : Loader) → IsLoading shape [] loader → IsLoading shape (take 0 bytes) loader
-from_start shape bytes loader h = subst (λ xs. IsLoading shape xs loader) (sym (take-none bytes)) h
+from_start : (start : TableState) (bytes : List ℕ) (loader : Loader) → IsLoading start [] loader → IsLoading start (take 0 bytes) loader
+from_start start bytes loader h = subst (λ xs. IsLoading start xs loader) (sym (take-none bytes)) h
 
-pub all_loaded : (contents : Option (List ℕ)) (size : ℕ) (old new : Loader) (shape : TableShape) → IsLoading shape [] old → LoadsTo contents 0 old size new
-    → ((known : List ℕ) → contents ≡ Some known → size ≡ length known) → (bytes : List ℕ) → contents ≡ Some bytes → IsLoading shape bytes new
-all_loaded contents size old new shape none go counted bytes known =
-    subst (λ xs. IsLoading shape xs new) (ap (λ n. take n bytes) (counted bytes known) ∙ take-length bytes) (go shape bytes known (from_start shape bytes old none))
+pub all_loaded : (contents : Option (List ℕ)) (size : ℕ) (old new : Loader) (start : TableState) → IsLoading start [] old → LoadsTo contents 0 old size new
+    → ((known : List ℕ) → contents ≡ Some known → size ≡ length known) → (bytes : List ℕ) → contents ≡ Some bytes → IsLoading start bytes new
+all_loaded contents size old new start none go counted bytes known =
+    subst (λ xs. IsLoading start xs new) (ap (λ n. take n bytes) (counted bytes known) ∙ take-length bytes) (go start bytes known (from_start start bytes old none))
 
-pub all_refused : (contents : Option (List ℕ)) (old : Loader) (shape : TableShape) (why : OpenWhy) → IsLoading shape [] old → RefusesFrom contents 0 old why
-    → (bytes : List ℕ) → contents ≡ Some bytes → IsUnloaded shape bytes why
-all_refused contents old shape why none go bytes known = go shape bytes known (from_start shape bytes old none)
+pub all_refused : (contents : Option (List ℕ)) (old : Loader) (start : TableState) (why : OpenWhy) → IsLoading start [] old → RefusesFrom contents 0 old why
+    → (bytes : List ℕ) → contents ≡ Some bytes → IsUnloaded start bytes why
+all_refused contents old start why none go bytes known = go start bytes known (from_start start bytes old none)
 
 -- ---- results of a byte
 
@@ -213,25 +212,25 @@ around piece i h = sym (take-append-drop i piece) ∙ ap (λ xs. take i piece ++
 
 -- ---- what a cut leaves
 
-pub opened_known : (shape : TableShape) (contents new : Option (List ℕ)) (loader : Loader) (size torn : ℕ) (bytes : List ℕ) → contents ≡ Some bytes
-    → IsLoading shape bytes loader → size ≡ length bytes → torn ≡ length loader.line.items → new ≡ option_map (take (size - torn)) contents → IsOpened shape bytes torn new loader.table
-opened_known shape contents new loader size torn bytes known h all line is =
-    opened shape bytes loader size torn new h all line (is ∙ ap (option_map (take (size - torn))) known)
+pub opened_known : (start : TableState) (contents new : Option (List ℕ)) (loader : Loader) (size torn : ℕ) (bytes : List ℕ) → contents ≡ Some bytes
+    → IsLoading start bytes loader → size ≡ length bytes → torn ≡ length loader.line.items → new ≡ option_map (take (size - torn)) contents → IsOpened start bytes torn new loader.table
+opened_known start contents new loader size torn bytes known h all line is =
+    opened start bytes loader size torn new h all line (is ∙ ap (option_map (take (size - torn))) known)
 
-pub opened_log : (shape : TableShape) (contents new : Option (List ℕ)) (loader : Loader) (size torn : ℕ)
-    → ((bytes : List ℕ) → contents ≡ Some bytes → IsLoading shape bytes loader) → ((bytes : List ℕ) → contents ≡ Some bytes → size ≡ length bytes)
-    → torn ≡ length loader.line.items → new ≡ option_map (take (size - torn)) contents → (bytes : List ℕ) → new ≡ Some bytes → IsLog shape bytes loader.table
-opened_log shape None new loader size torn go counted line is bytes known = absurd (cc)
-opened_log shape (Some b) new loader size torn go counted line is bytes known =
-    let o = opened shape b loader size torn new (go b refl) (counted b refl) line is in
+pub opened_log : (start : TableState) (contents new : Option (List ℕ)) (loader : Loader) (size torn : ℕ)
+    → ((bytes : List ℕ) → contents ≡ Some bytes → IsLoading start bytes loader) → ((bytes : List ℕ) → contents ≡ Some bytes → size ≡ length bytes)
+    → torn ≡ length loader.line.items → new ≡ option_map (take (size - torn)) contents → (bytes : List ℕ) → new ≡ Some bytes → IsLog start bytes loader.table
+opened_log start None new loader size torn go counted line is bytes known = absurd (cc)
+opened_log start (Some b) new loader size torn go counted line is bytes known =
+    let o = opened start b loader size torn new (go b refl) (counted b refl) line is in
     let there : new ≡ Some o.kept = o.is_kept in
     let same : o.kept ≡ bytes = cc in
-    subst (λ xs. IsLog shape xs loader.table) same o.loaded.log
+    subst (λ xs. IsLog start xs loader.table) same o.loaded.log
 
-pub unopened : (shape : TableShape) (contents new : Option (List ℕ)) (loader : Loader) (size torn : ℕ) (bytes : List ℕ) → contents ≡ Some bytes
-    → IsLoading shape bytes loader → size ≡ length bytes → torn ≡ length loader.line.items → (new ≡ contents) ⊎ (new ≡ option_map (take (size - torn)) contents)
-    → (new ≡ Some bytes) ⊎ ((kept : List ℕ) × (table : TableState) × (new ≡ Some kept) × IsLoaded shape bytes kept table)
-unopened shape contents new loader size torn bytes known h all line (inl e) = inl (e ∙ known)
-unopened shape contents new loader size torn bytes known h all line (inr e) =
-    let o = opened_known shape contents new loader size torn bytes known h all line e in
+pub unopened : (start : TableState) (contents new : Option (List ℕ)) (loader : Loader) (size torn : ℕ) (bytes : List ℕ) → contents ≡ Some bytes
+    → IsLoading start bytes loader → size ≡ length bytes → torn ≡ length loader.line.items → (new ≡ contents) ⊎ (new ≡ option_map (take (size - torn)) contents)
+    → (new ≡ Some bytes) ⊎ ((kept : List ℕ) × (table : TableState) × (new ≡ Some kept) × IsLoaded start bytes kept table)
+unopened start contents new loader size torn bytes known h all line (inl e) = inl (e ∙ known)
+unopened start contents new loader size torn bytes known h all line (inr e) =
+    let o = opened_known start contents new loader size torn bytes known h all line e in
     inr (o.kept, loader.table, o.is_kept, o.loaded)

@@ -9,8 +9,7 @@ use Rattle.command_text.specs.Text.{command_text}
 use Rattle.command_text.proofs.Law.{command_text_line, meaning-command_text}
 use Rattle.table_cmd.specs.declared.command.Command.{Command}
 use Rattle.table_engine.specs.Devices.{IsFront}
-use Rattle.table_schema.specs.Shape.{TableShape}
-use Rattle.table_step.specs.Step.{TableState, Took, new_table, step_of}
+use Rattle.table_step.specs.Step.{TableState, Took, step_of}
 use Rattle.table_terms.specs.declared.outcome.Outcome.TheVariants as outcomes
 use Rattle.table_log.specs.Log.{IsLoaded, IsLog, after_command, after_line, after_lines, after_meaning, begun, if_write, replayed, whole_lines}
 use Rattle.table_log.specs.Logged.{log_line}
@@ -51,28 +50,28 @@ some_by None h = absurd (cc)
 some_by (Some t) h = (t, refl)
 
 -- a front loads
-pub replays_front : (shape : TableShape) (front lost : List ℕ) → IsSome (replayed shape (front ++ lost)) → (t : TableState) × (replayed shape front ≡ Some t)
-replays_front shape front lost h =
-    let all = some_by (replayed shape (front ++ lost)) h in
+pub replays_front : (start : TableState) (front lost : List ℕ) → IsSome (replayed start (front ++ lost)) → (t : TableState) × (replayed start front ≡ Some t)
+replays_front start front lost h =
+    let all = some_by (replayed start (front ++ lost)) h in
     let first = front_lines front lost in
-    after_first (whole_lines front) first.0 (new_table shape) all.0 (ap (after_lines (new_table shape)) first.1 ∙ all.1)
+    after_first (whole_lines front) first.0 start all.0 (ap (after_lines start) first.1 ∙ all.1)
 
 is_some : (o : Option TableState) (t : TableState) → o ≡ Some t → IsSome o
 is_some o t e = rw e refl
 
-pub front_is_some : (shape : TableShape) (front lost : List ℕ) → IsSome (replayed shape (front ++ lost)) → IsSome (replayed shape front)
-front_is_some shape front lost h = let r = replays_front shape front lost h in is_some (replayed shape front) r.0 r.1
+pub front_is_some : (start : TableState) (front lost : List ℕ) → IsSome (replayed start (front ++ lost)) → IsSome (replayed start front)
+front_is_some start front lost h = let r = replays_front start front lost h in is_some (replayed start front) r.0 r.1
 
-pub log_is_some : (shape : TableShape) (bytes : List ℕ) (t : TableState) → IsLog shape bytes t → IsSome (replayed shape bytes)
-log_is_some shape bytes t h = is_some (replayed shape bytes) t h.leaves
+pub log_is_some : (start : TableState) (bytes : List ℕ) (t : TableState) → IsLog start bytes t → IsSome (replayed start bytes)
+log_is_some start bytes t h = is_some (replayed start bytes) t h.leaves
 
 -- bytes whose lines are accepted load
-pub loads : (shape : TableShape) (bytes kept : List ℕ) (t : TableState) → IsWhole bytes kept → replayed shape bytes ≡ Some t → IsLoaded shape bytes kept t
-loads shape bytes kept t k h =
+pub loads : (start : TableState) (bytes kept : List ℕ) (t : TableState) → IsWhole bytes kept → replayed start bytes ≡ Some t → IsLoaded start bytes kept t
+loads start bytes kept t k h =
     record {
       cuts = k.cuts;
       lines = k.lines;
-      log = record { whole = k.whole; leaves = ap (after_lines (new_table shape)) k.lines ∙ h };
+      log = record { whole = k.whole; leaves = ap (after_lines start) k.lines ∙ h };
     }
 
 -- ---- a write's line
@@ -81,9 +80,9 @@ pub text_line : (t : TableState) (command : Command) → CommandFits command →
 text_line t command fits = ap (after_meaning t) (meaning-command_text command fits)
 
 -- the log with the line of an accepted write
-pub log_more : (shape : TableShape) (bytes : List ℕ) (t v : TableState) (command : Command) → CommandFits command → IsLog shape bytes t → after_command t command ≡ Some v
-    → IsLog shape (bytes ++ log_line command) v
-log_more shape bytes t v command fits h e =
+pub log_more : (start : TableState) (bytes : List ℕ) (t v : TableState) (command : Command) → CommandFits command → IsLog start bytes t → after_command t command ≡ Some v
+    → IsLog start (bytes ++ log_line command) v
+log_more start bytes t v command fits h e =
     let text = command_text command in
     let none = recursion_from_All (λ b. (b == 10) ≡ false) text (command_text_line command fits) in
     let same : (bytes ++ text) ++ codes "\n" ≡ bytes ++ log_line command = append_assoc bytes text (codes "\n") in
@@ -91,21 +90,21 @@ log_more shape bytes t v command fits h e =
     ap whole_lines (sym same) ∙ whole-newline (bytes ++ text) 10 refl ∙ (λ i. whole-line text bytes none i ++ (begun-line text bytes none ∙ ap (λ xs. xs ++ text) h.whole) i ∷ []) in
     record {
       whole = ap begun (sym same) ∙ begun-newline (bytes ++ text) 10 refl;
-      leaves = ap (after_lines (new_table shape)) lines
-          ∙ after_more (whole_lines bytes) text (new_table shape) t v h.leaves (text_line t command fits ∙ e);
+      leaves = ap (after_lines start) lines
+          ∙ after_more (whole_lines bytes) text start t v h.leaves (text_line t command fits ∙ e);
     }
 
 -- ---- a crash
 
-pub crash : (shape : TableShape) (bytes : List ℕ) (synced : ℕ) (left : List ℕ) → IsSome (replayed shape bytes) → MayLeave bytes synced left → KeepsSynced shape bytes synced left
-crash shape bytes synced left some h =
-    let r = replays_front shape h.front h.lost (subst (λ xs. IsSome (replayed shape xs)) (sym h.whole) some) in
+pub crash : (start : TableState) (bytes : List ℕ) (synced : ℕ) (left : List ℕ) → IsSome (replayed start bytes) → MayLeave bytes synced left → KeepsSynced start bytes synced left
+crash start bytes synced left some h =
+    let r = replays_front start h.front h.lost (subst (λ xs. IsSome (replayed start xs)) (sym h.whole) some) in
     let lines : whole_lines left ≡ whole_lines h.front = ap whole_lines h.is_left ∙ whole-line (replicate h.zeros 0) h.front (no_newline h.zeros) in
     let k = keeps left in
     record {
       kept = k.0;
       table = r.0;
-      loaded = loads shape left k.0 r.0 k.1 (ap (after_lines (new_table shape)) lines ∙ r.1);
+      loaded = loads start left k.0 r.0 k.1 (ap (after_lines start) lines ∙ r.1);
       invents_none = subst (λ xs. IsFront xs (whole_lines bytes)) (sym lines)
           (subst (λ xs. IsFront (whole_lines h.front) (whole_lines xs)) h.whole (front_lines h.front h.lost));
       loses_none = λ n within.
@@ -124,27 +123,27 @@ write_left told_before told t v command took =
     ap (λ o. if_write o step.table) took.kind ∙ ap Some (sym took.table)
 
 -- the log after an accepted write whose line was appended
-pub stands_more : (shape : TableShape) (t v : TableState) (old new : Option (List ℕ)) (command : Command) → CommandFits command → after_command t command ≡ Some v
-    → ((bytes : List ℕ) → old ≡ Some bytes → IsLog shape bytes t) → new ≡ append_known old (log_line command) → (bytes : List ℕ) → new ≡ Some bytes → IsLog shape bytes v
-stands_more shape t v None new command fits e go added bytes is = absurd (cc)
-stands_more shape t v (Some b) new command fits e go added bytes is =
+pub stands_more : (start : TableState) (t v : TableState) (old new : Option (List ℕ)) (command : Command) → CommandFits command → after_command t command ≡ Some v
+    → ((bytes : List ℕ) → old ≡ Some bytes → IsLog start bytes t) → new ≡ append_known old (log_line command) → (bytes : List ℕ) → new ≡ Some bytes → IsLog start bytes v
+stands_more start t v None new command fits e go added bytes is = absurd (cc)
+stands_more start t v (Some b) new command fits e go added bytes is =
     let same : b ++ log_line command ≡ bytes = cc in
-    subst (λ xs. IsLog shape xs v) same (log_more shape b t v command fits (go b refl) e)
+    subst (λ xs. IsLog start xs v) same (log_more start b t v command fits (go b refl) e)
 
 -- the same of a front of the line
-pub loads_front : (shape : TableShape) (t v : TableState) (old new : Option (List ℕ)) (command : Command) (front : List ℕ) → CommandFits command → after_command t command ≡ Some v
-    → ((bytes : List ℕ) → old ≡ Some bytes → IsLog shape bytes t) → IsFront front (log_line command) → new ≡ append_known old front
-    → (bytes : List ℕ) → new ≡ Some bytes → IsSome (replayed shape bytes)
-loads_front shape t v None new command front fits e go part added bytes is = absurd (cc)
-loads_front shape t v (Some b) new command front fits e go part added bytes is =
+pub loads_front : (start : TableState) (t v : TableState) (old new : Option (List ℕ)) (command : Command) (front : List ℕ) → CommandFits command → after_command t command ≡ Some v
+    → ((bytes : List ℕ) → old ≡ Some bytes → IsLog start bytes t) → IsFront front (log_line command) → new ≡ append_known old front
+    → (bytes : List ℕ) → new ≡ Some bytes → IsSome (replayed start bytes)
+loads_front start t v None new command front fits e go part added bytes is = absurd (cc)
+loads_front start t v (Some b) new command front fits e go part added bytes is =
     let same : b ++ front ≡ bytes = cc in
     let whole : (b ++ front) ++ part.0 ≡ b ++ log_line command = append_assoc b front part.0 ∙ ap (λ xs. b ++ xs) part.1 in
-    let all = log_is_some shape (b ++ log_line command) v (log_more shape b t v command fits (go b refl) e) in
-    subst (λ xs. IsSome (replayed shape xs)) same
-    (front_is_some shape (b ++ front) part.0 (subst (λ xs. IsSome (replayed shape xs)) (sym whole) all))
+    let all = log_is_some start (b ++ log_line command) v (log_more start b t v command fits (go b refl) e) in
+    subst (λ xs. IsSome (replayed start xs)) same
+    (front_is_some start (b ++ front) part.0 (subst (λ xs. IsSome (replayed start xs)) (sym whole) all))
 
-pub loads_log : (shape : TableShape) (t : TableState) (bytes : List ℕ) → IsLog shape bytes t → IsSome (replayed shape bytes)
-loads_log shape t bytes h = log_is_some shape bytes t h
+pub loads_log : (start : TableState) (t : TableState) (bytes : List ℕ) → IsLog start bytes t → IsSome (replayed start bytes)
+loads_log start t bytes h = log_is_some start bytes t h
 
 -- ---- results
 

@@ -1,6 +1,6 @@
 -- What is loaded so far.
 use Rattle.std.specs.Prelude.{◌≡◌, ℕ, ◌+◌, ◌<◌, ◌≤◌, List, [], ◌++◌, length, take, Option, Some, None, Result, Ok, Err}
-use Rattle.table_schema.specs.Shape.{TableShape}
+use Rattle.table_step.specs.Step.{TableState}
 use Rattle.table_log.specs.declared.fault.OpenWhy.{OpenWhy}
 use Rattle.table_log.specs.declared.fault.OpenWhy.TheVariants as whys
 use Rattle.table_log.specs.declared.loading.Loader.{Loader}
@@ -8,15 +8,15 @@ use Rattle.table_log.specs.Log.{IsRefused, after_line, begun, replayed, whole_li
 use Rattle.table_log.specs.Logged.{failures_after_open}
 
 -- the table after the whole lines of these bytes, how many they are, and what stands behind them
-pub record IsLoading (shape : TableShape) (seen : List ℕ) (loader : Loader) : Type 0 where
+pub record IsLoading (start : TableState) (seen : List ℕ) (loader : Loader) : Type 0 where
   pub line : begun seen ≡ loader.line.items
-  pub table : replayed shape seen ≡ Some loader.table
+  pub table : replayed start seen ≡ Some loader.table
   pub number : length (whole_lines seen) ≡ loader.number
   pub few : loader.number ≤ length seen
 
 -- further bytes were loaded
 abbrev pub Loads : Loader → List ℕ → Loader → Type 0
-Loads old bytes new = (shape : TableShape) (seen : List ℕ) → IsLoading shape seen old → IsLoading shape (seen ++ bytes) new
+Loads old bytes new = (start : TableState) (seen : List ℕ) → IsLoading start seen old → IsLoading start (seen ++ bytes) new
 
 -- by no more lines, and a line that is longer by no more bytes
 pub record Grows (old : Loader) (count : ℕ) (new : Loader) : Type 0 where
@@ -37,7 +37,7 @@ RefusesLine old whys.Disk = ⊥
 
 -- why further bytes were not loaded
 abbrev pub Refuses : Loader → List ℕ → OpenWhy → Type 0
-Refuses old bytes (whys.Line number) = (shape : TableShape) (seen : List ℕ) → IsLoading shape seen old → IsRefused shape (seen ++ bytes) number
+Refuses old bytes (whys.Line number) = (start : TableState) (seen : List ℕ) → IsLoading start seen old → IsRefused start (seen ++ bytes) number
 Refuses old bytes whys.Memory = Unit {0}
 Refuses old bytes whys.Disk = ⊥
 
@@ -45,7 +45,7 @@ Refuses old bytes whys.Disk = ⊥
 
 -- they were loaded from one place to another
 abbrev pub LoadsTo : Option (List ℕ) → ℕ → Loader → ℕ → Loader → Type 0
-LoadsTo contents at old next new = (shape : TableShape) (bytes : List ℕ) → contents ≡ Some bytes → IsLoading shape (take at bytes) old → IsLoading shape (take next bytes) new
+LoadsTo contents at old next new = (start : TableState) (bytes : List ℕ) → contents ≡ Some bytes → IsLoading start (take at bytes) old → IsLoading start (take next bytes) new
 
 -- from one place to a further one
 pub record GrowsTo (at : ℕ) (old : Loader) (next : ℕ) (new : Loader) : Type 0 where
@@ -54,14 +54,14 @@ pub record GrowsTo (at : ℕ) (old : Loader) (next : ℕ) (new : Loader) : Type 
   pub line : length new.line.items + at ≤ length old.line.items + next
 
 -- why bytes are not loaded
-abbrev pub IsUnloaded : TableShape → List ℕ → OpenWhy → Type 0
-IsUnloaded shape bytes (whys.Line number) = IsRefused shape bytes number
-IsUnloaded shape bytes whys.Memory = Unit {0}
-IsUnloaded shape bytes whys.Disk = Unit {0}
+abbrev pub IsUnloaded : TableState → List ℕ → OpenWhy → Type 0
+IsUnloaded start bytes (whys.Line number) = IsRefused start bytes number
+IsUnloaded start bytes whys.Memory = Unit {0}
+IsUnloaded start bytes whys.Disk = Unit {0}
 
 -- why they are not, from a place on
 abbrev pub RefusesFrom : Option (List ℕ) → ℕ → Loader → OpenWhy → Type 0
-RefusesFrom contents at old why = (shape : TableShape) (bytes : List ℕ) → contents ≡ Some bytes → IsLoading shape (take at bytes) old → IsUnloaded shape bytes why
+RefusesFrom contents at old why = (start : TableState) (bytes : List ℕ) → contents ≡ Some bytes → IsLoading start (take at bytes) old → IsUnloaded start bytes why
 
 -- the failures of a disk that was loaded
 abbrev pub failures_after_load : {T : Type 0} → Result T OpenWhy → ℕ → ℕ

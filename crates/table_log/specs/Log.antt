@@ -4,8 +4,7 @@ use Rattle.command_lines.specs.Meaning.{meaning}
 use Rattle.command_lines.specs.declared.fault.CommandFault.{CommandFault}
 use Rattle.table_cmd.specs.declared.command.Command.{Command}
 use Rattle.table_engine.specs.Whole.{lines_of}
-use Rattle.table_schema.specs.Shape.{TableShape}
-use Rattle.table_step.specs.Step.{TableState, new_table, step_of}
+use Rattle.table_step.specs.Step.{TableState, step_of}
 use Rattle.table_terms.specs.declared.outcome.Outcome.{Outcome}
 use Rattle.table_terms.specs.declared.outcome.Outcome.TheVariants as outcomes
 
@@ -55,30 +54,30 @@ abbrev pub after_lines : TableState → List (List ℕ) → Option TableState
 after_lines t [] = Some t
 after_lines t (line ∷ lines) = option_and_then (λ next. after_lines next lines) (after_line t line)
 
--- the table of a log: its whole lines on an empty table of the declaration
-abbrev pub replayed : TableShape → List ℕ → Option TableState
-replayed shape bytes = after_lines (new_table shape) (whole_lines bytes)
+-- the table of a log: its whole lines on the table that it begins with
+abbrev pub replayed : TableState → List ℕ → Option TableState
+replayed start bytes = after_lines start (whole_lines bytes)
 
 -- ---- loading
 
 -- The bytes are whole lines, and leave the table.
-pub record IsLog (shape : TableShape) (bytes : List ℕ) (table : TableState) : Type 0 where
+pub record IsLog (start : TableState) (bytes : List ℕ) (table : TableState) : Type 0 where
   pub whole : begun bytes ≡ []
-  pub leaves : replayed shape bytes ≡ Some table
+  pub leaves : replayed start bytes ≡ Some table
 
 -- Loading these bytes keeps the whole lines and what they leave, and cuts off what stands behind them.
-pub record IsLoaded (shape : TableShape) (bytes kept : List ℕ) (table : TableState) : Type 0 where
+pub record IsLoaded (start : TableState) (bytes kept : List ℕ) (table : TableState) : Type 0 where
   pub cuts : bytes ≡ kept ++ begun bytes
   pub lines : whole_lines kept ≡ whole_lines bytes
-  pub log : IsLog shape kept table
+  pub log : IsLog start kept table
 
 -- The whole line of this number, from 1, is the first that is no accepted write.
-pub record IsRefused (shape : TableShape) (bytes : List ℕ) (number : ℕ) : Type 0 where
+pub record IsRefused (start : TableState) (bytes : List ℕ) (number : ℕ) : Type 0 where
   pub before : List (List ℕ)
   pub line : List ℕ
   pub later : List (List ℕ)
   pub lines : whole_lines bytes ≡ before ++ line ∷ later
   pub place : number ≡ length before + 1
   pub table : TableState
-  pub accepted : after_lines (new_table shape) before ≡ Some table
+  pub accepted : after_lines start before ≡ Some table
   pub refused : after_line table line ≡ None

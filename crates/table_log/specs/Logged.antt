@@ -7,15 +7,15 @@ use Rattle.table_cmd.specs.declared.command.Command.{Command}
 use Rattle.table_engine.specs.Devices.{IsFront, raised}
 use Rattle.table_reply.specs.Answer.{answer_text}
 use Rattle.table_schema.specs.Shape.{TableShape}
-use Rattle.table_step.specs.Step.{TableState, memory_line, step_of}
+use Rattle.table_step.specs.Step.{TableState, memory_line, new_table, step_of}
 use Rattle.table_log.specs.declared.fault.OpenWhy.{OpenWhy}
 use Rattle.table_log.specs.declared.fault.OpenWhy.TheVariants as whys
 use Rattle.table_log.specs.Log.{IsLoaded, IsLog, IsRefused, after_command, replayed}
 
--- what a clause sees of it: the declaration that the log begins with, the table, the log's bytes where they are known, how
--- many they are and how many of them are synced, how often the disk failed, and whether the log is over
+-- what a clause sees of it: the declaration of the empty table that the log begins with, unless it begins with another table, the table, the
+-- log's bytes where they are known, how many they are and how many of them are synced, how often the disk failed, and whether the log is over
 pub record LogData : Type 0 where
-  pub shape : TableShape
+  pub declared : Option TableShape
   pub table : TableState
   pub bytes : Option (List ℕ)
   pub size : ℕ
@@ -23,32 +23,34 @@ pub record LogData : Type 0 where
   pub failures : ℕ
   pub is_over : Bool
 
--- The table is what the log leaves, until the log is over. What the log has then still loads.
+-- The table is what the log leaves of the one that it begins with, until the log is over. What the log has then still loads.
 pub record IsKept (log : LogData) : Type 0 where
-  pub stands : (bytes : List ℕ) → log.bytes ≡ Some bytes → log.is_over ≡ false → IsLog log.shape bytes log.table
-  pub loads : (bytes : List ℕ) → log.bytes ≡ Some bytes → IsSome (replayed log.shape bytes)
+  pub start : TableState
+  pub is_empty : (shape : TableShape) → log.declared ≡ Some shape → start ≡ new_table shape
+  pub stands : (bytes : List ℕ) → log.bytes ≡ Some bytes → log.is_over ≡ false → IsLog start bytes log.table
+  pub loads : (bytes : List ℕ) → log.bytes ≡ Some bytes → IsSome (replayed start bytes)
 
 -- ---- opening
 
 -- The whole lines are kept and leave the table, and so many bytes behind them were cut off.
-pub record IsOpened (shape : TableShape) (bytes : List ℕ) (torn : ℕ) (new : Option (List ℕ)) (table : TableState) : Type 0 where
+pub record IsOpened (start : TableState) (bytes : List ℕ) (torn : ℕ) (new : Option (List ℕ)) (table : TableState) : Type 0 where
   pub kept : List ℕ
   pub is_kept : new ≡ Some kept
-  pub loaded : IsLoaded shape bytes kept table
+  pub loaded : IsLoaded start bytes kept table
   pub cut_off : length bytes ≡ length kept + torn
 
--- it is of this declaration, all of it is synced, and it is not over
-pub record IsSettled (shape : TableShape) (failures : ℕ) (log : LogData) : Type 0 where
-  pub is_of : log.shape ≡ shape
+-- it begins with the empty table of this declaration, or with another, all of it is synced, and it is not over
+pub record IsSettled (declared : Option TableShape) (failures : ℕ) (log : LogData) : Type 0 where
+  pub begins : log.declared ≡ declared
   pub synced : log.synced ≡ log.size
   pub works : log.failures ≡ failures
   pub stands : log.is_over ≡ false
 
 -- why a log was not opened, and its bytes then
-abbrev pub IsUnopened : TableShape → List ℕ → OpenWhy → Option (List ℕ) → Type 0
-IsUnopened shape old (whys.Line number) new = IsRefused shape old number × (new ≡ Some old)
-IsUnopened shape old whys.Memory new = new ≡ Some old
-IsUnopened shape old whys.Disk new = (new ≡ Some old) ⊎ ((kept : List ℕ) × (table : TableState) × (new ≡ Some kept) × IsLoaded shape old kept table)
+abbrev pub IsUnopened : TableState → List ℕ → OpenWhy → Option (List ℕ) → Type 0
+IsUnopened start old (whys.Line number) new = IsRefused start old number × (new ≡ Some old)
+IsUnopened start old whys.Memory new = new ≡ Some old
+IsUnopened start old whys.Disk new = (new ≡ Some old) ⊎ ((kept : List ℕ) × (table : TableState) × (new ≡ Some kept) × IsLoaded start old kept table)
 
 -- the failures of the disk after that
 abbrev pub failures_after_open : OpenWhy → ℕ → ℕ
@@ -65,7 +67,7 @@ log_line command = command_text command ++ codes "\n"
 -- a log that has a further line, and the table that it leaves
 abbrev pub with_line : LogData → List ℕ → TableState → LogData
 with_line log line table =
-    record { shape = log.shape; table = table; bytes = append_known log.bytes line; size = log.size + length line; synced = log.synced; failures = log.failures; is_over = log.is_over }
+    record { declared = log.declared; table = table; bytes = append_known log.bytes line; size = log.size + length line; synced = log.synced; failures = log.failures; is_over = log.is_over }
 
 -- the log after a command: an accepted write is a line more
 abbrev pub log_after : LogData → Command → LogData
@@ -89,7 +91,7 @@ pub record Fails (old : LogData) (command : Command) (new : LogData) : Type 0 wh
   pub front : List ℕ
   pub is_front : IsFront front (log_line command)
   pub write : after_command old.table command ≡ Some new.table
-  pub shape : new.shape ≡ old.shape
+  pub declared : new.declared ≡ old.declared
   pub bytes : new.bytes ≡ append_known old.bytes front
   pub synced : new.synced ≡ old.synced
   pub failures : new.failures ≡ raised old.failures
@@ -102,8 +104,8 @@ Stops old command new = ((old.is_over ≡ true) × (new ≡ old)) ⊎ Fails old 
 -- the log after a sync, and after one that failed
 abbrev pub synced_log : LogData → LogData
 synced_log log =
-    record { shape = log.shape; table = log.table; bytes = log.bytes; size = log.size; synced = log.size; failures = log.failures; is_over = log.is_over }
+    record { declared = log.declared; table = log.table; bytes = log.bytes; size = log.size; synced = log.size; failures = log.failures; is_over = log.is_over }
 
 abbrev pub failed_log : LogData → LogData
 failed_log log =
-    record { shape = log.shape; table = log.table; bytes = log.bytes; size = log.size; synced = log.synced; failures = raised log.failures; is_over = true }
+    record { declared = log.declared; table = log.table; bytes = log.bytes; size = log.size; synced = log.synced; failures = raised log.failures; is_over = true }

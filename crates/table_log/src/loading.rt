@@ -8,7 +8,6 @@ use crate::fault::OpenWhy;
 use command_lines::{CommandFault, read_command};
 use std::alloc::Global;
 use table_reply::Out;
-use table_schema::TableSpec;
 use table_step::{Outcome, Table};
 
 /// How many bytes are read at a time.
@@ -27,18 +26,16 @@ pub(crate) struct Loader {
 
 impl Loader {
     // Nothing is loaded yet.
-    fn new(alloc: Global, spec: &TableSpec) -> Result<Loader, OpenWhy>
-        ensures loading { IfOk result (λ loader. IsLoading spec.now [] loader) }
-        ensures none { IfOk result (λ loader. (loader.line.items ≡ []) × (loader.number ≡ 0)) }
-        ensures memory { IfErr result (λ why. why ≡ OpenWhy.Memory) }
+    fn new(alloc: Global, start: Table) -> Loader
+        ensures loading { IsLoading start [] result }
+        ensures none { (result.line.items ≡ []) × (result.number ≡ 0) }
     {
-        let table = Table::new(alloc, spec)?;
-        Ok(Loader {
-            table,
+        Loader {
+            table: start,
             line: Vec::new(alloc),
             number: 0,
             out: Out::new(alloc),
-        })
+        }
     }
 
     // Carries out the line that a newline ends now.
@@ -160,22 +157,18 @@ fn load_all<D: Disk>(
     Ok(())
 }
 
-/// Loads the bytes of a disk: carries out the whole lines on an empty table. O(bytes), and what the commands cost.
-pub(crate) fn load<D: Disk>(
-    alloc: Global,
-    spec: &TableSpec,
-    disk: &mut D,
-) -> Result<Loader, OpenWhy>
-    ensures loaded { IfOk result (λ loader. (bytes : List ℕ) → D.contents disk.old ≡ Some bytes → IsLoading spec.now bytes loader) }
+/// Loads the bytes of a disk: carries out the whole lines on a table. O(bytes), and what the commands cost.
+pub(crate) fn load<D: Disk>(alloc: Global, start: Table, disk: &mut D) -> Result<Loader, OpenWhy>
+    ensures loaded { IfOk result (λ loader. (bytes : List ℕ) → D.contents disk.old ≡ Some bytes → IsLoading start bytes loader) }
     ensures line { IfOk result (λ loader. length loader.line.items ≤ D.size disk.old) }
-    ensures refused { IfErr result (λ why. (bytes : List ℕ) → D.contents disk.old ≡ Some bytes → IsUnloaded spec.now bytes why) }
+    ensures refused { IfErr result (λ why. (bytes : List ℕ) → D.contents disk.old ≡ Some bytes → IsUnloaded start bytes why) }
     ensures contents { D.contents disk.new ≡ D.contents disk.old }
     ensures size { D.size disk.new ≡ D.size disk.old }
     ensures synced { D.synced disk.new ≡ D.synced disk.old }
     ensures failures { D.failures disk.new ≡ failures_after_load result (D.failures disk.old) }
 {
     let mut piece = vec![in alloc; 0u8; PIECE]?;
-    let mut loader = Loader::new(alloc, spec)?;
+    let mut loader = Loader::new(alloc, start);
     match load_all(alloc, disk, &mut piece, &mut loader) {
         Ok(()) => Ok(loader),
         Err(why) => Err(why),

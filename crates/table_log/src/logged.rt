@@ -1,9 +1,11 @@
 //! A table with its log.
 
-ghost use Rattle.std.specs.Prelude.{◌≡◌, ◌+◌, ◌≤◌, ◌↔◌, false, true, if◌then◌else◌, ℕ, List, Some, IfErr, IfOk, IsSome, IsTrue, OnErr, OnOk, length};
+ghost use Rattle.std.specs.Prelude.{◌≡◌, ◌+◌, ◌≤◌, ◌↔◌, false, true, if◌then◌else◌, ℕ, List, None, Some, IfErr, IfOk, IsSome, IsTrue, OnErr, OnOk, length};
 ghost use Rattle.command_lines.specs.Fits.{CommandFits};
 ghost use Rattle.table_changes.specs.Change.{is_change};
 ghost use Rattle.table_reply.specs.Buffer.{Keeps};
+ghost use Rattle.table_schema.specs.Shape.{TableShape};
+ghost use Rattle.table_step.specs.Step.{new_table};
 ghost use Rattle.table_log.specs.Loading.{failures_after_load};
 ghost use Rattle.table_log.specs.Log.{IsLog, after_command};
 ghost use Rattle.table_log.specs.Logged.{IsKept, IsOpened, IsSettled, IsUnopened, Stops, Tells, Told, failed_log, failures_after_open, log_line, synced_log};
@@ -19,10 +21,11 @@ use table_reply::{Out, OutOfRoom, READY_ROOM};
 use table_schema::TableSpec;
 use table_step::{Outcome, Table, is_change, refuse_memory};
 
-/// A table, and on a disk the log of its accepted writes. The table is what the log's lines leave of an empty one.
+/// A table, and on a disk the log of its accepted writes. The table is what the log's lines leave of the one that it begins with.
 #[derive(Drop)]
 pub struct LoggedTable<D: Disk> {
-    spec: TableSpec,
+    // The declaration of the empty table that the log begins with.
+    declared: Option<TableSpec>,
     table: Table,
     disk: D,
     line: Out,
@@ -34,9 +37,9 @@ impl<D: Disk> Model for LoggedTable<D> {
 
     ghost Value = { LogData };
 
-    ghost view = { λ l. record { shape = l.spec; table = l.table; bytes = D.contents l.disk; size = D.size l.disk; synced = D.synced l.disk; failures = D.failures l.disk; is_over = l.is_over } };
+    ghost view = { λ l. record { declared = l.declared; table = l.table; bytes = D.contents l.disk; size = D.size l.disk; synced = D.synced l.disk; failures = D.failures l.disk; is_over = l.is_over } };
 
-    ghost invariant = { λ l. IsKept (record { shape = l.spec; table = l.table; bytes = D.contents l.disk; size = D.size l.disk; synced = D.synced l.disk; failures = D.failures l.disk; is_over = l.is_over }) };
+    ghost invariant = { λ l. IsKept (record { declared = l.declared; table = l.table; bytes = D.contents l.disk; size = D.size l.disk; synced = D.synced l.disk; failures = D.failures l.disk; is_over = l.is_over }) };
 }
 
 /// A log that was opened, and how many bytes were cut off at its end.
@@ -61,26 +64,23 @@ fn set_line(command: &Command, line: &mut Out) -> Result<(), OutOfRoom>
     line.try_push(b"\n")
 }
 
-// A declaration, the table that a log leaves, and how many bytes were cut off.
+// The table that a log leaves, and how many bytes were cut off.
 #[derive(Drop)]
 struct Prepared {
-    spec: TableSpec,
     table: Table,
     torn: u64,
 }
 
-// Loads a disk's log, and cuts off what stands behind its whole lines.
-fn prepare<D: Disk>(alloc: Global, spec: &TableSpec, disk: &mut D) -> Result<Prepared, OpenWhy>
-    ensures spec { IfOk result (λ prepared. prepared.spec ≡ spec.now) }
+// Loads a disk's log on a table, and cuts off what stands behind its whole lines.
+fn prepare<D: Disk>(alloc: Global, start: Table, disk: &mut D) -> Result<Prepared, OpenWhy>
     ensures opened { IfOk result (λ prepared. (bytes : List ℕ) → D.contents disk.old ≡ Some bytes
-        → IsOpened spec.now bytes prepared.torn (D.contents disk.new) prepared.table) }
-    ensures log { IfOk result (λ prepared. (bytes : List ℕ) → D.contents disk.new ≡ Some bytes → IsLog spec.now bytes prepared.table) }
+        → IsOpened start bytes prepared.torn (D.contents disk.new) prepared.table) }
+    ensures log { IfOk result (λ prepared. (bytes : List ℕ) → D.contents disk.new ≡ Some bytes → IsLog start bytes prepared.table) }
     ensures synced { OnOk result (D.synced disk.new ≡ D.size disk.new) }
-    ensures unopened { IfErr result (λ why. (bytes : List ℕ) → D.contents disk.old ≡ Some bytes → IsUnopened spec.now bytes why (D.contents disk.new)) }
+    ensures unopened { IfErr result (λ why. (bytes : List ℕ) → D.contents disk.old ≡ Some bytes → IsUnopened start bytes why (D.contents disk.new)) }
     ensures failures { D.failures disk.new ≡ failures_after_load result (D.failures disk.old) }
 {
-    let copy = spec.copy()?;
-    let loader = match load(alloc, spec, disk) {
+    let loader = match load(alloc, start, disk) {
         Ok(loader) => loader,
         Err(why) => return Err(why),
     };
@@ -88,7 +88,6 @@ fn prepare<D: Disk>(alloc: Global, spec: &TableSpec, disk: &mut D) -> Result<Pre
     let torn = loader.line.len() as u64;
     match disk.cut(end - torn) {
         Ok(()) => Ok(Prepared {
-            spec: copy,
             table: loader.table,
             torn,
         }),
@@ -96,30 +95,86 @@ fn prepare<D: Disk>(alloc: Global, spec: &TableSpec, disk: &mut D) -> Result<Pre
     }
 }
 
+// Loads a disk's log on a table: the empty one of a declaration, or another.
+fn open_from<D: Disk>(
+    alloc: Global,
+    start: Table,
+    declared: Option<TableSpec>,
+    disk: D,
+) -> Result<Opened<D>, OpenFault<D>>
+    requires { (shape : TableShape) → declared ≡ Some shape → start ≡ new_table shape }
+    ensures opened { IfOk result (λ opened. (bytes : List ℕ) → D.contents disk ≡ Some bytes → IsOpened start bytes opened.torn opened.logged.bytes opened.logged.table) }
+    ensures settled { IfOk result (λ opened. IsSettled declared (D.failures disk) opened.logged) }
+    ensures unopened { IfErr result (λ fault. (bytes : List ℕ) → D.contents disk ≡ Some bytes → IsUnopened start bytes fault.why (D.contents fault.disk)) }
+    ensures failures { IfErr result (λ fault. D.failures fault.disk ≡ failures_after_open fault.why (D.failures disk)) }
+{
+    let mut disk = disk;
+    match prepare(alloc, start, &mut disk) {
+        Ok(prepared) => Ok(Opened {
+            logged: LoggedTable {
+                declared,
+                table: prepared.table,
+                disk,
+                line: Out::new(alloc),
+                is_over: false,
+            },
+            torn: prepared.torn,
+        }),
+        Err(why) => Err(OpenFault { disk, why }),
+    }
+}
+
+// An empty table, and a copy of its declaration.
+#[derive(Drop)]
+struct Empty {
+    table: Table,
+    spec: TableSpec,
+}
+
+// The empty table of a declaration.
+fn new_empty(alloc: Global, spec: &TableSpec) -> Result<Empty, OpenWhy>
+    ensures made { IfOk result (λ made. (made.table ≡ new_table spec.now) × (made.spec ≡ spec.now)) }
+    ensures memory { IfErr result (λ why. why ≡ OpenWhy.Memory) }
+{
+    Ok(Empty {
+        table: Table::new(alloc, spec)?,
+        spec: spec.copy()?,
+    })
+}
+
 impl<D: Disk> LoggedTable<D> {
     /// Loads a disk's log into an empty table of this declaration. What stands behind the last newline, as a crash leaves it, is
     /// cut off, and the rest is synced. A whole line that is no accepted write refuses it, with its number, and nothing is
     /// changed. A log that is refused hands its disk back. O(bytes), and what the commands cost.
     pub fn open(alloc: Global, spec: &TableSpec, disk: D) -> Result<Opened<D>, OpenFault<D>>
-        ensures opened { IfOk result (λ opened. (bytes : List ℕ) → D.contents disk ≡ Some bytes → IsOpened spec.now bytes opened.torn opened.logged.bytes opened.logged.table) }
-        ensures settled { IfOk result (λ opened. IsSettled spec.now (D.failures disk) opened.logged) }
-        ensures unopened { IfErr result (λ fault. (bytes : List ℕ) → D.contents disk ≡ Some bytes → IsUnopened spec.now bytes fault.why (D.contents fault.disk)) }
+        ensures opened { IfOk result (λ opened. (bytes : List ℕ) → D.contents disk ≡ Some bytes
+            → IsOpened (new_table spec.now) bytes opened.torn opened.logged.bytes opened.logged.table) }
+        ensures settled { IfOk result (λ opened. IsSettled (Some spec.now) (D.failures disk) opened.logged) }
+        ensures unopened { IfErr result (λ fault. (bytes : List ℕ) → D.contents disk ≡ Some bytes
+            → IsUnopened (new_table spec.now) bytes fault.why (D.contents fault.disk)) }
         ensures failures { IfErr result (λ fault. D.failures fault.disk ≡ failures_after_open fault.why (D.failures disk)) }
     {
-        let mut disk = disk;
-        match prepare(alloc, spec, &mut disk) {
-            Ok(prepared) => Ok(Opened {
-                logged: LoggedTable {
-                    spec: prepared.spec,
-                    table: prepared.table,
-                    disk,
-                    line: Out::new(alloc),
-                    is_over: false,
-                },
-                torn: prepared.torn,
-            }),
+        match new_empty(alloc, spec) {
+            Ok(made) => open_from(alloc, made.table, Some(made.spec), disk),
             Err(why) => Err(OpenFault { disk, why }),
         }
+    }
+
+    /// Loads a disk's log as `open` does, on the table that it begins with, as a state of an earlier log leaves it.
+    pub fn open_on(alloc: Global, start: Table, disk: D) -> Result<Opened<D>, OpenFault<D>>
+        ensures opened { IfOk result (λ opened. (bytes : List ℕ) → D.contents disk ≡ Some bytes → IsOpened start bytes opened.torn opened.logged.bytes opened.logged.table) }
+        ensures settled { IfOk result (λ opened. IsSettled None (D.failures disk) opened.logged) }
+        ensures unopened { IfErr result (λ fault. (bytes : List ℕ) → D.contents disk ≡ Some bytes → IsUnopened start bytes fault.why (D.contents fault.disk)) }
+        ensures failures { IfErr result (λ fault. D.failures fault.disk ≡ failures_after_open fault.why (D.failures disk)) }
+    {
+        open_from(alloc, start, None, disk)
+    }
+
+    /// The table. O(1).
+    pub fn table(&self) -> &Table
+        ensures { result.now ≡ self.now.table }
+    {
+        &self.table
     }
 
     /// Carries out a command and appends the line of its answer, or else the memory line. The canonical text of an accepted
@@ -217,7 +272,7 @@ impl<D: Disk> LoggedTable<D> {
         ensures failures { D.failures result ≡ self.failures }
     {
         let LoggedTable {
-            spec: _,
+            declared: _,
             table: _,
             disk: kept,
             line: _,

@@ -14,7 +14,7 @@ use Rattle.table_schema.specs.Draft.{IndexDraft}
 use Rattle.table_schema.specs.Resolved.{parts_of, with_key, index_for}
 use Rattle.table_schema.specs.Shape.{TableShape}
 use Rattle.table_schema.specs.Tests.{index_is_within_limits}
-use Rattle.table_schema.specs.Defined.{is_new_name, given_key, defined, with_index, without_index}
+use Rattle.table_schema.specs.Defined.{is_new_name, given_key, defined, with_index, with_only_index, without_index, IsNewIndex}
 use Rattle.table_schema.specs.Valid.{are_distinct, are_names, is_name, has_good_key, IsValidTable}
 
 both : (a b : Bool) → a ≡ true → b ≡ true → (a && b) ≡ true
@@ -119,6 +119,22 @@ valid_with t index room new good v =
           subst (λ l. are_names l ≡ true) (sym (map_push (λ i. i.name) t.indices index))
           (both _ _ (all_pushed is_name own index.name names.0 free.0) (distinct_pushed bytes_eq index.name (λ x h. unlike index.name x h) own names.1 (not_true _ free.1)));
       keys = all_pushed (has_good_key (length t.columns)) t.indices index v.keys good;
+      place = v.place;
+      tables = v.tables;
+    }
+
+-- one comes in place of all
+pub valid_only : (t : TableShape) (index : IndexSpec) → IsNewIndex t.columns [] index → IsValidTable t → IsValidTable (with_only_index t index)
+valid_only t index new v =
+    let free = and_parts (is_name index.name) true new.name in
+    record {
+      name = v.name;
+      max = v.max;
+      columns = v.columns;
+      indices = refl;
+      column_names = v.column_names;
+      index_names = both (is_name index.name && true) (are_distinct bytes_eq (index.name ∷ [])) (both (is_name index.name) true free.0 refl) refl;
+      keys = both (has_good_key (length t.columns) index) true new.key refl;
       place = v.place;
       tables = v.tables;
     }

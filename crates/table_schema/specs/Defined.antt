@@ -42,3 +42,7 @@ with_index t index = record t { indices = t.indices ++ index ∷ [] }
 
 abbrev pub without_index : TableShape → ℕ → TableShape
 without_index t place = record t { indices = remove t.indices place }
+
+-- with an index in place of all
+abbrev pub with_only_index : TableShape → IndexSpec → TableShape
+with_only_index t index = record t { indices = index ∷ [] }

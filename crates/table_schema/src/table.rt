@@ -1,6 +1,6 @@
 //! One table of a schema.
-ghost use Rattle.std.specs.Prelude.{◌≡◌, ◌<◌, IfOk, length};
-ghost use Rattle.table_schema.specs.Defined.{IsNewIndex, with_index, without_index};
+ghost use Rattle.std.specs.Prelude.{◌≡◌, ◌<◌, [], IfOk, length};
+ghost use Rattle.table_schema.specs.Defined.{IsNewIndex, with_index, with_only_index, without_index};
 ghost use Rattle.table_schema.specs.Valid.{IsValidTable};
 
 use crate::column::{Column, IndexSpec};
@@ -110,6 +110,19 @@ impl TableSpec {
         let mut table = self.copy()?;
         table.indices.push(index)?;
         Ok(table)
+    }
+
+    /// The table with this index in place of its own, newly allocated. O(columns).
+    pub fn with_only_index(&self, index: IndexSpec) -> Result<TableSpec, AllocError>
+        requires { IsNewIndex self.now.columns [] index }
+        ensures { IfOk result (λ table. table ≡ with_only_index self.now index) }
+    {
+        let alloc = *self.columns.allocator();
+        let name = self.name.copy()?;
+        let columns = copy_columns(alloc, &self.columns)?;
+        let mut indices = Vec::with_capacity(alloc, 1)?;
+        indices.push(index)?;
+        Ok(TableSpec::new(name, self.max, columns, indices, self.place, self.tables))
     }
 
     /// Drops one of several indices; those after it move up by one. It takes no memory. O(indices).

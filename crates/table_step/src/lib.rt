@@ -5,4 +5,5 @@ mod table;
 
 pub use table::Table;
 pub use table_changes::is_change;
+pub use table_records::{Records, Saved, Unrestorable};
 pub use table_terms::{Outcome, refuse, refuse_memory};

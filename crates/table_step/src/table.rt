@@ -1,16 +1,20 @@
 //! A table and one step of it.
 
-ghost use Rattle.std.specs.Prelude.{◌≡◌, ◌≤◌, IfOk, false};
+ghost use Rattle.std.specs.Prelude.{◌≡◌, ◌≤◌, IfErr, IfOk, false};
+ghost use Rattle.multi_index.specs.Restored.{IsUnrestorable};
 ghost use Rattle.table_changes.specs.Change.{is_change};
 ghost use Rattle.table_reply.specs.Buffer.{Keeps};
+ghost use Rattle.table_records.specs.Restored.{restored_table};
 ghost use Rattle.table_step.specs.Step.{IsOfSameTable, IsShort, Steps, new_table, step_of};
+ghost use Rattle.table_terms.specs.Table.{keys_of, row_order, specs_of};
 
+use key_extract::Row;
 use std::alloc::{AllocError, Global};
 use std::marker::Model;
 use table_changes::{change, is_change};
 use table_cmd::Command;
 use table_reads::read;
-use table_records::Records;
+use table_records::{Records, Saved, Unrestorable};
 use table_reply::{Fault, Out, READY_ROOM};
 use table_schema::TableSpec;
 use table_terms::{Outcome, refuse};
@@ -37,6 +41,27 @@ impl Table {
     {
         let records = Records::new(alloc, spec)?;
         Ok(Table { alloc, records })
+    }
+
+    /// The table that was saved, of this declaration, which it takes. What is no table of it is refused. Costs what
+    /// `MultiIndex::restore` does.
+    pub fn restored(
+        alloc: Global,
+        spec: TableSpec,
+        saved: Saved<Row>,
+    ) -> Result<Table, Unrestorable>
+        ensures made { IfOk result (λ table. table ≡ restored_table spec saved) }
+        ensures why { IfErr result (IsUnrestorable (row_order (keys_of spec)) (specs_of spec) spec.max saved) }
+    {
+        let records = Records::restored(alloc, spec, saved)?;
+        Ok(Table { alloc, records })
+    }
+
+    /// Its records with its declaration. O(1).
+    pub fn records(&self) -> &Records
+        ensures { result.now ≡ self.now }
+    {
+        &self.records
     }
 
     /// The table's name. O(1).

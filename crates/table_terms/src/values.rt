@@ -29,8 +29,8 @@ fn is_null(cell: &Cell) -> bool
     matches!(cell, Cell::Null)
 }
 
-// Whether the column can hold the cell: one of its type, or null where it may be null.
-fn can_hold(column: &Column, cell: &Cell) -> bool
+/// Whether the column can hold the cell: one of its type and no longer than a cell may be, or null where it may be null. O(1).
+pub fn can_hold(column: &Column, cell: &Cell) -> bool
     ensures { result ≡ can_hold column.now cell.now }
 {
     column.null && is_null(cell) || is_cell_of(column.cell, cell)

@@ -13,8 +13,10 @@ invariant_of-self-then-is_err-2 g c =
     let fail = append_failed c.append.result old new c.bytes.result.now c.append.ensures.contents (sym c.is_err-in-Write.ensures.value ∙ c.if-is_err-2.true) in
     let write = write_left c.args.out.now.bytes c.step.new.out.bytes c.self.inside.table c.step.new.self c.args.command.now c.in-Write.ensures.answer in
     record {
+      start = c.self.invariant.start;
+      is_empty = c.self.invariant.is_empty;
       stands = λ bytes known over. let bad : true ≡ false = over in absurd (cc);
-      loads = λ bytes known. loads_front c.self.inside.spec c.self.inside.table c.step.new.self old new c.args.command.now fail.0 c.requires.fits write
+      loads = λ bytes known. loads_front c.self.invariant.start c.self.inside.table c.step.new.self old new c.args.command.now fail.0 c.requires.fits write
           (λ b e. c.self.invariant.stands b e c.if-self.false) (subst (λ xs. IsFront fail.0 xs) line fail.1) fail.2 bytes known;
     }
 
@@ -26,9 +28,11 @@ invariant_of-self-else-is_err-2 g c =
     let added : new ≡ append_known old (log_line c.args.command.now) =
     append_done c.append.result old new c.bytes.result.now c.append.ensures.contents (sym c.is_err-in-Write.ensures.value ∙ c.if-is_err-2.false) ∙ ap (append_known old) line in
     let write = write_left c.args.out.now.bytes c.step.new.out.bytes c.self.inside.table c.step.new.self c.args.command.now c.in-Write.ensures.answer in
-    let log = stands_more c.self.inside.spec c.self.inside.table c.step.new.self old new c.args.command.now c.requires.fits write
+    let log = stands_more c.self.invariant.start c.self.inside.table c.step.new.self old new c.args.command.now c.requires.fits write
     (λ b e. c.self.invariant.stands b e c.if-self.false) added in
     record {
+      start = c.self.invariant.start;
+      is_empty = c.self.invariant.is_empty;
       stands = λ bytes known over. log bytes known;
-      loads = λ bytes known. loads_log c.self.inside.spec c.step.new.self bytes (log bytes known);
+      loads = λ bytes known. loads_log c.self.invariant.start c.step.new.self bytes (log bytes known);
     }

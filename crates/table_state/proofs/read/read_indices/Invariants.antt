@@ -1,0 +1,20 @@
+use Rattle.std.proofs.Common.{◌≡◌, ◌≤◌, ◌-◌, length, map}
+use Rattle.table_state.specs.Reading.{IsWithin, Takes}
+use Rattle.table_state.specs.State.{index_command, lines_text}
+use Rattle.table_terms.specs.Table.{IsOfSameTable}
+use Rattle.table_state.proofs.read.read_indices.Given as goal
+
+abbrev pub invariant-loop-alloc : goal.invariant-loop-alloc
+invariant-loop-alloc g l = record {
+  takes : Takes (g.D.Disk.contents l.fn.disk) l.fn.source (lines_text (map (index_command l.spec) l.made.indices)) l.source;
+  count : length l.made.indices ≤ l.count;
+  same : IsOfSameTable l.made l.spec;
+  within : IsWithin (g.D.Disk.size l.disk) l.source;
+  contents : g.D.Disk.contents l.disk ≡ g.D.Disk.contents l.fn.disk;
+  size : g.D.Disk.size l.disk ≡ g.D.Disk.size l.fn.disk;
+  synced : g.D.Disk.synced l.disk ≡ g.D.Disk.synced l.fn.disk;
+  failures : g.D.Disk.failures l.disk ≡ g.D.Disk.failures l.fn.disk;
+}
+
+abbrev pub decreases-loop-alloc : goal.decreases-loop-alloc
+decreases-loop-alloc g l = l.count - length l.made.indices

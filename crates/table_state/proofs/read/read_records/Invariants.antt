@@ -1,0 +1,18 @@
+use Rattle.std.proofs.Common.{◌≡◌, ◌≤◌, ◌-◌, length, map}
+use Rattle.table_state.specs.Reading.{IsWithin, Takes}
+use Rattle.table_state.specs.State.{lines_text, record_command}
+use Rattle.table_state.proofs.read.read_records.Given as goal
+
+abbrev pub invariant-loop-alloc : goal.invariant-loop-alloc
+invariant-loop-alloc g l = record {
+  takes : Takes (g.D.Disk.contents l.fn.disk) l.fn.source (lines_text (map (record_command l.spec) l.entries.items)) l.source;
+  count : length l.entries.items ≤ l.count;
+  within : IsWithin (g.D.Disk.size l.disk) l.source;
+  contents : g.D.Disk.contents l.disk ≡ g.D.Disk.contents l.fn.disk;
+  size : g.D.Disk.size l.disk ≡ g.D.Disk.size l.fn.disk;
+  synced : g.D.Disk.synced l.disk ≡ g.D.Disk.synced l.fn.disk;
+  failures : g.D.Disk.failures l.disk ≡ g.D.Disk.failures l.fn.disk;
+}
+
+abbrev pub decreases-loop-alloc : goal.decreases-loop-alloc
+decreases-loop-alloc g l = l.count - length l.entries.items

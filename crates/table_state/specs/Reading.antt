@@ -1,0 +1,51 @@
+-- What is left of the bytes of a disk.
+use Rattle.std.specs.Prelude.{codes, ◌≡◌, ℕ, ◌+◌, ◌-◌, ◌<◌, ◌≤◌, List, [], ◌∷◌, ◌++◌, length, take, drop, Option, Some, None, Result, Ok, Err}
+use Rattle.table_cmd.specs.declared.command.Command.{Command}
+use Rattle.table_state.specs.declared.fault.StateWhy.{StateWhy}
+use Rattle.table_state.specs.declared.source.Source.{Source}
+use Rattle.table_state.specs.State.{line_of}
+use Rattle.table_state.specs.Writing.{IsInterruption}
+
+-- what was read of them and not yet taken
+abbrev pub held : Source → List ℕ
+held source = drop source.start (take source.end source.piece.items)
+
+-- and what was not read
+abbrev pub left_of : List ℕ → Source → List ℕ
+left_of bytes source = held source ++ drop source.at bytes
+
+-- its places are within the bytes of the disk, and of its piece
+pub record IsWithin (size : ℕ) (source : Source) : Type 0 where
+  pub counted : source.size ≡ size
+  pub at : source.at ≤ size
+  pub start : source.start ≤ source.end
+  pub end : source.end ≤ length source.piece.items
+  pub room : 0 < length source.piece.items
+
+-- how many bytes are not yet taken
+abbrev pub unread : Source → ℕ
+unread source = (source.end - source.start) + (source.size - source.at)
+
+-- a text was taken off the front
+abbrev pub Takes : Option (List ℕ) → Source → List ℕ → Source → Type 0
+Takes contents old text new = (bytes : List ℕ) → contents ≡ Some bytes → left_of bytes old ≡ text ++ left_of bytes new
+
+-- the first byte was taken, or there is none
+abbrev pub TakesByte : Option (List ℕ) → Source → Option ℕ → Source → Type 0
+TakesByte contents old (Some byte) new = Takes contents old (byte ∷ []) new
+TakesByte contents old None new = (bytes : List ℕ) → contents ≡ Some bytes → (left_of bytes old ≡ []) × (left_of bytes new ≡ [])
+
+-- what was read is this, unless memory was refused or the disk failed
+abbrev pub Finds : {T X : Type 0} → (T → X) → Result T StateWhy → X → Type 0
+Finds value (Ok x) y = value x ≡ y
+Finds value (Err why) y = IsInterruption why
+
+-- where the text of something stands in front that fits, it is found
+abbrev pub Seeks : {T X : Type 0} → Option (List ℕ) → Source → (X → List ℕ) → (X → Type 0) → (T → X) → Result T StateWhy → Type 0
+Seeks {T} {X} contents source text Fits value result =
+    (x : X) (bytes rest : List ℕ) → contents ≡ Some bytes → Fits x → left_of bytes source ≡ text x ++ rest → Finds value result x
+
+-- the command was read of its line
+abbrev pub IsReadOf : Command → List ℕ → Result Command StateWhy → Type 0
+IsReadOf command line (Ok read) = (read ≡ command) × (line ++ codes "\n" ≡ line_of command)
+IsReadOf command line (Err why) = IsInterruption why

@@ -1,0 +1,326 @@
+//! Reads the state of a table.
+
+ghost use Rattle.std.specs.Prelude.{◌≡◌, ◌<◌, ◌≤◌, ◌++◌, [], ℕ, List, Some, IfErr, IfOk, OnOk, length, map};
+ghost use Rattle.table_schema.specs.Defined.{IsNewIndex};
+ghost use Rattle.table_state.specs.Reading.{IsWithin, Takes, left_of};
+ghost use Rattle.table_state.specs.State.{columns_command, count_command, index_command, line_of, lines_text, order_command, order_commands, record_command, state_text};
+ghost use Rattle.table_state.specs.Writing.{failures_of_state};
+ghost use Rattle.table_records.specs.Restored.{restored_table};
+ghost use Rattle.table_terms.specs.Table.{IsOfSameTable};
+
+use crate::fault::StateWhy;
+use crate::parts::{columns_command, count_command, index_command, order_command, record_command};
+use crate::source::Source;
+use container_model::{Entry, Handle};
+use key_extract::Row;
+use std::alloc::{AllocError, Global};
+use table_cmd::{Command, HandleText, Value};
+use table_log::Disk;
+use table_schema::{Column, DefineFault, IndexSpec, TableSpec, define_index};
+use table_step::{Saved, Table, Unrestorable};
+use table_terms::can_hold;
+
+// Reads a number under its name.
+fn read_count<D: Disk>(
+    alloc: Global,
+    spec: &TableSpec,
+    name: &str,
+    disk: &mut D,
+    source: &mut Source,
+) -> Result<u64, StateWhy>
+    requires within { IsWithin (D.size disk.old) source.old }
+    ensures takes { IfOk result (λ count. Takes (D.contents disk.old) source.old (line_of (count_command spec.now name.now count)) source.new) }
+    ensures within { IsWithin (D.size disk.new) source.new }
+    ensures contents { D.contents disk.new ≡ D.contents disk.old }
+    ensures size { D.size disk.new ≡ D.size disk.old }
+    ensures synced { D.synced disk.new ≡ D.synced disk.old }
+    ensures failures { D.failures disk.new ≡ failures_of_state result (D.failures disk.old) }
+{
+    let Command::Nth { place, .. } = source.next_command(alloc, disk)? else {
+        return Err(source.wrong());
+    };
+    source.confirm(&count_command(alloc, spec, name, place)?)?;
+    Ok(place)
+}
+
+// Reads the names of the columns, which are to be the declared ones.
+fn read_columns<D: Disk>(
+    alloc: Global,
+    spec: &TableSpec,
+    disk: &mut D,
+    source: &mut Source,
+) -> Result<(), StateWhy>
+    requires within { IsWithin (D.size disk.old) source.old }
+    ensures takes { OnOk result (Takes (D.contents disk.old) source.old (line_of (columns_command spec.now)) source.new) }
+    ensures within { IsWithin (D.size disk.new) source.new }
+    ensures contents { D.contents disk.new ≡ D.contents disk.old }
+    ensures size { D.size disk.new ≡ D.size disk.old }
+    ensures synced { D.synced disk.new ≡ D.synced disk.old }
+    ensures failures { D.failures disk.new ≡ failures_of_state result (D.failures disk.old) }
+{
+    source.next_line(disk)?;
+    source.confirm(&columns_command(alloc, spec)?)
+}
+
+// Reads an index that a table with these indices may have.
+fn read_index<D: Disk>(
+    alloc: Global,
+    spec: &TableSpec,
+    indices: &[IndexSpec],
+    disk: &mut D,
+    source: &mut Source,
+) -> Result<IndexSpec, StateWhy>
+    requires within { IsWithin (D.size disk.old) source.old }
+    ensures takes { IfOk result (λ index. Takes (D.contents disk.old) source.old (line_of (index_command spec.now index)) source.new) }
+    ensures fits { IfOk result (λ index. IsNewIndex spec.now.columns indices.now index) }
+    ensures within { IsWithin (D.size disk.new) source.new }
+    ensures contents { D.contents disk.new ≡ D.contents disk.old }
+    ensures size { D.size disk.new ≡ D.size disk.old }
+    ensures synced { D.synced disk.new ≡ D.synced disk.old }
+    ensures failures { D.failures disk.new ≡ failures_of_state result (D.failures disk.old) }
+{
+    let Command::AddIndex {
+        index,
+        kind,
+        unique,
+        key,
+        ..
+    } = source.next_command(alloc, disk)?
+    else {
+        return Err(source.wrong());
+    };
+    let texts = key.as_ref().map(|texts| texts.as_slice());
+    match define_index(spec.columns(), indices, &index, kind, unique, texts) {
+        Ok(defined) => {
+            source.confirm(&index_command(alloc, spec, &defined)?)?;
+            Ok(defined)
+        }
+        Err(DefineFault::Memory) => Err(StateWhy::Memory),
+        Err(DefineFault::Definition) => Err(source.wrong()),
+    }
+}
+
+// Reads so many indices: the declaration with them in place of its own.
+fn read_indices<D: Disk>(
+    alloc: Global,
+    spec: &TableSpec,
+    count: u64,
+    disk: &mut D,
+    source: &mut Source,
+) -> Result<TableSpec, StateWhy>
+    requires within { IsWithin (D.size disk.old) source.old }
+    ensures takes { IfOk result (λ made. Takes (D.contents disk.old) source.old (lines_text (map (index_command spec.now) made.indices)) source.new) }
+    ensures count { IfOk result (λ made. length made.indices ≡ count) }
+    ensures same { IfOk result (λ made. IsOfSameTable made spec.now) }
+    ensures within { IsWithin (D.size disk.new) source.new }
+    ensures contents { D.contents disk.new ≡ D.contents disk.old }
+    ensures size { D.size disk.new ≡ D.size disk.old }
+    ensures synced { D.synced disk.new ≡ D.synced disk.old }
+    ensures failures { D.failures disk.new ≡ failures_of_state result (D.failures disk.old) }
+{
+    if count == 0 {
+        return Err(source.wrong());
+    }
+    let first = read_index(alloc, spec, &[], disk, source)?;
+    let mut made = spec.with_only_index(first)?;
+    while (made.indices().len() as u64) < count {
+        let next = read_index(alloc, spec, made.indices(), disk, source)?;
+        made = made.with_index(next)?;
+    }
+    Ok(made)
+}
+
+// The row of the values of a record: a cell for each column, which it can hold.
+fn row_from(
+    alloc: Global,
+    columns: &[Column],
+    values: &[Value],
+) -> Result<Option<Row>, AllocError> {
+    if values.len() != columns.len() {
+        return Ok(None);
+    }
+    let mut cells = Vec::with_capacity(alloc, columns.len())?;
+    for (column, value) in columns.iter().zip(values) {
+        match value {
+            Value::Cell(cell) if can_hold(column, cell) => cells.push(cell.copy()?)?,
+            _ => return Ok(None),
+        }
+    }
+    Ok(Some(Row::new(cells)))
+}
+
+// Reads a record.
+fn read_record<D: Disk>(
+    alloc: Global,
+    spec: &TableSpec,
+    disk: &mut D,
+    source: &mut Source,
+) -> Result<Entry<Row>, StateWhy>
+    requires within { IsWithin (D.size disk.old) source.old }
+    ensures takes { IfOk result (λ entry. Takes (D.contents disk.old) source.old (line_of (record_command spec.now entry)) source.new) }
+    ensures within { IsWithin (D.size disk.new) source.new }
+    ensures contents { D.contents disk.new ≡ D.contents disk.old }
+    ensures size { D.size disk.new ≡ D.size disk.old }
+    ensures synced { D.synced disk.new ≡ D.synced disk.old }
+    ensures failures { D.failures disk.new ≡ failures_of_state result (D.failures disk.old) }
+{
+    let Command::ModifyKey {
+        handle: HandleText::Handle(handle),
+        key,
+        ..
+    } = source.next_command(alloc, disk)?
+    else {
+        return Err(source.wrong());
+    };
+    let Some(row) = row_from(alloc, spec.columns(), key.as_slice())? else {
+        return Err(source.wrong());
+    };
+    source.confirm(&record_command(alloc, spec, handle, row.cells())?)?;
+    Ok(Entry { handle, row })
+}
+
+// Reads so many records.
+fn read_records<D: Disk>(
+    alloc: Global,
+    spec: &TableSpec,
+    count: u64,
+    disk: &mut D,
+    source: &mut Source,
+) -> Result<Vec<Entry<Row>>, StateWhy>
+    requires within { IsWithin (D.size disk.old) source.old }
+    ensures takes { IfOk result (λ entries. Takes (D.contents disk.old) source.old (lines_text (map (record_command spec.now) entries.items)) source.new) }
+    ensures count { IfOk result (λ entries. length entries.items ≡ count) }
+    ensures within { IsWithin (D.size disk.new) source.new }
+    ensures contents { D.contents disk.new ≡ D.contents disk.old }
+    ensures size { D.size disk.new ≡ D.size disk.old }
+    ensures synced { D.synced disk.new ≡ D.synced disk.old }
+    ensures failures { D.failures disk.new ≡ failures_of_state result (D.failures disk.old) }
+{
+    let mut entries = Vec::new(alloc);
+    while (entries.len() as u64) < count {
+        entries.push(read_record(alloc, spec, disk, source)?)?;
+    }
+    Ok(entries)
+}
+
+// The handles that texts spell, where each spells one.
+fn handles_from(alloc: Global, texts: &[HandleText]) -> Result<Option<Vec<Handle>>, AllocError> {
+    let mut handles = Vec::with_capacity(alloc, texts.len())?;
+    for text in texts {
+        match text {
+            HandleText::Handle(handle) => handles.push(*handle)?,
+            HandleText::Bad => return Ok(None),
+        }
+    }
+    Ok(Some(handles))
+}
+
+// Reads the order of an index.
+fn read_order<D: Disk>(
+    alloc: Global,
+    spec: &TableSpec,
+    index: &str,
+    disk: &mut D,
+    source: &mut Source,
+) -> Result<Vec<Handle>, StateWhy>
+    requires within { IsWithin (D.size disk.old) source.old }
+    ensures takes { IfOk result (λ handles. Takes (D.contents disk.old) source.old (line_of (order_command spec.now index.now handles.items)) source.new) }
+    ensures within { IsWithin (D.size disk.new) source.new }
+    ensures contents { D.contents disk.new ≡ D.contents disk.old }
+    ensures size { D.size disk.new ≡ D.size disk.old }
+    ensures synced { D.synced disk.new ≡ D.synced disk.old }
+    ensures failures { D.failures disk.new ≡ failures_of_state result (D.failures disk.old) }
+{
+    let Command::Rearrange { handles: texts, .. } = source.next_command(alloc, disk)? else {
+        return Err(source.wrong());
+    };
+    let Some(handles) = handles_from(alloc, texts.as_slice())? else {
+        return Err(source.wrong());
+    };
+    source.confirm(&order_command(alloc, spec, index, &handles)?)?;
+    Ok(handles)
+}
+
+// Reads the order of each index.
+fn read_orders<D: Disk>(
+    alloc: Global,
+    spec: &TableSpec,
+    disk: &mut D,
+    source: &mut Source,
+) -> Result<Vec<Vec<Handle>>, StateWhy>
+    requires within { IsWithin (D.size disk.old) source.old }
+    ensures takes { IfOk result (λ orders. Takes (D.contents disk.old) source.old (lines_text (order_commands spec.now (map (λ order. order.items) orders.items))) source.new) }
+    ensures within { IsWithin (D.size disk.new) source.new }
+    ensures contents { D.contents disk.new ≡ D.contents disk.old }
+    ensures size { D.size disk.new ≡ D.size disk.old }
+    ensures synced { D.synced disk.new ≡ D.synced disk.old }
+    ensures failures { D.failures disk.new ≡ failures_of_state result (D.failures disk.old) }
+{
+    let indices = spec.indices();
+    let mut orders = Vec::with_capacity(alloc, indices.len())?;
+    for index in indices {
+        orders.push(read_order(alloc, spec, index.name.as_str(), disk, source)?)?;
+    }
+    Ok(orders)
+}
+
+// What is told of a table: its declaration, and what it held.
+#[derive(Drop)]
+struct Told {
+    spec: TableSpec,
+    saved: Saved<Row>,
+}
+
+// Reads all lines.
+fn read_all<D: Disk>(
+    alloc: Global,
+    spec: &TableSpec,
+    disk: &mut D,
+    source: &mut Source,
+) -> Result<Told, StateWhy>
+    requires within { IsWithin (D.size disk.old) source.old }
+    ensures takes { IfOk result (λ told. Takes (D.contents disk.old) source.old (state_text (restored_table told.spec told.saved)) source.new) }
+    ensures same { IfOk result (λ told. IsOfSameTable told.spec spec.now) }
+    ensures within { IsWithin (D.size disk.new) source.new }
+    ensures contents { D.contents disk.new ≡ D.contents disk.old }
+    ensures size { D.size disk.new ≡ D.size disk.old }
+    ensures synced { D.synced disk.new ≡ D.synced disk.old }
+    ensures failures { D.failures disk.new ≡ failures_of_state result (D.failures disk.old) }
+{
+    let writes = read_count(alloc, spec, "writes", disk, source)?;
+    let indices = read_count(alloc, spec, "indices", disk, source)?;
+    let records = read_count(alloc, spec, "records", disk, source)?;
+    read_columns(alloc, spec, disk, source)?;
+    let spec = read_indices(alloc, spec, indices, disk, source)?;
+    let entries = read_records(alloc, &spec, records, disk, source)?;
+    let orders = read_orders(alloc, &spec, disk, source)?;
+    Ok(Told {
+        spec,
+        saved: Saved {
+            writes,
+            entries,
+            orders,
+        },
+    })
+}
+
+/// Reads the state of a table of this declaration: a table whose state has the text that the disk has, no more and no less. Its
+/// indices may be others than the declared ones. Another text is refused, and so is one that is cut off anywhere. The disk is
+/// left as it was. O(length of the text), and what `MultiIndex::restore` costs.
+pub fn read_state<D: Disk>(alloc: Global, spec: &TableSpec, disk: &mut D) -> Result<Table, StateWhy>
+    ensures read { IfOk result (λ table. (bytes : List ℕ) → D.contents disk.old ≡ Some bytes → bytes ≡ state_text table) }
+    ensures same { IfOk result (λ table. IsOfSameTable table.shape spec.now) }
+    ensures contents { D.contents disk.new ≡ D.contents disk.old }
+    ensures size { D.size disk.new ≡ D.size disk.old }
+    ensures synced { D.synced disk.new ≡ D.synced disk.old }
+    ensures failures { D.failures disk.new ≡ failures_of_state result (D.failures disk.old) }
+{
+    let mut source = Source::new(alloc, disk.size())?;
+    let Told { spec, saved } = read_all(alloc, spec, disk, &mut source)?;
+    source.end(disk)?;
+    match Table::restored(alloc, spec, saved) {
+        Ok(table) => Ok(table),
+        Err(Unrestorable::Memory) => Err(StateWhy::Memory),
+        Err(_) => Err(StateWhy::Table),
+    }
+}
