@@ -1,5 +1,5 @@
 -- The laws of an index's list, for the crates above.
-use Rattle.std.proofs.Common.{◌≡◌, ◌≢◌, ℕ, suc, ◌+◌, ◌<◌, Bool, true, cond, List, [], ◌∷◌, length, Option, refl, ap, sym, ◌∙◌, subst, arith, false, Some, ◌≤◌, nat_lt}
+use Rattle.std.proofs.Common.{◌≡◌, ◌≢◌, ℕ, suc, ◌+◌, ◌<◌, Bool, true, cond, List, [], ◌∷◌, length, Option, refl, ap, sym, ◌∙◌, subst, arith, false, Some}
 use Rattle.std.specs.Prelude.{IsTrue, find}
 use Rattle.std.specs.List.{AllByRecursion}
 use Rattle.std.specs.Option.{option_map}
@@ -12,7 +12,6 @@ use Rattle.list_model.specs.Order.{IsInOrder}
 use Rattle.list_model.specs.Place.{not_above}
 use Rattle.list_model.specs.Walk.{without}
 use Rattle.list_model.proofs.Counts.{count_by-cons}
-use Rattle.list_model.proofs.InOrder.{All-map}
 use Rattle.list_model.proofs.Kept.{EachPair-filter}
 use Rattle.node_store.specs.declared.Node.{Node}
 use Rattle.node_store.specs.declared.Link.{Link}
@@ -20,7 +19,7 @@ use Rattle.node_store.specs.Column.{Column}
 use Rattle.node_store.specs.Nodes.{Lacks, Holds, IsDistinct}
 use Rattle.node_store.specs.Store.{Store, IsStore, IsNodeOf, age_of}
 use Rattle.node_store.specs.ByNode.{Columns, column_of, columns_in, record_of, same_node, AddsNode, RemovesNode}
-use Rattle.node_store.proofs.Members.{IsDistinct_moved, each_held}
+use Rattle.node_store.proofs.Members.{IsDistinct_moved}
 use Rattle.seq_index.proofs.Laws as seq
 pub use Rattle.seq_index.proofs.Walks.{without_at}
 use Rattle.row_index.proofs.Laws as row
@@ -33,7 +32,6 @@ use Rattle.ord_tree.proofs.Laws as ord
 pub use Rattle.ord_tree.proofs.Laws.{Holds_at, Holds_last}
 use Rattle.ord_tree.proofs.Digested.{digest_in, AreDigested_others, AreDigested_kept, AreDigested_without}
 use Rattle.ord_tree.proofs.Ordered.{IsInOrder_others}
-use Rattle.rank_tree.proofs.Laws as rank
 use Rattle.hash_index.specs.Chains.{tag_at}
 use Rattle.hash_index.specs.Hashed.{IsHashed}
 use Rattle.hash_index.specs.Spelled as buckets
@@ -54,14 +52,14 @@ pub list_of_kept : (cs ds : Columns) (i : AnyIndex) → ds.links (col_of i) ≡ 
 list_of_kept cs ds (Sequenced i) e f = seq.spelled_kept cs.links ds.links i e
 list_of_kept cs ds (Random i) e f = row.spelled_kept cs.links ds.links i e
 list_of_kept cs ds (Ordered i) e f = ord.spelled_kept cs.links ds.links i e
-list_of_kept cs ds (Ranked i) e f = rank.spelled_kept cs.links ds.links i e
+list_of_kept cs ds (Ranked i) e f = ord.spelled_kept cs.links ds.links i e
 list_of_kept cs ds (Hashed i) e f = λ k. by_age (f k) (hash.spelled_kept cs.links ds.links i e k)
 
 pub IsSound_kept : (cs ds : Columns) (i : AnyIndex) → ds.links (col_of i) ≡ cs.links (col_of i) → ds.ages ≡ cs.ages → IsSound cs i → IsSound ds i
 IsSound_kept cs ds (Sequenced i) e f h = seq.IsSound_kept cs.links ds.links i e h
 IsSound_kept cs ds (Random i) e f h = row.IsSound_kept cs.links ds.links i e h
 IsSound_kept cs ds (Ordered i) e f h = ord.IsSound_kept cs.links ds.links i e h
-IsSound_kept cs ds (Ranked i) e f h = rank.IsSound_kept cs.links ds.links i e h
+IsSound_kept cs ds (Ranked i) e f h = ord.IsSound_kept cs.links ds.links i e h
 IsSound_kept cs ds (Hashed i) e f h = subst (λ ages. buckets.IsSound ages ds.links i) (sym f) (hash.IsSound_kept cs.links ds.links i e h)
 
 -- its nodes are distinct
@@ -69,7 +67,7 @@ pub list_distinct : (cs : Columns) (i : AnyIndex) → IsSound cs i → IsDistinc
 list_distinct cs (Sequenced i) h = seq.Spells_distinct cs.links i _ h
 list_distinct cs (Random i) h = row.Spells_distinct cs.links i _ h
 list_distinct cs (Ordered i) h = ord.Spells_distinct cs.links i _ h
-list_distinct cs (Ranked i) h = rank.Spells_distinct cs.links i _ h
+list_distinct cs (Ranked i) h = ord.Spells_distinct cs.links i _ h
 list_distinct cs (Hashed i) h = IsDistinct_moved (buckets.spelled cs.links i) (list_of cs (Hashed i)) (moved_by_age cs.ages _) (hash.Spells_distinct cs.links i _ h)
 
 module _ {R : Type 0} where
@@ -78,7 +76,7 @@ module _ {R : Type 0} where
   node_held s (Sequenced i) n h k = seq.node_held s i n h k
   node_held s (Random i) n h k = row.node_held s i n h k
   node_held s (Ordered i) n h k = ord.node_held s i n h k
-  node_held s (Ranked i) n h k = rank.node_held s i n h k
+  node_held s (Ranked i) n h k = ord.node_held s i n h k
   node_held s (Hashed i) n h k = hash.node_held s i n h (Holds_moved _ _ n (moved_back (age_of s) _) k)
 
   -- ---- when nodes come and go in the store
@@ -87,7 +85,7 @@ module _ {R : Type 0} where
   list_of_added old new n value (Sequenced i) store a h = seq.spelled_added old new n value i a h
   list_of_added old new n value (Random i) store a h = row.spelled_added old new n value i a h
   list_of_added old new n value (Ordered i) store a h = ord.spelled_added old new n value i a h
-  list_of_added old new n value (Ranked i) store a h = rank.spelled_added old new n value i a h
+  list_of_added old new n value (Ranked i) store a h = ord.spelled_added old new n value i a h
   list_of_added old new n value (Hashed i) store a h =
       let e = hash.spelled_added old new n value i a h in
       let sound = hash.IsSound_added old new n value i a h in
@@ -99,7 +97,7 @@ module _ {R : Type 0} where
   IsSound_added old new n value (Sequenced i) a h = seq.IsSound_added old new n value i a h
   IsSound_added old new n value (Random i) a h = row.IsSound_added old new n value i a h
   IsSound_added old new n value (Ordered i) a h = ord.IsSound_added old new n value i a h
-  IsSound_added old new n value (Ranked i) a h = rank.IsSound_added old new n value i a h
+  IsSound_added old new n value (Ranked i) a h = ord.IsSound_added old new n value i a h
   IsSound_added old new n value (Hashed i) a h = hash.IsSound_added old new n value i a h
 
   -- the new node is not in the list
@@ -107,14 +105,14 @@ module _ {R : Type 0} where
   Lacks_added old new n value (Sequenced i) a h = seq.Lacks_spelled_added old new n value i a h
   Lacks_added old new n value (Random i) a h = row.Lacks_spelled_added old new n value i a h
   Lacks_added old new n value (Ordered i) a h = ord.Lacks_spelled_added old new n value i a h
-  Lacks_added old new n value (Ranked i) a h = rank.Lacks_spelled_added old new n value i a h
+  Lacks_added old new n value (Ranked i) a h = ord.Lacks_spelled_added old new n value i a h
   Lacks_added old new n value (Hashed i) a h = Lacks_moved _ _ n (moved_by_age (age_of new) _) (hash.Lacks_spelled_added old new n value i a h)
 
   pub list_of_removed : (old new : Store R) (n : Node) (i : AnyIndex) → IsStore new → RemovesNode old new n → Lacks (list_of (columns_in old) i) n → IsSound (columns_in old) i → list_of (columns_in new) i ≡ list_of (columns_in old) i
   list_of_removed old new n (Sequenced i) store r lacks h = seq.spelled_removed old new n i r lacks h
   list_of_removed old new n (Random i) store r lacks h = row.spelled_removed old new n i r lacks h
   list_of_removed old new n (Ordered i) store r lacks h = ord.spelled_removed old new n i r lacks h
-  list_of_removed old new n (Ranked i) store r lacks h = rank.spelled_removed old new n i r lacks h
+  list_of_removed old new n (Ranked i) store r lacks h = ord.spelled_removed old new n i r lacks h
   list_of_removed old new n (Hashed i) store r lacks h =
       let away = Lacks_moved _ _ n (moved_back (age_of old) _) lacks in
       let spells = hash.Spells_removed old new n i _ r away h in
@@ -127,7 +125,7 @@ module _ {R : Type 0} where
   IsSound_removed old new n (Sequenced i) r lacks h = seq.IsSound_removed old new n i r lacks h
   IsSound_removed old new n (Random i) r lacks h = row.IsSound_removed old new n i r lacks h
   IsSound_removed old new n (Ordered i) r lacks h = ord.IsSound_removed old new n i r lacks h
-  IsSound_removed old new n (Ranked i) r lacks h = rank.IsSound_removed old new n i r lacks h
+  IsSound_removed old new n (Ranked i) r lacks h = ord.IsSound_removed old new n i r lacks h
   IsSound_removed old new n (Hashed i) r lacks h =
       hash.IsSound_from (column_of new) i _ (hash.Spells_removed old new n i _ r (Lacks_moved _ _ n (moved_back (age_of old) _) lacks) h)
 
@@ -176,36 +174,38 @@ module _ {R : Type 0} (order : R → R → Ordering) (marks : R → Marks) (old 
       each (y ∷ ys) p =
           (ap (λ (c : Column). digest_number (stored_digest c y)) links ∙ (p.0 ∙ sym (digest_alike (record_of old) (record_of new) n a b had has records (digest_by marks) (ap (λ (m : Marks). m.digest) one.same_marks) y)), each ys p.1)
 
+-- nodes stay under their hashes where their tags and the hashes of their records stay
+hashed_same : {R : Type 0} (hash : R → ℕ) (old new : Store R) (col : ℕ) (xs : List Node) → ((m : Node) → tag_at (column_of new col) m ≡ tag_at (column_of old col) m) → ((m : Node) → option_map hash (record_of new m) ≡ option_map hash (record_of old m)) → IsHashed hash old col xs → IsHashed hash new col xs
+hashed_same hash old new col [] tags hashes h = tt
+hashed_same hash old new col (x ∷ xs) tags hashes h = (tags x ∙ (h.0 ∙ sym (hashes x)), hashed_same hash old new col xs tags hashes h.1)
+
 module _ {R : Type 0} (order : ℕ → R → R → Ordering) (marks : ℕ → R → Marks) where
+  -- nodes are keyed after a change where it leaves those of a tree in order, and those of buckets under their hashes
+  by_kind : (old new : Store R) (i : AnyIndex) (xs ys : List Node) → (IsTrue (has_key_kind (kind_of i)) → AreOrdered (order (index_of i)) (marks (index_of i)) old (col_of i) xs → AreOrdered (order (index_of i)) (marks (index_of i)) new (col_of i) ys) →
+      (IsTrue (has_key_kind (kind_of i)) → IsHashed (hash_by (marks (index_of i))) old (col_of i) xs → IsHashed (hash_by (marks (index_of i))) new (col_of i) ys) → AreKeyed order marks old i xs → AreKeyed order marks new i ys
+  by_kind old new (Sequenced i) xs ys ordered hashed h = tt
+  by_kind old new (Random i) xs ys ordered hashed h = tt
+  by_kind old new (Ordered i) xs ys ordered hashed h = ordered refl h
+  by_kind old new (Ranked i) xs ys ordered hashed h = ordered refl h
+  by_kind old new (Hashed i) xs ys ordered hashed h = hashed refl h
+
   -- what the keys of some nodes say stays where the column and the records of all nodes but one stay
   pub AreKeyed_others : (old new : Store R) (i : AnyIndex) (n : Node) (xs : List Node) → ((m : Node) → m ≢ n → column_of new (col_of i) m ≡ column_of old (col_of i) m) → ((m : Node) → m ≢ n → record_of new m ≡ record_of old m) → Lacks xs n → AreKeyed order marks old i xs → AreKeyed order marks new i xs
-  AreKeyed_others old new (Sequenced i) n xs links records lacks h = tt
-  AreKeyed_others old new (Random i) n xs links records lacks h = tt
-  AreKeyed_others old new (Ordered i) n xs links records lacks h = ordered_others (order (index_of (Ordered i))) (marks (index_of (Ordered i))) old new (col_of (Ordered i)) n xs links records lacks h
-  AreKeyed_others old new (Ranked i) n xs links records lacks h = ordered_others (order (index_of (Ranked i))) (marks (index_of (Ranked i))) old new (col_of (Ranked i)) n xs links records lacks h
-  AreKeyed_others old new (Hashed i) n xs links records lacks h =
-      hash.IsHashed_others (hash_by (marks (buckets.index_of i))) old new (buckets.col_of i) n xs (λ m ne. ap (option_map (λ (l : Link). l.tag)) (links m ne)) records lacks h
+  AreKeyed_others old new i n xs links records lacks h = by_kind old new i xs xs
+      (λ _. ordered_others (order (index_of i)) (marks (index_of i)) old new (col_of i) n xs links records lacks)
+      (λ _. hash.IsHashed_others (hash_by (marks (index_of i))) old new (col_of i) n xs (λ m ne. ap (option_map (λ (l : Link). l.tag)) (links m ne)) records lacks) h
 
   -- or where the column and all records stay
   pub AreKeyed_kept : (old new : Store R) (i : AnyIndex) (xs : List Node) → column_of new (col_of i) ≡ column_of old (col_of i) → record_of new ≡ record_of old → AreKeyed order marks old i xs → AreKeyed order marks new i xs
-  AreKeyed_kept old new (Sequenced i) xs links records h = tt
-  AreKeyed_kept old new (Random i) xs links records h = tt
-  AreKeyed_kept old new (Ordered i) xs links records h = ordered_kept (order (index_of (Ordered i))) (marks (index_of (Ordered i))) old new (col_of (Ordered i)) xs links records h
-  AreKeyed_kept old new (Ranked i) xs links records h = ordered_kept (order (index_of (Ranked i))) (marks (index_of (Ranked i))) old new (col_of (Ranked i)) xs links records h
-  AreKeyed_kept old new (Hashed i) xs links records h = each xs h
-    where
-      each : (ys : List Node) → IsHashed (hash_by (marks (buckets.index_of i))) old (buckets.col_of i) ys → IsHashed (hash_by (marks (buckets.index_of i))) new (buckets.col_of i) ys
-      each [] k = tt
-      each (y ∷ ys) k =
-          (ap (λ (c : Column). tag_at c y) links ∙ (k.0 ∙ sym (ap (λ (f : Node → Option R). option_map (hash_by (marks (buckets.index_of i))) (f y)) records)), each ys k.1)
+  AreKeyed_kept old new i xs links records h = by_kind old new i xs xs
+      (λ _. ordered_kept (order (index_of i)) (marks (index_of i)) old new (col_of i) xs links records)
+      (λ _. hashed_same (hash_by (marks (index_of i))) old new (col_of i) xs (λ m. ap (λ (c : Column). tag_at c m) links) (λ m. ap (λ (f : Node → Option R). option_map (hash_by (marks (index_of i))) (f m)) records)) h
 
   -- some of the nodes are keyed where all are
   pub AreKeyed_without : (s : Store R) (i : AnyIndex) (n : Node) (xs : List Node) → AreKeyed order marks s i xs → AreKeyed order marks s i (without (same_node n) xs)
-  AreKeyed_without s (Sequenced i) n xs h = tt
-  AreKeyed_without s (Random i) n xs h = tt
-  AreKeyed_without s (Ordered i) n xs h = record { in_order = EachPair-filter _ _ xs h.in_order; digested = AreDigested_without s (digest_by (marks (index_of (Ordered i)))) (col_of (Ordered i)) n xs h.digested }
-  AreKeyed_without s (Ranked i) n xs h = record { in_order = EachPair-filter _ _ xs h.in_order; digested = AreDigested_without s (digest_by (marks (index_of (Ranked i)))) (col_of (Ranked i)) n xs h.digested }
-  AreKeyed_without s (Hashed i) n xs h = hash.IsHashed_without (hash_by (marks (buckets.index_of i))) s (buckets.col_of i) n xs h
+  AreKeyed_without s i n xs h = by_kind s s i xs (without (same_node n) xs)
+      (λ _ k. record { in_order = EachPair-filter _ _ xs k.in_order; digested = AreDigested_without s (digest_by (marks (index_of i))) (col_of i) n xs k.digested })
+      (λ _. hash.IsHashed_without (hash_by (marks (index_of i))) s (col_of i) n xs) h
 
   pub IsKeyedBut_from : (s : Store R) (i : AnyIndex) (n : Node) → IsKeyed order marks s i → IsKeyedBut order marks s i n
   IsKeyedBut_from s i n h = AreKeyed_without s i n (list_of (columns_in s) i) h
@@ -239,19 +239,9 @@ module _ {R : Type 0} (order : ℕ → R → R → Ordering) (marks : ℕ → R 
   -- nor does it matter that the record of one node is another with the same keys
   AreKeyed_alike : (old new : Store R) (n : Node) (a b : R) (i : AnyIndex) (xs : List Node) → column_of new (col_of i) ≡ column_of old (col_of i) → record_of old n ≡ Some a → record_of new n ≡ Some b → ((m : Node) → m ≢ n → record_of new m ≡ record_of old m) →
       (IsTrue (has_key_kind (kind_of i)) → HasOneKey (order (index_of i)) (marks (index_of i)) a b) → AreKeyed order marks old i xs → AreKeyed order marks new i xs
-  AreKeyed_alike old new n a b (Sequenced i) xs links had has records one h = tt
-  AreKeyed_alike old new n a b (Random i) xs links had has records one h = tt
-  AreKeyed_alike old new n a b (Ordered i) xs links had has records one h = ordered_alike (order (index_of (Ordered i))) (marks (index_of (Ordered i))) old new (col_of (Ordered i)) n a b xs links had has records (one refl) h
-  AreKeyed_alike old new n a b (Ranked i) xs links had has records one h = ordered_alike (order (index_of (Ranked i))) (marks (index_of (Ranked i))) old new (col_of (Ranked i)) n a b xs links had has records (one refl) h
-  AreKeyed_alike old new n a b (Hashed i) xs links had has records one h = each xs h
-    where
-      k : ℕ
-      k = buckets.index_of i
-
-      each : (ys : List Node) → IsHashed (hash_by (marks k)) old (buckets.col_of i) ys → IsHashed (hash_by (marks k)) new (buckets.col_of i) ys
-      each [] p = tt
-      each (y ∷ ys) p =
-          (ap (λ (c : Column). tag_at c y) links ∙ (p.0 ∙ sym (hash_alike (record_of old) (record_of new) n a b had has records (hash_by (marks k)) (ap (λ (m : Marks). m.hash) (one refl).same_marks) y)), each ys p.1)
+  AreKeyed_alike old new n a b i xs links had has records one h = by_kind old new i xs xs
+      (λ k. ordered_alike (order (index_of i)) (marks (index_of i)) old new (col_of i) n a b xs links had has records (one k))
+      (λ k. hashed_same (hash_by (marks (index_of i))) old new (col_of i) xs (λ m. ap (λ (c : Column). tag_at c m) links) (hash_alike (record_of old) (record_of new) n a b had has records (hash_by (marks (index_of i))) (ap (λ (m : Marks). m.hash) (one k).same_marks))) h
 
   pub IsKeyed_alike : (old new : Store R) (n : Node) (a b : R) (i : AnyIndex) → column_of new (col_of i) ≡ column_of old (col_of i) → record_of old n ≡ Some a → record_of new n ≡ Some b → ((m : Node) → m ≢ n → record_of new m ≡ record_of old m) →
       (IsTrue (has_key_kind (kind_of i)) → HasOneKey (order (index_of i)) (marks (index_of i)) a b) → age_of new ≡ age_of old → IsKeyed order marks old i → IsKeyed order marks new i

@@ -12,3 +12,4 @@ pub mod Marking
 pub mod InOrder
 pub mod Staying
 pub mod InTrees
+pub mod Buckets

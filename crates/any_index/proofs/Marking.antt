@@ -2,7 +2,7 @@
 use Rattle.std.proofs.Common.{◌≡◌, ◌≢◌, ℕ, suc, ◌+◌, ◌-◌, ◌<◌, ◌≤◌, Bool, true, false, cond, List, [], ◌∷◌, ◌++◌, length, Option, Some, None, refl, sym, ap, ◌∙◌, subst, arith, slice_get}
 use Rattle.std.specs.Prelude.{filter, IsTrue, IsPermutation, ◌&&◌, ◌||◌}
 use Rattle.std.specs.List.{AllByRecursion, list_any}
-use Rattle.std.proofs.lemmas.List.Sorted.{IsPermutation-refl, list_any-IsPermutation}
+use Rattle.std.proofs.lemmas.List.Sorted.{IsPermutation-refl, IsPermutation-sym, list_any-IsPermutation}
 use Rattle.std.specs.Option.{option_map_or}
 use Rattle.std.specs.Ordering.{is_eq, ordering_index}
 use Rattle.std.specs.declared.cmp.Ordering.{Ordering}
@@ -22,9 +22,9 @@ use Rattle.node_store.specs.declared.Node.{Node}
 use Rattle.node_store.specs.Column.{Column}
 use Rattle.node_store.specs.Nodes.{Lacks, Holds, IsDistinct}
 use Rattle.node_store.specs.Store.{Store, age_of}
-use Rattle.node_store.specs.ByNode.{Columns, column_of, columns_in, record_of, same_node}
-use Rattle.node_store.proofs.ByNode.{same_node-refl, same_node-true}
-use Rattle.node_store.proofs.Members.{each_held}
+use Rattle.node_store.specs.ByNode.{Columns, column_of, columns_in, contents, record_of, same_node}
+use Rattle.node_store.proofs.ByNode.{same_node-refl, same_node-true, ages_kept, records_kept}
+use Rattle.node_store.proofs.Members.{IsDistinct_moved, each_held}
 use Rattle.node_store.proofs.NodeLists.{IsDistinct-parts, AreApart-head, Lacks-front, Lacks-back}
 use Rattle.seq_index.proofs.Walks.{place_at}
 use Rattle.ord_tree.proofs.KeySides.{Rises, Rises-from}
@@ -32,16 +32,14 @@ use Rattle.hash_index.specs.declared.HashIndex.{HashIndex}
 use Rattle.seq_index.proofs.Laws as seq
 use Rattle.row_index.proofs.Laws as row
 use Rattle.ord_tree.proofs.Laws as ord
-use Rattle.rank_tree.proofs.Laws as rank
 use Rattle.hash_index.proofs.Laws as hash
 use Rattle.any_index.specs.declared.index.AnyIndex.{AnyIndex}
 use Rattle.any_index.specs.declared.index.AnyIndex.TheVariants.{Sequenced, Random, Ordered, Ranked, Hashed}
-use Rattle.key_extract.specs.Digests.{Marks}
-use Rattle.any_index.specs.Keyed.{marks_of, AreKeyed, HasItsKey, Accepts}
+use Rattle.any_index.specs.Keyed.{marks_of}
 use Rattle.any_index.specs.Marks.{walk_of, matches_in, is_marked, is_match}
 use Rattle.any_index.specs.Side.{side_of}
 use Rattle.any_index.specs.Spelled.{IsSound, list_of, col_of, kind_of, index_of}
-use Rattle.any_index.specs.Stored.{CanFind}
+use Rattle.any_index.specs.Stored.{side_in, CanFind}
 use Rattle.any_index.proofs.ByAge.{Holds_moved, moved_by_age}
 use Rattle.any_index.proofs.Laws.{list_distinct, IsSound_kept, IsKeyed_restored}
 
@@ -135,43 +133,44 @@ module _ (side : Node → Ordering) (n : Node) where
         let is = ap (filter p) at.0.is ∙ filter_middle p at.0.before n at.0.after at.1 in
         ap (next (same_node n)) is ∙ next_at (filter p at.0.before) n (filter p at.0.after) (subst IsDistinct is (distinct_filter p xs distinct))
 
-    pub next_by : (b : Bool) (m : Node) → next (same_node n) xs ≡ Some m → p m ≡ b → cond b (Some m) None ≡ next (same_node n) (filter p xs)
+    next_by : (b : Bool) (m : Node) → next (same_node n) xs ≡ Some m → p m ≡ b → cond b (Some m) None ≡ next (same_node n) (filter p xs)
     next_by b m is e = sym (kept_next ∙ first_of at.0.after b m (each_back (Rises side) at.0.before (n ∷ at.0.after) (subst (EachPair (Rises side)) at.0.is rises)) at.1 (sym split_next ∙ is) e)
 
-    pub next_none : next (same_node n) xs ≡ None → None ≡ next (same_node n) (filter p xs)
+    next_none : next (same_node n) xs ≡ None → None ≡ next (same_node n) (filter p xs)
     next_none is = sym (kept_next ∙ none_first at.0.after (sym split_next ∙ is))
+
+-- the next node of those that have the key is the next of all, where that has it
+pub record HasNext (side : Node → Ordering) (n : Node) (xs ms : List Node) : Type 0 where
+  pub some : (b : Bool) (m : Node) → next (same_node n) xs ≡ Some m → is_eq (side m) ≡ b → cond b (Some m) None ≡ next (same_node n) ms
+  pub none : next (same_node n) xs ≡ None → None ≡ next (same_node n) ms
+
+has_next : (side : Node → Ordering) (n : Node) (xs : List Node) → IsDistinct xs → EachPair (Rises side) xs → Holds (filter (λ m. is_eq (side m)) xs) n → HasNext side n xs (filter (λ m. is_eq (side m)) xs)
+has_next side n xs distinct rises held = record { some = next_by side n xs distinct rises held; none = next_none side n xs distinct rises held }
 
 -- ---- the nodes of a walk
 
-pub list_held : (cs : Columns) (i : AnyIndex) (n : Node) → Holds (walk_of cs i) n → Holds (list_of cs i) n
-list_held cs (Sequenced i) n h = h
-list_held cs (Random i) n h = h
-list_held cs (Ordered i) n h = h
-list_held cs (Ranked i) n h = h
-list_held cs (Hashed i) n h = Holds_moved _ _ n (moved_by_age cs.ages _) h
+-- they are those of the index
+pub walk_moved : (cs : Columns) (i : AnyIndex) → IsPermutation (walk_of cs i) (list_of cs i)
+walk_moved cs (Sequenced i) = IsPermutation-refl _
+walk_moved cs (Random i) = IsPermutation-refl _
+walk_moved cs (Ordered i) = IsPermutation-refl _
+walk_moved cs (Ranked i) = IsPermutation-refl _
+walk_moved cs (Hashed i) = moved_by_age cs.ages _
 
-pub walk_distinct : (cs : Columns) (i : AnyIndex) → IsSound cs i → IsDistinct (walk_of cs i)
-walk_distinct cs (Sequenced i) h = list_distinct cs (Sequenced i) h
-walk_distinct cs (Random i) h = list_distinct cs (Random i) h
-walk_distinct cs (Ordered i) h = list_distinct cs (Ordered i) h
-walk_distinct cs (Ranked i) h = list_distinct cs (Ranked i) h
-walk_distinct cs (Hashed i) h = hash.Spells_distinct cs.links i _ h
+pub list_held : (cs : Columns) (i : AnyIndex) (n : Node) → Holds (walk_of cs i) n → Holds (list_of cs i) n
+list_held cs i n h = Holds_moved _ _ n (walk_moved cs i) h
+
+walk_distinct : (cs : Columns) (i : AnyIndex) → IsSound cs i → IsDistinct (walk_of cs i)
+walk_distinct cs i h = IsDistinct_moved (list_of cs i) (walk_of cs i) (IsPermutation-sym _ _ (walk_moved cs i)) (list_distinct cs i h)
 
 walk_kept : (cs ds : Columns) (i : AnyIndex) → ds.links (col_of i) ≡ cs.links (col_of i) → walk_of ds i ≡ walk_of cs i
 walk_kept cs ds (Sequenced i) e = seq.spelled_kept cs.links ds.links i e
 walk_kept cs ds (Random i) e = row.spelled_kept cs.links ds.links i e
 walk_kept cs ds (Ordered i) e = ord.spelled_kept cs.links ds.links i e
-walk_kept cs ds (Ranked i) e = rank.spelled_kept cs.links ds.links i e
+walk_kept cs ds (Ranked i) e = ord.spelled_kept cs.links ds.links i e
 walk_kept cs ds (Hashed i) e = hash.spelled_kept cs.links ds.links i e
 
-pub walk_sorted : (cs : Columns) (i : AnyIndex) → IsTrue (is_sorted_kind (kind_of i)) → walk_of cs i ≡ list_of cs i
-walk_sorted cs (Sequenced i) h = refl
-walk_sorted cs (Random i) h = refl
-walk_sorted cs (Ordered i) h = refl
-walk_sorted cs (Ranked i) h = refl
-walk_sorted cs (Hashed i) h = cc
-
--- so is that of an index that is not hashed
+-- an index that is not hashed is walked in its order
 pub walk_listed : (cs : Columns) (i : AnyIndex) → ((x : HashIndex) → i ≡ Hashed x → ⊥) → walk_of cs i ≡ list_of cs i
 walk_listed cs (Sequenced i) h = refl
 walk_listed cs (Random i) h = refl
@@ -179,29 +178,31 @@ walk_listed cs (Ordered i) h = refl
 walk_listed cs (Ranked i) h = refl
 walk_listed cs (Hashed i) h = absurd (h i refl)
 
--- a tree has its key, and its nodes stand to a probe in order
-pub sorted_key : (has_key : ℕ → Bool) (i : AnyIndex) → IsTrue (is_sorted_kind (kind_of i)) → HasItsKey has_key i → IsTrue (has_key (index_of i))
-sorted_key has_key (Sequenced i) k h = cc
-sorted_key has_key (Random i) k h = cc
-sorted_key has_key (Ordered i) k h = h
-sorted_key has_key (Ranked i) k h = h
-sorted_key has_key (Hashed i) k h = cc
+module _ {E R P : Type 0} (X : Ghosts E R P) (i : AnyIndex) (s : Store R) (keys : E) (probe : P) where
+  pub matches_distinct : IsSound (columns_in s) i → IsDistinct (matches_in X i s keys probe)
+  matches_distinct h = distinct_filter (λ m. is_eq (side_in X i s keys probe m)) (walk_of (columns_in s) i) (walk_distinct (columns_in s) i h)
 
-pub sorted_fits : (fits whole : ℕ → Bool) (i : AnyIndex) → IsTrue (is_sorted_kind (kind_of i)) → Accepts fits whole i → IsTrue (fits (index_of i))
-sorted_fits fits whole (Sequenced i) k h = cc
-sorted_fits fits whole (Random i) k h = cc
-sorted_fits fits whole (Ordered i) k h = h
-sorted_fits fits whole (Ranked i) k h = h
-sorted_fits fits whole (Hashed i) k h = cc
+  -- such a node is one of the index
+  pub match_listed : (n : Node) → Holds (matches_in X i s keys probe) n → Holds (list_of (columns_in s) i) n
+  match_listed n h = list_held (columns_in s) i n (passed_held (λ m. is_eq (side_in X i s keys probe m)) (walk_of (columns_in s) i) n h).0
 
-pub sorted_rises : {R : Type 0} (order : ℕ → R → R → Ordering) (marks : ℕ → R → Marks) (s : Store R) (i : AnyIndex) (xs : List Node) (side : R → Ordering) → IsTrue (is_sorted_kind (kind_of i)) → CutsInThreeRuns (order (index_of i)) side → AreKeyed order marks s i xs → EachPair (Rises (side_of (record_of s) side)) xs
-sorted_rises order marks s (Sequenced i) xs side k cuts h = cc
-sorted_rises order marks s (Random i) xs side k cuts h = cc
-sorted_rises order marks s (Ordered i) xs side k cuts h = Rises-from (record_of s) (order (index_of (Ordered i))) side xs cuts h.in_order
-sorted_rises order marks s (Ranked i) xs side k cuts h = Rises-from (record_of s) (order (index_of (Ranked i))) side xs cuts h.in_order
-sorted_rises order marks s (Hashed i) xs side k cuts h = cc
+-- so it is in a tree
+pub tree_next : {E R P : Type 0} (X : Ghosts E R P) (i : AnyIndex) (s : Store R) (keys : E) (probe : P) (n : Node) → (IsTrue (X.has_key keys (index_of i)) → IsTrue (X.does_fit keys (index_of i) probe) → CutsInThreeRuns (X.order_of keys (index_of i)) (λ a. X.probe_order_of keys (index_of i) a probe)) →
+    IsTrue (is_sorted_kind (kind_of i)) → CanFind X i s keys probe → Holds (matches_in X i s keys probe) n → HasNext (side_in X i s keys probe) n (list_of (columns_in s) i) (matches_in X i s keys probe)
+tree_next X (Sequenced i) s keys probe n cuts kind h held = cc
+tree_next X (Random i) s keys probe n cuts kind h held = cc
+tree_next X (Ordered i) s keys probe n cuts kind h held = has_next _ n _ (list_distinct (columns_in s) (Ordered i) h.sound) (Rises-from (record_of s) (X.order_of keys (index_of (Ordered i))) _ _ (cuts h.key h.fits) h.keyed.in_order) held
+tree_next X (Ranked i) s keys probe n cuts kind h held = has_next _ n _ (list_distinct (columns_in s) (Ranked i) h.sound) (Rises-from (record_of s) (X.order_of keys (index_of (Ranked i))) _ _ (cuts h.key h.fits) h.keyed.in_order) held
+tree_next X (Hashed i) s keys probe n cuts kind h held = cc
 
-module _ {E R P : Type 0} (X : Ghosts E R P) (i : AnyIndex) (s t : Store R) (keys : E) (probe : P) (links : column_of t (col_of i) ≡ column_of s (col_of i)) (records : record_of t ≡ record_of s) (ages : age_of t ≡ age_of s) where
+-- nor do they change where the column and the records stay
+module _ {E R P : Type 0} (X : Ghosts E R P) (i : AnyIndex) (s t : Store R) (keys : E) (probe : P) (links : column_of t (col_of i) ≡ column_of s (col_of i)) (same : contents t ≡ contents s) where
+  records : record_of t ≡ record_of s
+  records = records_kept s t same
+
+  ages : age_of t ≡ age_of s
+  ages = ages_kept s t same
+
   pub matches_kept : matches_in X i t keys probe ≡ matches_in X i s keys probe
   matches_kept = λ z. filter (λ n. is_eq (side_of (records z) (λ a. X.probe_order_of keys (index_of i) a probe) n)) (walk_kept (columns_in s) (columns_in t) i links z)
 
@@ -335,13 +336,6 @@ match_held side xs n held = ap (λ b. b && is_eq (side n)) (held_any n xs held)
 -- lists of the same nodes have the same matches
 match_moved : (side : Node → Ordering) (xs ys : List Node) (n : Node) → IsPermutation xs ys → is_match side xs n ≡ is_match side ys n
 match_moved side xs ys n moved = ap (λ b. b && is_eq (side n)) (list_any-IsPermutation (same_node n) xs ys moved)
-
-pub walk_moved : (cs : Columns) (i : AnyIndex) → IsPermutation (walk_of cs i) (list_of cs i)
-walk_moved cs (Sequenced i) = IsPermutation-refl _
-walk_moved cs (Random i) = IsPermutation-refl _
-walk_moved cs (Ordered i) = IsPermutation-refl _
-walk_moved cs (Ranked i) = IsPermutation-refl _
-walk_moved cs (Hashed i) = moved_by_age cs.ages _
 
 -- at the end the matches are marked, and no others are
 module _ (side : Node → Ordering) (walk xs : List Node) (c : Column) (at : Option Node) (w : Walked (filter (λ m. is_eq (side m)) walk) xs c at) (is : at ≡ None) where

@@ -12,7 +12,6 @@ pub use Rattle.node_store.specs.Nodes.{Holds}
 use Rattle.seq_index.specs.Spelled as seq
 use Rattle.row_index.specs.Spelled as row
 use Rattle.ord_tree.specs.Spelled as ord
-use Rattle.rank_tree.specs.Spelled as rank
 use Rattle.hash_index.specs.Spelled as hash
 use Rattle.any_index.specs.declared.index.AnyIndex.{AnyIndex}
 use Rattle.any_index.specs.declared.index.AnyIndex.TheVariants.{Sequenced, Random, Ordered, Ranked, Hashed}
@@ -29,7 +28,7 @@ abbrev pub col_of : AnyIndex → ℕ
 col_of (Sequenced i) = seq.col_of i
 col_of (Random i) = row.col_of i
 col_of (Ordered i) = ord.col_of i
-col_of (Ranked i) = rank.col_of i
+col_of (Ranked i) = ord.col_of i
 col_of (Hashed i) = hash.col_of i
 
 -- the number of the index, by which keys are asked for; a sequence has no key, and its column for a number
@@ -37,7 +36,7 @@ abbrev pub index_of : AnyIndex → ℕ
 index_of (Sequenced i) = seq.col_of i
 index_of (Random i) = row.col_of i
 index_of (Ordered i) = ord.index_of i
-index_of (Ranked i) = rank.index_of i
+index_of (Ranked i) = ord.index_of i
 index_of (Hashed i) = hash.index_of i
 
 -- the links of the column are those of the index
@@ -45,7 +44,7 @@ abbrev pub IsSound : Columns → AnyIndex → Type 0
 IsSound cs (Sequenced i) = seq.IsSound cs.links i
 IsSound cs (Random i) = row.IsSound cs.links i
 IsSound cs (Ordered i) = ord.IsSound cs.links i
-IsSound cs (Ranked i) = rank.IsSound cs.links i
+IsSound cs (Ranked i) = ord.IsSound cs.links i
 IsSound cs (Hashed i) = hash.IsSound cs.ages cs.links i
 
 -- one more node needs no memory
@@ -53,7 +52,7 @@ abbrev pub HasRoom : AnyIndex → Type 0
 HasRoom (Sequenced i) = seq.HasRoom i
 HasRoom (Random i) = row.HasRoom i
 HasRoom (Ordered i) = ord.HasRoom i
-HasRoom (Ranked i) = rank.HasRoom i
+HasRoom (Ranked i) = ord.HasRoom i
 HasRoom (Hashed i) = hash.HasRoom i
 
 -- how the ages of two nodes stand to one another
@@ -69,5 +68,5 @@ abbrev pub list_of : Columns → AnyIndex → List Node
 list_of cs (Sequenced i) = seq.spelled cs.links i
 list_of cs (Random i) = row.spelled cs.links i
 list_of cs (Ordered i) = ord.spelled cs.links i
-list_of cs (Ranked i) = rank.spelled cs.links i
+list_of cs (Ranked i) = ord.spelled cs.links i
 list_of cs (Hashed i) = by_age cs.ages (hash.spelled cs.links i)

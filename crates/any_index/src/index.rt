@@ -58,7 +58,7 @@ impl AnyIndex {
             Kind::Sequenced => AnyIndex::Sequenced(SeqIndex::new(column)),
             Kind::Random => AnyIndex::Random(RowIndex::new(alloc, column)),
             Kind::Ordered => AnyIndex::Ordered(OrdTree::new(column, index)),
-            Kind::Ranked => AnyIndex::Ranked(RankTree::new(column, index)),
+            Kind::Ranked => AnyIndex::Ranked(OrdTree::new(column, index)),
             Kind::Hashed => AnyIndex::Hashed(HashIndex::new(alloc, column, index)),
         }
     }

@@ -83,7 +83,7 @@ impl AnyIndex {
     {
         match self {
             AnyIndex::Random(row) => row.nth(store, place),
-            AnyIndex::Ranked(tree) => tree.nth(store, place),
+            AnyIndex::Ranked(tree) => rank_tree::nth(tree, store, place),
             AnyIndex::Sequenced(_) | AnyIndex::Ordered(_) | AnyIndex::Hashed(_) => unreachable!(),
         }
     }
@@ -97,7 +97,7 @@ impl AnyIndex {
     {
         match self {
             AnyIndex::Random(row) => row.place_of(store, n),
-            AnyIndex::Ranked(tree) => tree.rank(store, n),
+            AnyIndex::Ranked(tree) => rank_tree::rank(tree, store, n),
             AnyIndex::Sequenced(_) | AnyIndex::Ordered(_) | AnyIndex::Hashed(_) => unreachable!(),
         }
     }

@@ -2,16 +2,13 @@
 ghost use Rattle.std.specs.Prelude.{◌≡◌, IfSome, IsTrue, cond, Some, None, IfOk, IfErr, OnOk};
 ghost use Rattle.std.specs.Ordering.{is_le};
 ghost use Rattle.std.specs.declared.cmp.Ordering.TheVariants.{Equal};
-ghost use Rattle.hash_index.specs.Hashed.{IsHashed};
-ghost use Rattle.hash_index.specs.Spelled as hash;
+ghost use Rattle.hash_index.specs.Stored as chains;
 ghost use Rattle.ord_tree.specs.Stored as trees;
 ghost use Rattle.container_model.specs.State.{has_key_kind, is_ranked_kind, is_sorted_kind};
 ghost use Rattle.list_model.specs.Place.{below, not_above, count_equal, find_equal, lower as the_lower, upper as the_upper, find_rank as the_rank};
-ghost use Rattle.node_store.specs.ByNode.{column_of, record_of};
 ghost use Rattle.node_store.specs.Store.{age_of};
 ghost use Rattle.any_index.specs.Side.{AreNodesOf, equal_but};
 ghost use Rattle.ord_tree.specs.Last.{last_that};
-ghost use Rattle.any_index.specs.Side.{side_of};
 ghost use Rattle.any_index.specs.Spelled.{Holds, kind_of, by_age};
 
 use crate::AnyIndex;
@@ -20,6 +17,7 @@ use hash_index::HashIndex;
 use key_extract::Extract;
 use node_store::{Node, NodeStore};
 use ord_tree::{NoTally, OrdTree};
+use rank_tree::{find_rank, lower_rank, upper_rank};
 
 impl AnyIndex {
     ghost use Rattle.any_index.specs.Stored.{nodes_of, side_in, record_side_in, IsFiledOnce, CanFind, CanSearch};
@@ -76,7 +74,7 @@ impl AnyIndex {
         match self {
             AnyIndex::Ordered(tree) => run_length(tree, store, keys, probe),
             AnyIndex::Ranked(tree) => {
-                tree.upper_rank(store, keys, probe) - tree.lower_rank(store, keys, probe)
+                upper_rank(tree, store, keys, probe) - lower_rank(tree, store, keys, probe)
             }
             AnyIndex::Hashed(buckets) => buckets.count(store, keys, probe),
             AnyIndex::Sequenced(_) | AnyIndex::Random(_) => unreachable!(),
@@ -134,7 +132,7 @@ impl AnyIndex {
             (nodes_of self.now store.now) }
     {
         match self {
-            AnyIndex::Ranked(tree) => tree.find_rank(store, keys, probe),
+            AnyIndex::Ranked(tree) => find_rank(tree, store, keys, probe),
             AnyIndex::Sequenced(_)
             | AnyIndex::Random(_)
             | AnyIndex::Ordered(_)
@@ -155,7 +153,7 @@ impl AnyIndex {
             (nodes_of self.now store.now) }
     {
         match self {
-            AnyIndex::Ranked(tree) => tree.lower_rank(store, keys, probe),
+            AnyIndex::Ranked(tree) => lower_rank(tree, store, keys, probe),
             AnyIndex::Sequenced(_)
             | AnyIndex::Random(_)
             | AnyIndex::Ordered(_)
@@ -176,7 +174,7 @@ impl AnyIndex {
             (nodes_of self.now store.now) }
     {
         match self {
-            AnyIndex::Ranked(tree) => tree.upper_rank(store, keys, probe),
+            AnyIndex::Ranked(tree) => upper_rank(tree, store, keys, probe),
             AnyIndex::Sequenced(_)
             | AnyIndex::Random(_)
             | AnyIndex::Ordered(_)
@@ -272,14 +270,9 @@ fn first_added<R, E: Extract<R>>(
     keys: &E,
     probe: &E::Probe,
 ) -> Option<Node>
-    requires sound { hash.IsSound (age_of store.now) (column_of store.now) buckets.now }
-    requires key { IsTrue (E.has_key keys.now (hash.index_of buckets.now)) }
-    requires whole { IsTrue (E.is_whole keys.now (hash.index_of buckets.now) probe.now) }
-    requires hashed { IsHashed (E.hash_of keys.now (hash.index_of buckets.now)) store.now
-        (hash.col_of buckets.now) (hash.spelled (column_of store.now) buckets.now) }
-    ensures { result ≡ find_equal (side_of (record_of store.now)
-        (λ a. E.probe_order_of keys.now (hash.index_of buckets.now) a probe.now))
-        (by_age (age_of store.now) (hash.spelled (column_of store.now) buckets.now)) }
+    requires { chains.CanSearch E.Extract buckets.now store.now keys.now probe.now }
+    ensures { result ≡ find_equal (chains.side_in E.Extract buckets.now store.now keys.now probe.now)
+        (by_age (age_of store.now) (chains.nodes_of buckets.now store.now)) }
 {
     sound(store);
     buckets.earliest_of(store, keys, probe)

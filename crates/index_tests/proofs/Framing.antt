@@ -10,7 +10,6 @@ use Rattle.node_store.proofs.ByNode.{width_kept, node_in_column}
 use Rattle.seq_index.proofs.Laws as chains
 use Rattle.row_index.proofs.Laws as rows
 use Rattle.ord_tree.proofs.Laws as trees
-use Rattle.rank_tree.proofs.Laws as ranked
 use Rattle.hash_index.proofs.Laws as buckets
 use Rattle.index_tests.specs.declared.keys.Keyed.{Keyed}
 use Rattle.index_tests.specs.declared.index.Index.{Index}
@@ -23,7 +22,7 @@ listed_kept : (cs ds : ℕ → Column) (i : Index) → ds (col_in i) ≡ cs (col
 listed_kept cs ds (Chain i) e = chains.spelled_kept cs ds i e
 listed_kept cs ds (Row i) e = rows.spelled_kept cs ds i e
 listed_kept cs ds (Ordered i) e = trees.spelled_kept cs ds i e
-listed_kept cs ds (Ranked i) e = ranked.spelled_kept cs ds i e
+listed_kept cs ds (Ranked i) e = trees.spelled_kept cs ds i e
 listed_kept cs ds (Hashed i) e = buckets.spelled_kept cs ds i e
 
 -- no column from this one on changed
@@ -57,7 +56,7 @@ module _ {T : Type 0} (old new : Store (Keyed T)) (e : contents new ≡ contents
   sound_kept (Chain i) same h = chains.IsSound_kept (column_of old) (column_of new) i same h
   sound_kept (Row i) same h = rows.IsSound_kept (column_of old) (column_of new) i same h
   sound_kept (Ordered i) same h = tree_kept old new i e same h
-  sound_kept (Ranked i) same h = tree_kept old new i.tree e same h
+  sound_kept (Ranked i) same h = tree_kept old new i e same h
   sound_kept (Hashed i) same h = buckets.Spells_contents old new (column_of new) i _ e (buckets.IsSound_kept (column_of old) (column_of new) i same h)
 
   all_kept : (col : ℕ) (is : List Index) → KeepsFrom (column_of old) (column_of new) col → AreSound old col is → AreSound new col is
@@ -107,14 +106,14 @@ module _ {T : Type 0} (old new : Store (Keyed T)) (n : Node) (value : Keyed T) (
   index_added (Chain i) h = chains.IsSound_added old new n value i a h
   index_added (Row i) h = rows.IsSound_added old new n value i a h
   index_added (Ordered i) h = tree_added old new n value i a h
-  index_added (Ranked i) h = tree_added old new n value i.tree a h
+  index_added (Ranked i) h = tree_added old new n value i a h
   index_added (Hashed i) h = buckets.IsSound_added old new n value i a h
 
   index_lacks : (i : Index) → IsSoundIn old i → Lacks (listed (column_of new) i) n
   index_lacks (Chain i) h = chains.Lacks_spelled_added old new n value i a h
   index_lacks (Row i) h = rows.Lacks_spelled_added old new n value i a h
   index_lacks (Ordered i) h = trees.Lacks_spelled_added old new n value i a h.0
-  index_lacks (Ranked i) h = ranked.Lacks_spelled_added old new n value i a h.0
+  index_lacks (Ranked i) h = trees.Lacks_spelled_added old new n value i a h.0
   index_lacks (Hashed i) h = buckets.Lacks_spelled_added old new n value i a h
 
   sound_added : (col : ℕ) (is : List Index) → AreSound old col is → AreSound new col is

@@ -10,6 +10,7 @@ use any_index::AnyIndex;
 use container_model::Kind;
 use key_extract::Extract;
 use node_store::{Node, NodeStore};
+use rank_tree::{nth_counted, rank_counted};
 use std::alloc::Global;
 use std::marker::Model;
 
@@ -84,7 +85,7 @@ fn nth<R>(store: &NodeStore<R>, index: &AnyIndex, place: u64) -> Option<Node>
     ensures { (n : Node) → result ≡ Some n → Holds (nodes_of index.now store.now) n }
 {
     match index {
-        AnyIndex::Ranked(tree) => tree.nth(store, place),
+        AnyIndex::Ranked(tree) => rank_tree::nth(tree, store, place),
         _ => None,
     }
 }
@@ -139,9 +140,9 @@ fn linked<R>(store: &NodeStore<R>, index: &AnyIndex, place: u64) -> (Option<Node
     let AnyIndex::Ranked(tree) = index else {
         return (None, 0, (0, 0));
     };
-    let (found, down) = tree.nth_counted(store, place);
+    let (found, down) = nth_counted(tree, store, place);
     match found {
-        Some(n) => (Some(n), down, tree.rank_counted(store, n)),
+        Some(n) => (Some(n), down, rank_counted(tree, store, n)),
         None => (None, down, (0, 0)),
     }
 }

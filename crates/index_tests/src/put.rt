@@ -7,7 +7,6 @@ ghost use Rattle.node_store.specs.Store.{age_of};
 ghost use Rattle.seq_index.specs.Spelled as chains;
 ghost use Rattle.row_index.specs.Spelled as rows;
 ghost use Rattle.ord_tree.specs.Spelled as trees;
-ghost use Rattle.rank_tree.specs.Spelled as ranked;
 ghost use Rattle.hash_index.specs.Spelled as buckets;
 ghost use Rattle.index_tests.specs.Keys.{IsByKey};
 
@@ -73,17 +72,17 @@ pub(crate) fn put_by_key<T>(tree: &mut OrdTree<NoTally>, store: &mut NodeStore<K
 }
 
 pub(crate) fn put_by_rank<T>(tree: &mut RankTree, store: &mut NodeStore<Keyed<T>>, n: Node)
-    requires sound { ranked.IsSound (column_of store.old) tree.old }
-    requires order { IsByKey store.old (ranked.col_of tree.old)
-        (ranked.spelled (column_of store.old) tree.old) }
-    requires node { IsNode (column_of store.old (ranked.col_of tree.old)) n }
-    requires new { Lacks (ranked.spelled (column_of store.old) tree.old) n }
-    ensures sound { ranked.IsSound (column_of store.new) tree.new }
-    ensures order { IsByKey store.new (ranked.col_of tree.new)
-        (ranked.spelled (column_of store.new) tree.new) }
-    ensures col { ranked.col_of tree.new ≡ ranked.col_of tree.old }
+    requires sound { trees.IsSound (column_of store.old) tree.old }
+    requires order { IsByKey store.old (trees.col_of tree.old)
+        (trees.spelled (column_of store.old) tree.old) }
+    requires node { IsNode (column_of store.old (trees.col_of tree.old)) n }
+    requires new { Lacks (trees.spelled (column_of store.old) tree.old) n }
+    ensures sound { trees.IsSound (column_of store.new) tree.new }
+    ensures order { IsByKey store.new (trees.col_of tree.new)
+        (trees.spelled (column_of store.new) tree.new) }
+    ensures col { trees.col_of tree.new ≡ trees.col_of tree.old }
     ensures others { KeepsOthers (column_of store.old) (column_of store.new)
-        (ranked.col_of tree.old) }
+        (trees.col_of tree.old) }
     ensures contents { contents store.new ≡ contents store.old }
 {
     if tree.reserve_one(store).is_ok() {

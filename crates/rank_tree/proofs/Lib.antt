@@ -3,5 +3,4 @@ pub mod Descents
 pub mod Climbs
 pub mod Sides
 pub mod KeyRanks
-pub mod Laws
 pub mod Whole

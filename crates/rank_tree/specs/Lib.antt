@@ -1,4 +1,2 @@
 pub mod Subtrees
 pub mod Sides
-pub mod Spelled
-pub mod Stored

@@ -1,14 +1,13 @@
 //! Ranked indices: ordered trees whose nodes know how many nodes come before them.
 //!
-//! Each call takes the store. It reads and writes the links of its own column alone, so a node may
-//! stand in one tree of each column at once.
+//! Such a tree is an [`OrdTree`](ord_tree::OrdTree) that keeps the size of each subtree. Its changes, walks and look-ups are
+//! those of every ordered tree; this crate adds the node at a place, the place of a node, and places by a key.
 #![tactic(auto)]
 
 mod places;
 mod ranks;
-mod reads;
 mod sizes;
-mod tree;
 
-pub use sizes::Sizes;
-pub use tree::RankTree;
+pub use places::{nth, nth_counted, rank, rank_counted};
+pub use ranks::{find_rank, lower_rank, upper_rank};
+pub use sizes::{RankTree, Sizes};

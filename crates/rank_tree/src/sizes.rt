@@ -1,7 +1,10 @@
 //! What a ranked index keeps of its subtrees.
 ghost use Rattle.rank_tree.specs.Subtrees.{size_tally};
 
-use ord_tree::Tally;
+use ord_tree::{OrdTree, Tally};
+
+/// An ordered tree where the tag of each node is the size of its subtree.
+pub type RankTree = OrdTree<Sizes>;
 
 /// Keeps the number of nodes of each subtree.
 pub struct Sizes;

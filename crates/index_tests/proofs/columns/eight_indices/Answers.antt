@@ -24,7 +24,7 @@ returns c = λ s. (
           tree_empty s c.new-5.result (c.new-5.ensures.empty (column_of s)),
           (
             c.new-6.ensures.col,
-            tree_empty s c.new-6.result.tree (c.new-6.ensures.empty (column_of s)),
+            tree_empty s c.new-6.result (c.new-6.ensures.empty (column_of s)),
             (
               c.new-7.ensures.col,
               buckets.IsSound_from (column_of s) _ _ (c.new-7.ensures.empty (age_of s) (column_of s)),

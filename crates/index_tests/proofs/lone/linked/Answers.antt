@@ -1,7 +1,7 @@
 use Rattle.std.proofs.Common.{sym, subst, ◌∙◌}
 use Rattle.any_index.specs.declared.index.AnyIndex.{AnyIndex}
 use Rattle.any_index.specs.Stored.{IsIn}
-use Rattle.rank_tree.proofs.Laws.{Holds_at}
+use Rattle.ord_tree.proofs.Laws.{Holds_at}
 use Rattle.index_tests.proofs.lone.linked.Goals as goal
 
 pub rank_counted-requires : goal.rank_counted-requires

@@ -2,7 +2,7 @@ use Rattle.std.proofs.Common.{sym, subst, ◌∙◌}
 use Rattle.any_index.specs.declared.index.AnyIndex.{AnyIndex}
 use Rattle.any_index.specs.Spelled.{Holds}
 use Rattle.any_index.specs.Stored.{nodes_of}
-use Rattle.rank_tree.proofs.Laws.{Holds_at}
+use Rattle.ord_tree.proofs.Laws.{Holds_at}
 use Rattle.index_tests.proofs.lone.nth.Goals as goal
 
 pub returns-in-Ranked : goal.returns-in-Ranked

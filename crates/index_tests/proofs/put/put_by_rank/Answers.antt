@@ -1,4 +1,4 @@
-use Rattle.rank_tree.proofs.Laws.{IsSound_from}
+use Rattle.ord_tree.proofs.Laws.{IsSound_from}
 use Rattle.index_tests.proofs.Ordered.{tree_put}
 use Rattle.index_tests.proofs.put.put_by_rank.Goals as goal
 
@@ -7,4 +7,4 @@ returns-then-is_ok-clause-sound g c = IsSound_from _ _ _ c.link.ensures.tree.lis
 
 pub returns-then-is_ok-clause-order : goal.returns-then-is_ok-clause-order
 returns-then-is_ok-clause-order g c =
-    tree_put c.args.store.now c.link.new.store c.reserve_one.new.self.tree c.link.new.self.tree c.args.n c.link.ensures.tree.contents c.link.ensures.tree.col (rw c.reserve_one.ensures.same c.requires.order) c.link.ensures.tree.list c.link.ensures.digested
+    tree_put c.args.store.now c.link.new.store c.reserve_one.new.self c.link.new.self c.args.n c.link.ensures.tree.contents c.link.ensures.tree.col (rw c.reserve_one.ensures.same c.requires.order) c.link.ensures.tree.list c.link.ensures.digested

@@ -1,15 +1,10 @@
 use Rattle.std.proofs.Common.{refl, ◌∙◌}
-use Rattle.node_store.specs.ByNode.{column_of, record_of}
-use Rattle.ord_tree.specs.Spelled as trees
-use Rattle.rank_tree.specs.Spelled as ranked
 use Rattle.hash_index.specs.Spelled as buckets
 use Rattle.seq_index.proofs.Laws as seq
 use Rattle.row_index.proofs.Laws as row
 use Rattle.ord_tree.proofs.Laws as ord
-use Rattle.rank_tree.proofs.Laws as rank
-use Rattle.ord_tree.proofs.Ordered.{IsInOrder_placed}
 use Rattle.any_index.specs.Keyed.{marks_of}
-use Rattle.any_index.proofs.InTrees.{ordered_at}
+use Rattle.any_index.proofs.InTrees.{linked}
 use Rattle.any_index.proofs.ByAge.{Lacks_moved, moved_by_age, moved_back}
 use Rattle.any_index.proofs.Hashed.{list_entered_late, hashed_at}
 use Rattle.hash_index.proofs.Laws.{IsHashed_moved}
@@ -54,31 +49,21 @@ returns-in-Ordered-clause-list g c = rw c.in-Ordered.is (ord.spelled_is _ _ _ c.
 
 pub returns-in-Ordered-clause-keyed : goal.returns-in-Ordered-clause-keyed
 returns-in-Ordered-clause-keyed g c =
-    let key = rw c.in-Ordered.is at c.requires.filed.key in
-    let keyed = rw c.in-Ordered.is at c.requires.filed.keyed in
-    let compare = g.E.Extract.order_of c.args.keys.now in
-    let index = trees.index_of c.in-Ordered.tree in
-    let xs = trees.spelled (column_of c.args.store.now) c.in-Ordered.tree in
-    let total = g.met.E.Extract.order_total c.args.keys.now index key in
-    ordered_at compare (marks_of g.E.Extract c.args.keys.now) c.args.store.now c.link.new.store c.link.ensures.tree.contents _ index _ (trees.col_of c.in-Ordered.tree) c.link.ensures.tree.index c.link.ensures.tree.col _ _ (ord.spelled_is _ _ _ c.link.ensures.tree.list)
-    (IsInOrder_placed (record_of c.args.store.now) (compare index) total c.args.n xs keyed.in_order) c.link.ensures.digested
+    let filed = rw c.in-Ordered.is at c.requires.filed in
+    let keys = c.args.keys.now in
+    linked (g.E.Extract.order_of keys) (marks_of g.E.Extract keys) c.args.store.now c.link.new.store c.in-Ordered.tree c.link.new.self c.args.n (g.met.E.Extract.order_total keys _ filed.key) filed.keyed c.link.ensures.tree c.link.ensures.digested
 
 pub returns-in-Ranked-clause-sound : goal.returns-in-Ranked-clause-sound
-returns-in-Ranked-clause-sound g c = rank.IsSound_from _ _ _ c.link-in-Ranked.ensures.tree.list
+returns-in-Ranked-clause-sound g c = ord.IsSound_from _ _ _ c.link-in-Ranked.ensures.tree.list
 
 pub returns-in-Ranked-clause-list : goal.returns-in-Ranked-clause-list
-returns-in-Ranked-clause-list g c = rw c.in-Ranked.is (rank.spelled_is _ _ _ c.link-in-Ranked.ensures.tree.list)
+returns-in-Ranked-clause-list g c = rw c.in-Ranked.is (ord.spelled_is _ _ _ c.link-in-Ranked.ensures.tree.list)
 
 pub returns-in-Ranked-clause-keyed : goal.returns-in-Ranked-clause-keyed
 returns-in-Ranked-clause-keyed g c =
-    let key = rw c.in-Ranked.is at c.requires.filed.key in
-    let keyed = rw c.in-Ranked.is at c.requires.filed.keyed in
-    let compare = g.E.Extract.order_of c.args.keys.now in
-    let index = ranked.index_of c.in-Ranked.tree in
-    let xs = ranked.spelled (column_of c.args.store.now) c.in-Ranked.tree in
-    let total = g.met.E.Extract.order_total c.args.keys.now index key in
-    ordered_at compare (marks_of g.E.Extract c.args.keys.now) c.args.store.now c.link-in-Ranked.new.store c.link-in-Ranked.ensures.tree.contents _ index _ (ranked.col_of c.in-Ranked.tree) c.link-in-Ranked.ensures.tree.index c.link-in-Ranked.ensures.tree.col _ _ (rank.spelled_is _ _ _ c.link-in-Ranked.ensures.tree.list)
-    (IsInOrder_placed (record_of c.args.store.now) (compare index) total c.args.n xs keyed.in_order) c.link-in-Ranked.ensures.digested
+    let filed = rw c.in-Ranked.is at c.requires.filed in
+    let keys = c.args.keys.now in
+    linked (g.E.Extract.order_of keys) (marks_of g.E.Extract keys) c.args.store.now c.link-in-Ranked.new.store c.in-Ranked.tree c.link-in-Ranked.new.self c.args.n (g.met.E.Extract.order_total keys _ filed.key) filed.keyed c.link-in-Ranked.ensures.tree c.link-in-Ranked.ensures.digested
 
 pub returns-in-Hashed-clause-list : goal.returns-in-Hashed-clause-list
 returns-in-Hashed-clause-list g c = rw c.in-Hashed.is (list_entered_late c.args.store.now c.link-in-Hashed.new.store c.sound.ensures c.link-in-Hashed.new.self c.args.n _ c.link-in-Hashed.ensures.rest.contents c.link-in-Hashed.ensures.chain c.link-in-Hashed.ensures.list)

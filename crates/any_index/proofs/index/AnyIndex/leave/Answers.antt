@@ -1,21 +1,17 @@
-use Rattle.std.proofs.Common.{ap, ◌∙◌}
 use Rattle.seq_index.proofs.Laws as seq
 use Rattle.row_index.proofs.Laws as row
 use Rattle.ord_tree.proofs.Laws as ord
-use Rattle.rank_tree.proofs.Laws as rank
 use Rattle.hash_index.proofs.Laws as hash
 use Rattle.any_index.specs.Keyed.{hash_by}
-use Rattle.any_index.proofs.InTrees.{ordered_left}
-use Rattle.any_index.specs.Spelled.{by_age}
-use Rattle.any_index.proofs.ByAge.{Holds_moved, moved_back}
+use Rattle.any_index.proofs.InTrees.{unlinked}
+use Rattle.any_index.proofs.Buckets.{in_buckets}
 use Rattle.any_index.proofs.Hashed.{list_leaves, keeps_hashed_list}
-use Rattle.node_store.specs.Store.{age_of}
 use Rattle.any_index.proofs.index.AnyIndex.leave.Goals as goal
 
 pub unlink-requires-in-Hashed : goal.unlink-requires-in-Hashed
 unlink-requires-in-Hashed g c =
     let node = rw c.in-Hashed.is at c.requires in
-    record { chain = node.sound; held = Holds_moved _ _ c.args.n (moved_back (age_of c.args.store.now) _) node.held }
+    in_buckets c.args.store.now c.in-Hashed.buckets c.args.n node
 
 pub returns-in-Sequenced-clause-sound : goal.returns-in-Sequenced-clause-sound
 returns-in-Sequenced-clause-sound g c = seq.IsSound_from _ _ _ c.unlink.ensures.chain.list
@@ -38,18 +34,18 @@ returns-in-Ordered-clause-list g c = rw c.in-Ordered.is (ord.spelled_is _ _ _ c.
 pub returns-in-Ordered-clause-keyed : goal.returns-in-Ordered-clause-keyed
 returns-in-Ordered-clause-keyed g c = λ order marks h.
     let keyed = rw c.in-Ordered.is at h in
-    ordered_left order marks c.args.store.now c.unlink-in-Ordered.new.store c.unlink-in-Ordered.ensures.tree.contents _ _ _ _ c.unlink-in-Ordered.ensures.tree.index c.unlink-in-Ordered.ensures.tree.col _ _ (ord.spelled_is _ _ _ c.unlink-in-Ordered.ensures.tree.list) c.args.n c.unlink-in-Ordered.ensures.digests (hash.Lacks_without _ c.args.n) keyed
+    unlinked order marks c.args.store.now c.unlink-in-Ordered.new.store c.in-Ordered.tree c.unlink-in-Ordered.new.self c.args.n c.unlink-in-Ordered.ensures.tree c.unlink-in-Ordered.ensures.digests keyed
 
 pub returns-in-Ranked-clause-sound : goal.returns-in-Ranked-clause-sound
-returns-in-Ranked-clause-sound g c = rank.IsSound_from _ _ _ c.unlink-in-Ranked.ensures.tree.list
+returns-in-Ranked-clause-sound g c = ord.IsSound_from _ _ _ c.unlink-in-Ranked.ensures.tree.list
 
 pub returns-in-Ranked-clause-list : goal.returns-in-Ranked-clause-list
-returns-in-Ranked-clause-list g c = rw c.in-Ranked.is (rank.spelled_is _ _ _ c.unlink-in-Ranked.ensures.tree.list)
+returns-in-Ranked-clause-list g c = rw c.in-Ranked.is (ord.spelled_is _ _ _ c.unlink-in-Ranked.ensures.tree.list)
 
 pub returns-in-Ranked-clause-keyed : goal.returns-in-Ranked-clause-keyed
 returns-in-Ranked-clause-keyed g c = λ order marks h.
     let keyed = rw c.in-Ranked.is at h in
-    ordered_left order marks c.args.store.now c.unlink-in-Ranked.new.store c.unlink-in-Ranked.ensures.tree.contents _ _ _ _ c.unlink-in-Ranked.ensures.tree.index c.unlink-in-Ranked.ensures.tree.col _ _ (rank.spelled_is _ _ _ c.unlink-in-Ranked.ensures.tree.list) c.args.n c.unlink-in-Ranked.ensures.digests (hash.Lacks_without _ c.args.n) keyed
+    unlinked order marks c.args.store.now c.unlink-in-Ranked.new.store c.in-Ranked.tree c.unlink-in-Ranked.new.self c.args.n c.unlink-in-Ranked.ensures.tree c.unlink-in-Ranked.ensures.digests keyed
 
 pub returns-in-Hashed-clause-list : goal.returns-in-Hashed-clause-list
 returns-in-Hashed-clause-list g c =

@@ -2,7 +2,6 @@ use Rattle.std.proofs.Common.{ap}
 use Rattle.seq_index.proofs.Laws as seq
 use Rattle.row_index.proofs.Laws as row
 use Rattle.ord_tree.proofs.Laws as ord
-use Rattle.rank_tree.proofs.Laws as rank
 use Rattle.hash_index.proofs.Laws as hash
 use Rattle.any_index.specs.Spelled.{by_age}
 use Rattle.any_index.proofs.index.AnyIndex.new.Goals as goal
@@ -26,10 +25,10 @@ pub returns-in-Ordered-clause-empty : goal.returns-in-Ordered-clause-empty
 returns-in-Ordered-clause-empty c = λ cs. ord.spelled_is cs.links _ _ (c.new-in-Ordered.ensures.empty cs.links)
 
 pub returns-in-Ranked-clause-sound : goal.returns-in-Ranked-clause-sound
-returns-in-Ranked-clause-sound c = λ cs. rank.IsSound_from cs.links _ _ (c.new-in-Ranked.ensures.empty cs.links)
+returns-in-Ranked-clause-sound c = λ cs. ord.IsSound_from cs.links _ _ (c.new-in-Ranked.ensures.empty cs.links)
 
 pub returns-in-Ranked-clause-empty : goal.returns-in-Ranked-clause-empty
-returns-in-Ranked-clause-empty c = λ cs. rank.spelled_is cs.links _ _ (c.new-in-Ranked.ensures.empty cs.links)
+returns-in-Ranked-clause-empty c = λ cs. ord.spelled_is cs.links _ _ (c.new-in-Ranked.ensures.empty cs.links)
 
 pub returns-in-Hashed-clause-sound : goal.returns-in-Hashed-clause-sound
 returns-in-Hashed-clause-sound c = λ cs. hash.IsSound_from cs.links _ _ (c.new-in-Hashed.ensures.empty cs.ages cs.links)

@@ -1,31 +1,27 @@
 use Rattle.std.proofs.Common.{ap, ◌∙◌, refl}
 use Rattle.node_store.specs.ByNode.{column_of}
-use Rattle.ord_tree.specs.Spelled as trees
-use Rattle.rank_tree.specs.Spelled as ranked
+use Rattle.node_store.specs.Store.{age_of}
 use Rattle.hash_index.specs.Spelled as buckets
 use Rattle.hash_index.proofs.Laws as hash
-use Rattle.any_index.specs.Spelled.{by_age}
 use Rattle.key_extract.specs.Digests.{Marks}
 use Rattle.any_index.specs.Keyed.{hash_by}
-use Rattle.any_index.proofs.Renumbered.{ordered_by, hashed_by}
-use Rattle.node_store.specs.Store.{age_of}
+use Rattle.any_index.specs.Spelled.{by_age}
+use Rattle.any_index.proofs.Renumbered.{tree_by, hashed_by}
 use Rattle.any_index.proofs.index.AnyIndex.renumber.Goals as goal
 
 pub returns-in-Ordered-clause-keyed : goal.returns-in-Ordered-clause-keyed
 returns-in-Ordered-clause-keyed g c = λ order after marks marks_after same same_marks h.
-    let keyed = rw c.in-Ordered.is at h in
     let key = (rw c.in-Ordered.is at same) refl in
     let marked = (rw c.in-Ordered.is at same_marks) refl in
-    ordered_by c.args.store.now (order (trees.index_of c.in-Ordered.tree)) (after (trees.index_of c.renumber.new.self)) (marks (trees.index_of c.in-Ordered.tree)) (marks_after (trees.index_of c.renumber.new.self)) (trees.col_of c.in-Ordered.tree) _ (trees.spelled (column_of c.args.store.now) c.in-Ordered.tree) _
-    (ap after c.renumber.ensures.index ∙ key) (ap marks_after c.renumber.ensures.index ∙ marked) c.renumber.ensures.col (c.renumber.ensures.spelled (column_of c.args.store.now)) keyed
+    let keyed = rw c.in-Ordered.is at h in
+    tree_by c.args.store.now order after marks marks_after c.in-Ordered.tree c.renumber.new.self c.args.index c.renumber.ensures.index c.renumber.ensures.col (c.renumber.ensures.spelled (column_of c.args.store.now)) key marked keyed
 
 pub returns-in-Ranked-clause-keyed : goal.returns-in-Ranked-clause-keyed
 returns-in-Ranked-clause-keyed g c = λ order after marks marks_after same same_marks h.
-    let keyed = rw c.in-Ranked.is at h in
     let key = (rw c.in-Ranked.is at same) refl in
     let marked = (rw c.in-Ranked.is at same_marks) refl in
-    ordered_by c.args.store.now (order (ranked.index_of c.in-Ranked.tree)) (after (ranked.index_of c.renumber-in-Ranked.new.self)) (marks (ranked.index_of c.in-Ranked.tree)) (marks_after (ranked.index_of c.renumber-in-Ranked.new.self)) (ranked.col_of c.in-Ranked.tree) _ (ranked.spelled (column_of c.args.store.now) c.in-Ranked.tree) _
-    (ap after c.renumber-in-Ranked.ensures.index ∙ key) (ap marks_after c.renumber-in-Ranked.ensures.index ∙ marked) c.renumber-in-Ranked.ensures.col (c.renumber-in-Ranked.ensures.spelled (column_of c.args.store.now)) keyed
+    let keyed = rw c.in-Ranked.is at h in
+    tree_by c.args.store.now order after marks marks_after c.in-Ranked.tree c.renumber-in-Ranked.new.self c.args.index c.renumber-in-Ranked.ensures.index c.renumber-in-Ranked.ensures.col (c.renumber-in-Ranked.ensures.spelled (column_of c.args.store.now)) key marked keyed
 
 pub returns-in-Hashed-clause-keyed : goal.returns-in-Hashed-clause-keyed
 returns-in-Hashed-clause-keyed g c = λ order after marks marks_after same same_marks h.

@@ -18,7 +18,7 @@ returns-in-Ordered-clause-sound g c =
 
 pub returns-in-Ranked-clause-sound : goal.returns-in-Ranked-clause-sound
 returns-in-Ranked-clause-sound g c =
-    tree_unlinked c.args.store.now c.unlink-in-Ranked.new.store c.in-Ranked.tree.tree c.unlink-in-Ranked.new.self.tree c.args.n c.unlink-in-Ranked.ensures.tree.contents c.unlink-in-Ranked.ensures.tree.col (subst (IsSoundIn c.args.store.now) c.in-Ranked.is c.requires.sound).1 c.unlink-in-Ranked.ensures.tree.list c.unlink-in-Ranked.ensures.digests
+    tree_unlinked c.args.store.now c.unlink-in-Ranked.new.store c.in-Ranked.tree c.unlink-in-Ranked.new.self c.args.n c.unlink-in-Ranked.ensures.tree.contents c.unlink-in-Ranked.ensures.tree.col (subst (IsSoundIn c.args.store.now) c.in-Ranked.is c.requires.sound).1 c.unlink-in-Ranked.ensures.tree.list c.unlink-in-Ranked.ensures.digests
 
 pub returns-in-Hashed-clause-sound : goal.returns-in-Hashed-clause-sound
 returns-in-Hashed-clause-sound g c = buckets.IsSound_from _ _ _ c.unlink-in-Hashed.ensures.list
