@@ -9,6 +9,7 @@ use Rattle.container_model.specs.State.{KeysMatch, has_key_kind}
 use Rattle.field_keys.specs.declared.index.Index.{Index}
 use Rattle.field_keys.specs.Fields.{part_of}
 use Rattle.field_keys.specs.Indices.{declared_specs, declared_keys}
+use Rattle.multi_index.specs.Asked.{IsDeclared}
 use Rattle.indexed.specs.Kinds.{is_index, are_valid}
 use Rattle.indexed.specs.Orders.{has_key}
 
@@ -36,9 +37,15 @@ module _ (x : Index) (indices : List Index) (all : list_all is_index indices ≡
   unique_at h = subst (λ spec. IsTrue (has_key_kind spec.kind)) (sym spec_at) (unique_of (get_or indices i x) is_at (subst (λ spec. IsTrue spec.unique) spec_at h))
 
 -- the keys of valid indices match what the indices are
-pub keys_match : (indices : List Index) → IsTrue (are_valid indices) → KeysMatch (has_key (declared_keys indices)) (declared_specs indices)
+keys_match : (indices : List Index) → IsTrue (are_valid indices) → KeysMatch (has_key (declared_keys indices)) (declared_specs indices)
 keys_match [] valid = cc
 keys_match (x ∷ xs) valid =
     let all : list_all is_index (x ∷ xs) ≡ true = grind arith in
     let here = length-map (x ∷ xs) (λ index. index.0) in
     record { keyed = λ i d within. keyed_at x (x ∷ xs) all i d (omega arith); unique = λ i d within h. unique_at x (x ∷ xs) all i d (omega arith) h }
+
+-- a container may have them
+pub is_declared : (indices : List Index) → IsTrue (are_valid indices) → IsDeclared (length indices) (has_key (declared_keys indices)) (declared_specs indices)
+is_declared indices valid =
+    let count = length-map indices (λ index. index.0) in
+    record { some = grind (arith, count); few = omega (arith, count); most = grind arith; keys = keys_match indices valid }

@@ -15,4 +15,5 @@ pub mod Restored
 pub mod Rising
 pub mod Rows
 pub mod Shrunk
+pub mod There
 pub mod Walks

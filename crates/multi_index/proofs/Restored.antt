@@ -1,6 +1,6 @@
 -- What is told of records, looked at one after the other, and the container that they are.
 use Rattle.key_extract.specs.Digests.{Marks}
-use Rattle.std.proofs.Common.{◌≡◌, ℕ, zero, suc, drop, ◌+◌, ◌<◌, ◌≤◌, ◌^◌, Bool, List, [], ◌∷◌, ◌++◌, length, map, get_or, take, Option, refl, sym, ap, ◌∙◌, subst, arith}
+use Rattle.std.proofs.Common.{◌≡◌, ℕ, zero, suc, drop, ◌+◌, ◌<◌, ◌≤◌, ◌^◌, Bool, List, [], ◌∷◌, ◌++◌, length, get_or, take, Option, sym, subst, arith}
 use Rattle.std.specs.List.{AllByRecursion}
 use Rattle.std.specs.declared.cmp.Ordering.{Ordering}
 use Rattle.std.proofs.lemmas.List.{take_more, take_all, drop_more}
@@ -20,7 +20,7 @@ use Rattle.linked_set.specs.declared.restoring.Misfit.TheVariants as misfit
 use Rattle.linked_set.specs.Restored.{AreApart, IsMisfit, restored}
 use Rattle.linked_set.specs.Seen.{seen, IsLinked}
 use Rattle.multi_index.specs.Container.{IsContainer}
-use Rattle.multi_index.specs.Restored.{AreStamped, AreWithin, IsUnrestorable, orders_of, unrestorable_of}
+use Rattle.multi_index.specs.Restored.{AreStamped, IsUnrestorable, orders_of, unrestorable_of}
 use Rattle.multi_index.specs.declared.restore.Saved.{Saved}
 
 -- each pair of a member and those after it

@@ -1,9 +1,9 @@
 -- The records of nodes with their handles: those of the handles, and what a walk has left of them.
 use Rattle.key_extract.specs.Digests.{Marks}
-use Rattle.std.proofs.Common.{◌≡◌, ◌+◌, ◌<◌, ℕ, ◌==◌, Bool, true, false, List, [], ◌∷◌, length, map, slice_get, Option, Some, None, refl, sym, ap, ◌∙◌, eq-eqb}
+use Rattle.std.proofs.Common.{◌≡◌, ◌⊎◌, inl, inr, ◌+◌, ◌<◌, ◌≤◌, ℕ, ◌==◌, Bool, true, false, List, [], ◌∷◌, length, map, slice_get, Option, Some, None, refl, sym, ap, ◌∙◌, eq-eqb}
 use Rattle.std.specs.Prelude.{IsTrue, not, option_map}
 use Rattle.std.specs.List.{AllByRecursion, filter_map, cons_option}
-use Rattle.std.proofs.lemmas.Bool.{eqb-true}
+use Rattle.std.proofs.lemmas.Bool.{cases_lt, eqb-true}
 use Rattle.std.proofs.lemmas.Option.{same_Some}
 use Rattle.list_model.specs.Walk.{next as node_after}
 use Rattle.std.specs.declared.cmp.Ordering.{Ordering}
@@ -15,7 +15,7 @@ use Rattle.container_model.specs.declared.handle.Entry.{Entry}
 use Rattle.container_model.specs.declared.handle.Handle.{Handle}
 use Rattle.container_model.specs.declared.handle.Kind.{Kind}
 use Rattle.container_model.specs.declared.handle.Kind.TheVariants.{Sequenced, Random, Ordered, Ranked, Hashed}
-use Rattle.container_model.specs.State.{row_of, list_at, is_hashed_kind, is_sorted_kind}
+use Rattle.container_model.specs.State.{AreIndices, row_of, list_at, is_hashed_kind, is_sorted_kind}
 use Rattle.container_model.specs.Find.{probe_side}
 use Rattle.node_store.specs.declared.Node.{Node}
 use Rattle.node_store.specs.Nodes.{Holds, IsDistinct}
@@ -24,7 +24,7 @@ use Rattle.node_store.specs.ByNode.{same_node}
 use Rattle.node_store.proofs.ByNode.{same_node-refl, same_node-true}
 use Rattle.any_index.proofs.Runs.{next_is}
 use Rattle.index_set.specs.declared.set.IndexSet.{IndexSet}
-use Rattle.index_set.specs.Set.{store_of, specs_of, contents, record_of, list_of, lists_of}
+use Rattle.index_set.specs.Set.{store_of, keys_of, specs_of, contents, record_of, list_of, lists_of}
 use Rattle.index_set.proofs.Members.{distinct_at, nodes_held_at, Holds_at}
 use Rattle.linked_set.specs.declared.by_row.ByRow.{ByRow}
 use Rattle.linked_set.specs.Edges.{edge_of, node_edge}
@@ -34,7 +34,8 @@ use Rattle.linked_set.proofs.Reading.{known_at, list_seen}
 use Rattle.linked_set.proofs.Sides.{handle_known, row_known}
 use Rattle.multi_index.specs.Iteration.{is_one, is_numbered, nodes_left, rows_of_nodes, with_rows, IsWalk}
 use Rattle.multi_index.proofs.Rising.{range_seen}
-use Rattle.multi_index.proofs.Walks.{none_left, one_left, past_end}
+use Rattle.multi_index.proofs.There.{no_nodes, none_there, there_at}
+use Rattle.multi_index.proofs.Walks.{all_left, none_left, one_left, past_end}
 
 module _ {R : Type 0} (records : Node → Option (Entry R)) where
   -- one node more
@@ -81,9 +82,6 @@ module _ {E R : Type 0} {has_key : E → ℕ → Bool} (set : IndexSet (Entry R)
   abbrev rows : Option Node → List (Handle × R)
   rows from = rows_of_nodes (record_of set) (nodes_left from end list)
 
-  distinct : IsDistinct list
-  distinct = distinct_at set w.sound index w.within
-
   -- past the end nothing is left
   pub over : next ≡ None → rows next ≡ []
   over e = ap rows e ∙ ap (rows_of_nodes (record_of set)) (past_end end list)
@@ -92,19 +90,26 @@ module _ {E R : Type 0} {has_key : E → ℕ → Bool} (set : IndexSet (Entry R)
     here : slice_get list w.begins.place ≡ Some n
     here = sym w.begins.is ∙ is
 
+    -- so the index is there
+    pub within : index < length (specs_of set)
+    within = there_at set w.sound index w.begins.place n here
+
+    distinct : IsDistinct list
+    distinct = distinct_at set w.sound index within
+
     -- the next node is one of the index, and of the store
     pub held : Holds list n
     held = Holds_at list w.begins.place n here
 
     pub there : IsNodeOf (store_of set) n
-    there = some_at (IsNodeOf (store_of set)) list w.begins.place (nodes_held_at set w.sound index w.within) n here
+    there = some_at (IsNodeOf (store_of set)) list w.begins.place (nodes_held_at set w.sound index within) n here
 
     numbered : (b : Bool) → is_numbered end n ≡ b → is_one end n ≡ b
     numbered b e = by_end end refl ∙ e
       where
         by_end : (o : Option Node) → end ≡ o → is_one o n ≡ is_numbered o n
         by_end None k = refl
-        by_end (Some m) k = sym (one_numbered (store_of set) m n (some_at (IsNodeOf (store_of set)) list w.ends.place (nodes_held_at set w.sound index w.within) m (sym w.ends.is ∙ k)) there)
+        by_end (Some m) k = sym (one_numbered (store_of set) m n (some_at (IsNodeOf (store_of set)) list w.ends.place (nodes_held_at set w.sound index within) m (sym w.ends.is ∙ k)) there)
 
     -- where it ends the walk, nothing is left
     pub ended : is_numbered end n ≡ true → rows next ≡ []
@@ -139,6 +144,18 @@ module _ {E R : Type 0} {has_key : E → ℕ → Bool} {order : E → ℕ → R 
   between_seen probe_order low high =
       rows_seen (record_of set) (entries_in (contents set)) (range (node_edge probe_order set index low) (node_edge probe_order set index high) (list_of set index)) (All-filter (IsKnown (record_of set) (entries_in (contents set))) _ (list_of set index) known)
       ∙ ap named (range_seen set slots linked index within probe_order low high)
+
+-- all of them, of an index that is there, and none of one that is not
+module _ {E R : Type 0} {has_key : E → ℕ → Bool} {order : E → ℕ → R → R → Ordering} {marks : E → ℕ → R → Marks} (set : IndexSet (Entry R) (ByRow E)) (slots : List (Option Node)) (linked : IsLinked has_key order marks set slots)
+    (index max writes : ℕ) (indices : AreIndices (order (keys_of set).keys) (entries_in (contents set)) 0 (specs_of set) (handles_in (record_of set) (lists_of set))) where
+  pub whole_left : rows_of_nodes (record_of set) (nodes_left (slice_get (list_of set index) 0) None (list_of set index)) ≡ with_rows (seen set max writes) (list_at (handles_in (record_of set) (lists_of set)) index)
+  whole_left = by_place (cases_lt index (length (specs_of set)))
+    where
+      by_place : (index < length (specs_of set)) ⊎ (length (specs_of set) ≤ index) → rows_of_nodes (record_of set) (nodes_left (slice_get (list_of set index) 0) None (list_of set index)) ≡ with_rows (seen set max writes) (list_at (handles_in (record_of set) (lists_of set)) index)
+      by_place (inl within) = ap (rows_of_nodes (record_of set)) (all_left (list_of set index) (distinct_at set linked.sound index within)) ∙ whole_seen set slots linked index within max writes
+      by_place (inr past) =
+          ap (λ list. rows_of_nodes (record_of set) (nodes_left (slice_get list 0) None list)) (no_nodes set linked.sound index past)
+          ∙ ap (with_rows (seen set max writes)) (sym (none_there (order (keys_of set).keys) (seen set max writes) indices index past))
 
 -- an index in order is not hashed
 pub sorted_walks : (kind : Kind) → is_sorted_kind kind ≡ true → IsTrue (not (is_hashed_kind kind))

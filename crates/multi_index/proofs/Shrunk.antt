@@ -1,7 +1,7 @@
 -- What an erasure makes of a container.
 use Rattle.key_extract.specs.Digests.{Marks}
 use Rattle.std.proofs.Common.{◌≡◌, ℕ, ◌+◌, ◌-◌, ◌<◌, ◌^◌, ◌==◌, Bool, true, false, cond, List, length, map, Option, Some, None, refl, sym, subst, arith, option_and_then, option_map}
-use Rattle.std.specs.Prelude.{filter, IfSome}
+use Rattle.std.specs.Prelude.{filter, not, IfSome, IsTrue}
 use Rattle.std.specs.Option.{option_map_or}
 use Rattle.std.specs.declared.cmp.Ordering.{Ordering}
 use Rattle.std.proofs.lemmas.Bool.Decides.{nat_tests}
@@ -45,6 +45,15 @@ key_allowed s index e = by_tests (has_key_kind (kind_at s index)) (s.writes == 2
     by_tests true true e = absurd (cc)
     by_tests true false e = refl
 
+-- an index in which the next record is asked for is not hashed
+pub not_hashed : {E R : Type 0} (s : State E R) (h : Handle) (asked : Option ℕ) → erase_refusal s h asked ≡ None → IfSome asked (λ i. IsTrue (not (is_hashed_kind (kind_at s i))))
+not_hashed s h None e = tt
+not_hashed s h (Some i) e = by_test (is_hashed_kind (kind_at s i)) e
+  where
+    by_test : (hashed : Bool) → cond hashed (Some Kind) (cond (is_live s h) (spent s) (Some Stale)) ≡ None → IsTrue (not hashed)
+    by_test true e = absurd (cc)
+    by_test false e = refl
+
 -- so where nothing refuses a write
 pub write_allowed : {E R : Type 0} (s : State E R) → spent s ≡ None → (s.writes == 2 ^ 64 - 1) ≡ false
 write_allowed s e = not_spent (s.writes == 2 ^ 64 - 1) e
@@ -67,9 +76,9 @@ module _ {E R : Type 0} (old new : IndexSet (Entry R) (ByRow E)) (keep : Handle 
     added = let before = was.added in omega arith;
   }
 
--- the record after the one that a handle names, where an index is asked for
+-- the record after the one that a handle names, where the index that is asked for is there
 pub next_named : {E R : Type 0} {has_key : E → ℕ → Bool} {order : E → ℕ → R → R → Ordering} {marks : E → ℕ → R → Marks} (set : IndexSet (Entry R) (ByRow E)) (slots : List (Option Node)) → IsLinked has_key order marks set slots → (h : Handle) (n : Node) →
-    item_at slots h.slot ≡ Some n → is_handle h (handle_of (record_of set) n) ≡ true → (max writes : ℕ) (index : Option ℕ) → IfSome index (λ i. i < length (specs_of set)) →
-    option_and_then (λ i. option_map (handle_of (record_of set)) (next (same_node n) (list_of set i))) index ≡ option_and_then (λ i. next_in (seen set max writes) i h) index
-next_named set slots linked h n at named max writes None within = refl
-next_named set slots linked h n at named max writes (Some i) within = next_seen set slots linked h n at named i within
+    item_at slots h.slot ≡ Some n → is_handle h (handle_of (record_of set) n) ≡ true → (max writes : ℕ) (asked there : Option ℕ) → IfSome there (λ i. (i < length (specs_of set)) × (asked ≡ Some i)) →
+    option_and_then (λ i. option_map (handle_of (record_of set)) (next (same_node n) (list_of set i))) there ≡ option_and_then (λ i. next_in (seen set max writes) i h) there
+next_named set slots linked h n at named max writes asked None is = refl
+next_named set slots linked h n at named max writes asked (Some i) is = next_seen set slots linked h n at named i is.0

@@ -1,5 +1,5 @@
 -- What a walk along an index has left.
-use Rattle.std.specs.Prelude.{◌≡◌, ℕ, ◌<◌, ◌==◌, Bool, false, not, List, drop, take, length, slice_get, Option, option_map, IsTrue}
+use Rattle.std.specs.Prelude.{◌≡◌, ℕ, ◌==◌, Bool, false, not, List, drop, take, slice_get, Option, option_map, IsTrue}
 use Rattle.std.specs.List.{filter_map}
 use Rattle.std.specs.Option.{option_map_or}
 use Rattle.list_model.specs.Walk.{place_of}
@@ -10,7 +10,7 @@ use Rattle.node_store.specs.declared.Node.{Node}
 use Rattle.node_store.specs.Store.{number_of}
 use Rattle.node_store.specs.ByNode.{same_node}
 use Rattle.index_set.specs.declared.set.IndexSet.{IndexSet}
-use Rattle.index_set.specs.Set.{specs_of, list_of, kind_at, IsSound}
+use Rattle.index_set.specs.Set.{list_of, kind_at, IsSound}
 use Rattle.linked_set.specs.ByRow.{has_by_row}
 use Rattle.linked_set.specs.declared.by_row.ByRow.{ByRow}
 
@@ -44,7 +44,6 @@ pub record StandsIn (nodes : List Node) (position : Option Node) : Type 0 where
 -- what holds of every walk
 pub record IsWalk {E R : Type 0} (has_key : E → ℕ → Bool) (set : IndexSet (Entry R) (ByRow E)) (index : ℕ) (next end : Option Node) : Type 0 where
   pub sound : IsSound (has_by_row has_key) set
-  pub within : index < length (specs_of set)
   pub kind : IsTrue (not (is_hashed_kind (kind_at set index)))
   pub begins : StandsIn (list_of set index) next
   pub ends : StandsIn (list_of set index) end

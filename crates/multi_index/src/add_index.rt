@@ -1,8 +1,8 @@
 //! One index more.
-ghost use Rattle.std.specs.Prelude.{◌≡◌, ◌<◌, ◌⊎◌, ◌++◌, ◌∷◌, [], IsTrue, None, Some, IfErr, OnErr, OnOk, length};
-ghost use Rattle.container_model.specs.State.{KeysMatch};
+ghost use Rattle.std.specs.Prelude.{◌≡◌, ◌<◌, ◌⊎◌, IsTrue, None, Some, IfErr, OnErr, OnOk, length};
 ghost use Rattle.container_model.specs.Change.{spent};
-ghost use Rattle.container_model.specs.Indices.{KeepsEach, add_index_refusal, with_index};
+ghost use Rattle.container_model.specs.Indices.{add_index_refusal, with_index};
+ghost use Rattle.multi_index.specs.Asked.{HasKeysWith};
 ghost use Rattle.multi_index.specs.Rearranged.{is_after_memory};
 
 use crate::container::MultiIndex;
@@ -19,9 +19,7 @@ impl<R: Drop, E: Extract<R> + Drop> MultiIndex<R, E> {
     /// record. It takes memory for a node for each record, and what the index itself takes, and may be refused it before
     /// `Clash` or `Spent` is seen. O(n log n), and expected O(n) in a hashed index or a sequence.
     pub fn add_index(&mut self, spec: Spec, keys: E) -> Result<(), Refused<E>>
-        requires keys { KeysMatch (E.has_key keys) (self.old.specs ++ spec ∷ []) }
-        requires orders { KeepsEach (E.order_of self.old.keys) (E.order_of keys) self.old.specs }
-        requires hashes { KeepsEach (E.hash_of self.old.keys) (E.hash_of keys) self.old.specs }
+        requires { HasKeysWith E.has_key E.order_of E.hash_of self.old spec keys }
         ensures allowed { OnOk result (add_index_refusal E.order_of self.old spec keys ≡ None) }
         ensures ok { OnOk result (self.new ≡ with_index E.order_of self.old spec keys) }
         ensures why { IfErr result
@@ -53,9 +51,7 @@ impl<R: Drop, E: Extract<R> + Drop> MultiIndex<R, E> {
     fn spent_index(&mut self, spec: Spec, keys: E) -> Refused<E>
         requires room { length self.old.specs < self.old.most }
         requires spent { spent self.old ≡ Some Why.Spent }
-        requires keys { KeysMatch (E.has_key keys) (self.old.specs ++ spec ∷ []) }
-        requires orders { KeepsEach (E.order_of self.old.keys) (E.order_of keys) self.old.specs }
-        requires hashes { KeepsEach (E.hash_of self.old.keys) (E.hash_of keys) self.old.specs }
+        requires keys { HasKeysWith E.has_key E.order_of E.hash_of self.old spec keys }
         ensures why { (Some result.why ≡ add_index_refusal E.order_of self.old spec keys) ⊎
             ((result.why ≡ Why.Memory) ×
             IsTrue (is_after_memory (add_index_refusal E.order_of self.old spec keys))) }

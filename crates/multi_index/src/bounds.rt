@@ -12,7 +12,6 @@ impl<R: Drop, E: Extract<R> + Drop> MultiIndex<R, E> {
     /// The first record of the index that does not come before the key, or the end; an index that is not in order has no
     /// such call, and answers `Kind`. O(log n).
     pub fn lower(&self, index: usize, probe: &E::Probe) -> Result<Option<Handle>, Why>
-        requires in_range { index < length self.now.specs }
         requires fits { IsTrue (is_sorted_kind (kind_at self.now index)) →
             IsTrue (E.does_fit self.now.keys index probe.now) }
         ensures { result ≡ found_lower E.probe_order_of self.now index probe.now }
@@ -27,7 +26,6 @@ impl<R: Drop, E: Extract<R> + Drop> MultiIndex<R, E> {
     /// The first record of the index that comes after the key, or the end; an index that is not in order has no such call,
     /// and answers `Kind`. O(log n).
     pub fn upper(&self, index: usize, probe: &E::Probe) -> Result<Option<Handle>, Why>
-        requires in_range { index < length self.now.specs }
         requires fits { IsTrue (is_sorted_kind (kind_at self.now index)) →
             IsTrue (E.does_fit self.now.keys index probe.now) }
         ensures { result ≡ found_upper E.probe_order_of self.now index probe.now }
@@ -42,7 +40,6 @@ impl<R: Drop, E: Extract<R> + Drop> MultiIndex<R, E> {
     /// The rank, counted from 0, of the first record of the index that has the key, or where none has it the number of
     /// records; an index without ranks answers `Kind`. O(log n).
     pub fn find_rank(&self, index: usize, probe: &E::Probe) -> Result<u64, Why>
-        requires in_range { index < length self.now.specs }
         requires fits { IsTrue (is_ranked_kind (kind_at self.now index)) →
             IsTrue (E.does_fit self.now.keys index probe.now) }
         ensures { result ≡ found_rank E.probe_order_of self.now index probe.now }
@@ -56,7 +53,6 @@ impl<R: Drop, E: Extract<R> + Drop> MultiIndex<R, E> {
 
     /// How many records of the index come before the key; an index without ranks answers `Kind`. O(log n).
     pub fn lower_rank(&self, index: usize, probe: &E::Probe) -> Result<u64, Why>
-        requires in_range { index < length self.now.specs }
         requires fits { IsTrue (is_ranked_kind (kind_at self.now index)) →
             IsTrue (E.does_fit self.now.keys index probe.now) }
         ensures { result ≡ the_lower_rank E.probe_order_of self.now index probe.now }
@@ -70,7 +66,6 @@ impl<R: Drop, E: Extract<R> + Drop> MultiIndex<R, E> {
 
     /// How many records of the index do not come after the key; an index without ranks answers `Kind`. O(log n).
     pub fn upper_rank(&self, index: usize, probe: &E::Probe) -> Result<u64, Why>
-        requires in_range { index < length self.now.specs }
         requires fits { IsTrue (is_ranked_kind (kind_at self.now index)) →
             IsTrue (E.does_fit self.now.keys index probe.now) }
         ensures { result ≡ the_upper_rank E.probe_order_of self.now index probe.now }
@@ -84,8 +79,8 @@ impl<R: Drop, E: Extract<R> + Drop> MultiIndex<R, E> {
 
     // Whether the index keeps its records in order.
     pub(crate) fn is_sorted(&self, index: usize) -> bool
-        requires { index < length self.now.specs }
-        ensures { result ≡ is_sorted_kind (kind_at self.now index) }
+        ensures is { result ≡ is_sorted_kind (kind_at self.now index) }
+        ensures there { IsTrue result → index < length self.now.specs }
     {
         match self.kind(index) {
             Kind::Ordered | Kind::Ranked => true,
@@ -95,8 +90,8 @@ impl<R: Drop, E: Extract<R> + Drop> MultiIndex<R, E> {
 
     // Whether the index has ranks.
     pub(crate) fn is_ranked(&self, index: usize) -> bool
-        requires { index < length self.now.specs }
-        ensures { result ≡ is_ranked_kind (kind_at self.now index) }
+        ensures is { result ≡ is_ranked_kind (kind_at self.now index) }
+        ensures there { IsTrue result → index < length self.now.specs }
     {
         match self.kind(index) {
             Kind::Ranked => true,

@@ -2,7 +2,7 @@
 ghost use Rattle.any_index.specs.Keyed.{marks_of};
 ghost use Rattle.std.specs.Prelude.{◌≡◌, ◌↔◌, ◌<◌, ◌≤◌, ◌^◌, ◌-◌, ◌==◌, IsTrue, false, length, [], None, map, unwrap_or, Some, IfOk, IfErr, IfSome, OnOk, OnErr};
 ghost use Rattle.list_model.specs.Place.{find_equal};
-ghost use Rattle.container_model.specs.State.{IsState, KeysMatch, empty, empty_with_most, list_at, row_of, has_key_kind, is_hashed_kind, is_sorted_kind};
+ghost use Rattle.container_model.specs.State.{IsState, empty, empty_with_most, list_at, row_of, has_key_kind, is_hashed_kind, is_sorted_kind};
 ghost use Rattle.container_model.specs.Find.{counted, found, kind_at};
 ghost use Rattle.std.specs.Option.{option_map_or, option_or};
 ghost use Rattle.container_model.specs.Insert.{ban_from, insert_at_refusal, insert_refusal, limit, new_handle, with_inserted};
@@ -11,6 +11,7 @@ ghost use Rattle.index_set.specs.Set.{keys_of, specs_of, contents, record_of, li
 ghost use Rattle.linked_set.specs.ByRow.{has_by_row, order_by_row, marks_by_row, probe_by_row};
 ghost use Rattle.linked_set.specs.Linked.{entries_in, handles_in};
 ghost use Rattle.linked_set.specs.Seen.{IsLinked};
+ghost use Rattle.multi_index.specs.Asked.{IsDeclared, IsKeyOf};
 
 use container_model::{Entry, Handle, Kind, Refused, Spec, Why};
 use index_set::{FreePlace, IndexSet};
@@ -21,7 +22,9 @@ use slot_table::SlotTable;
 use std::alloc::{AllocError, Global};
 use std::marker::Model;
 
-/// Records under several indices, each of which keeps all of them in an order of its own.
+/// Records under several indices, each of which keeps all of them in an order of its own. Indices are numbered from 0. A call
+/// that reads may name a number that no index has: it is then answered as of a sequence without records and without places,
+/// by `Kind` where a key, a rank or a place is asked for. A call that writes to an index is to name one that is there.
 #[derive(Drop)]
 pub struct MultiIndex<R: Drop, E: Extract<R> + Drop> {
     pub(crate) set: IndexSet<Entry<R>, ByRow<E>>,
@@ -54,15 +57,13 @@ impl<R: Drop, E: Extract<R> + Drop> MultiIndex<R, E> {
         max: u32,
         first_write: u64,
     ) -> Result<Self, AllocError>
-        requires some { 1 ≤ length specs.items }
-        requires few { length specs.items ≤ 8 }
-        requires keys { KeysMatch (E.has_key keys) specs.items }
+        requires { IsDeclared 8 (E.has_key keys) specs.items }
         ensures { IfOk result (λ made. made ≡ empty keys specs.items max first_write) }
     {
         MultiIndex::with_most(alloc, specs, keys, 8, max, first_write)
     }
 
-    /// As `new`, for at most `most` indices at a time. A record takes 56 bytes for each index that there may be. O(indices).
+    /// As `new`, for at most `most` indices at a time. A record takes 32 bytes for each index that there may be. O(indices).
     pub fn with_most(
         alloc: Global,
         specs: Vec<Spec>,
@@ -71,10 +72,7 @@ impl<R: Drop, E: Extract<R> + Drop> MultiIndex<R, E> {
         max: u32,
         first_write: u64,
     ) -> Result<Self, AllocError>
-        requires some { 1 ≤ length specs.items }
-        requires few { length specs.items ≤ most }
-        requires most { most ≤ 8 }
-        requires keys { KeysMatch (E.has_key keys) specs.items }
+        requires { IsDeclared most (E.has_key keys) specs.items }
         ensures { IfOk result (λ made. made ≡ empty_with_most most keys specs.items max
             first_write) }
     {
@@ -175,11 +173,7 @@ impl<R: Drop, E: Extract<R> + Drop> MultiIndex<R, E> {
     /// have it; a sequence has none, and answers `Kind`. O(log n); expected O(1) in a hashed index, and in one that is not
     /// unique O(1 + the records that have the key) once changes brought records to it that are older than others of it.
     pub fn find(&self, index: usize, probe: &E::Probe) -> Result<Option<Handle>, Why>
-        requires in_range { index < length self.now.specs }
-        requires fits { IsTrue (has_key_kind (kind_at self.now index)) →
-            IsTrue (E.does_fit self.now.keys index probe.now) }
-        requires whole { IsTrue (is_hashed_kind (kind_at self.now index)) →
-            IsTrue (E.is_whole self.now.keys index probe.now) }
+        requires { IsKeyOf E.does_fit E.is_whole self.now index probe.now }
         ensures { result ≡ found E.probe_order_of self.now index probe.now }
     {
         if !self.has_key(index) {
@@ -194,11 +188,7 @@ impl<R: Drop, E: Extract<R> + Drop> MultiIndex<R, E> {
     /// How many records of the index have the key; a sequence has none, and answers `Kind`. In O(log n) comparisons and that
     /// many steps in an ordered index, O(log n) in a ranked one, expected O(1 + those records) in a hashed one.
     pub fn count(&self, index: usize, probe: &E::Probe) -> Result<u64, Why>
-        requires in_range { index < length self.now.specs }
-        requires fits { IsTrue (has_key_kind (kind_at self.now index)) →
-            IsTrue (E.does_fit self.now.keys index probe.now) }
-        requires whole { IsTrue (is_hashed_kind (kind_at self.now index)) →
-            IsTrue (E.is_whole self.now.keys index probe.now) }
+        requires { IsKeyOf E.does_fit E.is_whole self.now index probe.now }
         ensures { result ≡ counted E.probe_order_of self.now index probe.now }
     {
         if self.has_key(index) {
@@ -210,12 +200,14 @@ impl<R: Drop, E: Extract<R> + Drop> MultiIndex<R, E> {
 
     /// The records of the index, in its order; a hashed one's in the order of insertion. O(records).
     pub fn view(&self, index: usize) -> Result<Vec<Handle>, Why>
-        requires { index < length self.now.specs }
         ensures ok { IfOk result (λ handles. handles.items ≡ list_at self.now.lists index) }
         ensures memory_only { IfErr result (λ why. why ≡ Why.Memory) }
     {
         if self.is_hashed(index) {
             return by_age(self.alloc, &self.set).map_err(|_| Why::Memory);
+        }
+        if !self.has_index(index) {
+            return Ok(Vec::new(self.alloc));
         }
         in_order(self.alloc, &self.set, index).map_err(|_| Why::Memory)
     }
@@ -227,18 +219,30 @@ impl<R: Drop, E: Extract<R> + Drop> MultiIndex<R, E> {
         by_age(self.alloc, &self.set)
     }
 
-    // What the index is.
-    pub(crate) fn kind(&self, index: usize) -> Kind
-        requires { index < length self.now.specs }
-        ensures { result ≡ kind_at self.now index }
+    // Whether the index is there.
+    pub(crate) fn has_index(&self, index: usize) -> bool
+        ensures there { IsTrue result → index < length self.now.specs }
+        ensures past { result ≡ false → length self.now.specs ≤ index }
+        ensures empty { result ≡ false → list_at self.now.lists index ≡ [] }
     {
-        self.set.specs()[index].kind
+        index < self.set.specs().len()
+    }
+
+    // What the index is: where it is not there, what has no keys, no ranks and no places.
+    pub(crate) fn kind(&self, index: usize) -> Kind
+        ensures is { result ≡ kind_at self.now index }
+        ensures past { length self.now.specs ≤ index → result ≡ Kind.Sequenced }
+    {
+        match self.set.specs().get(index) {
+            Some(spec) => spec.kind,
+            None => Kind::Sequenced,
+        }
     }
 
     // Whether the index is searched by whole keys alone.
     pub(crate) fn is_hashed(&self, index: usize) -> bool
-        requires { index < length self.now.specs }
-        ensures { result ≡ is_hashed_kind (kind_at self.now index) }
+        ensures is { result ≡ is_hashed_kind (kind_at self.now index) }
+        ensures there { IsTrue result → index < length self.now.specs }
     {
         match self.kind(index) {
             Kind::Hashed => true,
@@ -248,8 +252,8 @@ impl<R: Drop, E: Extract<R> + Drop> MultiIndex<R, E> {
 
     // Whether the index has a key.
     pub(crate) fn has_key(&self, index: usize) -> bool
-        requires { index < length self.now.specs }
-        ensures { result ≡ has_key_kind (kind_at self.now index) }
+        ensures is { result ≡ has_key_kind (kind_at self.now index) }
+        ensures there { IsTrue result → index < length self.now.specs }
     {
         match self.kind(index) {
             Kind::Sequenced | Kind::Random => false,

@@ -1,7 +1,7 @@
 //! One index less.
-ghost use Rattle.std.specs.Prelude.{◌≡◌, ◌<◌, None, Some, IfErr, OnErr, OnOk, length, remove};
-ghost use Rattle.container_model.specs.State.{KeysMatch};
-ghost use Rattle.container_model.specs.Indices.{KeepsRest, drop_index_refusal as the_refusal, without_index};
+ghost use Rattle.std.specs.Prelude.{◌≡◌, None, Some, IfErr, OnErr, OnOk};
+ghost use Rattle.container_model.specs.Indices.{drop_index_refusal as the_refusal, without_index};
+ghost use Rattle.multi_index.specs.Asked.{HasKeysWithout};
 
 use crate::container::MultiIndex;
 use container_model::{Refused, Why};
@@ -14,12 +14,7 @@ impl<R: Drop, E: Extract<R> + Drop> MultiIndex<R, E> {
     /// only index; `Spent`. The keys are then handed back, and the container is unchanged. It takes no memory. O(records)
     /// for an index with places or buckets, and O(indices) otherwise.
     pub fn drop_index(&mut self, index: usize, keys: E) -> Result<(), Refused<E>>
-        requires index { index < length self.old.specs }
-        requires keys { KeysMatch (E.has_key keys) (remove self.old.specs index) }
-        requires orders { KeepsRest (E.order_of self.old.keys) (E.order_of keys) self.old.specs
-            index }
-        requires hashes { KeepsRest (E.hash_of self.old.keys) (E.hash_of keys) self.old.specs
-            index }
+        requires { HasKeysWithout E.has_key E.order_of E.hash_of self.old index keys }
         ensures allowed { OnOk result (the_refusal self.old ≡ None) }
         ensures ok { OnOk result (self.new ≡ without_index self.old index keys) }
         ensures why { IfErr result (λ refused. Some refused.why ≡ the_refusal self.old) }

@@ -1,5 +1,5 @@
 //! Taking records out.
-ghost use Rattle.std.specs.Prelude.{◌≡◌, ◌+◌, ◌<◌, length, option_and_then, None, Some, IfErr, IfOk, IfSome, OnErr, OnOk};
+ghost use Rattle.std.specs.Prelude.{◌≡◌, ◌+◌, ◌<◌, ◌≤◌, length, option_and_then, None, Some, IfErr, IfOk, IfSome, OnErr, OnOk};
 ghost use Rattle.container_model.specs.State.{row_of};
 ghost use Rattle.container_model.specs.Change.{erase_refusal, next_in, with_erased};
 
@@ -22,7 +22,6 @@ impl<R: Drop, E: Extract<R> + Drop> MultiIndex<R, E> {
     /// refusal changes nothing: `Kind`, where that index is hashed, comes before `Stale`, and that before `Spent`. It takes
     /// no memory. O(log n) for each index, but O(the records behind it) in one whose places can be counted.
     pub fn erase(&mut self, handle: Handle, index: Option<usize>) -> Result<Erased<R>, Refused<R>>
-        requires { IfSome index (λ i. i < length self.old.specs) }
         ensures row { IfOk result (λ erased. row_of self.old.entries handle ≡ Some erased.row) }
         ensures next { IfOk result (λ erased. erased.next ≡
             option_and_then (λ i. next_in self.old i handle) index) }
@@ -41,7 +40,6 @@ impl<R: Drop, E: Extract<R> + Drop> MultiIndex<R, E> {
 
     // Why a record may not be taken out.
     fn erase_refusal(&self, handle: Handle, index: Option<usize>) -> Option<Why>
-        requires { IfSome index (λ i. i < length self.now.specs) }
         ensures { result ≡ erase_refusal self.now handle index }
     {
         if let Some(index) = index {
@@ -55,16 +53,29 @@ impl<R: Drop, E: Extract<R> + Drop> MultiIndex<R, E> {
         self.spent()
     }
 
+    // The index, where it is named and there.
+    fn there(&self, index: Option<usize>) -> Option<usize>
+        ensures there { IfSome result (λ i. (i < length self.now.specs) × (index ≡ Some i)) }
+        ensures none { result ≡ None → IfSome index (λ i. length self.now.specs ≤ i) }
+    {
+        let index = index?;
+        if self.has_index(index) {
+            Some(index)
+        } else {
+            None
+        }
+    }
+
     // Takes out a record that nothing keeps in.
     fn erase_live(&mut self, handle: Handle, index: Option<usize>) -> Erased<R>
-        requires within { IfSome index (λ i. i < length self.old.specs) }
-        requires allowed { erase_refusal self.old handle index ≡ None }
+        requires { erase_refusal self.old handle index ≡ None }
         ensures row { row_of self.old.entries handle ≡ Some result.row }
         ensures next { result.next ≡ option_and_then (λ i. next_in self.old i handle) index }
         ensures left { self.new ≡ with_erased self.old handle }
     {
         let node = node_at(&self.set, &self.slots, handle).unwrap();
-        let next = next_at(&self.set, index, node);
+        let here = self.there(index);
+        let next = next_at(&self.set, here, node);
         self.writes += 1;
         let entry = take_out(&mut self.set, &mut self.slots, node);
         Erased {

@@ -1,8 +1,8 @@
 //! Taking out all records of a key.
 ghost use Rattle.std.specs.Prelude.{◌≡◌, ◌+◌, ◌<◌, ◌≤◌, length, None, Some, IsTrue, IfErr, IfOk, OnErr, OnOk};
-ghost use Rattle.container_model.specs.State.{has_key_kind, is_hashed_kind};
-ghost use Rattle.container_model.specs.Find.{is_unique_at, kind_at};
+ghost use Rattle.container_model.specs.Find.{is_unique_at};
 ghost use Rattle.container_model.specs.Change.{erase_key_refusal, erased_count, with_key_erased};
+ghost use Rattle.multi_index.specs.Asked.{IsKeyOf};
 
 use crate::container::MultiIndex;
 use container_model::{Refused, Why};
@@ -15,11 +15,7 @@ impl<R: Drop, E: Extract<R> + Drop> MultiIndex<R, E> {
     /// comes before `Spent`. It takes no memory. For each record that goes, a look-up and O(log n)
     /// for each index; and where there are more than a few, O(n) for each index whose places can be counted.
     pub fn erase_key(&mut self, index: usize, probe: &E::Probe) -> Result<u64, Refused<R>>
-        requires in_range { index < length self.old.specs }
-        requires fits { IsTrue (has_key_kind (kind_at self.old index)) →
-            IsTrue (E.does_fit self.old.keys index probe.now) }
-        requires whole { IsTrue (is_hashed_kind (kind_at self.old index)) →
-            IsTrue (E.is_whole self.old.keys index probe.now) }
+        requires { IsKeyOf E.does_fit E.is_whole self.old index probe.now }
         ensures count { IfOk result (λ count. count ≡ erased_count E.probe_order_of self.old index
             probe.now) }
         ensures one { IsTrue (is_unique_at self.old index) →
@@ -42,8 +38,8 @@ impl<R: Drop, E: Extract<R> + Drop> MultiIndex<R, E> {
 
     // Why the records of a key may not be taken out.
     fn erase_key_refusal(&self, index: usize) -> Option<Why>
-        requires { index < length self.now.specs }
-        ensures { result ≡ erase_key_refusal self.now index }
+        ensures is { result ≡ erase_key_refusal self.now index }
+        ensures there { result ≡ None → index < length self.now.specs }
     {
         if !self.has_key(index) {
             return Some(Why::Kind);

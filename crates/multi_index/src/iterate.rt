@@ -3,6 +3,7 @@ ghost use Rattle.any_index.specs.Keyed.{marks_of};
 ghost use Rattle.std.specs.Prelude.{◌≡◌, ◌<◌, IsTrue, None, count_by, filter, length, not, slice_get};
 ghost use Rattle.std.specs.Ordering.{is_eq};
 ghost use Rattle.std.specs.Range.Bound.{bound_map};
+ghost use Rattle.std.specs.declared.ops.Bound.TheVariants.{Included};
 ghost use Rattle.list_model.specs.Place.{is_to, range};
 ghost use Rattle.container_model.specs.State.{is_hashed_kind, is_sorted_kind, list_at};
 ghost use Rattle.container_model.specs.Find.{kind_at, probe_side};
@@ -11,6 +12,7 @@ ghost use Rattle.index_set.specs.Set as nodes;
 ghost use Rattle.index_set.specs.Set.{keys_of, specs_of, list_of, IsSound, IsKeyed};
 ghost use Rattle.linked_set.specs.ByRow.{has_by_row, order_by_row, marks_by_row};
 ghost use Rattle.linked_set.specs.Edges.{edge_of, node_edge, KeyFits};
+ghost use Rattle.multi_index.specs.Asked.{AreBoundsOf};
 ghost use Rattle.multi_index.specs.Iteration.{with_rows};
 
 use crate::container::MultiIndex;
@@ -26,14 +28,13 @@ impl<R: Drop, E: Extract<R> + Drop> MultiIndex<R, E> {
     /// The records of an index, with their handles and in its order. A hashed index has none. It takes no memory. O(1) in a
     /// sequence, O(log n) in an index in order.
     pub fn iter(&self, index: usize) -> Iter<'_, R, E>
-        requires in_range { index < length self.now.specs }
         requires kind { IsTrue (not (is_hashed_kind (kind_at self.now index))) }
         ensures { result ≡ with_rows self.now (list_at self.now.lists index) }
     {
         Iter {
             set: &self.set,
             index,
-            next: self.set.first(index),
+            next: first_of(&self.set, index),
             end: None,
         }
     }
@@ -46,10 +47,8 @@ impl<R: Drop, E: Extract<R> + Drop> MultiIndex<R, E> {
         low: Bound<&E::Probe>,
         high: Bound<&E::Probe>,
     ) -> Iter<'_, R, E>
-        requires in_range { index < length self.now.specs }
-        requires kind { IsTrue (is_sorted_kind (kind_at self.now index)) }
-        requires low_fits { KeyFits (E.does_fit self.now.keys index) (bound_map (λ p. p.now) low) }
-        requires high_fits { KeyFits (E.does_fit self.now.keys index) (bound_map (λ p. p.now) high) }
+        requires { AreBoundsOf E.does_fit self.now index (bound_map (λ p. p.now) low)
+            (bound_map (λ p. p.now) high) }
         ensures { result ≡ with_rows self.now
             (range
             (edge_of (probe_side E.probe_order_of self.now index) (bound_map (λ p. p.now) low.entry))
@@ -67,14 +66,26 @@ impl<R: Drop, E: Extract<R> + Drop> MultiIndex<R, E> {
 
     /// The records of an index in order that have the key, with their handles and in its order. It takes no memory. O(log n).
     pub fn iter_equal(&self, index: usize, probe: &E::Probe) -> Iter<'_, R, E>
-        requires in_range { index < length self.now.specs }
-        requires kind { IsTrue (is_sorted_kind (kind_at self.now index)) }
-        requires fits { IsTrue (E.does_fit self.now.keys index probe.now) }
+        requires { AreBoundsOf E.does_fit self.now index (Included probe.now)
+            (Included probe.now) }
         ensures { result ≡ with_rows self.now
             (filter (λ h. is_eq (probe_side E.probe_order_of self.now index probe.now h))
             (list_at self.now.lists index)) }
     {
         self.iter_range(index, Bound::Included(probe), Bound::Included(probe))
+    }
+}
+
+// The first node of an index, where it is there and has one.
+fn first_of<R, E: Extract<R>>(set: &IndexSet<Entry<R>, ByRow<E>>, index: usize) -> Option<Node>
+    requires sound { IsSound (has_by_row E.has_key) set.now }
+    requires kind { IsTrue (not (is_hashed_kind (nodes.kind_at set.now index))) }
+    ensures { result ≡ slice_get (list_of set.now index) 0 }
+{
+    if index < set.specs().len() {
+        set.first(index)
+    } else {
+        None
     }
 }
 

@@ -1,7 +1,7 @@
 //! Positions in an index: a record, or the end.
-ghost use Rattle.std.specs.Prelude.{◌≡◌, ◌<◌, IsTrue, Ok, Err, cond, length, not};
+ghost use Rattle.std.specs.Prelude.{◌≡◌, ◌<◌, IsTrue, None, Ok, Err, cond, length, not};
 ghost use Rattle.container_model.specs.State.{has_places_kind, is_hashed_kind, is_handle, is_random_kind, list_at};
-ghost use Rattle.container_model.specs.Find.{is_live, kind_at, nth as the_nth, place as the_place, rank as the_rank, project_next as the_next, project_prev as the_prev};
+ghost use Rattle.container_model.specs.Find.{is_live, is_position, kind_at, nth as the_nth, place as the_place, rank as the_rank, project_next as the_next, project_prev as the_prev};
 ghost use Rattle.list_model.specs.Walk as walk;
 
 use crate::container::MultiIndex;
@@ -14,7 +14,6 @@ impl<R: Drop, E: Extract<R> + Drop> MultiIndex<R, E> {
     /// `Kind`. O(log n) in a ranked index, O(1) in a random one.
     #[inline(always)]
     pub fn nth(&self, index: usize, n: u64) -> Result<Option<Handle>, Why>
-        requires { index < length self.now.specs }
         ensures { result ≡ the_nth self.now index n }
     {
         if self.has_places(index) {
@@ -28,7 +27,6 @@ impl<R: Drop, E: Extract<R> + Drop> MultiIndex<R, E> {
     /// `Kind`, and only then a handle that names no record is `Stale`. O(log n).
     #[inline(always)]
     pub fn rank(&self, index: usize, position: Option<Handle>) -> Result<u64, Why>
-        requires { index < length self.now.specs }
         ensures { result ≡ the_rank self.now index position }
     {
         if !self.is_ranked(index) {
@@ -44,7 +42,6 @@ impl<R: Drop, E: Extract<R> + Drop> MultiIndex<R, E> {
     /// names no record is `Stale`. O(1).
     #[inline(always)]
     pub fn place_of(&self, index: usize, handle: Handle) -> Result<u64, Why>
-        requires { index < length self.now.specs }
         ensures { result ≡ the_place self.now index handle }
     {
         if self.is_random(index) {
@@ -63,11 +60,13 @@ impl<R: Drop, E: Extract<R> + Drop> MultiIndex<R, E> {
         index: usize,
         position: Option<Handle>,
     ) -> Result<Option<Handle>, Why>
-        requires { index < length self.now.specs }
         ensures { result ≡ the_next self.now index position }
     {
         if self.is_hashed(index) {
             return Err(Why::Kind);
+        }
+        if !self.has_index(index) {
+            return self.end_from(position);
         }
         match position {
             Some(handle) => self.next_at(index, handle),
@@ -84,16 +83,28 @@ impl<R: Drop, E: Extract<R> + Drop> MultiIndex<R, E> {
         index: usize,
         position: Option<Handle>,
     ) -> Result<Option<Handle>, Why>
-        requires { index < length self.now.specs }
         ensures { result ≡ the_prev self.now index position }
     {
         if self.is_hashed(index) {
             return Err(Why::Kind);
         }
+        if !self.has_index(index) {
+            return self.end_from(position);
+        }
         match position {
             Some(handle) => self.prev_at(index, handle),
             None => Ok(position_at(&self.set, self.set.last(index))),
         }
+    }
+
+    // The end, from a position in an index without records.
+    fn end_from(&self, position: Option<Handle>) -> Result<Option<Handle>, Why>
+        ensures { result ≡ cond (is_position self.now position) (Ok None) (Err Why.Stale) }
+    {
+        let Some(handle) = position else {
+            return Ok(None);
+        };
+        self.get(handle).map(|_| None)
     }
 
     // The place of a record in an index whose places can be counted.
@@ -140,8 +151,8 @@ impl<R: Drop, E: Extract<R> + Drop> MultiIndex<R, E> {
 
     // Whether the record at a place can be asked for.
     fn has_places(&self, index: usize) -> bool
-        requires { index < length self.now.specs }
-        ensures { result ≡ has_places_kind (kind_at self.now index) }
+        ensures is { result ≡ has_places_kind (kind_at self.now index) }
+        ensures there { IsTrue result → index < length self.now.specs }
     {
         match self.kind(index) {
             Kind::Random | Kind::Ranked => true,
@@ -151,8 +162,8 @@ impl<R: Drop, E: Extract<R> + Drop> MultiIndex<R, E> {
 
     // Whether the index is a sequence whose places can be counted.
     fn is_random(&self, index: usize) -> bool
-        requires { index < length self.now.specs }
-        ensures { result ≡ is_random_kind (kind_at self.now index) }
+        ensures is { result ≡ is_random_kind (kind_at self.now index) }
+        ensures there { IsTrue result → index < length self.now.specs }
     {
         match self.kind(index) {
             Kind::Random => true,

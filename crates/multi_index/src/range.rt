@@ -1,10 +1,11 @@
 //! The records of an index in order that stand between two bounds.
-ghost use Rattle.std.specs.Prelude.{◌≡◌, ◌<◌, IfOk, IfErr, IsTrue, Ok, cond, length};
+ghost use Rattle.std.specs.Prelude.{◌≡◌, IfOk, IfErr, IsTrue, Ok, cond};
 ghost use Rattle.std.specs.Range.Bound.{bound_map};
 ghost use Rattle.container_model.specs.State.{is_sorted_kind};
 ghost use Rattle.container_model.specs.Find.{found_range, kind_at, probe_side};
 ghost use Rattle.index_set.specs.Set as nodes;
-ghost use Rattle.linked_set.specs.Edges.{edge_of, KeyFits};
+ghost use Rattle.linked_set.specs.Edges.{edge_of};
+ghost use Rattle.multi_index.specs.Asked.{AreBoundsOf};
 
 use crate::container::MultiIndex;
 use container_model::{Handle, Why};
@@ -22,11 +23,8 @@ impl<R: Drop, E: Extract<R> + Drop> MultiIndex<R, E> {
         low: Bound<&E::Probe>,
         high: Bound<&E::Probe>,
     ) -> Result<Vec<Handle>, Why>
-        requires in_range { index < length self.now.specs }
-        requires low_fits { IsTrue (is_sorted_kind (kind_at self.now index)) →
-            KeyFits (E.does_fit self.now.keys index) (bound_map (λ p. p.now) low) }
-        requires high_fits { IsTrue (is_sorted_kind (kind_at self.now index)) →
-            KeyFits (E.does_fit self.now.keys index) (bound_map (λ p. p.now) high) }
+        requires { IsTrue (is_sorted_kind (kind_at self.now index)) → AreBoundsOf E.does_fit self.now
+            index (bound_map (λ p. p.now) low) (bound_map (λ p. p.now) high) }
         ensures ok { IfOk result (λ handles. found_range self.now index
             (edge_of (probe_side E.probe_order_of self.now index)
             (bound_map (λ p. p.now) low.entry))

@@ -1,6 +1,6 @@
 //! Containers made of what another held.
-ghost use Rattle.std.specs.Prelude.{◌≡◌, ◌↔◌, ◌<◌, ◌≤◌, ◌^◌, IfOk, IfErr, length, true};
-ghost use Rattle.container_model.specs.State.{KeysMatch};
+ghost use Rattle.std.specs.Prelude.{◌≡◌, ◌↔◌, ◌<◌, ◌^◌, IfOk, IfErr, true};
+ghost use Rattle.multi_index.specs.Asked.{IsDeclared};
 ghost use Rattle.multi_index.specs.Restored.{AreStamped, AreWithin, IsUnrestorable, saved_state, unrestorable_of};
 
 use crate::container::MultiIndex;
@@ -98,10 +98,7 @@ impl<R: Drop, E: Extract<R> + Drop> MultiIndex<R, E> {
         max: u32,
         saved: Saved<R>,
     ) -> Result<Self, Unrestorable>
-        requires some { 1 ≤ length specs.items }
-        requires few { length specs.items ≤ most }
-        requires most { most ≤ 8 }
-        requires keys { KeysMatch (E.has_key keys) specs.items }
+        requires { IsDeclared most (E.has_key keys) specs.items }
         ensures made { IfOk result (λ made. made ≡ saved_state most max keys specs.items saved) }
         ensures why { IfErr result (IsUnrestorable (E.order_of keys) specs.items max saved) }
     {

@@ -4,19 +4,18 @@ use Rattle.key_extract.specs.Hashes.{row_hash}
 use Rattle.container_runs.proofs.Keeps.{keeps-rest, remove-lengths}
 use Rattle.container_runs.proofs.pair.Pair.drop_from_container.Goals as goal
 
-pub drop_index-requires-clause-orders : goal.drop_index-requires-clause-orders
-drop_index-requires-clause-orders c =
-    let left : c.in_ok-keys.keys ≡ remove c.self.inside.container.keys c.args.index = search rules in
-    let same : length c.self.inside.container.keys ≡ length c.self.inside.container.specs = search rules in
-    let lt : c.args.index < length c.self.inside.container.specs = search rules in
-    keeps-rest (λ key. key_cmp (unwrap_or key [])) None c.self.inside.container.keys c.in_ok-keys.keys c.self.inside.container.specs c.args.index left same lt
-
-pub drop_index-requires-clause-hashes : goal.drop_index-requires-clause-hashes
-drop_index-requires-clause-hashes c =
-    let left : c.in_ok-keys.keys ≡ remove c.self.inside.container.keys c.args.index = search rules in
-    let same : length c.self.inside.container.keys ≡ length c.self.inside.container.specs = search rules in
-    let lt : c.args.index < length c.self.inside.container.specs = search rules in
-    keeps-rest (λ key. row_hash (unwrap_or key [])) None c.self.inside.container.keys c.in_ok-keys.keys c.self.inside.container.specs c.args.index left same lt
+pub drop_index-requires : goal.drop_index-requires
+drop_index-requires c =
+    let held = c.self.inside.container in
+    let left : c.in_ok-keys.keys ≡ remove held.keys c.args.index = search rules in
+    let same : length held.keys ≡ length held.specs = search rules in
+    let lt : c.args.index < length held.specs = search rules in
+    record {
+      index = lt;
+      keys = search rules;
+      orders = keeps-rest (λ key. key_cmp (unwrap_or key [])) None held.keys c.in_ok-keys.keys held.specs c.args.index left same lt;
+      hashes = keeps-rest (λ key. row_hash (unwrap_or key [])) None held.keys c.in_ok-keys.keys held.specs c.args.index left same lt;
+    }
 
 pub invariant_of-self : goal.invariant_of-self
 invariant_of-self c =

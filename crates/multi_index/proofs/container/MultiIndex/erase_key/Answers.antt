@@ -35,7 +35,7 @@ invariant_of-self g c =
     let inside = c.self.inside in
     let taken = c.take_key-count.ensures in
     let s = seen inside.set inside.max inside.writes in
-    let next = next_number inside.writes c.self.invariant.numbered (key_allowed s c.args.index (ap (λ t. erase_key_refusal t c.args.index) c.self.view_is ∙ (sym c.erase_key_refusal.ensures ∙ c.in_default.is))) in
+    let next = next_number inside.writes c.self.invariant.numbered (key_allowed s c.args.index (ap (λ t. erase_key_refusal t c.args.index) c.self.view_is ∙ (sym c.erase_key_refusal.ensures.is ∙ c.in_default.is))) in
     IsContainer_only inside.set c.take_key-count.new.set (has_other_key g.E.Extract.probe_order_of inside.set c.args.index c.args.probe.now) inside.max inside.writes taken.same taken.entries taken.lists
     g.E.Extract.has_key g.E.Extract.order_of (marks_of g.E.Extract) inside.slots.items c.take_key-count.new.slots.items taken.added next c.self.invariant taken.linked
 
@@ -49,7 +49,7 @@ returns-clause-count g c =
     let index = c.args.index in
     let probe = c.args.probe.now in
     let entries = entries_in (contents inside.set) in
-    let within : index < length (specs_of inside.set) = subst (λ t. index < length t.specs) (sym c.self.view_is) c.requires.in_range in
+    let within : index < length (specs_of inside.set) = subst (λ t. index < length t.specs) (sym c.self.view_is) (c.erase_key_refusal.ensures.there c.in_default.is) in
     let left : length (filter (λ e. has_other_key order inside.set index probe e.handle) entries) ≡ len_of (store_of new) = ap length (sym taken.entries) ∙ length-entries (store_of new) taken.linked.sound.nodes in
     let all : length entries ≡ len_of (store_of inside.set) = length-entries (store_of inside.set) c.self.invariant.linked.sound.nodes in
     let both : length (filter (λ e. has_other_key order inside.set index probe e.handle) entries) + erased_count order s index probe ≡ length entries =
@@ -69,6 +69,6 @@ pub returns-clause-one : goal.returns-clause-one
 returns-clause-one g c = λ unique whole.
     let now = c.args.self.now in
     let state = subst (λ t. IsState g.E.Extract.has_key g.E.Extract.order_of t) c.self.view_is c.self.invariant.state in
-    let key = has_key-of_unique state.keys c.args.index some_spec c.requires.in_range (sym (ap (λ o. option_map_or (λ spec. spec.unique) o false) (slice_get_at now.specs c.args.index some_spec c.requires.in_range)) ∙ unique) in
+    let key = has_key-of_unique state.keys c.args.index some_spec (c.erase_key_refusal.ensures.there c.in_default.is) (sym (ap (λ o. option_map_or (λ spec. spec.unique) o false) (slice_get_at now.specs c.args.index some_spec (c.erase_key_refusal.ensures.there c.in_default.is))) ∙ unique) in
     let few = one_of_a_key g.E.Extract.has_key g.E.Extract.order_of g.E.Extract.probe_order_of now state c.args.index c.args.probe.now unique (g.met.E.Extract.whole_is_one_key now.keys c.args.index c.args.probe.now key whole) in
     subst (λ n. n ≤ 1) (sym (returns-clause-count g c)) few

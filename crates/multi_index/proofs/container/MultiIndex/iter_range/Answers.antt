@@ -14,13 +14,14 @@ use Rattle.linked_set.proofs.Ranges.{before}
 use Rattle.multi_index.specs.Iteration.{nodes_left, rows_of_nodes, with_rows}
 use Rattle.multi_index.proofs.Rising.{bound_rises, has_key_here, node_rises}
 use Rattle.multi_index.proofs.Rows.{between_seen, sorted_walks}
+use Rattle.multi_index.proofs.There.{sorted_there}
 use Rattle.multi_index.proofs.Walks.{between_left, passed_stands}
 use Rattle.multi_index.proofs.container.MultiIndex.iter_range.Goals as goal
 
 pub up_to-requires-clause-node : goal.up_to-requires-clause-node
 up_to-requires-clause-node g c m found =
     let set = c.self.inside.set in
-    let within = subst (λ s. c.args.index < length s.specs) (sym c.self.view_is) c.requires.in_range in
+    let within = subst (λ s. c.args.index < length s.specs) (sym c.self.view_is) (sorted_there c.args.self.now c.args.index c.requires.kind) in
     some_at (IsNodeOf (store_of set)) (list_of set c.args.index) _ (nodes_held_at set c.self.invariant.linked.sound c.args.index within) m (sym c.first_from-first.ensures ∙ found)
 
 pub invariant_of-result : goal.invariant_of-result
@@ -32,7 +33,6 @@ invariant_of-result g c =
     let high = node_edge order set c.args.index (bound_map (λ p. p.now) c.args.high) in
     record {
       sound = c.self.invariant.linked.sound;
-      within = subst (λ s. c.args.index < length s.specs) (sym c.self.view_is) c.requires.in_range;
       kind = sorted_walks _ (subst (λ s. is_sorted_kind (kind_at s c.args.index) ≡ true) (sym c.self.view_is) c.requires.kind);
       begins = passed_stands (is_to high) list (before low list) c.up_to.result (c.up_to.ensures ∙ ap (option_and_then (λ n. cond (is_to high n) (Some n) None)) c.first_from-first.ensures);
       ends = record { place = count_by (is_to high) list; is = c.first_past.ensures };
@@ -51,7 +51,7 @@ returns g c =
     let keys = (keys_of set).keys in
     let low = bound_map (λ p. p.now) c.args.low in
     let high = bound_map (λ p. p.now) c.args.high in
-    let within : index < length (specs_of set) = subst (λ s. index < length s.specs) (sym c.self.view_is) c.requires.in_range in
+    let within : index < length (specs_of set) = subst (λ s. index < length s.specs) (sym c.self.view_is) (sorted_there c.args.self.now c.args.index c.requires.kind) in
     let sorted : is_sorted_kind (kind_at (seen set max writes) index) ≡ true = subst (λ s. is_sorted_kind (kind_at s index) ≡ true) (sym c.self.view_is) c.requires.kind in
     let low_fits : KeyFits (g.E.Extract.does_fit keys index) low = subst (λ s. KeyFits (g.E.Extract.does_fit s.keys index) low) (sym c.self.view_is) c.requires.low_fits in
     let high_fits : KeyFits (g.E.Extract.does_fit keys index) high = subst (λ s. KeyFits (g.E.Extract.does_fit s.keys index) high) (sym c.self.view_is) c.requires.high_fits in

@@ -14,15 +14,15 @@ use Rattle.multi_index.proofs.container.MultiIndex.lower.Goals as goal
 pub position_at-requires : goal.position_at-requires
 position_at-requires g c m found =
     let set = c.self.inside.set in
-    let within = subst (λ s. c.args.index < length s.specs) (sym c.self.view_is) c.requires.in_range in
+    let within = subst (λ s. c.args.index < length s.specs) (sym c.self.view_is) (c.is_sorted.ensures.there c.if-is_sorted.true) in
     some_at (IsNodeOf (store_of set)) (list_of set c.args.index) _ (nodes_held_at set c.self.invariant.linked.sound c.args.index within) m (sym c.lower.ensures ∙ found)
 
 pub returns-then-is_sorted : goal.returns-then-is_sorted
 returns-then-is_sorted g c =
     let set = c.self.inside.set in
     let order = g.E.Extract.probe_order_of in
-    let within = subst (λ s. c.args.index < length s.specs) (sym c.self.view_is) c.requires.in_range in
+    let within = subst (λ s. c.args.index < length s.specs) (sym c.self.view_is) (c.is_sorted.ensures.there c.if-is_sorted.true) in
     answered is_sorted_kind c.args.index (λ s. lower (find.probe_side order s c.args.index c.args.probe.now) (list_at s.lists c.args.index)) c.position_at.result c.self.view_is
-    (sym c.is_sorted.ensures ∙ c.if-is_sorted.true)
+    (sym c.is_sorted.ensures.is ∙ c.if-is_sorted.true)
     (c.position_at.ensures ∙ (ap (option_map (handle_of (record_of set))) c.lower.ensures
     ∙ lower_seen set c.self.inside.slots.items c.self.invariant.linked c.args.index within order c.args.probe.now))

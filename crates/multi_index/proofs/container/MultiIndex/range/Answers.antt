@@ -16,11 +16,11 @@ between-requires-clause-low_rises g c =
     let set = c.self.inside.set in
     let order = g.E.Extract.probe_order_of in
     let keys = (keys_of set).keys in
-    let sorted = sym c.is_sorted.ensures ∙ c.if-not-is_sorted.false in
-    let within : c.args.index < length (specs_of set) = subst (λ s. c.args.index < length s.specs) (sym c.self.view_is) c.requires.in_range in
+    let sorted = sym c.is_sorted.ensures.is ∙ c.if-not-is_sorted.false in
+    let within : c.args.index < length (specs_of set) = subst (λ s. c.args.index < length s.specs) (sym c.self.view_is) (c.is_sorted.ensures.there c.if-not-is_sorted.false) in
     let here : is_sorted_kind (kind_at (seen set c.self.inside.max c.self.inside.writes) c.args.index) ≡ true = subst (λ s. is_sorted_kind (kind_at s c.args.index) ≡ true) (sym c.self.view_is) sorted in
     let low = bound_map (λ p. p.now) c.args.low in
-    let fits : KeyFits (g.E.Extract.does_fit keys c.args.index) low = subst (λ s. KeyFits (g.E.Extract.does_fit s.keys c.args.index) low) (sym c.self.view_is) (c.requires.low_fits sorted) in
+    let fits : KeyFits (g.E.Extract.does_fit keys c.args.index) low = subst (λ s. KeyFits (g.E.Extract.does_fit s.keys c.args.index) low) (sym c.self.view_is) (c.requires sorted).low_fits in
     let linked = c.self.invariant.linked in
     let state = c.self.invariant.state in
     bound_rises _ (g.E.Extract.does_fit keys c.args.index) (list_of set c.args.index) low fits
@@ -33,11 +33,11 @@ between-requires-clause-high_rises g c =
     let set = c.self.inside.set in
     let order = g.E.Extract.probe_order_of in
     let keys = (keys_of set).keys in
-    let sorted = sym c.is_sorted.ensures ∙ c.if-not-is_sorted.false in
-    let within : c.args.index < length (specs_of set) = subst (λ s. c.args.index < length s.specs) (sym c.self.view_is) c.requires.in_range in
+    let sorted = sym c.is_sorted.ensures.is ∙ c.if-not-is_sorted.false in
+    let within : c.args.index < length (specs_of set) = subst (λ s. c.args.index < length s.specs) (sym c.self.view_is) (c.is_sorted.ensures.there c.if-not-is_sorted.false) in
     let here : is_sorted_kind (kind_at (seen set c.self.inside.max c.self.inside.writes) c.args.index) ≡ true = subst (λ s. is_sorted_kind (kind_at s c.args.index) ≡ true) (sym c.self.view_is) sorted in
     let high = bound_map (λ p. p.now) c.args.high in
-    let fits : KeyFits (g.E.Extract.does_fit keys c.args.index) high = subst (λ s. KeyFits (g.E.Extract.does_fit s.keys c.args.index) high) (sym c.self.view_is) (c.requires.high_fits sorted) in
+    let fits : KeyFits (g.E.Extract.does_fit keys c.args.index) high = subst (λ s. KeyFits (g.E.Extract.does_fit s.keys c.args.index) high) (sym c.self.view_is) (c.requires sorted).high_fits in
     let linked = c.self.invariant.linked in
     let state = c.self.invariant.state in
     bound_rises _ (g.E.Extract.does_fit keys c.args.index) (list_of set c.args.index) high fits
@@ -51,10 +51,10 @@ returns-clause-ok g c =
     let order = g.E.Extract.probe_order_of in
     let low = bound_map (λ p. p.now) c.args.low in
     let high = bound_map (λ p. p.now) c.args.high in
-    let within : c.args.index < length (specs_of set) = subst (λ s. c.args.index < length s.specs) (sym c.self.view_is) c.requires.in_range in
+    let within : c.args.index < length (specs_of set) = subst (λ s. c.args.index < length s.specs) (sym c.self.view_is) (c.is_sorted.ensures.there c.if-not-is_sorted.false) in
     if_mapped (λ handles. found_range c.args.self.now c.args.index (edge_of (probe_side order c.args.self.now c.args.index) low) (edge_of (probe_side order c.args.self.now c.args.index) high) ≡ Ok handles.items) c.between.result c.map_err.result _ c.map_err.ensures.cases c.map_err.ensures.variant
     (IfOk-weaker c.between.result _ _
     (λ handles items.
-    sym (answered is_sorted_kind c.args.index (λ s. range (edge_of (probe_side order s c.args.index) low) (edge_of (probe_side order s c.args.index) high) (list_at s.lists c.args.index)) handles.items c.self.view_is (sym c.is_sorted.ensures ∙ c.if-not-is_sorted.false)
+    sym (answered is_sorted_kind c.args.index (λ s. range (edge_of (probe_side order s c.args.index) low) (edge_of (probe_side order s c.args.index) high) (list_at s.lists c.args.index)) handles.items c.self.view_is (sym c.is_sorted.ensures.is ∙ c.if-not-is_sorted.false)
     (items ∙ range_seen set c.self.inside.slots.items c.self.invariant.linked c.args.index within order low high)))
     c.between.ensures)

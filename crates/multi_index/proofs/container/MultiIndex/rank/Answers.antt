@@ -12,8 +12,8 @@ use Rattle.multi_index.proofs.container.MultiIndex.rank.Goals as goal
 pub returns-in-None : goal.returns-in-None
 returns-in-None g c =
     let s = seen c.self.inside.set c.self.inside.max c.self.inside.writes in
-    let within : c.args.index < length s.specs = subst (λ t. c.args.index < length t.specs) (sym c.self.view_is) c.requires in
+    let within : c.args.index < length s.specs = subst (λ t. c.args.index < length t.specs) (sym c.self.view_is) (c.is_ranked.ensures.there c.if-not-is_ranked.false) in
     answered_end is_ranked_kind c.args.index (λ t position. place_or_end t c.args.index position) c.len.result c.self.view_is
-    (sym c.is_ranked.ensures ∙ c.if-not-is_ranked.false) c.in-None.is
+    (sym c.is_ranked.ensures.is ∙ c.if-not-is_ranked.false) c.in-None.is
     (c.len.ensures ∙ (sym (length-entries (store_of c.self.inside.set) c.self.invariant.linked.sound.nodes)
     ∙ sym (as_many_each (g.E.Extract.order_of s.keys) s.entries c.args.index s.specs s.lists some_spec c.self.invariant.state.indices within)))

@@ -1,5 +1,5 @@
 use Rattle.std.proofs.Common.{◌≡◌, [], ◌∙◌, length, ap, sym, rules}
-use Rattle.multi_index.proofs.Rows.{over, held, there, ended, stepped}
+use Rattle.multi_index.proofs.Rows.{over, within, held, there, ended, stepped}
 use Rattle.multi_index.proofs.iter.IterIterator.next.Goals as goal
 
 pub returns-in_default-clause-steps : goal.returns-in_default-clause-steps
@@ -34,3 +34,8 @@ returns-clause-goes g c =
     ∙ stepped w.set.now w.index w.next w.end c.self.invariant c.in-Some.node c.in-Some.is c.get-entry.result.now c.next-self-inside.result (sym c.has_number_of.ensures ∙ c.if-has_number_of.false) c.get-entry.ensures c.next-self-inside.ensures in
     let shorter = ap length step in
     search rules
+
+pub next-self-inside-requires-clause-at : goal.next-self-inside-requires-clause-at
+next-self-inside-requires-clause-at g c =
+    let w = c.self.inside in
+    record { sound = c.self.invariant.sound; index = within w.set.now w.index w.next w.end c.self.invariant c.in-Some.node c.in-Some.is }

@@ -1,40 +1,32 @@
-use Rattle.std.proofs.Common.{rules, ◌≡◌, ◌<◌, [], length, ap, sym, subst, ◌∙◌, None}
+use Rattle.std.proofs.Common.{arith, rules, ◌≡◌, ◌<◌, [], length, ap, sym, subst, ◌∙◌, None}
 use Rattle.std.specs.Prelude.{remove, unwrap_or}
+use Rattle.std.proofs.lemmas.List.{length-map}
 use Rattle.container_model.specs.Indices.{drop_index_refusal, without_index as without_container_index}
 use Rattle.key_extract.specs.Hashes.{row_hash}
 use Rattle.key_extract.specs.Keys.{key_cmp}
 use Rattle.table_schema.specs.Defined.{without_index}
 use Rattle.table_schema.proofs.Defined.{valid_without}
-use Rattle.table_terms.specs.Table.{keys_of, specs_of}
+use Rattle.table_terms.specs.Table.{keys_of, spec_of, specs_of}
 use Rattle.table_records.specs.Headings.{headings_of}
 use Rattle.table_records.specs.Reindexed.{without_table_index}
 use Rattle.table_records.proofs.Reindexed.{keeps_rest, keys_without, match_without, specs_without}
 use Rattle.table_records.proofs.records.Records.drop_index.Goals as goal
 
-pub drop_index-requires-clause-keys : goal.drop_index-requires-clause-keys
-drop_index-requires-clause-keys c =
+pub drop_index-requires : goal.drop_index-requires
+drop_index-requires c =
     let shape = c.self.inside.spec in
+    let held = c.self.inside.container in
+    let was = c.self.invariant in
     let keys : c.in-Ok.keys ≡ keys_of (without_index shape c.args.place) =
-    c.in-Ok.ensures ∙ (ap (λ ks. remove ks c.args.place) c.keys.ensures ∙ keys_without shape c.args.place c.self.inside.container.keys c.self.invariant.keys) in
+    c.in-Ok.ensures ∙ (ap (λ ks. remove ks c.args.place) c.keys.ensures ∙ keys_without shape c.args.place held.keys was.keys) in
     let within : c.args.place < length shape.indices = subst (λ t. c.args.place < length t.shape.indices) (sym c.self.view_is) c.requires in
     let several : 1 < length shape.indices = search rules in
-    match_without shape c.self.inside.container.specs c.self.invariant.specs c.args.place c.in-Ok.keys keys (valid_without shape c.args.place within several c.indices.ensures.valid)
-
-pub drop_index-requires-clause-orders : goal.drop_index-requires-clause-orders
-drop_index-requires-clause-orders c =
-    let shape = c.self.inside.spec in
-    let keys : c.in-Ok.keys ≡ keys_of (without_index shape c.args.place) =
-    c.in-Ok.ensures ∙ (ap (λ ks. remove ks c.args.place) c.keys.ensures ∙ keys_without shape c.args.place c.self.inside.container.keys c.self.invariant.keys) in
-    let within : c.args.place < length shape.indices = subst (λ t. c.args.place < length t.shape.indices) (sym c.self.view_is) c.requires in
-    keeps_rest shape c.self.inside.container.specs c.self.invariant.specs c.args.place c.in-Ok.keys keys (λ key. key_cmp (unwrap_or key [])) c.self.inside.container.keys c.self.invariant.keys within
-
-pub drop_index-requires-clause-hashes : goal.drop_index-requires-clause-hashes
-drop_index-requires-clause-hashes c =
-    let shape = c.self.inside.spec in
-    let keys : c.in-Ok.keys ≡ keys_of (without_index shape c.args.place) =
-    c.in-Ok.ensures ∙ (ap (λ ks. remove ks c.args.place) c.keys.ensures ∙ keys_without shape c.args.place c.self.inside.container.keys c.self.invariant.keys) in
-    let within : c.args.place < length shape.indices = subst (λ t. c.args.place < length t.shape.indices) (sym c.self.view_is) c.requires in
-    keeps_rest shape c.self.inside.container.specs c.self.invariant.specs c.args.place c.in-Ok.keys keys (λ key. row_hash (unwrap_or key [])) c.self.inside.container.keys c.self.invariant.keys within
+    record {
+      index = omega (arith, within, ap length was.specs, length-map shape.indices spec_of);
+      keys = match_without shape held.specs was.specs c.args.place c.in-Ok.keys keys (valid_without shape c.args.place within several c.indices.ensures.valid);
+      orders = keeps_rest shape held.specs was.specs c.args.place c.in-Ok.keys keys (λ key. key_cmp (unwrap_or key [])) held.keys was.keys within;
+      hashes = keeps_rest shape held.specs was.specs c.args.place c.in-Ok.keys keys (λ key. row_hash (unwrap_or key [])) held.keys was.keys within;
+    }
 
 pub invariant_of-self : goal.invariant_of-self
 invariant_of-self c =
