@@ -1,3 +1,2 @@
 mod Rows
 pub mod Kept
-pub mod Refused

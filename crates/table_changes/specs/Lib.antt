@@ -3,3 +3,4 @@ pub mod Moves
 pub mod Modify
 pub mod Indices
 pub mod Change
+pub mod Changed

@@ -31,7 +31,7 @@ rearrange_step t name texts =
     then_step t (place_for kinds.Sequence t.shape.indices name) (λ index. then_step t (or_fault faults.Handle (spelled texts)) (rearrange_in t index))
 
 -- the parts of a key that one to four texts name
-abbrev pub parts_named : List Column → List (List ℕ) → Option (List Part)
+unfoldable pub parts_named : List Column → List (List ℕ) → Option (List Part)
 parts_named columns names = if nat_le 1 (length names) && nat_le (length names) 4 then all_of (map (part_of columns) names) else None
 
 -- the records of a sequence put into the order of a key

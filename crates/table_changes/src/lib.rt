@@ -1,6 +1,7 @@
 //! What each change does to a table.
 #![tactic(auto)]
 
+mod changed;
 mod erase;
 mod indices;
 mod insert;
@@ -8,5 +9,6 @@ mod modify;
 mod moves;
 mod replace;
 mod step;
+mod told;
 
 pub use step::{change, is_change};

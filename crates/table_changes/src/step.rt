@@ -2,20 +2,23 @@
 
 ghost use Rattle.std.specs.Prelude.{◌≡◌, ◌≤◌};
 ghost use Rattle.table_changes.specs.Change.{change_step, is_change};
+ghost use Rattle.table_changes.specs.Changed.{Makes};
 ghost use Rattle.table_reply.specs.Buffer.{Keeps};
 ghost use Rattle.table_terms.specs.Step.{IsShort, Steps};
 
+use crate::changed::{Changed, Refusal};
 use crate::erase::{clear, erase, erase_key};
 use crate::indices::{add_index, drop_index};
 use crate::insert::insert;
 use crate::modify::{modify, modify_key};
 use crate::moves::{move_before, rearrange, reverse, sort};
 use crate::replace::replace;
+use crate::told::tell;
 use std::alloc::Global;
 use table_cmd::Command;
 use table_records::Records;
 use table_reply::{Fault, Out, READY_ROOM};
-use table_terms::{Outcome, refuse};
+use table_terms::Outcome;
 
 /// Whether a command changes the table, where it is not refused. O(1).
 pub fn is_change(command: &Command) -> bool
@@ -39,6 +42,50 @@ pub fn is_change(command: &Command) -> bool
     )
 }
 
+// Carries out a command that changes the table.
+fn carry_out(alloc: Global, records: &mut Records, command: &Command) -> Result<Changed, Refusal>
+    ensures { Makes result records.old records.new (change_step records.old command.now) }
+{
+    match command {
+        Command::Insert { row, position, .. } => insert(alloc, records, row, position.as_ref()),
+        Command::Replace { handle, row, .. } => replace(alloc, records, *handle, row),
+        Command::Modify {
+            handle,
+            changes,
+            rollback,
+            ..
+        } => modify(alloc, records, *handle, changes, *rollback),
+        Command::ModifyKey {
+            index,
+            handle,
+            key,
+            rollback,
+            ..
+        } => modify_key(alloc, records, index, *handle, key, *rollback),
+        Command::Erase { handle, index, .. } => erase(records, *handle, index.as_ref()),
+        Command::EraseKey { index, key, .. } => erase_key(alloc, records, index, key),
+        Command::Clear { .. } => clear(records),
+        Command::Move {
+            index,
+            handle,
+            place,
+            ..
+        } => move_before(records, index, *handle, *place),
+        Command::Rearrange { index, handles, .. } => rearrange(alloc, records, index, handles),
+        Command::Sort { index, by, .. } => sort(records, index, by),
+        Command::Reverse { index, .. } => reverse(records, index),
+        Command::AddIndex {
+            index,
+            kind,
+            unique,
+            key,
+            ..
+        } => add_index(records, index, *kind, *unique, key),
+        Command::DropIndex { index, .. } => drop_index(records, index),
+        _ => Err(Refusal::Fault(Fault::Command)),
+    }
+}
+
 /// Carries out a command that changes the table, and appends the line of its answer, or that of a refusal. A command that
 /// changes none is refused as `command`. A refused command changes nothing. Where memory is refused nothing is changed and
 /// the memory line is appended; an accepted write is always answered.
@@ -51,44 +98,6 @@ pub fn change(alloc: Global, records: &mut Records, command: &Command, out: &mut
     ensures short { IsShort result out.old.bytes out.new.bytes }
     ensures kept { Keeps out.old out.new }
 {
-    match command {
-        Command::Insert { row, position, .. } => {
-            insert(alloc, records, row, position.as_ref(), out)
-        }
-        Command::Replace { handle, row, .. } => replace(alloc, records, *handle, row, out),
-        Command::Modify {
-            handle,
-            changes,
-            rollback,
-            ..
-        } => modify(alloc, records, *handle, changes, *rollback, out),
-        Command::ModifyKey {
-            index,
-            handle,
-            key,
-            rollback,
-            ..
-        } => modify_key(alloc, records, index, *handle, key, *rollback, out),
-        Command::Erase { handle, index, .. } => erase(records, *handle, index.as_ref(), out),
-        Command::EraseKey { index, key, .. } => erase_key(alloc, records, index, key, out),
-        Command::Clear { .. } => clear(records, out),
-        Command::Move {
-            index,
-            handle,
-            place,
-            ..
-        } => move_before(records, index, *handle, *place, out),
-        Command::Rearrange { index, handles, .. } => rearrange(alloc, records, index, handles, out),
-        Command::Sort { index, by, .. } => sort(records, index, by, out),
-        Command::Reverse { index, .. } => reverse(records, index, out),
-        Command::AddIndex {
-            index,
-            kind,
-            unique,
-            key,
-            ..
-        } => add_index(records, index, *kind, *unique, key, out),
-        Command::DropIndex { index, .. } => drop_index(records, index, out),
-        _ => refuse(Fault::Command, out),
-    }
+    let changed = carry_out(alloc, records, command);
+    tell(records, changed, out)
 }
