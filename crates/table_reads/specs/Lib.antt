@@ -1,3 +1,4 @@
+pub mod Found
 pub mod Reads
 pub mod Searches
 pub mod Positions

@@ -1,6 +1,7 @@
 //! What each read tells of a table.
 #![tactic(auto)]
 
+mod found;
 mod list;
 mod positions;
 mod range;

@@ -1,21 +1,18 @@
 //! Searching an index by a key.
 
-ghost use Rattle.std.specs.Prelude.{◌≡◌, ◌≤◌};
-ghost use Rattle.table_reads.specs.Reads.{size_step};
+ghost use Rattle.std.specs.Prelude.{◌≡◌};
+ghost use Rattle.table_reads.specs.Found.{Reads};
 ghost use Rattle.table_reads.specs.Searches.{search_kinds, search_probe, search_step};
-ghost use Rattle.table_reply.specs.Buffer.{Keeps};
-ghost use Rattle.table_terms.specs.Step.{IsShort, Steps};
 ghost use Rattle.table_terms.specs.Words.{IsKeyAt};
 
-use crate::tell::{tell_found, tell_number};
+use crate::found::{Found, Refusal};
 use key_extract::{Probe, Text};
 use std::alloc::Global;
 use table_cmd::Key;
 use table_records::Records;
-use table_reply::{Out, READY_ROOM};
-use table_terms::{Kinds, Outcome, key_for, refuse, refuse_memory};
+use table_terms::{Kinds, key_for};
 
-/// What a search by a key tells.
+/// What a search by a key finds.
 #[derive(Clone, Copy, Debug, PartialEq, Eq)]
 pub(crate) enum Search {
     /// The first record that has the key.
@@ -46,63 +43,44 @@ impl Search {
     }
 }
 
-/// Tells what the search finds by the key of the values at the named index.
-pub(crate) fn find_by(
+/// Finds what the search asks for by the key of the values at the named index.
+pub(crate) fn find_by<'a>(
     alloc: Global,
-    records: &Records,
+    records: &'a Records,
     search: Search,
     name: &Text,
     key: &Key,
-    out: &mut Out,
-) -> Outcome
-    requires { READY_ROOM ≤ out.old.room }
-    ensures answer { Steps result out.old.bytes out.new.bytes records.now records.now
-        (search_step records.now search name.now key.now) }
-    ensures short { IsShort result out.old.bytes out.new.bytes }
-    ensures kept { Keeps out.old out.new }
+) -> Result<Found<'a>, Refusal>
+    ensures { Reads records.now result (search_step records.now search name.now key.now) }
 {
-    let (place, probe) = match key_for(
+    let (place, probe) = key_for(
         alloc,
         records.spec(),
         search.kinds(),
         name.as_str(),
         key.as_slice(),
-    ) {
-        Ok(Ok(key)) => key,
-        Ok(Err(why)) => return refuse(why, out),
-        Err(_) => return refuse_memory(out),
-    };
-    find_at(records, search, place, &probe, out)
+    )??;
+    find_at(records, search, place, &probe)
 }
 
-fn find_at(records: &Records, search: Search, place: usize, probe: &Probe, out: &mut Out) -> Outcome
-    requires room { READY_ROOM ≤ out.old.room }
-    requires key { IsKeyAt records.now.shape place probe.now }
-    ensures answer { Steps result out.old.bytes out.new.bytes records.now records.now
-        (search_probe records.now search place probe.now) }
-    ensures short { IsShort result out.old.bytes out.new.bytes }
-    ensures kept { Keeps out.old out.new }
+#[tactic(auto, unfolding(crate::specs::Searches::search_probe))]
+fn find_at<'a>(
+    records: &'a Records,
+    search: Search,
+    place: usize,
+    probe: &Probe,
+) -> Result<Found<'a>, Refusal>
+    requires { IsKeyAt records.now.shape place probe.now }
+    ensures { Reads records.now result (search_probe records.now search place probe.now) }
 {
     let container = records.container();
     match search {
-        Search::Find => tell_found(records, container.find(place, probe), out),
-        Search::Count => tell_number(records, container.count(place, probe), out),
-        Search::Lower => tell_found(records, container.lower(place, probe), out),
-        Search::Upper => tell_found(records, container.upper(place, probe), out),
-        Search::FindRank => tell_number(records, container.find_rank(place, probe), out),
-        Search::LowerRank => tell_number(records, container.lower_rank(place, probe), out),
-        Search::UpperRank => tell_number(records, container.upper_rank(place, probe), out),
+        Search::Find => Ok(Found::Position(container.find(place, probe)?)),
+        Search::Count => Ok(Found::Number(container.count(place, probe)?)),
+        Search::Lower => Ok(Found::Position(container.lower(place, probe)?)),
+        Search::Upper => Ok(Found::Position(container.upper(place, probe)?)),
+        Search::FindRank => Ok(Found::Number(container.find_rank(place, probe)?)),
+        Search::LowerRank => Ok(Found::Number(container.lower_rank(place, probe)?)),
+        Search::UpperRank => Ok(Found::Number(container.upper_rank(place, probe)?)),
     }
-}
-
-/// Tells how many records there are.
-pub(crate) fn size(records: &Records, out: &mut Out) -> Outcome
-    requires { READY_ROOM ≤ out.old.room }
-    ensures answer { Steps result out.old.bytes out.new.bytes records.now records.now
-        (size_step records.now) }
-    ensures short { IsShort result out.old.bytes out.new.bytes }
-    ensures kept { Keeps out.old out.new }
-{
-    let number = records.container().len();
-    tell_number(records, Ok(number), out)
 }

@@ -1,15 +1,18 @@
 //! One read of a table.
 
 ghost use Rattle.std.specs.Prelude.{◌≤◌};
+ghost use Rattle.table_reads.specs.Found.{Reads};
 ghost use Rattle.table_reads.specs.Read.{read_step};
 ghost use Rattle.table_reply.specs.Buffer.{Keeps};
 ghost use Rattle.table_terms.specs.Step.{IsShort, Steps};
 
+use crate::found::{Found, Refusal};
 use crate::list::list;
-use crate::positions::read_position;
+use crate::positions::find_position;
 use crate::range::range;
-use crate::search::{Search, find_by, size};
+use crate::search::{Search, find_by};
 use crate::show::get;
+use crate::tell::tell;
 use std::alloc::Global;
 use table_cmd::Command;
 use table_records::Records;
@@ -27,35 +30,36 @@ pub fn read(alloc: Global, records: &Records, command: &Command, out: &mut Out) 
     ensures short { IsShort result out.old.bytes out.new.bytes }
     ensures kept { Keeps out.old out.new }
 {
+    tell(alloc, records, find(alloc, records, command), out)
+}
+
+// Finds what the command asks for.
+fn find<'a>(alloc: Global, records: &'a Records, command: &Command) -> Result<Found<'a>, Refusal>
+    ensures { Reads records.now result (read_step records.now command.now) }
+{
     match command {
-        Command::Get { handle, .. } => get(records, *handle, out),
-        Command::Size { .. } => size(records, out),
-        Command::Find { index, key, .. } => find_by(alloc, records, Search::Find, index, key, out),
-        Command::Count { index, key, .. } => {
-            find_by(alloc, records, Search::Count, index, key, out)
-        }
-        Command::Lower { index, key, .. } => {
-            find_by(alloc, records, Search::Lower, index, key, out)
-        }
-        Command::Upper { index, key, .. } => {
-            find_by(alloc, records, Search::Upper, index, key, out)
-        }
+        Command::Get { handle, .. } => get(records, *handle),
+        Command::Size { .. } => Ok(Found::Number(records.container().len())),
+        Command::Find { index, key, .. } => find_by(alloc, records, Search::Find, index, key),
+        Command::Count { index, key, .. } => find_by(alloc, records, Search::Count, index, key),
+        Command::Lower { index, key, .. } => find_by(alloc, records, Search::Lower, index, key),
+        Command::Upper { index, key, .. } => find_by(alloc, records, Search::Upper, index, key),
         Command::FindRank { index, key, .. } => {
-            find_by(alloc, records, Search::FindRank, index, key, out)
+            find_by(alloc, records, Search::FindRank, index, key)
         }
         Command::LowerRank { index, key, .. } => {
-            find_by(alloc, records, Search::LowerRank, index, key, out)
+            find_by(alloc, records, Search::LowerRank, index, key)
         }
         Command::UpperRank { index, key, .. } => {
-            find_by(alloc, records, Search::UpperRank, index, key, out)
+            find_by(alloc, records, Search::UpperRank, index, key)
         }
         Command::Range {
             index,
             low,
             high,
             ..
-        } => range(alloc, records, index, low, high, out),
-        Command::List { index, .. } => list(alloc, records, index, out),
-        _ => read_position(records, command, out),
+        } => range(alloc, records, index, low, high),
+        Command::List { index, .. } => list(records, index),
+        _ => find_position(records, command),
     }
 }

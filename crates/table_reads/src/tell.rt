@@ -1,45 +1,85 @@
-//! What the container answered, as it is told.
+//! What a read found, as it is told.
 
-ghost use Rattle.std.specs.Prelude.{◌≤◌};
-ghost use Rattle.table_reads.specs.Reads.{counted_by, found_by};
+ghost use Rattle.std.specs.Prelude.{◌≡◌, ◌≤◌, IfOk, true};
+ghost use Rattle.std.specs.List.{AllByRecursion};
+ghost use Rattle.container_model.specs.Find.{is_live};
+ghost use Rattle.table_reads.specs.Found.{IsIn, Reads};
+ghost use Rattle.table_reads.specs.Shown.{entries_of, shown_entries};
 ghost use Rattle.table_reply.specs.Buffer.{Keeps};
-ghost use Rattle.table_terms.specs.Step.{IsShort, Steps};
+ghost use Rattle.table_terms.specs.Step.{IsShort, Step, Steps};
 
-use container_model::{Handle, Why};
+use crate::found::{Found, Refusal};
+use container_model::Handle;
+use key_extract::{Row, RowKeys};
+use multi_index::MultiIndex;
+use std::alloc::{AllocError, Global};
 use table_records::{Records, tell_refusal};
-use table_reply::{Out, READY_ROOM, Reply};
-use table_terms::{Outcome, tell_read};
+use table_reply::{Out, READY_ROOM, Record, Reply};
+use table_terms::{Outcome, refuse, refuse_memory, tell_read};
 
-// Tells the record that the container answered, or why it refused.
-pub(crate) fn tell_found(
+/// Appends the line that tells what a read found, or why it found nothing, or the memory line.
+pub(crate) fn tell(
+    alloc: Global,
     records: &Records,
-    found: Result<Option<Handle>, Why>,
+    read: Result<Found, Refusal>,
     out: &mut Out,
 ) -> Outcome
-    requires { READY_ROOM ≤ out.old.room }
-    ensures answer { Steps result out.old.bytes out.new.bytes records.now records.now
-        (found_by records.now found) }
+    requires room { READY_ROOM ≤ out.old.room }
+    requires found { IfOk read (IsIn records.now) }
+    ensures answer { (step : Step) → Reads records.now read.entry step →
+        Steps result out.old.bytes out.new.bytes records.now records.now step }
     ensures short { IsShort result out.old.bytes out.new.bytes }
     ensures kept { Keeps out.old out.new }
 {
-    let at = records.container().writes();
-    match found {
-        Ok(handle) => tell_read(&Reply::Found { at, handle }, out),
-        Err(why) => tell_refusal(records, why, out),
+    let container = records.container();
+    let at = container.writes();
+    let headings = records.headings();
+    match read {
+        Ok(Found::Number(number)) => tell_read(&Reply::Counted { at, number }, out),
+        Ok(Found::Position(handle)) => tell_read(&Reply::Found { at, handle }, out),
+        Ok(Found::Record(record)) => tell_read(
+            &Reply::Shown {
+                at,
+                headings,
+                record,
+            },
+            out,
+        ),
+        Ok(Found::Records(handles)) => {
+            let Ok(records) = shown(alloc, container, &handles) else {
+                return refuse_memory(out);
+            };
+            tell_read(
+                &Reply::Listed {
+                    at,
+                    headings,
+                    records: &records,
+                },
+                out,
+            )
+        }
+        Err(Refusal::Fault(why)) => refuse(why, out),
+        Err(Refusal::Why(why)) => tell_refusal(records, why, out),
     }
 }
 
-// Tells the number that the container answered, or why it refused.
-pub(crate) fn tell_number(records: &Records, number: Result<u64, Why>, out: &mut Out) -> Outcome
-    requires { READY_ROOM ≤ out.old.room }
-    ensures answer { Steps result out.old.bytes out.new.bytes records.now records.now
-        (counted_by records.now number) }
-    ensures short { IsShort result out.old.bytes out.new.bytes }
-    ensures kept { Keeps out.old out.new }
+// The records of live handles.
+fn shown<'a>(
+    alloc: Global,
+    container: &'a MultiIndex<Row, RowKeys>,
+    handles: &[Handle],
+) -> Result<Vec<Record<'a>>, AllocError>
+    requires { AllByRecursion (λ h. is_live container.now h ≡ true) handles.now }
+    ensures { IfOk result (λ shown. shown_entries shown.items ≡
+        entries_of container.now.entries handles.now) }
 {
-    let at = records.container().writes();
-    match number {
-        Ok(number) => tell_read(&Reply::Counted { at, number }, out),
-        Err(why) => tell_refusal(records, why, out),
+    let mut shown = Vec::with_capacity(alloc, handles.len())?;
+    for handle in handles {
+        let row = container.get(*handle).unwrap();
+        shown.push(Record {
+            handle: *handle,
+            row,
+        })?;
     }
+    Ok(shown)
 }
