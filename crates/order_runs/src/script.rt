@@ -3,7 +3,7 @@ ghost use Rattle.std.specs.Prelude.{◌<◌, length};
 
 use crate::draw::Draw;
 use crate::tally::Tallies;
-use crate::watched::{Order, Search, Step, Watched};
+use crate::watched::{Measure, Order, Search, Step, Watched};
 use container_model::Handle;
 use key_extract::{Probe, RowSort};
 use std::alloc::{AllocError, Global};
@@ -112,21 +112,31 @@ fn search(
     watched: &Watched,
     tallies: &mut Tallies,
 ) -> Result<(), AllocError> {
-    let search = drawn_search(draw);
+    let sought = drawn_sought(draw);
     let probe = draw.probe()?;
-    watched.search(search, index, &probe, tallies);
+    match sought {
+        Sought::Record(search) => watched.search(search, index, &probe, tallies),
+        Sought::Number(measure) => watched.measure(measure, index, &probe, tallies),
+    }
     Ok(())
 }
 
-fn drawn_search(draw: &mut Draw) -> Search {
+// What is sought by a key.
+#[derive(Clone, Copy)]
+enum Sought {
+    Record(Search),
+    Number(Measure),
+}
+
+fn drawn_sought(draw: &mut Draw) -> Sought {
     match draw.below(7) {
-        0 => Search::Find,
-        1 => Search::Count,
-        2 => Search::Lower,
-        3 => Search::Upper,
-        4 => Search::FindRank,
-        5 => Search::LowerRank,
-        _ => Search::UpperRank,
+        0 => Sought::Record(Search::Find),
+        1 => Sought::Number(Measure::Count),
+        2 => Sought::Record(Search::Lower),
+        3 => Sought::Record(Search::Upper),
+        4 => Sought::Number(Measure::FindRank),
+        5 => Sought::Number(Measure::LowerRank),
+        _ => Sought::Number(Measure::UpperRank),
     }
 }
 

@@ -17,7 +17,7 @@ use key_extract::{Extract, KeySpec, Part, Probe, Row, RowKeys};
 use multi_index::MultiIndex;
 pub(crate) use orders::Order;
 pub(crate) use positions::Step;
-pub(crate) use searches::Search;
+pub(crate) use searches::{Measure, Search};
 use std::alloc::{AllocError, Global};
 use std::cmp::Ordering;
 use std::marker::Model;

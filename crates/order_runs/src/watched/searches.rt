@@ -13,20 +13,25 @@ use key_extract::Probe;
 use std::cmp::Ordering;
 use std::ops::Bound;
 
-/// A search by a key.
+/// A search by a key that a record answers, or the end.
 #[derive(Clone, Copy)]
 pub(crate) enum Search {
     Find,
-    Count,
     Lower,
     Upper,
+}
+
+/// A search by a key that a number answers.
+#[derive(Clone, Copy)]
+pub(crate) enum Measure {
+    Count,
     FindRank,
     LowerRank,
     UpperRank,
 }
 
 impl Watched {
-    /// Compares the answers to a search, where the index can be searched by the key.
+    /// Compares the answers to a search that a record answers, where the index can be searched by the key.
     pub(crate) fn search(
         &self,
         search: Search,
@@ -46,11 +51,6 @@ impl Watched {
                 container.find(index, probe),
                 answer_of(&WITH_KEYS, kind, cut.first),
             ),
-            Search::Count => tallies.compare_numbers(
-                Call::Count,
-                container.count(index, probe),
-                answer_of(&WITH_KEYS, kind, cut.equal as u64),
-            ),
             Search::Lower => tallies.compare_records(
                 Call::Lower,
                 container.lower(index, probe),
@@ -61,17 +61,40 @@ impl Watched {
                 container.upper(index, probe),
                 answer_of(&IN_ORDER, kind, at(list, cut.up_to())),
             ),
-            Search::FindRank => tallies.compare_numbers(
+        }
+    }
+
+    /// Compares the answers to a search that a number answers, where the index can be searched by the key.
+    pub(crate) fn measure(
+        &self,
+        measure: Measure,
+        index: usize,
+        probe: &Probe,
+        tallies: &mut Tallies,
+    ) {
+        if !self.may_search(index, probe) {
+            return;
+        }
+        let list = self.list(index);
+        let cut = self.cut(index, list, probe);
+        let (container, kind) = (&self.container, self.specs[index].kind);
+        match measure {
+            Measure::Count => tallies.compare_numbers(
+                Call::Count,
+                container.count(index, probe),
+                answer_of(&WITH_KEYS, kind, cut.equal as u64),
+            ),
+            Measure::FindRank => tallies.compare_numbers(
                 Call::FindRank,
                 container.find_rank(index, probe),
                 answer_of(&WITH_RANKS, kind, cut.rank(list) as u64),
             ),
-            Search::LowerRank => tallies.compare_numbers(
+            Measure::LowerRank => tallies.compare_numbers(
                 Call::LowerRank,
                 container.lower_rank(index, probe),
                 answer_of(&WITH_RANKS, kind, cut.below as u64),
             ),
-            Search::UpperRank => tallies.compare_numbers(
+            Measure::UpperRank => tallies.compare_numbers(
                 Call::UpperRank,
                 container.upper_rank(index, probe),
                 answer_of(&WITH_RANKS, kind, cut.up_to() as u64),
