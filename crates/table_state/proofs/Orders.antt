@@ -1,5 +1,5 @@
 -- The orders of indices, one more.
-use Rattle.std.proofs.Common.{◌≡◌, ℕ, zero, suc, ◌+◌, ◌<◌, ◌≤◌, List, [], ◌∷◌, ◌++◌, length, map, get_or, refl, sym, ap, ap₂, ◌∙◌, arith, zero-add}
+use Rattle.std.proofs.Common.{◌≡◌, ℕ, zero, suc, ◌+◌, ◌<◌, List, [], ◌∷◌, ◌++◌, length, map, refl, sym, ap, ap₂, ◌∙◌, arith, zero-add}
 use Rattle.std.specs.List.{range_with_len}
 use Rattle.std.proofs.lemmas.List.FromFn.{map-range_with_len_more}
 use Rattle.container_model.specs.declared.handle.Handle.{Handle}
@@ -9,7 +9,7 @@ use Rattle.table_schema.specs.Shape.{TableShape}
 use Rattle.table_state.specs.State.{line_of, lines_text, order_at}
 use Rattle.table_state.proofs.Lines.{lines_both, lines_one}
 
-map_same : (f h : ℕ → Command) (a n : ℕ) → ((k : ℕ) → k < a + n → f k ≡ h k) → map f (range_with_len a n) ≡ map h (range_with_len a n)
+pub map_same : (f h : ℕ → Command) (a n : ℕ) → ((k : ℕ) → k < a + n → f k ≡ h k) → map f (range_with_len a n) ≡ map h (range_with_len a n)
 map_same f h a zero same = refl
 map_same f h a (suc n) same = ap₂ (λ x xs. x ∷ xs) (same a (omega arith)) (map_same f h (a + 1) n (λ k lt. same k (omega (arith, lt))))
 

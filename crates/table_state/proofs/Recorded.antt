@@ -1,5 +1,5 @@
 -- The records of handles.
-use Rattle.std.proofs.Common.{◌≡◌, ℕ, zero, suc, ◌+◌, ◌<◌, ◌==◌, true, false, List, [], ◌∷◌, length, map, get_or, Option, Some, None, refl, sym, ap, ◌∙◌, subst, arith}
+use Rattle.std.proofs.Common.{◌≡◌, ℕ, zero, suc, ◌<◌, ◌==◌, true, false, List, [], ◌∷◌, length, map, get_or, Some, refl, ap, ◌∙◌, arith}
 use Rattle.std.specs.Prelude.{is_some}
 use Rattle.std.specs.List.{AllByRecursion}
 use Rattle.list_model.specs.Order.{EachPair}
@@ -8,7 +8,7 @@ use Rattle.container_model.specs.declared.handle.Entry.{Entry}
 use Rattle.container_model.specs.State.{row_of}
 use Rattle.container_model.proofs.Found.{row_of_members}
 
-all_at : {X : Type 0} (P : X → Type 0) (xs : List X) (k : ℕ) (d : X) → k < length xs → AllByRecursion P xs → P (get_or xs k d)
+pub all_at : {X : Type 0} (P : X → Type 0) (xs : List X) (k : ℕ) (d : X) → k < length xs → AllByRecursion P xs → P (get_or xs k d)
 all_at P [] k d lt all = absurd (omega (arith, lt))
 all_at P (x ∷ xs) zero d lt all = all.0
 all_at P (x ∷ xs) (suc k) d lt all = all_at P xs k d (omega (arith, lt)) all.1

@@ -1,3 +1,5 @@
 pub mod State
 pub mod Writing
 pub mod Reading
+pub mod Standing
+pub mod Parts

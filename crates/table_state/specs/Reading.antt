@@ -3,7 +3,10 @@ use Rattle.std.specs.Prelude.{codes, ◌≡◌, ℕ, ◌+◌, ◌-◌, ◌<◌, 
 use Rattle.table_cmd.specs.declared.command.Command.{Command}
 use Rattle.table_state.specs.declared.fault.StateWhy.{StateWhy}
 use Rattle.table_state.specs.declared.source.Source.{Source}
-use Rattle.table_state.specs.State.{line_of}
+use Rattle.table_schema.specs.Shape.{TableShape}
+use Rattle.table_state.specs.Standing.{CanStand}
+use Rattle.table_state.specs.State.{line_of, state_text}
+use Rattle.table_terms.specs.Table.{IsOfSameTable, TableState}
 use Rattle.table_state.specs.Writing.{IsInterruption}
 
 -- what was read of them and not yet taken
@@ -49,3 +52,9 @@ Seeks {T} {X} contents source text Fits value result =
 abbrev pub IsReadOf : Command → List ℕ → Result Command StateWhy → Type 0
 IsReadOf command line (Ok read) = (read ≡ command) × (line ++ codes "\n" ≡ line_of command)
 IsReadOf command line (Err why) = IsInterruption why
+
+-- Where the state of a table of this declaration stands on a disk, that table is read: no such text is refused, and two tables
+-- of one text are one.
+abbrev pub Recalls : Option (List ℕ) → TableShape → Result TableState StateWhy → Type 0
+Recalls contents shape result =
+    (t : TableState) → CanStand t → IsOfSameTable t.shape shape → contents ≡ Some (state_text t) → Finds (λ table. table) result t

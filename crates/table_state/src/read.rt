@@ -1,20 +1,25 @@
 //! Reads the state of a table.
 
-ghost use Rattle.std.specs.Prelude.{◌≡◌, ◌<◌, ◌≤◌, ◌++◌, [], ℕ, List, Some, IfErr, IfOk, OnOk, length, map};
+ghost use Rattle.std.specs.Prelude.{◌≡◌, ◌<◌, ◌≤◌, ◌++◌, [], ℕ, List, Some, IfErr, IfOk, OnOk, length, map, option_map};
+ghost use Rattle.command_lines.specs.Fits.{CommandFits};
 ghost use Rattle.table_schema.specs.Defined.{IsNewIndex};
-ghost use Rattle.table_state.specs.Reading.{IsWithin, Takes, left_of};
+ghost use Rattle.table_state.specs.Parts.{EntriesFit, EntryFits, IndexFits, IndicesFit, OrdersFit, cells_from, handles_in};
+ghost use Rattle.table_state.specs.Reading.{IsWithin, Recalls, Seeks, Takes, left_of};
+ghost use Rattle.table_state.specs.Standing.{CanStand};
 ghost use Rattle.table_state.specs.State.{columns_command, count_command, index_command, line_of, lines_text, order_command, order_commands, record_command, state_text};
-ghost use Rattle.table_state.specs.Writing.{failures_of_state};
 ghost use Rattle.table_records.specs.Restored.{restored_table};
+ghost use Rattle.table_state.specs.Writing.{IsInterruption, failures_of_state};
 ghost use Rattle.table_terms.specs.Table.{IsOfSameTable};
+ghost use Rattle.table_terms.specs.Values.{cell_for};
+ghost use Rattle.std.specs.Option.{option_copied};
 
 use crate::fault::StateWhy;
 use crate::parts::{columns_command, count_command, index_command, order_command, record_command};
 use crate::source::Source;
 use container_model::{Entry, Handle};
-use key_extract::Row;
+use key_extract::{Cell, Row, Text};
 use std::alloc::{AllocError, Global};
-use table_cmd::{Command, HandleText, Value};
+use table_cmd::{Command, HandleText, Names, Value};
 use table_log::Disk;
 use table_schema::{Column, DefineFault, IndexSpec, TableSpec, define_index};
 use table_step::{Saved, Table, Unrestorable};
@@ -30,6 +35,7 @@ fn read_count<D: Disk>(
 ) -> Result<u64, StateWhy>
     requires within { IsWithin (D.size disk.old) source.old }
     ensures takes { IfOk result (λ count. Takes (D.contents disk.old) source.old (line_of (count_command spec.now name.now count)) source.new) }
+    ensures finds { Seeks (D.contents disk.old) source.old (λ count. line_of (count_command spec.now name.now count)) (λ count. CommandFits (count_command spec.now name.now count)) (λ count. count) result }
     ensures within { IsWithin (D.size disk.new) source.new }
     ensures contents { D.contents disk.new ≡ D.contents disk.old }
     ensures size { D.size disk.new ≡ D.size disk.old }
@@ -52,6 +58,7 @@ fn read_columns<D: Disk>(
 ) -> Result<(), StateWhy>
     requires within { IsWithin (D.size disk.old) source.old }
     ensures takes { OnOk result (Takes (D.contents disk.old) source.old (line_of (columns_command spec.now)) source.new) }
+    ensures finds { (bytes rest : List ℕ) → D.contents disk.old ≡ Some bytes → CommandFits (columns_command spec.now) → left_of bytes source.old ≡ line_of (columns_command spec.now) ++ rest → IfErr result IsInterruption }
     ensures within { IsWithin (D.size disk.new) source.new }
     ensures contents { D.contents disk.new ≡ D.contents disk.old }
     ensures size { D.size disk.new ≡ D.size disk.old }
@@ -60,6 +67,16 @@ fn read_columns<D: Disk>(
 {
     source.next_line(disk)?;
     source.confirm(&columns_command(alloc, spec)?)
+}
+
+// The texts of a key, if there is one.
+fn texts_of(key: &Option<Names>) -> Option<&[Text]>
+    ensures { option_map (λ texts. texts.now) result ≡ key.now }
+{
+    match key {
+        Some(texts) => Some(texts.as_slice()),
+        None => None,
+    }
 }
 
 // Reads an index that a table with these indices may have.
@@ -72,6 +89,7 @@ fn read_index<D: Disk>(
 ) -> Result<IndexSpec, StateWhy>
     requires within { IsWithin (D.size disk.old) source.old }
     ensures takes { IfOk result (λ index. Takes (D.contents disk.old) source.old (line_of (index_command spec.now index)) source.new) }
+    ensures finds { Seeks (D.contents disk.old) source.old (λ index. line_of (index_command spec.now index)) (IndexFits spec.now indices.now) (λ index. index) result }
     ensures fits { IfOk result (λ index. IsNewIndex spec.now.columns indices.now index) }
     ensures within { IsWithin (D.size disk.new) source.new }
     ensures contents { D.contents disk.new ≡ D.contents disk.old }
@@ -89,7 +107,7 @@ fn read_index<D: Disk>(
     else {
         return Err(source.wrong());
     };
-    let texts = key.as_ref().map(|texts| texts.as_slice());
+    let texts = texts_of(&key);
     match define_index(spec.columns(), indices, &index, kind, unique, texts) {
         Ok(defined) => {
             source.confirm(&index_command(alloc, spec, &defined)?)?;
@@ -110,6 +128,7 @@ fn read_indices<D: Disk>(
 ) -> Result<TableSpec, StateWhy>
     requires within { IsWithin (D.size disk.old) source.old }
     ensures takes { IfOk result (λ made. Takes (D.contents disk.old) source.old (lines_text (map (index_command spec.now) made.indices)) source.new) }
+    ensures finds { Seeks (D.contents disk.old) source.old (λ indices. lines_text (map (index_command spec.now) indices)) (IndicesFit spec.now count) (λ made. made.indices) result }
     ensures count { IfOk result (λ made. length made.indices ≡ count) }
     ensures same { IfOk result (λ made. IsOfSameTable made spec.now) }
     ensures within { IsWithin (D.size disk.new) source.new }
@@ -130,21 +149,30 @@ fn read_indices<D: Disk>(
     Ok(made)
 }
 
+// The cell that a value is in a column.
+fn cell_for<'a>(column: &Column, value: &'a Value) -> Option<&'a Cell>
+    ensures { option_copied result ≡ cell_for column.now value.now }
+{
+    match value {
+        Value::Cell(cell) if can_hold(column, cell) => Some(cell),
+        _ => None,
+    }
+}
+
 // The row of the values of a record: a cell for each column, which it can hold.
-fn row_from(
-    alloc: Global,
-    columns: &[Column],
-    values: &[Value],
-) -> Result<Option<Row>, AllocError> {
+#[tactic(auto, unfolding(crate::specs::Parts::cells_from))]
+fn row_from(alloc: Global, columns: &[Column], values: &[Value]) -> Result<Option<Row>, AllocError>
+    ensures { IfOk result (λ row. row ≡ cells_from columns.now values.now) }
+{
     if values.len() != columns.len() {
         return Ok(None);
     }
     let mut cells = Vec::with_capacity(alloc, columns.len())?;
-    for (column, value) in columns.iter().zip(values) {
-        match value {
-            Value::Cell(cell) if can_hold(column, cell) => cells.push(cell.copy()?)?,
-            _ => return Ok(None),
-        }
+    for (place, value) in values.iter().enumerate() {
+        let Some(cell) = cell_for(&columns[place], value) else {
+            return Ok(None);
+        };
+        cells.push(cell.copy()?)?;
     }
     Ok(Some(Row::new(cells)))
 }
@@ -158,6 +186,7 @@ fn read_record<D: Disk>(
 ) -> Result<Entry<Row>, StateWhy>
     requires within { IsWithin (D.size disk.old) source.old }
     ensures takes { IfOk result (λ entry. Takes (D.contents disk.old) source.old (line_of (record_command spec.now entry)) source.new) }
+    ensures finds { Seeks (D.contents disk.old) source.old (λ entry. line_of (record_command spec.now entry)) (EntryFits spec.now) (λ entry. entry) result }
     ensures within { IsWithin (D.size disk.new) source.new }
     ensures contents { D.contents disk.new ≡ D.contents disk.old }
     ensures size { D.size disk.new ≡ D.size disk.old }
@@ -180,6 +209,7 @@ fn read_record<D: Disk>(
 }
 
 // Reads so many records.
+#[tactic(auto, using(crate::proofs::Fronts::begins_none))]
 fn read_records<D: Disk>(
     alloc: Global,
     spec: &TableSpec,
@@ -189,6 +219,7 @@ fn read_records<D: Disk>(
 ) -> Result<Vec<Entry<Row>>, StateWhy>
     requires within { IsWithin (D.size disk.old) source.old }
     ensures takes { IfOk result (λ entries. Takes (D.contents disk.old) source.old (lines_text (map (record_command spec.now) entries.items)) source.new) }
+    ensures finds { Seeks (D.contents disk.old) source.old (λ entries. lines_text (map (record_command spec.now) entries)) (EntriesFit spec.now count) (λ entries. entries.items) result }
     ensures count { IfOk result (λ entries. length entries.items ≡ count) }
     ensures within { IsWithin (D.size disk.new) source.new }
     ensures contents { D.contents disk.new ≡ D.contents disk.old }
@@ -204,7 +235,10 @@ fn read_records<D: Disk>(
 }
 
 // The handles that texts spell, where each spells one.
-fn handles_from(alloc: Global, texts: &[HandleText]) -> Result<Option<Vec<Handle>>, AllocError> {
+#[tactic(auto, using(table_schema::proofs::Readings::reads))]
+fn handles_from(alloc: Global, texts: &[HandleText]) -> Result<Option<Vec<Handle>>, AllocError>
+    ensures { IfOk result (λ handles. option_map (λ list. list.items) handles ≡ handles_in texts.now) }
+{
     let mut handles = Vec::with_capacity(alloc, texts.len())?;
     for text in texts {
         match text {
@@ -225,6 +259,7 @@ fn read_order<D: Disk>(
 ) -> Result<Vec<Handle>, StateWhy>
     requires within { IsWithin (D.size disk.old) source.old }
     ensures takes { IfOk result (λ handles. Takes (D.contents disk.old) source.old (line_of (order_command spec.now index.now handles.items)) source.new) }
+    ensures finds { Seeks (D.contents disk.old) source.old (λ handles. line_of (order_command spec.now index.now handles)) (λ handles. CommandFits (order_command spec.now index.now handles)) (λ handles. handles.items) result }
     ensures within { IsWithin (D.size disk.new) source.new }
     ensures contents { D.contents disk.new ≡ D.contents disk.old }
     ensures size { D.size disk.new ≡ D.size disk.old }
@@ -242,6 +277,7 @@ fn read_order<D: Disk>(
 }
 
 // Reads the order of each index.
+#[tactic(auto, using(crate::proofs::Fronts::begins_none))]
 fn read_orders<D: Disk>(
     alloc: Global,
     spec: &TableSpec,
@@ -250,6 +286,7 @@ fn read_orders<D: Disk>(
 ) -> Result<Vec<Vec<Handle>>, StateWhy>
     requires within { IsWithin (D.size disk.old) source.old }
     ensures takes { IfOk result (λ orders. Takes (D.contents disk.old) source.old (lines_text (order_commands spec.now (map (λ order. order.items) orders.items))) source.new) }
+    ensures finds { Seeks (D.contents disk.old) source.old (λ lists. lines_text (order_commands spec.now lists)) (OrdersFit spec.now) (λ orders. map (λ order. order.items) orders.items) result }
     ensures within { IsWithin (D.size disk.new) source.new }
     ensures contents { D.contents disk.new ≡ D.contents disk.old }
     ensures size { D.size disk.new ≡ D.size disk.old }
@@ -280,6 +317,7 @@ fn read_all<D: Disk>(
 ) -> Result<Told, StateWhy>
     requires within { IsWithin (D.size disk.old) source.old }
     ensures takes { IfOk result (λ told. Takes (D.contents disk.old) source.old (state_text (restored_table told.spec told.saved)) source.new) }
+    ensures finds { Seeks (D.contents disk.old) source.old state_text (λ t. CanStand t × IsOfSameTable t.shape spec.now) (λ told. restored_table told.spec told.saved) result }
     ensures same { IfOk result (λ told. IsOfSameTable told.spec spec.now) }
     ensures within { IsWithin (D.size disk.new) source.new }
     ensures contents { D.contents disk.new ≡ D.contents disk.old }
@@ -304,11 +342,23 @@ fn read_all<D: Disk>(
     })
 }
 
+// What is told of a table that is not restored.
+fn told_of(why: Unrestorable) -> StateWhy
+    ensures memory { why ≡ Unrestorable.Memory → result ≡ StateWhy.Memory }
+    ensures disk { result ≡ StateWhy.Disk → ⊥ }
+{
+    match why {
+        Unrestorable::Memory => StateWhy::Memory,
+        _ => StateWhy::Table,
+    }
+}
+
 /// Reads the state of a table of this declaration: a table whose state has the text that the disk has, no more and no less. Its
 /// indices may be others than the declared ones. Another text is refused, and so is one that is cut off anywhere. The disk is
 /// left as it was. O(length of the text), and what `MultiIndex::restore` costs.
 pub fn read_state<D: Disk>(alloc: Global, spec: &TableSpec, disk: &mut D) -> Result<Table, StateWhy>
     ensures read { IfOk result (λ table. (bytes : List ℕ) → D.contents disk.old ≡ Some bytes → bytes ≡ state_text table) }
+    ensures recalls { Recalls (D.contents disk.old) spec.now result }
     ensures same { IfOk result (λ table. IsOfSameTable table.shape spec.now) }
     ensures contents { D.contents disk.new ≡ D.contents disk.old }
     ensures size { D.size disk.new ≡ D.size disk.old }
@@ -320,7 +370,6 @@ pub fn read_state<D: Disk>(alloc: Global, spec: &TableSpec, disk: &mut D) -> Res
     source.end(disk)?;
     match Table::restored(alloc, spec, saved) {
         Ok(table) => Ok(table),
-        Err(Unrestorable::Memory) => Err(StateWhy::Memory),
-        Err(_) => Err(StateWhy::Table),
+        Err(why) => Err(told_of(why)),
     }
 }
