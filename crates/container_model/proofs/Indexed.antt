@@ -140,11 +140,39 @@ AreIndices-push order entries b (s ∷ specs) (l ∷ lists) spec list new kept =
 
 -- ---- the container
 
-module _ {E R : Type 0} (has_key : E → ℕ → Bool) (order : E → ℕ → R → R → Ordering) (s : State E R) (state : IsState has_key order s) where
+module _ {E R : Type 0} (has_key : E → ℕ → Bool) (order : E → ℕ → R → R → Ordering) (s : State E R) where
   abbrev total_of : Type 0
   total_of = (keys : E) (index : ℕ) → IsTrue (has_key keys index) → IsTotalOrder (order keys index)
 
-  pub IsState-indexed : total_of → (spec : Spec) (keys : E) → KeysMatch (has_key keys) (s.specs ++ spec ∷ []) → KeepsEach (order s.keys) (order keys) s.specs → length s.specs < s.most → clash order s spec keys ≡ None →
+  module _ (spec : Spec) (keys : E) (match : KeysMatch (has_key keys) (s.specs ++ spec ∷ [])) (same : KeepsEach (order s.keys) (order keys) s.specs) (free : clash order s spec keys ≡ None) where
+    -- the lists of the indices and of one more
+    pub AreIndices-indexed : total_of → KeysMatch (has_key s.keys) s.specs → AreIndices (order s.keys) s.entries 0 s.specs s.lists → AreIndices (order keys) s.entries 0 (s.specs ++ spec ∷ []) (with_index order s spec keys).lists
+    AreIndices-indexed total was kept =
+        AreIndices-push (order keys) s.entries 0 s.specs s.lists spec (new_list (order keys (length s.specs)) s.entries spec.kind)
+        (subst (λ n. IsIndex (order keys n) s.entries spec (new_list (order keys (length s.specs)) s.entries spec.kind)) (sym (from_zero (length s.specs)))
+        (new_index s.entries (order keys (length s.specs)) spec (λ sorted. total keys (length s.specs) (has_last sorted)) (λ one. by_unique spec.unique one free)))
+        (rekeyed s.entries (order s.keys) (order keys) 0 0 s.specs s.lists was.unique
+        (λ k d lt has. ap (order keys) (from_zero k) ∙ same k d lt has ∙ ap (order s.keys) (sym (from_zero k))) kept)
+      where
+        by_unique : (b : Bool) → IsTrue b → cond b (clash_from (order keys (length s.specs)) [] s.entries) None ≡ None → clash_from (order keys (length s.specs)) [] s.entries ≡ None
+        by_unique true one h = h
+        by_unique false one h = absurd (search rules)
+
+        has_last : IsTrue (is_sorted_kind spec.kind) → IsTrue (has_key keys (length s.specs))
+        has_last sorted =
+            let last : get_or (s.specs ++ spec ∷ []) (length s.specs) spec ≡ spec = get_or_push s.specs spec spec (length s.specs) refl in
+            subst IsTrue (sym (match.keyed (length s.specs) spec (omega (arith, length_push s.specs spec)))) (subst (λ (x : Spec). IsTrue (has_key_kind x.kind)) (sym last) (sorted_has_key spec.kind sorted))
+
+  module _ (index : ℕ) (keys : E) (within : index < length s.specs) (same : KeepsRest (order s.keys) (order keys) s.specs index) where
+    -- the lists of the indices but one
+    pub AreIndices-unindexed : KeysMatch (has_key s.keys) s.specs → AreIndices (order s.keys) s.entries 0 s.specs s.lists → AreIndices (order keys) s.entries 0 (remove s.specs index) (remove s.lists index)
+    AreIndices-unindexed was kept =
+        removed s.entries (order s.keys) (order keys) 0 index s.specs s.lists within was.unique
+        (λ k d lt has below. ap (order keys) (from_zero k) ∙ same.before k d lt has below ∙ ap (order s.keys) (sym (from_zero k)))
+        (λ k d from lt has. ap (order keys) (from_zero k) ∙ same.after k d from lt has ∙ ap (order s.keys) (sym (from_zero (k + 1)))) kept
+
+module _ {E R : Type 0} (has_key : E → ℕ → Bool) (order : E → ℕ → R → R → Ordering) (s : State E R) (state : IsState has_key order s) where
+  pub IsState-indexed : total_of has_key order s → (spec : Spec) (keys : E) → KeysMatch (has_key keys) (s.specs ++ spec ∷ []) → KeepsEach (order s.keys) (order keys) s.specs → length s.specs < s.most → clash order s spec keys ≡ None →
       IsState has_key order (with_index order s spec keys)
   IsState-indexed total spec keys match same room free = record {
     keys = match;
@@ -153,22 +181,8 @@ module _ {E R : Type 0} (has_key : E → ℕ → Bool) (order : E → ℕ → R 
     stamps = All-map _ _ (λ e p. let q : e.handle.stamp ≤ s.writes = p in omega arith) s.entries state.stamps;
     rising = state.rising;
     slots = state.slots;
-    indices =
-        AreIndices-push (order keys) s.entries 0 s.specs s.lists spec (new_list (order keys (length s.specs)) s.entries spec.kind)
-        (subst (λ n. IsIndex (order keys n) s.entries spec (new_list (order keys (length s.specs)) s.entries spec.kind)) (sym (from_zero (length s.specs)))
-        (new_index s.entries (order keys (length s.specs)) spec (λ sorted. total keys (length s.specs) (has_last sorted)) (λ one. by_unique spec.unique one free)))
-        (rekeyed s.entries (order s.keys) (order keys) 0 0 s.specs s.lists state.keys.unique
-        (λ k d lt has. ap (order keys) (from_zero k) ∙ same k d lt has ∙ ap (order s.keys) (sym (from_zero k))) state.indices);
+    indices = AreIndices-indexed has_key order s spec keys match same free total state.keys state.indices;
   }
-    where
-      by_unique : (b : Bool) → IsTrue b → cond b (clash_from (order keys (length s.specs)) [] s.entries) None ≡ None → clash_from (order keys (length s.specs)) [] s.entries ≡ None
-      by_unique true one h = h
-      by_unique false one h = absurd (search rules)
-
-      has_last : IsTrue (is_sorted_kind spec.kind) → IsTrue (has_key keys (length s.specs))
-      has_last sorted =
-          let last : get_or (s.specs ++ spec ∷ []) (length s.specs) spec ≡ spec = get_or_push s.specs spec spec (length s.specs) refl in
-          subst IsTrue (sym (match.keyed (length s.specs) spec (omega (arith, length_push s.specs spec)))) (subst (λ (x : Spec). IsTrue (has_key_kind x.kind)) (sym last) (sorted_has_key spec.kind sorted))
 
   pub IsState-unindexed : (index : ℕ) (keys : E) → index < length s.specs → KeysMatch (has_key keys) (remove s.specs index) → KeepsRest (order s.keys) (order keys) s.specs index →
       IsState has_key order (without_index s index keys)
@@ -179,7 +193,5 @@ module _ {E R : Type 0} (has_key : E → ℕ → Bool) (order : E → ℕ → R 
     stamps = All-map _ _ (λ e p. let q : e.handle.stamp ≤ s.writes = p in omega arith) s.entries state.stamps;
     rising = state.rising;
     slots = state.slots;
-    indices = removed s.entries (order s.keys) (order keys) 0 index s.specs s.lists within state.keys.unique
-        (λ k d lt has below. ap (order keys) (from_zero k) ∙ same.before k d lt has below ∙ ap (order s.keys) (sym (from_zero k)))
-        (λ k d from lt has. ap (order keys) (from_zero k) ∙ same.after k d from lt has ∙ ap (order s.keys) (sym (from_zero (k + 1)))) state.indices;
+    indices = AreIndices-unindexed has_key order s index keys within same state.keys state.indices;
   }

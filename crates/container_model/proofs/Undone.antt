@@ -122,15 +122,22 @@ module _ {R : Type 0} (h : Handle) (row was : R) where
           all_undone order all_specs keys equal (index + 1) specs lists here.2 kept.1,
         )
 
-module _ {E R : Type 0} (has_key : E → ℕ → Bool) (order : E → ℕ → R → R → Ordering) (total : (keys : E) (i : ℕ) → IsTrue (has_key keys i) → IsTotalOrder (order keys i)) (s : State E R) (state : IsState has_key order s) where
+module _ {E R : Type 0} (has_key : E → ℕ → Bool) (order : E → ℕ → R → R → Ordering) (total : (keys : E) (i : ℕ) → IsTrue (has_key keys i) → IsTotalOrder (order keys i)) (s : State E R) where
   some_spec : Spec
   some_spec = record { kind = Sequenced; unique = false }
 
-  -- an index of a kind that has a key has it
-  kind_of_key : (i : ℕ) → i < length s.specs → has_key s.keys i ≡ has_key_kind (kind_at s i)
-  kind_of_key i lt = state.keys.keyed i some_spec lt ∙ ap has_key_kind (sym (kind_at_is s i some_spec lt))
+  module _ (h : Handle) (row was : R) (had : row_of s.entries h ≡ Some was) (equal : (i : ℕ) → i < length s.specs → IsTrue (has_key_kind (kind_at s i)) → order s.keys i row was ≡ Equal) where
+    -- a record that is there, and a row that has its keys: the lists stay those of the indices
+    pub AreIndices-undone : KeysMatch (has_key s.keys) s.specs → EachPair (λ a b. (b.handle.slot == a.handle.slot) ≡ false) s.entries → AreIndices (order s.keys) s.entries 0 s.specs s.lists →
+        AreIndices (order s.keys) (with_row h row s.entries) 0 s.specs s.lists
+    AreIndices-undone match slots kept =
+        -- an index of a kind that has a key has it
+        let kind_of_key : (i : ℕ) → i < length s.specs → has_key s.keys i ≡ has_key_kind (kind_at s i) = λ i lt. match.keyed i some_spec lt ∙ ap has_key_kind (sym (kind_at_is s i some_spec lt)) in
+        all_undone h row was s.entries slots had (order s.keys) s.specs match
+        (λ i lt has. (total s.keys i has, equal i lt (subst IsTrue (kind_of_key i lt) has))) 0 s.specs s.lists refl kept
 
-  -- a record that is there, and a row that has its keys
+module _ {E R : Type 0} (has_key : E → ℕ → Bool) (order : E → ℕ → R → R → Ordering) (total : (keys : E) (i : ℕ) → IsTrue (has_key keys i) → IsTotalOrder (order keys i)) (s : State E R) (state : IsState has_key order s) where
+  -- and the container stays one
   pub IsState-undone : (h : Handle) (row was : R) → row_of s.entries h ≡ Some was → ((i : ℕ) → i < length s.specs → IsTrue (has_key_kind (kind_at s i)) → order s.keys i row was ≡ Equal) → IsState has_key order (with_undone s h row)
   IsState-undone h row was had equal = record {
     keys = state.keys;
@@ -139,8 +146,7 @@ module _ {E R : Type 0} (has_key : E → ℕ → Bool) (order : E → ℕ → R 
     stamps = All-of_map (changed h row) (λ e. e.handle.stamp ≤ s.writes) s.entries (All-map _ _ (λ e p. subst (λ g. g.stamp ≤ s.writes) (sym (handle-changed h row e)) p) s.entries state.stamps);
     rising = EachPair-with_row h row (λ f g. f.stamp < g.stamp) s.entries state.rising;
     slots = EachPair-with_row h row (λ f g. (g.slot == f.slot) ≡ false) s.entries state.slots;
-    indices = all_undone h row was s.entries state.slots had (order s.keys) s.specs state.keys
-        (λ i lt has. (total s.keys i has, equal i lt (subst IsTrue (kind_of_key i lt) has))) 0 s.specs s.lists refl state.indices;
+    indices = AreIndices-undone has_key order total s h row was had equal state.keys state.slots state.indices;
   }
 
 -- a record's own row leaves the container as it is
