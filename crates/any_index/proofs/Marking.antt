@@ -9,6 +9,7 @@ use Rattle.std.specs.declared.cmp.Ordering.{Ordering}
 use Rattle.std.specs.declared.cmp.Ordering.TheVariants.{Less, Equal, Greater}
 use Rattle.std.proofs.lemmas.List.{append-nil, append_assoc, length-append}
 use Rattle.std.proofs.lemmas.List.Elements.{filter-append}
+use Rattle.container_model.specs.declared.handle.Kind.{Kind}
 use Rattle.container_model.specs.declared.handle.Kind.TheVariants as kinds
 use Rattle.container_model.specs.State.{is_sorted_kind}
 use Rattle.row_index.specs.Spelled.{spelled}
@@ -39,7 +40,7 @@ use Rattle.any_index.specs.Keyed.{marks_of}
 use Rattle.any_index.specs.Marks.{walk_of, matches_in, is_marked, is_match}
 use Rattle.any_index.specs.Side.{side_of}
 use Rattle.any_index.specs.Spelled.{IsSound, list_of, col_of, kind_of, index_of}
-use Rattle.any_index.specs.Stored.{side_in, CanFind}
+use Rattle.any_index.specs.Stored.{has_walk_kind, side_in, CanFind}
 use Rattle.any_index.proofs.ByAge.{Holds_moved, moved_by_age}
 use Rattle.any_index.proofs.Laws.{list_distinct, IsSound_kept, IsKeyed_restored}
 
@@ -185,6 +186,14 @@ module _ {E R P : Type 0} (X : Ghosts E R P) (i : AnyIndex) (s : Store R) (keys 
   -- such a node is one of the index
   pub match_listed : (n : Node) → Holds (matches_in X i s keys probe) n → Holds (list_of (columns_in s) i) n
   match_listed n h = list_held (columns_in s) i n (passed_held (λ m. is_eq (side_in X i s keys probe m)) (walk_of (columns_in s) i) n h).0
+
+-- a tree can be walked
+pub sorted_walks : (kind : Kind) → IsTrue (is_sorted_kind kind) → IsTrue (has_walk_kind kind)
+sorted_walks kinds.Sequenced h = refl
+sorted_walks kinds.Random h = refl
+sorted_walks kinds.Ordered h = refl
+sorted_walks kinds.Ranked h = refl
+sorted_walks kinds.Hashed h = absurd (cc)
 
 -- so it is in a tree
 pub tree_next : {E R P : Type 0} (X : Ghosts E R P) (i : AnyIndex) (s : Store R) (keys : E) (probe : P) (n : Node) → (IsTrue (X.has_key keys (index_of i)) → IsTrue (X.does_fit keys (index_of i) probe) → CutsInThreeRuns (X.order_of keys (index_of i)) (λ a. X.probe_order_of keys (index_of i) a probe)) →

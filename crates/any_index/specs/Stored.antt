@@ -1,14 +1,25 @@
 -- An index in a store: what its calls ask for, read and keep.
-use Rattle.std.specs.Prelude.{◌≡◌, List, Option, IsTrue}
+use Rattle.std.specs.Prelude.{◌≡◌, ◌≢◌, ◌≤◌, ℕ, Bool, not, length, List, Option, Some, IsTrue}
+use Rattle.std.specs.Ordering.{is_le}
 use Rattle.std.specs.declared.cmp.Ordering.{Ordering}
+use Rattle.container_model.specs.declared.handle.Kind.{Kind}
+use Rattle.container_model.specs.declared.handle.Kind.TheVariants.{Random}
+use Rattle.container_model.specs.State.{has_key_kind, is_hashed_kind}
 use Rattle.node_store.specs.declared.Node.{Node}
+use Rattle.node_store.specs.Column.{IsNode}
+use Rattle.node_store.specs.Nodes.{Lacks}
 use Rattle.node_store.specs.Store.{Store}
 use Rattle.node_store.specs.ByNode.{column_of, columns_in, record_of, contents}
 use Rattle.key_extract.specs.declared.extract.Extract.{Ghosts}
-use Rattle.any_index.specs.Side.{side_of, order_at}
+use Rattle.any_index.specs.Last.{last_that}
+use Rattle.any_index.specs.Side.{side_of, order_at, AreNodesOf}
 use Rattle.any_index.specs.declared.index.AnyIndex.{AnyIndex}
-use Rattle.any_index.specs.Spelled.{IsSound, Holds, KeepsOthers, list_of, kind_of, col_of, index_of}
+use Rattle.any_index.specs.Spelled.{IsSound, HasRoom, Holds, KeepsOthers, list_of, kind_of, col_of, index_of}
 use Rattle.any_index.specs.Keyed.{marks_of, HasItsKey, Accepts, IsKeyed, IsKeyedBut, IsKeyedExcept, HasOneOfEachKey}
+
+-- its nodes can be walked in their order
+abbrev pub has_walk_kind : Kind → Bool
+has_walk_kind kind = not (is_hashed_kind kind)
 
 module _ {R : Type 0} where
   -- the nodes of the index, in its order
@@ -23,6 +34,22 @@ module _ {R : Type 0} where
   pub record HasNode (i : AnyIndex) (s : Store R) (n : Node) : Type 0 where
     pub sound : IsIn i s
     pub held : Holds (nodes_of i s) n
+
+  -- the index is of a kind that has the call
+  pub record IsOfKind (has : Kind → Bool) (i : AnyIndex) (s : Store R) : Type 0 where
+    pub kind : IsTrue (has (kind_of i))
+    pub sound : IsIn i s
+
+  -- and the node is one of its
+  pub record HasNodeOfKind (has : Kind → Bool) (i : AnyIndex) (s : Store R) (n : Node) : Type 0 where
+    pub kind : IsTrue (has (kind_of i))
+    pub node : HasNode i s n
+
+  -- an index is a row, and another than this one
+  pub record IsRowBeside (i row : AnyIndex) (s : Store R) : Type 0 where
+    pub kind : kind_of row ≡ Random
+    pub sound : IsIn row s
+    pub apart : col_of i ≢ col_of row
 
   -- the index is of the same kind, column and number, and the other columns and the records are as before
   pub record KeepsRest (old new : AnyIndex) (before after : Store R) : Type 0 where
@@ -51,14 +78,28 @@ module _ {E R P : Type 0} (X : Ghosts E R P) where
     pub key : HasItsKey (X.has_key keys) i
     pub keyed : IsKeyed (X.order_of keys) (marks_of X keys) s i
 
-  -- all but this node are, whose record may have changed
+  -- the index has room for a node of its column that it lacks
+  pub record CanEnter (i : AnyIndex) (s : Store R) (keys : E) (n : Node) : Type 0 where
+    pub filed : IsFiled i s keys
+    pub room : HasRoom i
+    pub node : IsNode (column_of s (col_of i)) n
+    pub new : Lacks (nodes_of i s) n
+
+  -- what is told of where the node goes: a place, and the node of a tree that it goes behind
+  pub record GoesTo (i : AnyIndex) (s : Store R) (keys : E) (n : Node) (at : Option ℕ) (behind : Option Node) : Type 0 where
+    pub place : (p : ℕ) → at ≡ Some p → p ≤ length (nodes_of i s)
+    pub last : (m : Node) → behind ≡ Some m → IsTrue (has_key_kind (kind_of i)) → last_that (λ m. is_le (order_in i s keys m n)) (nodes_of i s) ≡ Some m
+
+  -- all but this one of its nodes are, whose record may have changed
   pub record IsFiledBut (n : Node) (i : AnyIndex) (s : Store R) (keys : E) : Type 0 where
-    pub sound : IsIn i s
+    pub node : HasNode i s n
     pub key : HasItsKey (X.has_key keys) i
     pub keyed : IsKeyedBut (X.order_of keys) (marks_of X keys) s i n
 
-  -- all but the excepted node are, and no two of them have one key in a hashed index
+  -- all but the excepted node are, by a key, and no two of them have one key in a hashed index
   pub record IsFiledOnce (except : Option Node) (i : AnyIndex) (s : Store R) (keys : E) : Type 0 where
+    pub kind : IsTrue (has_key_kind (kind_of i))
+    pub excepted : AreNodesOf s except
     pub sound : IsIn i s
     pub key : HasItsKey (X.has_key keys) i
     pub keyed : IsKeyedExcept (X.order_of keys) (marks_of X keys) s i except
@@ -77,3 +118,8 @@ module _ {E R P : Type 0} (X : Ghosts E R P) where
     pub key : HasItsKey (X.has_key keys) i
     pub fits : IsTrue (X.does_fit keys (index_of i) probe)
     pub keyed : IsKeyed (X.order_of keys) (marks_of X keys) s i
+
+  -- and the index is of a kind that has the call
+  pub record CanSearchKind (has : Kind → Bool) (i : AnyIndex) (s : Store R) (keys : E) (probe : P) : Type 0 where
+    pub kind : IsTrue (has (kind_of i))
+    pub search : CanSearch i s keys probe

@@ -1,14 +1,10 @@
 //! An index, and its changes.
-ghost use Rattle.std.specs.Prelude.{◌≡◌, ℕ, ◌<◌, ◌≤◌, IsTrue, cond, Some, [], length, OnOk, OnErr};
+ghost use Rattle.std.specs.Prelude.{◌≡◌, ℕ, ◌<◌, cond, [], OnOk, OnErr};
 ghost use Rattle.std.specs.declared.cmp.Ordering.{Ordering};
 ghost use Rattle.list_model.specs.Walk.{without};
 ghost use Rattle.key_extract.specs.Digests.{Marks};
-ghost use Rattle.node_store.specs.Column.{IsNode};
-ghost use Rattle.node_store.specs.Nodes.{Lacks};
 ghost use Rattle.node_store.specs.declared.Node.{Node};
-ghost use Rattle.std.specs.Ordering.{is_le};
-ghost use Rattle.ord_tree.specs.Last.{last_that};
-ghost use Rattle.node_store.specs.ByNode.{Columns, column_of, same_node};
+ghost use Rattle.node_store.specs.ByNode.{Columns, same_node};
 ghost use Rattle.node_store.specs.Store.{age_of};
 ghost use Rattle.container_model.specs.State.{has_key_kind};
 ghost use Rattle.any_index.specs.Lists.{entered, settled_in};
@@ -40,7 +36,7 @@ pub enum AnyIndex {
 }
 
 impl AnyIndex {
-    ghost use Rattle.any_index.specs.Stored.{nodes_of, IsIn, HasNode, KeepsRest, order_in, IsFiled, IsFiledBut};
+    ghost use Rattle.any_index.specs.Stored.{nodes_of, IsIn, HasNode, KeepsRest, order_in, CanEnter, GoesTo, IsFiledBut};
     ghost use Rattle.any_index.specs.Spelled.{IsSound, HasRoom, list_of, kind_of, col_of, index_of};
     ghost use Rattle.any_index.specs.Keyed.{marks_of, IsKeyed, IsKeyedBut, IsSameKey};
 
@@ -80,8 +76,7 @@ impl AnyIndex {
     /// Goes by the keys of number `index` from now on, where its kind has keys; they are to put its nodes where they are.
     /// A sequence stays as it is. O(1).
     pub fn renumber<R>(&mut self, store: &NodeStore<R>, index: usize)
-        requires { IsIn self.old store.now }
-        ensures sound { IsIn self.new store.now }
+        ensures sound { IsIn self.old store.now → IsIn self.new store.now }
         ensures list { nodes_of self.new store.now ≡ nodes_of self.old store.now }
         ensures kind { kind_of self.new ≡ kind_of self.old }
         ensures col { col_of self.new ≡ col_of self.old }
@@ -136,14 +131,8 @@ impl AnyIndex {
         at: Option<u64>,
         last: Option<Node>,
     )
-        requires filed { IsFiled E.Extract self.old store.old keys.now }
-        requires node { IsNode (column_of store.old (col_of self.old)) n }
-        requires new { Lacks (nodes_of self.old store.old) n }
-        requires room { HasRoom self.old }
-        requires place { (p : ℕ) → at ≡ Some p → p ≤ length (nodes_of self.old store.old) }
-        requires last { (m : Node) → last ≡ Some m → IsTrue (has_key_kind (kind_of self.old)) →
-            last_that (λ m. is_le (order_in E.Extract self.old store.old keys.now m n))
-            (nodes_of self.old store.old) ≡ Some m }
+        requires node { CanEnter E.Extract self.old store.old keys.now n }
+        requires goes { GoesTo E.Extract self.old store.old keys.now n at last }
         ensures sound { IsIn self.new store.new }
         ensures list { nodes_of self.new store.new ≡ entered (kind_of self.old) (age_of store.old)
             (order_in E.Extract self.old store.old keys.now) at n (nodes_of self.old store.old) }
@@ -197,8 +186,7 @@ impl AnyIndex {
     /// neighbours, and goes after all whose key is at most its own otherwise. A sequence stays as it is. It takes no
     /// memory. O(log n) in a tree, O(1) otherwise.
     pub fn settle<R, E: Extract<R>>(&mut self, store: &mut NodeStore<R>, keys: &E, n: Node)
-        requires node { HasNode self.old store.old n }
-        requires others { IsFiledBut E.Extract n self.old store.old keys.now }
+        requires { IsFiledBut E.Extract n self.old store.old keys.now }
         ensures sound { IsIn self.new store.new }
         ensures list { nodes_of self.new store.new ≡ settled_in (kind_of self.old)
             (order_in E.Extract self.old store.old keys.now) n (nodes_of self.old store.old) }

@@ -1,15 +1,13 @@
 //! Marks in a row on the nodes of a key.
-ghost use Rattle.std.specs.Prelude.{◌≡◌, ◌≢◌, ℕ, false, slice_get, filter, IsTrue};
-ghost use Rattle.std.specs.Ordering.{is_eq};
+ghost use Rattle.std.specs.Prelude.{◌≡◌, ◌≢◌, slice_get, IsTrue};
 ghost use Rattle.container_model.specs.State.{is_sorted_kind};
-ghost use Rattle.container_model.specs.declared.handle.Kind.TheVariants.{Random};
 ghost use Rattle.list_model.specs.Walk.{next as the_next};
 ghost use Rattle.node_store.specs.declared.Node.{Node};
 ghost use Rattle.node_store.specs.ByNode.{column_of, contents, same_node};
 ghost use Rattle.row_index.specs.Spelled as rows;
-ghost use Rattle.any_index.specs.Marks.{HasMarks, is_marked, lowest_mark, is_match, walk_of, matches_in};
+ghost use Rattle.any_index.specs.Marks.{HasMarks, is_marked, lowest_mark, is_match, matches_in};
 ghost use Rattle.any_index.specs.Spelled.{KeepsOthers, Holds, kind_of, col_of, index_of};
-ghost use Rattle.any_index.specs.Stored.{nodes_of, side_in, IsIn, CanFind};
+ghost use Rattle.any_index.specs.Stored.{nodes_of, side_in, IsRowBeside, CanFind};
 
 use crate::AnyIndex;
 use key_extract::Extract;
@@ -26,15 +24,11 @@ impl AnyIndex {
         &self,
         store: &mut NodeStore<R>,
         keys: &E,
-        index: usize,
         probe: &E::Probe,
         row: &AnyIndex,
     ) -> u64
         requires find { CanFind E.Extract self.now store.old keys.now probe.now }
-        requires index { index ≡ index_of self.now }
-        requires row { IsIn row.now store.old }
-        requires kind { kind_of row.now ≡ Random }
-        requires apart { col_of self.now ≢ col_of row.now }
+        requires row { IsRowBeside self.now row.now store.old }
         ensures marks { HasMarks (column_of store.new) row.now result }
         ensures low { result ≡
             lowest_mark (column_of store.new (col_of row.now)) (nodes_of row.now store.old) }
@@ -47,7 +41,7 @@ impl AnyIndex {
         ensures contents { contents store.new ≡ contents store.old }
     {
         match row {
-            AnyIndex::Random(row) => mark_each(self, row, store, keys, index, probe),
+            AnyIndex::Random(row) => mark_each(self, row, store, keys, probe),
             AnyIndex::Sequenced(_)
             | AnyIndex::Ordered(_)
             | AnyIndex::Ranked(_)
@@ -62,11 +56,9 @@ fn mark_each<R, E: Extract<R>>(
     row: &RowIndex,
     store: &mut NodeStore<R>,
     keys: &E,
-    index: usize,
     probe: &E::Probe,
 ) -> u64
     requires find { CanFind E.Extract by.now store.old keys.now probe.now }
-    requires index { index ≡ index_of by.now }
     requires row { rows.IsSound (column_of store.old) row.now }
     requires apart { col_of by.now ≢ rows.col_of row.now }
     ensures marks { rows.HasMarks (column_of store.new) row.now result }
@@ -84,7 +76,7 @@ fn mark_each<R, E: Extract<R>>(
     let mut at = first_match(by, store, keys, probe);
     while let Some(n) = at {
         low = row.mark(store, n, low);
-        at = next_match(by, store, keys, index, probe, n);
+        at = next_match(by, store, keys, probe, n);
     }
     low
 }
@@ -110,19 +102,19 @@ fn next_match<R, E: Extract<R>>(
     by: &AnyIndex,
     store: &NodeStore<R>,
     keys: &E,
-    index: usize,
     probe: &E::Probe,
     n: Node,
 ) -> Option<Node>
     requires find { CanFind E.Extract by.now store.now keys.now probe.now }
-    requires index { index ≡ index_of by.now }
     requires held { Holds (matches_in E.Extract by.now store.now keys.now probe.now) n }
     ensures { result ≡ the_next (same_node n)
         (matches_in E.Extract by.now store.now keys.now probe.now) }
 {
     match by {
         AnyIndex::Hashed(buckets) => buckets.next_of(store, keys, probe, n),
-        _ => next_in_order(by, store, keys, index, probe, n),
+        AnyIndex::Ordered(tree) => next_in_order(by, store, keys, tree.index(), probe, n),
+        AnyIndex::Ranked(tree) => next_in_order(by, store, keys, tree.index(), probe, n),
+        AnyIndex::Sequenced(_) | AnyIndex::Random(_) => unreachable!(),
     }
 }
 

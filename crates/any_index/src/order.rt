@@ -1,24 +1,23 @@
 //! Changes of the order of a sequence.
-ghost use Rattle.std.specs.Prelude.{◌≡◌, ◌≤◌, IsTrue, length, reverse as reversed, IsPermutation};
+ghost use Rattle.std.specs.Prelude.{◌≡◌, ◌≤◌, length, reverse as reversed, IsPermutation};
 ghost use Rattle.container_model.specs.State.{is_sequence_kind};
 ghost use Rattle.list_model.specs.Walk.{relocated};
 ghost use Rattle.node_store.specs.ByNode.{column_of, same_node};
 ghost use Rattle.any_index.specs.Lists.{IsSunk};
 ghost use Rattle.any_index.specs.Marks.{HasMarks, is_marked};
-ghost use Rattle.any_index.specs.Spelled.{HasRoom, kind_of, col_of};
+ghost use Rattle.any_index.specs.Spelled.{HasRoom, col_of};
 
 use crate::AnyIndex;
 use node_store::{Node, NodeStore};
 
 impl AnyIndex {
-    ghost use Rattle.any_index.specs.Stored.{nodes_of, IsIn, HasNode, KeepsRest};
+    ghost use Rattle.any_index.specs.Stored.{nodes_of, IsIn, IsOfKind, HasNodeOfKind, KeepsRest};
 
     /// Moves `n` before the node at the place, or last. The place counts with `n` still in. It takes no memory. In a
     /// chain O(the distance of the place from the nearer end), in a row O(the nodes between both places).
     pub fn move_to<R>(&mut self, store: &mut NodeStore<R>, place: u64, n: Node)
-        requires node { HasNode self.old store.old n }
+        requires node { HasNodeOfKind is_sequence_kind self.old store.old n }
         requires place { place ≤ length (nodes_of self.old store.old) }
-        requires kind { IsTrue (is_sequence_kind (kind_of self.old)) }
         ensures sound { IsIn self.new store.new }
         ensures list { nodes_of self.new store.new ≡ relocated (same_node n) n place
             (nodes_of self.old store.old) }
@@ -34,9 +33,8 @@ impl AnyIndex {
 
     /// Puts the nodes into this order. It takes no memory. O(nodes).
     pub fn rearrange<R>(&mut self, store: &mut NodeStore<R>, order: &[Node])
-        requires sound { IsIn self.old store.old }
+        requires sequence { IsOfKind is_sequence_kind self.old store.old }
         requires same { IsPermutation (nodes_of self.old store.old) order.now }
-        requires kind { IsTrue (is_sequence_kind (kind_of self.old)) }
         ensures sound { IsIn self.new store.new }
         ensures list { nodes_of self.new store.new ≡ order.now }
         ensures room { HasRoom self.old → HasRoom self.new }
@@ -51,8 +49,7 @@ impl AnyIndex {
 
     /// Turns the order of the nodes round. It takes no memory. O(nodes).
     pub fn reverse<R>(&mut self, store: &mut NodeStore<R>)
-        requires sound { IsIn self.old store.old }
-        requires kind { IsTrue (is_sequence_kind (kind_of self.old)) }
+        requires { IsOfKind is_sequence_kind self.old store.old }
         ensures sound { IsIn self.new store.new }
         ensures list { nodes_of self.new store.new ≡ reversed (nodes_of self.old store.old) }
         ensures room { HasRoom self.old → HasRoom self.new }

@@ -1,20 +1,18 @@
 //! Walks and places of an index that has an order.
-ghost use Rattle.std.specs.Prelude.{◌≡◌, IsTrue, not, slice_get};
-ghost use Rattle.container_model.specs.State.{has_places_kind, is_hashed_kind};
+ghost use Rattle.std.specs.Prelude.{◌≡◌, slice_get};
+ghost use Rattle.container_model.specs.State.{has_places_kind};
 ghost use Rattle.list_model.specs.Walk.{place_of as the_place, next as the_next, prev as the_prev, last as the_last};
 ghost use Rattle.node_store.specs.ByNode.{same_node};
-ghost use Rattle.any_index.specs.Spelled.{kind_of};
 
 use crate::AnyIndex;
 use node_store::{Node, NodeStore};
 
 impl AnyIndex {
-    ghost use Rattle.any_index.specs.Stored.{nodes_of, IsIn, HasNode};
+    ghost use Rattle.any_index.specs.Stored.{nodes_of, has_walk_kind, IsOfKind, HasNodeOfKind};
 
     /// The first node. O(log n) in a tree, O(1) in a sequence. A hashed index has no such call.
     pub fn first<R>(&self, store: &NodeStore<R>) -> Option<Node>
-        requires sound { IsIn self.now store.now }
-        requires kind { IsTrue (not (is_hashed_kind (kind_of self.now))) }
+        requires { IsOfKind has_walk_kind self.now store.now }
         ensures { result ≡ slice_get (nodes_of self.now store.now) 0 }
     {
         match self {
@@ -28,8 +26,7 @@ impl AnyIndex {
 
     /// The last node. O(log n) in a tree, O(1) in a sequence. A hashed index has no such call.
     pub fn last<R>(&self, store: &NodeStore<R>) -> Option<Node>
-        requires sound { IsIn self.now store.now }
-        requires kind { IsTrue (not (is_hashed_kind (kind_of self.now))) }
+        requires { IsOfKind has_walk_kind self.now store.now }
         ensures { result ≡ the_last (nodes_of self.now store.now) }
     {
         match self {
@@ -45,8 +42,7 @@ impl AnyIndex {
     /// sequence. A hashed index has no such call.
     #[inline(always)]
     pub fn next<R>(&self, store: &NodeStore<R>, n: Node) -> Option<Node>
-        requires node { HasNode self.now store.now n }
-        requires kind { IsTrue (not (is_hashed_kind (kind_of self.now))) }
+        requires { HasNodeOfKind has_walk_kind self.now store.now n }
         ensures { result ≡ the_next (same_node n) (nodes_of self.now store.now) }
     {
         match self {
@@ -61,8 +57,7 @@ impl AnyIndex {
     /// The node before `n`, or `None` at the front. The costs are those of `next`. A hashed index has no such call.
     #[inline(always)]
     pub fn prev<R>(&self, store: &NodeStore<R>, n: Node) -> Option<Node>
-        requires node { HasNode self.now store.now n }
-        requires kind { IsTrue (not (is_hashed_kind (kind_of self.now))) }
+        requires { HasNodeOfKind has_walk_kind self.now store.now n }
         ensures { result ≡ the_prev (same_node n) (nodes_of self.now store.now) }
     {
         match self {
@@ -77,8 +72,7 @@ impl AnyIndex {
     /// The node at a place, counted from 0, or `None` past the end: of a row in O(1), of a ranked tree in O(log n).
     #[inline(always)]
     pub fn nth<R>(&self, store: &NodeStore<R>, place: u64) -> Option<Node>
-        requires sound { IsIn self.now store.now }
-        requires kind { IsTrue (has_places_kind (kind_of self.now)) }
+        requires { IsOfKind has_places_kind self.now store.now }
         ensures { result ≡ slice_get (nodes_of self.now store.now) place }
     {
         match self {
@@ -91,8 +85,7 @@ impl AnyIndex {
     /// The place of `n`, counted from 0: in a row in O(1), in a ranked tree in O(log n). It reads no record.
     #[inline(always)]
     pub fn place_of<R>(&self, store: &NodeStore<R>, n: Node) -> u64
-        requires node { HasNode self.now store.now n }
-        requires kind { IsTrue (has_places_kind (kind_of self.now)) }
+        requires { HasNodeOfKind has_places_kind self.now store.now n }
         ensures { result ≡ the_place (same_node n) (nodes_of self.now store.now) }
     {
         match self {

@@ -1,13 +1,13 @@
 //! Look-ups by a key.
-ghost use Rattle.std.specs.Prelude.{◌≡◌, IfSome, IsTrue, cond, Some, None, IfOk, IfErr, OnOk};
+ghost use Rattle.std.specs.Prelude.{◌≡◌, IfSome, cond, Some, None, IfOk, IfErr, OnOk};
 ghost use Rattle.std.specs.Ordering.{is_le};
 ghost use Rattle.std.specs.declared.cmp.Ordering.TheVariants.{Equal};
 ghost use Rattle.hash_index.specs.Stored as chains;
 ghost use Rattle.ord_tree.specs.Stored as trees;
-ghost use Rattle.container_model.specs.State.{has_key_kind, is_ranked_kind, is_sorted_kind};
+ghost use Rattle.container_model.specs.State.{is_ranked_kind, is_sorted_kind};
 ghost use Rattle.list_model.specs.Place.{below, not_above, count_equal, find_equal, lower as the_lower, upper as the_upper, find_rank as the_rank};
 ghost use Rattle.node_store.specs.Store.{age_of};
-ghost use Rattle.any_index.specs.Side.{AreNodesOf, equal_but};
+ghost use Rattle.any_index.specs.Side.{equal_but};
 ghost use Rattle.ord_tree.specs.Last.{last_that};
 ghost use Rattle.any_index.specs.Spelled.{Holds, kind_of, by_age};
 
@@ -20,7 +20,7 @@ use ord_tree::{NoTally, OrdTree};
 use rank_tree::{find_rank, lower_rank, upper_rank};
 
 impl AnyIndex {
-    ghost use Rattle.any_index.specs.Stored.{nodes_of, side_in, record_side_in, IsFiledOnce, CanFind, CanSearch};
+    ghost use Rattle.any_index.specs.Stored.{nodes_of, side_in, record_side_in, IsFiledOnce, CanFind, CanSearchKind};
 
     /// The first node that has the key: of a hashed index, the one that was added first. O(log n) in a tree; in buckets
     /// expected O(1), and O(1 + the nodes that have the key) once nodes came to it that were added long before others of
@@ -88,8 +88,7 @@ impl AnyIndex {
         keys: &E,
         probe: &E::Probe,
     ) -> Option<Node>
-        requires kind { IsTrue (is_sorted_kind (kind_of self.now)) }
-        requires search { CanSearch E.Extract self.now store.now keys.now probe.now }
+        requires { CanSearchKind E.Extract is_sorted_kind self.now store.now keys.now probe.now }
         ensures { result ≡ the_lower (side_in E.Extract self.now store.now keys.now probe.now)
             (nodes_of self.now store.now) }
     {
@@ -107,8 +106,7 @@ impl AnyIndex {
         keys: &E,
         probe: &E::Probe,
     ) -> Option<Node>
-        requires kind { IsTrue (is_sorted_kind (kind_of self.now)) }
-        requires search { CanSearch E.Extract self.now store.now keys.now probe.now }
+        requires { CanSearchKind E.Extract is_sorted_kind self.now store.now keys.now probe.now }
         ensures { result ≡ the_upper (side_in E.Extract self.now store.now keys.now probe.now)
             (nodes_of self.now store.now) }
     {
@@ -126,8 +124,7 @@ impl AnyIndex {
         keys: &E,
         probe: &E::Probe,
     ) -> u64
-        requires kind { IsTrue (is_ranked_kind (kind_of self.now)) }
-        requires search { CanSearch E.Extract self.now store.now keys.now probe.now }
+        requires { CanSearchKind E.Extract is_ranked_kind self.now store.now keys.now probe.now }
         ensures { result ≡ the_rank (side_in E.Extract self.now store.now keys.now probe.now)
             (nodes_of self.now store.now) }
     {
@@ -147,8 +144,7 @@ impl AnyIndex {
         keys: &E,
         probe: &E::Probe,
     ) -> u64
-        requires kind { IsTrue (is_ranked_kind (kind_of self.now)) }
-        requires search { CanSearch E.Extract self.now store.now keys.now probe.now }
+        requires { CanSearchKind E.Extract is_ranked_kind self.now store.now keys.now probe.now }
         ensures { result ≡ below (side_in E.Extract self.now store.now keys.now probe.now)
             (nodes_of self.now store.now) }
     {
@@ -168,8 +164,7 @@ impl AnyIndex {
         keys: &E,
         probe: &E::Probe,
     ) -> u64
-        requires kind { IsTrue (is_ranked_kind (kind_of self.now)) }
-        requires search { CanSearch E.Extract self.now store.now keys.now probe.now }
+        requires { CanSearchKind E.Extract is_ranked_kind self.now store.now keys.now probe.now }
         ensures { result ≡ not_above (side_in E.Extract self.now store.now keys.now probe.now)
             (nodes_of self.now store.now) }
     {
@@ -191,9 +186,7 @@ impl AnyIndex {
         r: &R,
         except: Option<Node>,
     ) -> Option<Node>
-        requires kind { IsTrue (has_key_kind (kind_of self.now)) }
-        requires except { AreNodesOf store.now except }
-        requires others { IsFiledOnce E.Extract except self.now store.now keys.now }
+        requires { IsFiledOnce E.Extract except self.now store.now keys.now }
         ensures { result ≡ equal_but except
             (record_side_in E.Extract self.now store.now keys.now r.now)
             (nodes_of self.now store.now) }
@@ -215,8 +208,7 @@ impl AnyIndex {
         keys: &E,
         r: &R,
     ) -> Result<Option<Node>, Node>
-        requires kind { IsTrue (has_key_kind (kind_of self.now)) }
-        requires filed { IsFiledOnce E.Extract None self.now store.now keys.now }
+        requires { IsFiledOnce E.Extract None self.now store.now keys.now }
         ensures free { OnOk result (equal_but None
             (record_side_in E.Extract self.now store.now keys.now r.now)
             (nodes_of self.now store.now) ≡ None) }

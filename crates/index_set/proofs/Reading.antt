@@ -7,6 +7,7 @@ use Rattle.std.specs.Option.{option_map_or}
 use Rattle.std.specs.declared.cmp.Ordering.{Ordering}
 use Rattle.list_model.proofs.Lists.{slice_get_at}
 use Rattle.node_store.specs.declared.Node.{Node}
+use Rattle.node_store.specs.Nodes.{Holds}
 use Rattle.node_store.specs.ByNode.{record_of, columns_in}
 use Rattle.container_model.specs.declared.handle.Spec.{Spec}
 use Rattle.container_model.specs.declared.handle.Kind.{Kind}
@@ -16,7 +17,7 @@ use Rattle.any_index.specs.declared.index.AnyIndex.{AnyIndex}
 use Rattle.any_index.specs.Spelled as any
 use Rattle.any_index.specs.Side.{side_of}
 use Rattle.any_index.specs.Keyed as keyed
-use Rattle.any_index.specs.Stored.{CanFind, CanSearch}
+use Rattle.any_index.specs.Stored.{CanFind, CanSearchKind, IsOfKind, HasNodeOfKind}
 use Rattle.key_extract.specs.declared.extract.Extract.{Ghosts}
 use Rattle.index_set.specs.declared.set.IndexSet.{IndexSet}
 use Rattle.index_set.specs.Set.{IsSound, IsKeyed, list_of, kind_at, probe_side}
@@ -69,6 +70,14 @@ module _ {R E : Type 0} {has_key : E → ℕ → Bool} (s : IndexSet R E) (sound
   pub is_kind : (p : _ → Bool) → IsTrue (p (kind_at s k)) → IsTrue (p (any.kind_of i))
   is_kind p h = subst (λ z. IsTrue (p z)) (sym kind_here) h
 
+  -- it is of a kind that has a call
+  pub of_kind : (has : Kind → Bool) → IsTrue (has (kind_at s k)) → IsOfKind has i s.store
+  of_kind has kind = record { kind = is_kind has kind; sound = sound_here }
+
+  -- and the node is one of its
+  pub node_of_kind : (has : Kind → Bool) → IsTrue (has (kind_at s k)) → (n : Node) → Holds (list_of s k) n → HasNodeOfKind has i s.store n
+  node_of_kind has kind n held = record { kind = is_kind has kind; node = record { sound = sound_here; held = subst (λ z. Holds z n) (sym list_here) held } }
+
   pub its_key : keyed.HasItsKey (has_key s.keys) i
   its_key = subst (λ (z : AnyIndex). keyed.HasItsKey (has_key s.keys) z) (sym e) (key_here (has_key s.keys) (columns_in s.store) s.specs.items s.indices.items k some_spec i lt sound.keys sound.placed)
 
@@ -108,10 +117,13 @@ module _ {R E P : Type 0} (X : Ghosts E R P) (s : IndexSet R E) (sound : IsSound
     keyed = keyed_here s sound k lt i e X.order_of (marks_of X) keyed;
   }
 
-  pub can_search : (probe : P) → IsTrue (has_key_kind (kind_at s k)) → IsTrue (X.does_fit s.keys k probe) → IsKeyed X.order_of (marks_of X) s → CanSearch X i s.store s.keys probe
-  can_search probe has fits keyed = record {
-    sound = sound_here s sound k lt i e;
-    key = its_key s sound k lt i e;
-    fits = fits_here s sound k lt i e has (λ j. X.does_fit s.keys j probe) fits;
-    keyed = keyed_here s sound k lt i e X.order_of (marks_of X) keyed;
+  pub can_search : (has : Kind → Bool) → IsTrue (has (kind_at s k)) → (probe : P) → IsTrue (has_key_kind (kind_at s k)) → IsTrue (X.does_fit s.keys k probe) → IsKeyed X.order_of (marks_of X) s → CanSearchKind X has i s.store s.keys probe
+  can_search has kind probe key fits keyed = record {
+    kind = is_kind s sound k lt i e has kind;
+    search = record {
+      sound = sound_here s sound k lt i e;
+      key = its_key s sound k lt i e;
+      fits = fits_here s sound k lt i e key (λ j. X.does_fit s.keys j probe) fits;
+      keyed = keyed_here s sound k lt i e X.order_of (marks_of X) keyed;
+    };
   }

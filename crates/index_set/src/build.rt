@@ -1,12 +1,12 @@
 //! One index more, outside the set.
-ghost use Rattle.std.specs.Prelude.{◌≡◌, ℕ, ◌<◌, ◌≤◌, ◌==◌, Bool, true, false, cond, [], None, IfOk, IfErr, OnOk, IsTrue, length};
+ghost use Rattle.std.specs.Prelude.{◌≡◌, ℕ, ◌<◌, ◌≤◌, ◌==◌, true, false, cond, [], None, IfOk, IfErr, OnOk, IsTrue, length};
 ghost use Rattle.std.specs.List.{AllByRecursion, list_any};
 ghost use Rattle.node_store.specs.Column.{KeepsOthers};
 ghost use Rattle.node_store.specs.Nodes.{IsDistinct};
 ghost use Rattle.node_store.specs.Store.{IsNodeOf, age_of, width_of};
 ghost use Rattle.node_store.specs.ByNode.{column_of, record_of, contents, columns_in};
 ghost use Rattle.container_model.specs.State.{has_key_kind};
-ghost use Rattle.any_index.specs.Spelled.{list_of, kind_of, col_of};
+ghost use Rattle.any_index.specs.Spelled.{list_of, col_of};
 ghost use Rattle.any_index.specs.Stored.{IsFiledOnce, nodes_of, record_side_in};
 ghost use Rattle.any_index.specs.Keyed.{marks_of, IsKeyed};
 ghost use Rattle.any_index.specs.Side.{order_at, equal_but};
@@ -60,8 +60,7 @@ fn rival<R, E: Extract<R>>(
     unique: bool,
     r: &R,
 ) -> Option<Node>
-    requires kind { IsTrue unique → IsTrue (has_key_kind (kind_of index.now)) }
-    requires once { IsTrue unique → IsFiledOnce E.Extract None index.now store.now keys.now }
+    requires { IsTrue unique → IsFiledOnce E.Extract None index.now store.now keys.now }
     ensures { result ≡ cond unique (equal_but None
         (record_side_in E.Extract index.now store.now keys.now r.now)
         (nodes_of index.now store.now)) None }

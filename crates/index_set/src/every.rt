@@ -10,7 +10,7 @@ ghost use Rattle.container_model.specs.Insert.{place_in};
 ghost use Rattle.any_index.specs.Keyed.{marks_of, IsKeyed};
 ghost use Rattle.any_index.specs.Lists.{settled_in};
 ghost use Rattle.any_index.specs.Spelled.{kind_of};
-ghost use Rattle.any_index.specs.Stored.{HasNode, IsFiledBut, IsIn, KeepsRest, nodes_of, order_in};
+ghost use Rattle.any_index.specs.Stored.{IsFiledBut, IsIn, KeepsRest, nodes_of, order_in};
 ghost use Rattle.index_set.specs.Changed.{AreKeyedBeside};
 ghost use Rattle.index_set.specs.Each.{changed_from, list_at};
 ghost use Rattle.index_set.specs.Indices.{ArePlaced, AreWithin, lists_in, HaveRoom, LackIt, HoldIt, AreKeyed, AreKeyedBut};
@@ -159,8 +159,7 @@ fn settle_where<R, E: Extract<R>>(
     n: Node,
     changed: bool,
 )
-    requires node { HasNode index.old store.old n }
-    requires others { IsFiledBut E.Extract n index.old store.old keys.now }
+    requires filed { IsFiledBut E.Extract n index.old store.old keys.now }
     requires kept { changed ≡ false →
         IsKeyed (E.order_of keys.now) (marks_of E.Extract keys.now) store.old index.old }
     ensures sound { IsIn index.new store.new }

@@ -89,7 +89,6 @@ impl<R, E: Extract<R>> IndexSet<R, E> {
         let low = self.indices[index].mark_key(
             &mut self.store,
             &self.keys,
-            index,
             probe,
             &self.indices[row],
         );

@@ -2,13 +2,16 @@ use Rattle.std.proofs.Common.{◌≡◌, true, false, sym, ap, ◌∙◌, rules}
 use Rattle.std.specs.Ordering.{is_eq}
 use Rattle.node_store.specs.ByNode.{columns_in, record_of}
 use Rattle.ord_tree.proofs.KeySides.{side_of-is}
-use Rattle.any_index.specs.Spelled.{list_of, index_of}
+use Rattle.any_index.specs.Spelled.{list_of, kind_of, index_of}
 use Rattle.any_index.proofs.Laws.{Holds_at, node_held}
-use Rattle.any_index.proofs.Marking.{match_listed, tree_next}
+use Rattle.any_index.proofs.Marking.{match_listed, sorted_walks, tree_next}
 use Rattle.any_index.proofs.marks.next_in_order.Goals as goal
 
-pub next-requires-clause-node : goal.next-requires-clause-node
-next-requires-clause-node g c = record { sound = c.requires.find.sound; held = match_listed g.E.Extract c.args.by.now c.args.store.now c.args.keys.now c.args.probe.now c.args.n c.requires.held }
+pub next-requires : goal.next-requires
+next-requires g c = record {
+  kind = sorted_walks (kind_of c.args.by.now) c.requires.kind;
+  node = record { sound = c.requires.find.sound; held = match_listed g.E.Extract c.args.by.now c.args.store.now c.args.keys.now c.args.probe.now c.args.n c.requires.held };
+}
 
 pub get-requires : goal.get-requires
 get-requires g c =

@@ -12,13 +12,12 @@ use Rattle.index_set.proofs.Banning.{same_at, ban_here, ban_later, ban_not_here}
 use Rattle.index_set.proofs.bans.first_ban.Goals as goal
 use Rattle.index_set.proofs.bans.first_ban.Goals.{then-specs-index+then-has+in_default, else-specs-index, else-specs-index-via-then-specs-index+else-has, else-specs-index-via-else-specs-index}
 
-pub same_as-requires-clause-kind : goal.same_as-requires-clause-kind
-same_as-requires-clause-kind g c =
-    subst (λ z. IsTrue (has_key_kind z)) (sym (ap kind_of c.index-indices-index.is ∙ (c.requires.placed.each c.loop-index.index some_spec c.index-indices-index.result c.loop-index-test.true).kind))
-    (c.requires.keys.unique c.loop-index.index some_spec c.loop-index-test.true c.if-specs-index.true)
-
-pub same_as-requires-clause-others : goal.same_as-requires-clause-others
-same_as-requires-clause-others g c = record {
+pub same_as-requires : goal.same_as-requires
+same_as-requires g c = record {
+  kind =
+      subst (λ z. IsTrue (has_key_kind z)) (sym (ap kind_of c.index-indices-index.is ∙ (c.requires.placed.each c.loop-index.index some_spec c.index-indices-index.result c.loop-index-test.true).kind))
+      (c.requires.keys.unique c.loop-index.index some_spec c.loop-index-test.true c.if-specs-index.true);
+  excepted = c.requires.except;
   sound = subst (λ i. IsIn i c.args.store.now) (sym c.index-indices-index.is) (c.requires.placed.each c.loop-index.index some_spec c.index-indices-index.result c.loop-index-test.true).sound;
   key =
       subst (λ i. HasItsKey (g.E.Extract.has_key c.args.keys.now) i) (sym c.index-indices-index.is)

@@ -17,13 +17,12 @@ use Rattle.index_set.proofs.FreePlaces.{last_at, place_later, place_not_here}
 use Rattle.index_set.proofs.bans.free_place.Goals as goal
 use Rattle.index_set.proofs.bans.free_place.Goals.{then-specs-index+in-Ok, else-specs-index}
 
-pub free_place-requires-clause-kind : goal.free_place-requires-clause-kind
-free_place-requires-clause-kind g c =
-    subst (λ z. IsTrue (has_key_kind z)) (sym (ap kind_of c.index-indices-index.is ∙ (c.requires.placed.each c.loop-index.index some_spec c.index-indices-index.result c.loop-index-test.true).kind))
-    (c.requires.keys.unique c.loop-index.index some_spec c.loop-index-test.true c.if-specs-index.true)
-
-pub free_place-requires-clause-filed : goal.free_place-requires-clause-filed
-free_place-requires-clause-filed g c = record {
+pub free_place-requires : goal.free_place-requires
+free_place-requires g c = record {
+  kind =
+      subst (λ z. IsTrue (has_key_kind z)) (sym (ap kind_of c.index-indices-index.is ∙ (c.requires.placed.each c.loop-index.index some_spec c.index-indices-index.result c.loop-index-test.true).kind))
+      (c.requires.keys.unique c.loop-index.index some_spec c.loop-index-test.true c.if-specs-index.true);
+  excepted = λ m e. cc;
   sound = subst (λ i. IsIn i c.args.store.now) (sym c.index-indices-index.is) (c.requires.placed.each c.loop-index.index some_spec c.index-indices-index.result c.loop-index-test.true).sound;
   key =
       subst (λ i. HasItsKey (g.E.Extract.has_key c.args.keys.now) i) (sym c.index-indices-index.is)

@@ -41,13 +41,15 @@ loop-n-init g c =
 pub get-requires : goal.get-requires
 get-requires g c = IsNodeOf_kept c.args.store.now c.loop-n.store _ c.loop-n.invariant.contents (All-at (IsNodeOf c.args.store.now) c.args.nodes.now c.loop-n.n-index _ c.loop-n-test.true c.requires.nodes)
 
-pub rival-requires-clause-once : goal.rival-requires-clause-once
-rival-requires-clause-once g c one =
+pub rival-requires : goal.rival-requires
+rival-requires g c one =
     let order = g.E.Extract.order_of c.args.keys.now in
     let b = c.loop-n.invariant in
     let has = c.requires.unique one in
     let records = records_kept c.args.store.now c.loop-n.store b.contents in
     record {
+      kind = subst (λ z. IsTrue (has_key_kind z)) (sym b.kind) has;
+      excepted = λ m e. cc;
       sound = b.sound;
       key = key_of (g.E.Extract.has_key c.args.keys.now) c.loop-n.made (λ _. subst (λ z. IsTrue (g.E.Extract.has_key c.args.keys.now z)) (sym (b.number has)) (c.requires.key has));
       keyed = b.keyed;
@@ -65,25 +67,32 @@ returns-in-Some-clause-cause g c = (
 
 pub enter-requires-clause-node : goal.enter-requires-clause-node
 enter-requires-clause-node g c =
+    let order = g.E.Extract.order_of c.args.keys.now in
+    let marks = marks_of g.E.Extract c.args.keys.now in
     let b = c.loop-n.invariant in
     let r = c.in-Ok.ensures in
     let same = r.rest.contents ∙ b.contents in
     let kept = width_kept c.args.store.now c.reserve_one.new.store same in
     let at = r.rest.col ∙ b.col in
-    node_in_column c.reserve_one.new.store (col_of c.reserve_one.new.self) _ (omega (arith, c.requires.wide, kept, at))
-    (IsNodeOf_kept c.args.store.now c.reserve_one.new.store _ same (All-at (IsNodeOf c.args.store.now) c.args.nodes.now c.loop-n.n-index _ c.loop-n-test.true c.requires.nodes))
-
-pub enter-requires-clause-new : goal.enter-requires-clause-new
-enter-requires-clause-new g c =
-    let order = g.E.Extract.order_of c.args.keys.now in
-    let marks = marks_of g.E.Extract c.args.keys.now in
-    let b = c.loop-n.invariant in
-    let r = c.in-Ok.ensures in
     let room =
     built_room order marks c.args.store.now c.args.spec c.args.column c.args.index c.args.nodes.now c.loop-n.n-index c.loop-n.store c.reserve_one.new.store c.loop-n.made c.reserve_one.new.self b
     r.rest.col r.rest.kind r.rest.index r.rest.others r.rest.contents r.sound (r.keyed order marks b.keyed) r.list in
-    built_lacks order marks c.args.store.now c.args.spec c.args.column c.args.index c.args.nodes.now c.loop-n.n-index c.reserve_one.new.store c.reserve_one.new.self room _ c.loop-n-test.true
-    (get_or_default c.args.nodes.now c.loop-n.n-index _ _ c.loop-n-test.true) c.requires.distinct
+    record {
+      filed = record {
+        sound = r.sound;
+        key =
+            key_of (g.E.Extract.has_key c.args.keys.now) c.reserve_one.new.self
+            (λ has. let keyed = subst (λ z. IsTrue (has_key_kind z)) room.kind has in subst (λ z. IsTrue (g.E.Extract.has_key c.args.keys.now z)) (sym (room.number keyed)) (c.requires.key keyed));
+        keyed = room.keyed;
+      };
+      room = r.room;
+      node =
+          node_in_column c.reserve_one.new.store (col_of c.reserve_one.new.self) _ (omega (arith, c.requires.wide, kept, at))
+          (IsNodeOf_kept c.args.store.now c.reserve_one.new.store _ same (All-at (IsNodeOf c.args.store.now) c.args.nodes.now c.loop-n.n-index _ c.loop-n-test.true c.requires.nodes));
+      new =
+          built_lacks order marks c.args.store.now c.args.spec c.args.column c.args.index c.args.nodes.now c.loop-n.n-index c.reserve_one.new.store c.reserve_one.new.self room _ c.loop-n-test.true
+          (get_or_default c.args.nodes.now c.loop-n.n-index _ _ c.loop-n-test.true) c.requires.distinct;
+    }
 
 pub loop-n-preserved : goal.loop-n-preserved
 loop-n-preserved g c =

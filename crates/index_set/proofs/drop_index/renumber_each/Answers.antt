@@ -2,6 +2,7 @@ use Rattle.std.proofs.Common.{◌≡◌, ◌≢◌, sym, ◌∙◌, subst, arith
 use Rattle.std.proofs.lemmas.Bool.{cases_eq}
 use Rattle.std.proofs.lemmas.List.{length-set, get_or-set_same, get_or-set_other, get_or_default}
 use Rattle.any_index.specs.declared.index.AnyIndex.{AnyIndex}
+use Rattle.any_index.specs.Stored.{IsIn}
 use Rattle.index_set.specs.Dropped.{IsRenumbered}
 use Rattle.index_set.proofs.drop_index.renumber_each.Goals as goal
 
@@ -15,7 +16,7 @@ loop-index-preserved g c =
     let new = c.renumber.new.self in
     let r = c.renumber.ensures in
     let b = c.loop-index.invariant in
-    let here : IsRenumbered s k i new = record { sound = r.sound; list = r.list; kind = r.kind; col = r.col; number = r.index; room = r.room; keyed = r.keyed } in
+    let here : IsRenumbered s k i new = record { sound = r.sound (subst (λ z. IsIn z s) (sym (c.index_mut.ensures.value ∙ b.rest k i (omega arith))) (c.requires k i (omega (arith, b.count)))); list = r.list; kind = r.kind; col = r.col; number = r.index; room = r.room; keyed = r.keyed } in
     record {
       count = length-set is k new ∙ b.count;
       done = λ j d below within.

@@ -21,32 +21,29 @@ loop-index-init g c = record {
   room = λ j d e lt _. c.requires.room.each j d e lt;
 }
 
-pub enter-requires-clause-filed : goal.enter-requires-clause-filed
-enter-requires-clause-filed g c = record {
-  sound = (c.loop-index.invariant.walk.placed.each c.loop-index.index (record { kind = Sequenced; unique = false }) _ c.loop-index-test.true).sound;
-  key = key_here (g.E.Extract.has_key c.args.keys.now) (columns_in c.loop-index.store) c.args.specs.now c.loop-index.indices c.loop-index.index (record { kind = Sequenced; unique = false }) _ c.loop-index-test.true c.requires.keys c.loop-index.invariant.walk.placed;
-  keyed = keyed_here (g.E.Extract.order_of c.args.keys.now) (marks_of g.E.Extract c.args.keys.now) (λ xs. xs) c.args.specs.now c.loop-index.store c.loop-index.indices c.loop-index.index _ c.loop-index-test.true c.loop-index.invariant.keyed;
+pub enter-requires-clause-node : goal.enter-requires-clause-node
+enter-requires-clause-node g c = record {
+  filed = record {
+    sound = (c.loop-index.invariant.walk.placed.each c.loop-index.index (record { kind = Sequenced; unique = false }) _ c.loop-index-test.true).sound;
+    key = key_here (g.E.Extract.has_key c.args.keys.now) (columns_in c.loop-index.store) c.args.specs.now c.loop-index.indices c.loop-index.index (record { kind = Sequenced; unique = false }) _ c.loop-index-test.true c.requires.keys c.loop-index.invariant.walk.placed;
+    keyed = keyed_here (g.E.Extract.order_of c.args.keys.now) (marks_of g.E.Extract c.args.keys.now) (λ xs. xs) c.args.specs.now c.loop-index.store c.loop-index.indices c.loop-index.index _ c.loop-index-test.true c.loop-index.invariant.keyed;
+  };
+  room = c.loop-index.invariant.room c.loop-index.index (record { kind = Sequenced; unique = false }) _ c.loop-index-test.true (omega arith);
+  node = let kept = width_kept c.args.store.now c.loop-index.store c.loop-index.invariant.walk.contents in
+      let within = subst (λ w. AreWithin w c.args.specs.now c.loop-index.indices) (sym kept) (c.loop-index.invariant.walk.within (width_of c.args.store.now) c.requires.columns) in
+      node_there c.loop-index.store c.args.n c.args.specs.now c.loop-index.indices c.loop-index.index (record { kind = Sequenced; unique = false }) _ c.loop-index-test.true within
+      (IsNodeOf_kept c.args.store.now c.loop-index.store c.args.n c.loop-index.invariant.walk.contents c.requires.node);
+  new = subst (λ z. Lacks z c.args.n) (sym (walk_here _ _ _ _ _ _ _ _ c.loop-index-test.true c.loop-index.invariant.walk))
+      (all_listed (λ xs. Lacks xs c.args.n) c.args.specs.now _ (length-map c.args.indices.now (list_of (columns_in c.args.store.now)) ∙ c.requires.placed.one_each) c.requires.new c.loop-index.index c.loop-index-test.true);
 }
 
-pub enter-requires-clause-node : goal.enter-requires-clause-node
-enter-requires-clause-node g c =
-    let kept = width_kept c.args.store.now c.loop-index.store c.loop-index.invariant.walk.contents in
-    let within = subst (λ w. AreWithin w c.args.specs.now c.loop-index.indices) (sym kept) (c.loop-index.invariant.walk.within (width_of c.args.store.now) c.requires.columns) in
-    node_there c.loop-index.store c.args.n c.args.specs.now c.loop-index.indices c.loop-index.index (record { kind = Sequenced; unique = false }) _ c.loop-index-test.true within
-    (IsNodeOf_kept c.args.store.now c.loop-index.store c.args.n c.loop-index.invariant.walk.contents c.requires.node)
-
-pub enter-requires-clause-new : goal.enter-requires-clause-new
-enter-requires-clause-new g c =
-    subst (λ z. Lacks z c.args.n) (sym (walk_here _ _ _ _ _ _ _ _ c.loop-index-test.true c.loop-index.invariant.walk))
-    (all_listed (λ xs. Lacks xs c.args.n) c.args.specs.now _ (length-map c.args.indices.now (list_of (columns_in c.args.store.now)) ∙ c.requires.placed.one_each) c.requires.new c.loop-index.index c.loop-index-test.true)
-
-pub enter-requires-clause-room : goal.enter-requires-clause-room
-enter-requires-clause-room g c = c.loop-index.invariant.room c.loop-index.index (record { kind = Sequenced; unique = false }) _ c.loop-index-test.true (omega arith)
-
-pub enter-requires-clause-place : goal.enter-requires-clause-place
-enter-requires-clause-place g c p e =
-    subst (λ z. p ≤ length z) (sym (walk_here _ _ _ _ _ _ _ _ c.loop-index-test.true c.loop-index.invariant.walk))
-    (c.requires.place c.loop-index.index p (asked_here c.args.at c.loop-index.index p (sym c.place_in.ensures ∙ e)))
+pub enter-requires-clause-goes : goal.enter-requires-clause-goes
+enter-requires-clause-goes g c = record {
+  place = λ p e. subst (λ z. p ≤ length z) (sym (walk_here _ _ _ _ _ _ _ _ c.loop-index-test.true c.loop-index.invariant.walk))
+      (c.requires.place c.loop-index.index p (asked_here c.args.at c.loop-index.index p (sym c.place_in.ensures ∙ e)));
+  last = λ m e has.
+      known_here (g.E.Extract.order_of c.args.keys.now) _ c.args.store.now c.args.specs.now c.args.indices.now c.loop-index.index c.loop-index.store c.loop-index.indices (record { kind = Sequenced; unique = false }) _ c.loop-index-test.true c.loop-index.invariant.walk c.args.n c.args.known c.requires.known m (sym c.last_in-last.ensures ∙ e) has;
+}
 
 pub loop-index-preserved : goal.loop-index-preserved
 loop-index-preserved g c =
@@ -67,7 +64,3 @@ returns-clause-lists g c = walk_end _ c.args.store.now c.args.specs.now c.args.i
 
 pub returns-clause-keyed : goal.returns-clause-keyed
 returns-clause-keyed g c = record { each = keyed_end (g.E.Extract.order_of c.args.keys.now) (marks_of g.E.Extract c.args.keys.now) (λ xs. xs) c.args.specs.now c.loop-index.store c.loop-index.indices c.loop-index.index (omega arith) c.loop-index.invariant.keyed }
-
-pub enter-requires-clause-last : goal.enter-requires-clause-last
-enter-requires-clause-last g c = λ m e has.
-    known_here (g.E.Extract.order_of c.args.keys.now) _ c.args.store.now c.args.specs.now c.args.indices.now c.loop-index.index c.loop-index.store c.loop-index.indices (record { kind = Sequenced; unique = false }) _ c.loop-index-test.true c.loop-index.invariant.walk c.args.n c.args.known c.requires.known m (sym c.last_in-last.ensures ∙ e) has

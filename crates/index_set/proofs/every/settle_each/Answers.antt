@@ -20,17 +20,14 @@ loop-index-init g c = record {
   beside = λ j e d lt above. c.requires.beside.each j e d lt;
 }
 
-pub settle_where-requires-clause-node : goal.settle_where-requires-clause-node
-settle_where-requires-clause-node g c = record {
-  sound = (c.loop-index.invariant.walk.placed.each c.loop-index.index (record { kind = Sequenced; unique = false }) _ c.loop-index-test.true).sound;
-  held =
-      subst (λ z. Holds z c.args.n) (sym (walk_here _ _ _ _ _ _ _ _ c.loop-index-test.true c.loop-index.invariant.walk))
-      (all_listed (λ xs. Holds xs c.args.n) c.args.specs.now _ (length-map c.args.indices.now (list_of (columns_in c.args.store.now)) ∙ c.requires.placed.one_each) c.requires.held c.loop-index.index c.loop-index-test.true);
-}
-
-pub settle_where-requires-clause-others : goal.settle_where-requires-clause-others
-settle_where-requires-clause-others g c = record {
-  sound = (c.loop-index.invariant.walk.placed.each c.loop-index.index (record { kind = Sequenced; unique = false }) _ c.loop-index-test.true).sound;
+pub settle_where-requires-clause-filed : goal.settle_where-requires-clause-filed
+settle_where-requires-clause-filed g c = record {
+  node = record {
+    sound = (c.loop-index.invariant.walk.placed.each c.loop-index.index (record { kind = Sequenced; unique = false }) _ c.loop-index-test.true).sound;
+    held =
+        subst (λ z. Holds z c.args.n) (sym (walk_here _ _ _ _ _ _ _ _ c.loop-index-test.true c.loop-index.invariant.walk))
+        (all_listed (λ xs. Holds xs c.args.n) c.args.specs.now _ (length-map c.args.indices.now (list_of (columns_in c.args.store.now)) ∙ c.requires.placed.one_each) c.requires.held c.loop-index.index c.loop-index-test.true);
+  };
   key = key_here (g.E.Extract.has_key c.args.keys.now) (columns_in c.loop-index.store) c.args.specs.now c.loop-index.indices c.loop-index.index (record { kind = Sequenced; unique = false }) _ c.loop-index-test.true c.requires.keys c.loop-index.invariant.walk.placed;
   keyed = keyed_here (g.E.Extract.order_of c.args.keys.now) (marks_of g.E.Extract c.args.keys.now) (without (same_node c.args.n)) c.args.specs.now c.loop-index.store c.loop-index.indices c.loop-index.index _ c.loop-index-test.true c.loop-index.invariant.keyed;
 }

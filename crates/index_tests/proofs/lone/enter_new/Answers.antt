@@ -1,4 +1,4 @@
-use Rattle.std.proofs.Common.{subst, sym}
+use Rattle.std.proofs.Common.{subst, sym, rules}
 use Rattle.node_store.specs.Store.{Store}
 use Rattle.node_store.proofs.Ages.{IsStore_added}
 use Rattle.any_index.proofs.Laws.{Lacks_added}
@@ -9,15 +9,20 @@ use Rattle.index_tests.proofs.lone.enter_new.Goals as goal
 pub returns-in_default-clause-lone : goal.returns-in_default-clause-lone
 returns-in_default-clause-lone g c = subst (λ (s : Store g.row.R.Denot). IsLone g.E.Extract s c.make_room.new.index c.args.keys.now) (sym c.in_default.ensures.unchanged) c.make_room.ensures.lone
 
-pub enter-requires-clause-filed : goal.enter-requires-clause-filed
-enter-requires-clause-filed g c =
-    lone_filed g.E.Extract c.args.keys.now c.add.new.self c.add.new.self c.make_room.new.index (lone_added g.E.Extract c.args.keys.now c.make_room.new.store c.add.new.self c.make_room.new.index c.make_room.ensures.lone c.in-Ok.n c.args.value (IsStore_added c.make_room.new.store c.add.new.self c.in-Ok.n c.args.value c.in-Ok.ensures.added c.in-Ok.ensures.age c.in-Ok.ensures.count c.added.ensures.sound) c.in-Ok.ensures.added)
-
 pub enter-requires-clause-node : goal.enter-requires-clause-node
-enter-requires-clause-node g c = node_added g.E.Extract c.args.keys.now c.make_room.new.store c.add.new.self c.make_room.new.index c.make_room.ensures.lone c.in-Ok.n c.args.value (IsStore_added c.make_room.new.store c.add.new.self c.in-Ok.n c.args.value c.in-Ok.ensures.added c.in-Ok.ensures.age c.in-Ok.ensures.count c.added.ensures.sound) c.in-Ok.ensures.added
-
-pub enter-requires-clause-new : goal.enter-requires-clause-new
-enter-requires-clause-new g c = Lacks_added c.make_room.new.store c.add.new.self c.in-Ok.n c.args.value c.make_room.new.index c.in-Ok.ensures.added c.make_room.ensures.lone.sound
+enter-requires-clause-node g c =
+    let old = c.make_room.new.store in
+    let new = c.add.new.self in
+    let index = c.make_room.new.index in
+    let lone = c.make_room.ensures.lone in
+    let added = c.in-Ok.ensures in
+    let store = IsStore_added old new c.in-Ok.n c.args.value added.added added.age added.count c.added.ensures.sound in
+    record {
+      filed = lone_filed g.E.Extract c.args.keys.now new new index (lone_added g.E.Extract c.args.keys.now old new index lone c.in-Ok.n c.args.value store added.added);
+      room = search rules;
+      node = node_added g.E.Extract c.args.keys.now old new index lone c.in-Ok.n c.args.value store added.added;
+      new = Lacks_added old new c.in-Ok.n c.args.value index added.added lone.sound;
+    }
 
 pub returns-clause-lone : goal.returns-clause-lone
 returns-clause-lone g c =

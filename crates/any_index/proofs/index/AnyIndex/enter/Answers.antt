@@ -14,7 +14,7 @@ use Rattle.any_index.proofs.index.AnyIndex.enter.Goals as goal
 
 pub link-requires-in-Hashed-clause-new : goal.link-requires-in-Hashed-clause-new
 link-requires-in-Hashed-clause-new g c =
-    let new = rw c.in-Hashed.is at c.requires.new in
+    let new = rw c.in-Hashed.is at c.requires.node.new in
     Lacks_moved _ _ c.args.n (moved_back (age_of c.args.store.now) _) new
 
 pub returns-in-Some-clause-sound : goal.returns-in-Some-clause-sound
@@ -49,7 +49,7 @@ returns-in-Ordered-clause-list g c = rw c.in-Ordered.is (ord.spelled_is _ _ _ c.
 
 pub returns-in-Ordered-clause-keyed : goal.returns-in-Ordered-clause-keyed
 returns-in-Ordered-clause-keyed g c =
-    let filed = rw c.in-Ordered.is at c.requires.filed in
+    let filed = rw c.in-Ordered.is at c.requires.node.filed in
     let keys = c.args.keys.now in
     linked (g.E.Extract.order_of keys) (marks_of g.E.Extract keys) c.args.store.now c.link.new.store c.in-Ordered.tree c.link.new.self c.args.n (g.met.E.Extract.order_total keys _ filed.key) filed.keyed c.link.ensures.tree c.link.ensures.digested
 
@@ -61,7 +61,7 @@ returns-in-Ranked-clause-list g c = rw c.in-Ranked.is (ord.spelled_is _ _ _ c.li
 
 pub returns-in-Ranked-clause-keyed : goal.returns-in-Ranked-clause-keyed
 returns-in-Ranked-clause-keyed g c =
-    let filed = rw c.in-Ranked.is at c.requires.filed in
+    let filed = rw c.in-Ranked.is at c.requires.node.filed in
     let keys = c.args.keys.now in
     linked (g.E.Extract.order_of keys) (marks_of g.E.Extract keys) c.args.store.now c.link-in-Ranked.new.store c.in-Ranked.tree c.link-in-Ranked.new.self c.args.n (g.met.E.Extract.order_total keys _ filed.key) filed.keyed c.link-in-Ranked.ensures.tree c.link-in-Ranked.ensures.digested
 
@@ -70,7 +70,7 @@ returns-in-Hashed-clause-list g c = rw c.in-Hashed.is (list_entered_late c.args.
 
 pub returns-in-Hashed-clause-keyed : goal.returns-in-Hashed-clause-keyed
 returns-in-Hashed-clause-keyed g c =
-    let keyed = rw c.in-Hashed.is at c.requires.filed.keyed in
+    let keyed = rw c.in-Hashed.is at c.requires.node.filed.keyed in
     let hash = g.E.Extract.hash_of c.args.keys.now in
     let index = buckets.index_of c.in-Hashed.buckets in
     let col = buckets.col_of c.in-Hashed.buckets in
@@ -78,7 +78,7 @@ returns-in-Hashed-clause-keyed g c =
     (c.link-in-Hashed.ensures.hashed (IsHashed_moved (hash index) c.args.store.now col _ _ (moved_back (age_of c.args.store.now) _) keyed))
 
 pub link-requires-clause-last : goal.link-requires-clause-last
-link-requires-clause-last g c = let last = rw c.in-Ordered.is at c.requires.last in λ m e. last m e refl
+link-requires-clause-last g c = let last = rw c.in-Ordered.is at c.requires.goes.last in λ m e. last m e refl
 
 pub link-requires-in-Ranked-clause-last : goal.link-requires-in-Ranked-clause-last
-link-requires-in-Ranked-clause-last g c = let last = rw c.in-Ranked.is at c.requires.last in λ m e. last m e refl
+link-requires-in-Ranked-clause-last g c = let last = rw c.in-Ranked.is at c.requires.goes.last in λ m e. last m e refl

@@ -16,15 +16,15 @@ returns-in-Ranked-clause-taken g c = rw c.in-Ranked.is c.free_place-in-Ranked.en
 
 pub same_as-requires-clause-others : goal.same_as-requires-clause-others
 same_as-requires-clause-others g c =
-    let filed = rw c.in-Hashed.is at c.requires.filed in
+    let filed = rw c.in-Hashed.is at c.requires in
     hashed_but g.E.Extract c.args.store.now c.args.keys.now c.in-Hashed.buckets None filed
 
 pub returns-in-Some-clause-taken : goal.returns-in-Some-clause-taken
 returns-in-Some-clause-taken g c =
-    let filed = rw c.in-Hashed.is at c.requires.filed in
+    let filed = rw c.in-Hashed.is at c.requires in
     rw c.in-Hashed.is (sym (c.same_as.ensures ∙ same_in g.E.Extract c.args.store.now c.args.keys.now c.in-Hashed.buckets (g.met.E.Extract.order_total c.args.keys.now _) None c.args.r.now filed) ∙ c.in-Some.is)
 
 pub returns-in-None-clause-free : goal.returns-in-None-clause-free
 returns-in-None-clause-free g c =
-    let filed = rw c.in-Hashed.is at c.requires.filed in
+    let filed = rw c.in-Hashed.is at c.requires in
     rw c.in-Hashed.is (sym (c.same_as.ensures ∙ same_in g.E.Extract c.args.store.now c.args.keys.now c.in-Hashed.buckets (g.met.E.Extract.order_total c.args.keys.now _) None c.args.r.now filed) ∙ c.in-None.is)

@@ -31,6 +31,6 @@ returns-in-Hashed-clause-keyed g c = λ order after marks marks_after same same_
     (ap (λ (f : _ → Marks). hash_by f) (ap marks_after c.renumber-in-Hashed.ensures.index ∙ key)) c.renumber-in-Hashed.ensures.col (ap (by_age (age_of c.args.store.now)) (c.renumber-in-Hashed.ensures.spelled (column_of c.args.store.now))) keyed
 
 pub returns-in-Hashed-clause-sound : goal.returns-in-Hashed-clause-sound
-returns-in-Hashed-clause-sound g c =
-    let sound = rw c.in-Hashed.is at c.requires in
+returns-in-Hashed-clause-sound g c = λ h.
+    let sound = rw c.in-Hashed.is at h in
     hash.IsSound_from (column_of c.args.store.now) c.renumber-in-Hashed.new.self _ (c.renumber-in-Hashed.ensures.list (age_of c.args.store.now) (column_of c.args.store.now) _ sound)

@@ -22,7 +22,7 @@ returns-in-Ordered-clause-list g c = rw c.in-Ordered.is (ord.spelled_is _ _ _ c.
 
 pub returns-in-Ordered-clause-keyed : goal.returns-in-Ordered-clause-keyed
 returns-in-Ordered-clause-keyed g c =
-    let others = rw c.in-Ordered.is at c.requires.others in
+    let others = rw c.in-Ordered.is at c.requires in
     let node = rw c.in-Ordered.is at c.requires.node in
     let keys = c.args.keys.now in
     settled_in (g.E.Extract.order_of keys) (marks_of g.E.Extract keys) c.args.store.now c.settle.new.store c.in-Ordered.tree c.settle.new.self c.args.n (g.met.E.Extract.order_total keys _ others.key) (record { tree = node.sound; held = node.held }) others.keyed c.settle.ensures.tree c.settle.ensures.digested
@@ -35,7 +35,7 @@ returns-in-Ranked-clause-list g c = rw c.in-Ranked.is (ord.spelled_is _ _ _ c.se
 
 pub returns-in-Ranked-clause-keyed : goal.returns-in-Ranked-clause-keyed
 returns-in-Ranked-clause-keyed g c =
-    let others = rw c.in-Ranked.is at c.requires.others in
+    let others = rw c.in-Ranked.is at c.requires in
     let node = rw c.in-Ranked.is at c.requires.node in
     let keys = c.args.keys.now in
     settled_in (g.E.Extract.order_of keys) (marks_of g.E.Extract keys) c.args.store.now c.settle-in-Ranked.new.store c.in-Ranked.tree c.settle-in-Ranked.new.self c.args.n (g.met.E.Extract.order_total keys _ others.key) (record { tree = node.sound; held = node.held }) others.keyed c.settle-in-Ranked.ensures.tree c.settle-in-Ranked.ensures.digested
@@ -47,7 +47,7 @@ returns-in-Hashed-clause-list g c =
 
 pub returns-in-Hashed-clause-keyed : goal.returns-in-Hashed-clause-keyed
 returns-in-Hashed-clause-keyed g c =
-    let keyed = rw c.in-Hashed.is at c.requires.others.keyed in
+    let keyed = rw c.in-Hashed.is at c.requires.keyed in
     let hash = g.E.Extract.hash_of c.args.keys.now in
     let index = buckets.index_of c.in-Hashed.buckets in
     let col = buckets.col_of c.in-Hashed.buckets in

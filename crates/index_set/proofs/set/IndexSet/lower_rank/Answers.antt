@@ -1,13 +1,10 @@
 use Rattle.container_model.specs.State.{is_ranked_kind}
 use Rattle.list_model.specs.Place.{below}
-use Rattle.index_set.proofs.Reading.{ranked_key, is_kind, sought_here, can_search}
+use Rattle.index_set.proofs.Reading.{ranked_key, sought_here, can_search}
 use Rattle.index_set.proofs.set.IndexSet.lower_rank.Goals as goal
 
-pub lower_rank-requires-clause-kind : goal.lower_rank-requires-clause-kind
-lower_rank-requires-clause-kind g c = is_kind c.args.self.now c.requires.search.sound c.args.index c.requires.search.index c.index.result.now c.index.ensures is_ranked_kind c.requires.kind
-
-pub lower_rank-requires-clause-search : goal.lower_rank-requires-clause-search
-lower_rank-requires-clause-search g c = can_search g.E.Extract c.args.self.now c.requires.search.sound c.args.index c.requires.search.index c.index.result.now c.index.ensures c.args.probe.now (ranked_key _ c.requires.kind) c.requires.search.fits c.requires.search.keyed
+pub lower_rank-requires : goal.lower_rank-requires
+lower_rank-requires g c = can_search g.E.Extract c.args.self.now c.requires.search.sound c.args.index c.requires.search.index c.index.result.now c.index.ensures is_ranked_kind c.requires.kind c.args.probe.now (ranked_key _ c.requires.kind) c.requires.search.fits c.requires.search.keyed
 
 pub returns : goal.returns
 returns g c = sought_here c.args.self.now c.requires.search.sound c.args.index c.requires.search.index c.index.result.now c.index.ensures (ranked_key _ c.requires.kind) below g.E.Extract.probe_order_of c.args.probe.now c.lower_rank.result c.lower_rank.ensures

@@ -1,4 +1,3 @@
-use Rattle.key_extract.specs.Digests.{Marks}
 use Rattle.any_index.specs.Keyed.{marks_of}
 use Rattle.std.proofs.Common.{arith, subst, sym, refl, ap, ◌∙◌}
 use Rattle.std.specs.Prelude.{IsTrue}
@@ -6,11 +5,12 @@ use Rattle.node_store.specs.Nodes.{Holds}
 use Rattle.node_store.specs.ByNode.{column_of, record_of, columns_in}
 use Rattle.any_index.proofs.Marking.{row_list_same}
 use Rattle.index_set.specs.Lists.{IsSunk, is_match}
-use Rattle.container_model.specs.State.{is_sequence_kind}
+use Rattle.container_model.specs.declared.handle.Kind.TheVariants.{Random}
+use Rattle.container_model.specs.State.{has_key_kind, is_sequence_kind}
 use Rattle.any_index.specs.Marks.{is_marked}
 use Rattle.any_index.specs.Side.{side_of}
 use Rattle.any_index.specs.Spelled as any
-use Rattle.index_set.specs.Set.{list_of, probe_side}
+use Rattle.index_set.specs.Set.{list_of, kind_at, probe_side}
 use Rattle.index_set.proofs.Frame.{steps_of}
 use Rattle.index_set.proofs.Reading.{sound_here, kind_here, number_here, can_find, list_here}
 use Rattle.index_set.proofs.Moving.{placed_moved, within_moved, room_moved, keyed_moved}
@@ -23,14 +23,15 @@ mark_key-low-requires-clause-find g c =
     let key = c.requires.key in
     can_find g.E.Extract c.args.self.now key.sound c.args.index key.index c.index.result.now c.index.ensures c.args.probe.now key.kind key.fits key.whole key.keyed
 
-pub mark_key-low-requires-clause-index : goal.mark_key-low-requires-clause-index
-mark_key-low-requires-clause-index g c = sym (number_here c.args.self.now c.requires.key.sound c.args.index c.requires.key.index c.index.result.now c.index.ensures c.requires.key.kind)
-
 pub mark_key-low-requires-clause-row : goal.mark_key-low-requires-clause-row
-mark_key-low-requires-clause-row g c = sound_here c.args.self.now c.requires.at.sound c.args.row c.requires.at.index c.index-2.result.now c.index-2.ensures
-
-pub mark_key-low-requires-clause-kind : goal.mark_key-low-requires-clause-kind
-mark_key-low-requires-clause-kind g c = kind_here c.args.self.now c.requires.at.sound c.args.row c.requires.at.index c.index-2.result.now c.index-2.ensures ∙ c.requires.kind
+mark_key-low-requires-clause-row g c = record {
+  kind = kind_here c.args.self.now c.requires.at.sound c.args.row c.requires.at.index c.index-2.result.now c.index-2.ensures ∙ c.requires.kind;
+  sound = sound_here c.args.self.now c.requires.at.sound c.args.row c.requires.at.index c.index-2.result.now c.index-2.ensures;
+  apart = λ same.
+      c.requires.at.sound.placed.apart c.args.index c.args.row c.index.result.now c.index-2.result.now c.requires.key.index c.requires.at.index
+      (λ e. let bad : IsTrue (has_key_kind Random) = subst (λ k. IsTrue (has_key_kind k)) (ap (kind_at c.args.self.now) e ∙ c.requires.kind) c.requires.key.kind in cc)
+      (sym (ap any.col_of c.index.ensures) ∙ (same ∙ ap any.col_of c.index-2.ensures));
+}
 
 pub returns-clause-sound : goal.returns-clause-sound
 returns-clause-sound g c =
