@@ -1,6 +1,6 @@
 -- A record that enters lists of handles, as its node enters lists of nodes.
-use Rattle.std.proofs.Common.{◌≡◌, ℕ, zero, suc, ◌+◌, ◌<◌, List, [], ◌∷◌, map, Option, Some, refl, ap, sym, ◌∙◌}
-use Rattle.std.specs.Prelude.{insert}
+use Rattle.std.proofs.Common.{◌≡◌, ℕ, zero, suc, ◌+◌, ◌<◌, ◌≤◌, cond, List, [], ◌∷◌, length, map, Option, Some, None, refl, ap, sym, ◌∙◌, arith, ne_eqb}
+use Rattle.std.specs.Prelude.{insert, IfSome}
 use Rattle.std.specs.List.{AllByRecursion}
 use Rattle.std.specs.Option.{option_map_or, option_cmp}
 use Rattle.std.specs.Ordering.{is_le}
@@ -14,8 +14,9 @@ use Rattle.container_model.specs.declared.handle.Entry.{Entry}
 use Rattle.container_model.specs.declared.handle.Spec.{Spec}
 use Rattle.container_model.specs.declared.handle.Kind.{Kind}
 use Rattle.container_model.specs.declared.handle.Kind.TheVariants.{Sequenced, Random, Ordered, Ranked, Hashed}
-use Rattle.container_model.specs.State.{side_of}
-use Rattle.container_model.specs.Insert.{At, place_in, entered_from}
+use Rattle.container_model.specs.declared.handle.Handle.{Handle}
+use Rattle.container_model.specs.State.{State, side_of}
+use Rattle.container_model.specs.Insert.{At, entry_place, place_in, entered_from, new_handle, with_inserted}
 use Rattle.container_model.specs.Insert as handles
 use Rattle.any_index.specs.Side.{order_at}
 use Rattle.any_index.specs.Lists.{entered}
@@ -77,3 +78,22 @@ module _ {R : Type 0} (records : Node → Option (Entry R)) (entries : List (Ent
   entered_all ages order at index (spec ∷ specs) (list ∷ lists) known older =
       ap (λ l. l ∷ handles_in records (changed_from (entered_at (λ i a b. order i a.row b.row) records ages at n) (index + 1) specs lists)) (entered_known (order index) ages (place_in at index) spec.kind list known.0 older.0)
       ∙ ap (λ ls. insert (map (handle_of records) list) (handles.entry_place (order index) entries (place_in at index) e.row spec.kind (map (handle_of records) list)) e.handle ∷ ls) (entered_all ages order at (index + 1) specs lists known.1 older.1)
+
+-- ---- a place of an index that is not there
+
+entered_past : {R : Type 0} (order : ℕ → R → R → Ordering) (entries : List (Entry R)) (place : ℕ × ℕ) (row : R) (h : Handle) (index : ℕ) (specs : List Spec) (lists : List (List Handle)) → index + length specs ≤ place.0 →
+    entered_from order entries (Some place) row h index specs lists ≡ entered_from order entries None row h index specs lists
+entered_past order entries place row h index [] lists past = refl
+entered_past order entries place row h index (spec ∷ specs) [] past = refl
+entered_past order entries place row h index (spec ∷ specs) (list ∷ lists) past =
+    let other : place_in (Some place) index ≡ None = ap (λ b. cond b (Some place.1) None) (ne_eqb place.0 index (omega (arith, past))) in
+    (λ i. insert list (entry_place (order index) entries (other i) row spec.kind list) h ∷ entered_past order entries place row h (index + 1) specs lists (omega (arith, past)) i)
+
+-- it is as if none were asked for
+pub inserted_there : {E R : Type 0} (order : E → ℕ → R → R → Ordering) (s : State E R) (row : R) (at there : At) → IfSome there (λ place. (at ≡ Some place) × (place.0 < length s.specs)) → (there ≡ None → IfSome at (λ place. length s.specs ≤ place.0)) →
+    with_inserted order s there row ≡ with_inserted order s at row
+inserted_there order s row at (Some place) is none = ap (λ o. with_inserted order s o row) (sym is.0)
+inserted_there order s row None None is none = refl
+inserted_there order s row (Some place) None is none =
+    let past : 0 + length s.specs ≤ place.0 = omega (arith, none refl) in
+    (λ i. record (with_inserted order s None row) { lists = sym (entered_past (order s.keys) s.entries place row (new_handle s) 0 s.specs s.lists past) i })

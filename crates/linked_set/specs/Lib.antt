@@ -2,9 +2,12 @@ pub mod Asked
 pub mod ByRow
 pub mod Edges
 pub mod Held
+pub mod Iteration
 pub mod LeadsTo
 pub mod Linked
 pub mod Modified
+pub mod Rearranged
+pub mod Records
 pub mod Refusal
 pub mod Restored
 pub mod Seen

@@ -28,7 +28,7 @@ const FEW: u64 = 5;
 /// takes no memory. For each record that goes, a look-up and O(log n) for each index; and where there are more than a few,
 /// O(the records from the first of them on) for each index whose places can be counted, in which they go behind all others
 /// first, and no record of another key is read.
-pub fn take_key<R: Drop, E: Extract<R>>(
+pub(crate) fn take_key<R: Drop, E: Extract<R>>(
     set: &mut IndexSet<Entry<R>, ByRow<E>>,
     slots: &mut SlotTable<Node>,
     index: usize,

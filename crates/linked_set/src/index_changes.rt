@@ -21,7 +21,7 @@ use std::alloc::Global;
 /// index in order. From now on the set goes by the given keys. Where the index is unique and two records have one key, or
 /// where memory is refused, the keys are handed back, and all is as before. It copies no record. It takes memory for a
 /// node for each record, and what the index itself takes. O(n log n), and expected O(n) in buckets or a sequence.
-pub fn add_index<R, E: Extract<R> + Drop>(
+pub(crate) fn add_index<R, E: Extract<R> + Drop>(
     alloc: Global,
     set: &mut IndexSet<Entry<R>, ByRow<E>>,
     slots: &SlotTable<Node>,
@@ -57,7 +57,7 @@ pub fn add_index<R, E: Extract<R> + Drop>(
 
 /// Why such an index may not be added, as `add_index` tells it; nothing changes. It takes the memory and the time that
 /// adding it takes.
-pub fn check_index<R, E: Extract<R> + Drop>(
+pub(crate) fn check_index<R, E: Extract<R> + Drop>(
     alloc: Global,
     set: &mut IndexSet<Entry<R>, ByRow<E>>,
     slots: &SlotTable<Node>,
@@ -83,7 +83,7 @@ pub fn check_index<R, E: Extract<R> + Drop>(
 
 /// Drops one of several indices; those after it move up by one. From now on the set goes by the given keys. It takes no
 /// memory. O(records) for an index with places or buckets, and O(indices) otherwise.
-pub fn drop_index<R, E: Extract<R> + Drop>(
+pub(crate) fn drop_index<R, E: Extract<R> + Drop>(
     set: &mut IndexSet<Entry<R>, ByRow<E>>,
     slots: &SlotTable<Node>,
     index: usize,

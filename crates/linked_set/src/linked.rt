@@ -22,7 +22,7 @@ use slot_table::SlotTable;
 use std::alloc::AllocError;
 
 /// The handle of a node's record. O(1).
-pub fn handle_at<R, E: Extract<R>>(set: &IndexSet<Entry<R>, ByRow<E>>, node: Node) -> Handle
+pub(crate) fn handle_at<R, E: Extract<R>>(set: &IndexSet<Entry<R>, ByRow<E>>, node: Node) -> Handle
     requires { IsNodeOf (store_of set.now) node }
     ensures { result ≡ handle_of (record_of set.now) node }
 {
@@ -30,7 +30,7 @@ pub fn handle_at<R, E: Extract<R>>(set: &IndexSet<Entry<R>, ByRow<E>>, node: Nod
 }
 
 /// The position of a node's record, or the end. O(1).
-pub fn position_at<R, E: Extract<R>>(
+pub(crate) fn position_at<R, E: Extract<R>>(
     set: &IndexSet<Entry<R>, ByRow<E>>,
     node: Option<Node>,
 ) -> Option<Handle>
@@ -44,7 +44,7 @@ pub fn position_at<R, E: Extract<R>>(
 }
 
 /// The node whose record has the handle, or none where that record has gone. O(1).
-pub fn node_at<R, E: Extract<R>>(
+pub(crate) fn node_at<R, E: Extract<R>>(
     set: &IndexSet<Entry<R>, ByRow<E>>,
     slots: &SlotTable<Node>,
     handle: Handle,
@@ -65,7 +65,7 @@ pub fn node_at<R, E: Extract<R>>(
 
 /// The first unique index in which a record has the row's key, with the handle of that record, as an `Err`. Where none has it,
 /// what is known of where the row goes, for `put_in`. One search of each unique index: O(log n) for each.
-pub fn free_place<R, E: Extract<R>>(
+pub(crate) fn free_place<R, E: Extract<R>>(
     set: &IndexSet<Entry<R>, ByRow<E>>,
     slots: &SlotTable<Node>,
     entry: &Entry<R>,
@@ -89,7 +89,7 @@ pub fn free_place<R, E: Extract<R>>(
 /// The first unique index in which a record other than the node's has the key of a row that is to take the place of the node's,
 /// with the handle of that record. Only the indices at which the row's key is another than that of the node's row are asked.
 /// O(log n) for each of these that is unique.
-pub fn replacement_ban<R, E: Extract<R>>(
+pub(crate) fn replacement_ban<R, E: Extract<R>>(
     set: &IndexSet<Entry<R>, ByRow<E>>,
     slots: &SlotTable<Node>,
     entry: &Entry<R>,
@@ -128,7 +128,7 @@ fn reserve_one<R, E: Extract<R>>(
 /// asked for, and elsewhere at its usual place. The index in which its place is `known` is not searched. Where memory is refused
 /// the record is handed back, and the entries and the lists are as they were. O(log n) for each index, but O(n) where a place is
 /// asked for.
-pub fn put_in<R: Drop, E: Extract<R>>(
+pub(crate) fn put_in<R: Drop, E: Extract<R>>(
     set: &mut IndexSet<Entry<R>, ByRow<E>>,
     slots: &mut SlotTable<Node>,
     at: Option<(usize, u64)>,

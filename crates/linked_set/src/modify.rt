@@ -31,7 +31,7 @@ pub enum Modified<R> {
 /// Changes the row of a node's record, and settles the node; where another record has the new key in a unique index, the
 /// node is taken out and its slot freed. It takes no memory. O(log n) for each index, but to take a node out of an index
 /// whose places can be counted O(the records behind it).
-pub fn change<R: Drop, E: Extract<R>, T: Edit<R>>(
+pub(crate) fn change<R: Drop, E: Extract<R>, T: Edit<R>>(
     set: &mut IndexSet<Entry<R>, ByRow<E>>,
     slots: &mut SlotTable<Node>,
     node: Node,

@@ -29,7 +29,7 @@ use slot_table::SlotTable;
 /// last write has the greatest number (`writes` is that of the last one), the change is undone, which has to give the row its
 /// keys back: the node stays where it stands in each index, and the answer is why. It takes no memory. O(log n) for each
 /// index.
-pub fn change_or_undo<R, E: Extract<R>, T: Edit<R>>(
+pub(crate) fn change_or_undo<R, E: Extract<R>, T: Edit<R>>(
     set: &mut IndexSet<Entry<R>, ByRow<E>>,
     slots: &SlotTable<Node>,
     writes: u64,

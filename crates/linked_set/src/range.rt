@@ -24,7 +24,7 @@ use std::ops::Bound;
 
 /// The handles of the nodes of an index in order that stand between two bounds, in its order. O(log n + the handles
 /// answered).
-pub fn between<R, E: Extract<R>>(
+pub(crate) fn between<R, E: Extract<R>>(
     alloc: Global,
     set: &IndexSet<Entry<R>, ByRow<E>>,
     index: usize,
@@ -58,7 +58,7 @@ pub fn between<R, E: Extract<R>>(
 }
 
 /// The first node of an index in order that stands within the low bound. O(log n).
-pub fn first_from<R, E: Extract<R>>(
+pub(crate) fn first_from<R, E: Extract<R>>(
     set: &IndexSet<Entry<R>, ByRow<E>>,
     index: usize,
     low: Bound<&E::Probe>,
@@ -82,7 +82,7 @@ pub fn first_from<R, E: Extract<R>>(
 }
 
 /// The node, if it stands within the high bound.
-pub fn up_to<R, E: Extract<R>>(
+pub(crate) fn up_to<R, E: Extract<R>>(
     set: &IndexSet<Entry<R>, ByRow<E>>,
     index: usize,
     node: Option<Node>,

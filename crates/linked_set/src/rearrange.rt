@@ -37,7 +37,7 @@ fn is_live<R, E: Extract<R>>(
 }
 
 /// Whether each of the handles names a record. O(the handles).
-pub fn all_live<R, E: Extract<R>>(
+pub(crate) fn all_live<R, E: Extract<R>>(
     set: &IndexSet<Entry<R>, ByRow<E>>,
     slots: &SlotTable<Node>,
     handles: &[Handle],
@@ -55,7 +55,7 @@ pub fn all_live<R, E: Extract<R>>(
 
 /// Whether handles that all name records are each record's once. It takes memory for a number for each handle.
 /// O(n log n).
-pub fn has_each_once<R, E: Extract<R>>(
+pub(crate) fn has_each_once<R, E: Extract<R>>(
     alloc: Global,
     set: &IndexSet<Entry<R>, ByRow<E>>,
     handles: &[Handle],
@@ -90,7 +90,7 @@ fn are_apart(alloc: Global, handles: &[Handle]) -> Result<bool, AllocError>
 }
 
 /// The nodes of handles that all name records. It takes memory for a node for each handle. O(the handles).
-pub fn nodes_of<R, E: Extract<R>>(
+pub(crate) fn nodes_of<R, E: Extract<R>>(
     alloc: Global,
     set: &IndexSet<Entry<R>, ByRow<E>>,
     slots: &SlotTable<Node>,

@@ -18,7 +18,7 @@ use slot_table::SlotTable;
 
 /// Puts a record that nothing else bans in the place of a node's, under the same handle, and hands out the old row. The
 /// node settles in each index. It takes no memory. O(log n) for each index.
-pub fn rewrite<R, E: Extract<R>>(
+pub(crate) fn rewrite<R, E: Extract<R>>(
     set: &mut IndexSet<Entry<R>, ByRow<E>>,
     slots: &SlotTable<Node>,
     node: Node,

@@ -130,7 +130,7 @@ fn fill_all<R: Drop, E: Extract<R> + Drop>(
 /// A set of these records under indices in these orders, one for each index, and the slots that lead to their nodes. What is
 /// given is tried: `Slots`, `Members`, `Order` and `Clash` tell what it is not, the first index before the others. It moves the
 /// records, and takes memory for slots up to the greatest that is named. O(n log n) for each index, and O(slots log slots).
-pub fn restore<R: Drop, E: Extract<R> + Drop>(
+pub(crate) fn restore<R: Drop, E: Extract<R> + Drop>(
     alloc: Global,
     specs: Vec<Spec>,
     keys: E,

@@ -14,7 +14,7 @@ use node_store::Node;
 use std::alloc::{AllocError, Global};
 
 /// Those of an index that is not hashed, in its order. O(records).
-pub fn in_order<R, E: Extract<R>>(
+pub(crate) fn in_order<R, E: Extract<R>>(
     alloc: Global,
     set: &IndexSet<Entry<R>, ByRow<E>>,
     index: usize,
@@ -35,7 +35,7 @@ pub fn in_order<R, E: Extract<R>>(
 }
 
 /// Those of all records, in the order of their adds. O(records).
-pub fn by_age<R, E: Extract<R>>(
+pub(crate) fn by_age<R, E: Extract<R>>(
     alloc: Global,
     set: &IndexSet<Entry<R>, ByRow<E>>,
 ) -> Result<Vec<Handle>, AllocError>

@@ -1,27 +1,19 @@
 -- What is told of records, looked at one after the other, and the container that they are.
-use Rattle.key_extract.specs.Digests.{Marks}
-use Rattle.std.proofs.Common.{◌≡◌, ℕ, zero, suc, drop, ◌+◌, ◌<◌, ◌≤◌, ◌^◌, Bool, List, [], ◌∷◌, ◌++◌, length, get_or, take, Option, sym, subst, arith}
+use Rattle.std.proofs.Common.{◌≡◌, ℕ, zero, suc, drop, ◌+◌, ◌<◌, ◌≤◌, ◌^◌, Bool, List, [], ◌∷◌, ◌++◌, length, get_or, take, sym, subst, arith}
 use Rattle.std.specs.List.{AllByRecursion}
 use Rattle.std.specs.declared.cmp.Ordering.{Ordering}
-use Rattle.std.proofs.lemmas.List.{take_more, take_all, drop_more}
+use Rattle.std.proofs.lemmas.List.{take_more}
 use Rattle.list_model.specs.Order.{EachPair}
 use Rattle.list_model.proofs.InOrder.{All-map}
-use Rattle.list_model.proofs.Lists.{All-join, All-at, EachPair-push}
-use Rattle.node_store.specs.declared.Node.{Node}
+use Rattle.list_model.proofs.Lists.{All-join, EachPair-push}
 use Rattle.container_model.specs.declared.handle.Handle.{Handle}
 use Rattle.container_model.specs.declared.handle.Entry.{Entry}
 use Rattle.container_model.specs.declared.handle.Spec.{Spec}
 use Rattle.container_model.specs.State.{IsState, KeysMatch, AreIndices}
-use Rattle.index_set.specs.declared.set.IndexSet.{IndexSet}
-use Rattle.index_set.specs.Set.{store_of}
-use Rattle.linked_set.specs.declared.by_row.ByRow.{ByRow}
-use Rattle.linked_set.specs.declared.restoring.Misfit.{Misfit}
-use Rattle.linked_set.specs.declared.restoring.Misfit.TheVariants as misfit
-use Rattle.linked_set.specs.Restored.{AreApart, IsMisfit, restored}
-use Rattle.linked_set.specs.Seen.{seen, IsLinked}
+use Rattle.linked_set.specs.Records.{Records, state_of}
+use Rattle.linked_set.specs.Restored.{AreApart, restored}
 use Rattle.multi_index.specs.Container.{IsContainer}
-use Rattle.multi_index.specs.Restored.{AreStamped, IsUnrestorable, orders_of, unrestorable_of}
-use Rattle.multi_index.specs.declared.restore.Saved.{Saved}
+use Rattle.multi_index.specs.Restored.{AreStamped}
 
 -- each pair of a member and those after it
 pub pairs_after : {X : Type 0} (P : X → X → Type 0) (xs : List X) (k : ℕ) (d : X) → k < length xs → EachPair P xs → AllByRecursion (λ y. P (get_or xs k d) y) (drop (suc k) xs)
@@ -36,9 +28,6 @@ module _ {R : Type 0} where
     pub below : AllByRecursion (λ e. e.handle.stamp ≤ last) front
     pub reached : last ≤ writes
 
-  pub rises_none : (writes : ℕ) → RisesTo 0 writes []
-  rises_none writes = record { stamped = record { of_writes = tt; rising = tt }; below = tt; reached = omega arith }
-
   pub rises_more : (last writes : ℕ) (front : List (Entry R)) (e : Entry R) → last < e.handle.stamp → e.handle.stamp ≤ writes → RisesTo last writes front → RisesTo e.handle.stamp writes (front ++ e ∷ [])
   rises_more last writes front e above within h = record {
     stamped = record {
@@ -49,17 +38,10 @@ module _ {R : Type 0} where
     reached = within;
   }
 
-  -- each that comes is above it, where all are stamped
-  first_above : (entries : List (Entry R)) (writes : ℕ) → AreStamped entries writes → AllByRecursion (λ e. 0 < e.handle.stamp) entries
-  first_above entries writes h = All-map _ _ (λ (e : Entry R) p. let q = p.0 in omega (arith, q)) entries h.of_writes
-
   -- so many are looked at: those that come have to be above the last
   pub record HasSeen (writes : ℕ) (entries : List (Entry R)) (k last : ℕ) : Type 0 where
     pub front : RisesTo last writes (take k entries)
     pub above : AreStamped entries writes → AllByRecursion (λ e. last < e.handle.stamp) (drop k entries)
-
-  pub none_seen : (writes : ℕ) (entries : List (Entry R)) → HasSeen writes entries 0 0
-  none_seen writes entries = record { front = rises_none writes; above = first_above entries writes }
 
   module _ (writes : ℕ) (entries : List (Entry R)) (k last : ℕ) (d : Entry R) (lt : k < length entries) (h : HasSeen writes entries k last) where
     pub one_seen : last < (get_or entries k d).handle.stamp → (get_or entries k d).handle.stamp ≤ writes → HasSeen writes entries (k + 1) (get_or entries k d).handle.stamp
@@ -69,19 +51,6 @@ module _ {R : Type 0} where
           let next : suc k ≡ k + 1 = omega arith in
           subst (λ n. AllByRecursion (λ (e : Entry R). (get_or entries k d).handle.stamp < e.handle.stamp) (drop n entries)) next (pairs_after (λ (a b : Entry R). a.handle.stamp < b.handle.stamp) entries k d lt all.rising);
     }
-
-    pub not_above : (get_or entries k d).handle.stamp ≤ last → AreStamped entries writes → ⊥
-    not_above le all =
-        let rest = subst (AllByRecursion (λ (e : Entry R). last < e.handle.stamp)) (drop_more entries k d lt) (h.above all) in
-        let up = rest.0 in absurd (omega (arith, up, le))
-
-    pub not_within : writes < (get_or entries k d).handle.stamp → AreStamped entries writes → ⊥
-    not_within over all =
-        let here = All-at (λ (e : Entry R). (1 ≤ e.handle.stamp) × (e.handle.stamp ≤ writes)) entries k d lt all.of_writes in
-        let top = here.1 in absurd (omega (arith, top, over))
-
-  pub all_seen : (writes : ℕ) (entries : List (Entry R)) (k last : ℕ) → length entries ≤ k → HasSeen writes entries k last → AreStamped entries writes
-  all_seen writes entries k last le h = subst (λ es. AreStamped es writes) (take_all k entries le) h.front.stamped
 
   -- so many rising numbers from 1 on reach their count
   count_stamps : (least writes : ℕ) (entries : List (Entry R)) → AllByRecursion (λ e. (least ≤ e.handle.stamp) × (e.handle.stamp ≤ writes)) entries → EachPair (λ a b. a.handle.stamp < b.handle.stamp) entries → least ≤ writes + 1 → least + length entries ≤ writes + 1
@@ -99,15 +68,8 @@ module _ {R : Type 0} where
   pub stamps_count : (writes : ℕ) (entries : List (Entry R)) → AreStamped entries writes → length entries ≤ writes
   stamps_count writes entries h = let most = count_stamps 1 writes entries h.of_writes h.rising (omega arith) in omega (arith, most)
 
-  pub misfit_told : (order : ℕ → R → R → Ordering) (specs : List Spec) (max : ℕ) (saved : Saved R) (why : Misfit) → IsMisfit saved.entries.items order specs (orders_of saved) why → IsUnrestorable order specs max saved (unrestorable_of why)
-  misfit_told order specs max saved misfit.Memory h = tt
-  misfit_told order specs max saved misfit.Slots h = λ both. h both.0
-  misfit_told order specs max saved (misfit.Members i) h = h
-  misfit_told order specs max saved (misfit.Order i) h = h
-  misfit_told order specs max saved (misfit.Clash i) h = h
-
-module _ {E R : Type 0} (has_key : E → ℕ → Bool) (order : E → ℕ → R → R → Ordering) (marks : E → ℕ → R → Marks) (set : IndexSet (Entry R) (ByRow E)) (slots : List (Option Node)) (most max writes : ℕ) (keys : E) (specs : List Spec) (entries : List (Entry R)) (lists : List (List Handle))
-    (is : seen set max writes ≡ restored most max writes keys specs entries lists) (match : KeysMatch (has_key keys) specs) (few : length specs ≤ most) (short : length entries ≤ max) (stamped : AreStamped entries writes) (apart : AreApart entries) (fits : AreIndices (order keys) entries 0 specs lists) where
+module _ {E R : Type 0} (has_key : E → ℕ → Bool) (order : E → ℕ → R → R → Ordering) (made : Records E R) (most max writes : ℕ) (keys : E) (specs : List Spec) (entries : List (Entry R)) (lists : List (List Handle))
+    (is : state_of made max writes ≡ restored most max writes keys specs entries lists) (match : KeysMatch (has_key keys) specs) (few : length specs ≤ most) (short : length entries ≤ max) (stamped : AreStamped entries writes) (apart : AreApart entries) (fits : AreIndices (order keys) entries 0 specs lists) where
   restored_state : IsState has_key order (restored most max writes keys specs entries lists)
   restored_state = record {
     keys = match;
@@ -119,9 +81,8 @@ module _ {E R : Type 0} (has_key : E → ℕ → Bool) (order : E → ℕ → R 
     indices = fits;
   }
 
-  pub IsContainer_restored : IsLinked has_key order marks set slots → (store_of set).added ≡ length entries → max < 2 ^ 32 → writes < 2 ^ 64 → IsContainer has_key order marks set slots max writes
-  IsContainer_restored linked count narrow numbered = record {
-    linked = linked;
+  pub IsContainer-restored : made.added ≡ length entries → max < 2 ^ 32 → writes < 2 ^ 64 → IsContainer has_key order made max writes
+  IsContainer-restored count narrow numbered = record {
     state = subst (IsState has_key order) (sym is) restored_state;
     narrow = narrow;
     numbered = numbered;

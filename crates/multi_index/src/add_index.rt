@@ -1,14 +1,13 @@
 //! One index more.
 ghost use Rattle.std.specs.Prelude.{◌≡◌, ◌<◌, ◌⊎◌, IsTrue, None, Some, IfErr, OnErr, OnOk, length};
-ghost use Rattle.container_model.specs.Change.{spent};
+ghost use Rattle.container_model.specs.Change.{spent as the_spent};
 ghost use Rattle.container_model.specs.Indices.{add_index_refusal, with_index};
-ghost use Rattle.multi_index.specs.Asked.{HasKeysWith};
-ghost use Rattle.multi_index.specs.Rearranged.{is_after_memory};
+ghost use Rattle.linked_set.specs.Asked.{HasKeysWith};
+ghost use Rattle.linked_set.specs.Rearranged.{is_after_memory};
 
 use crate::container::MultiIndex;
 use container_model::{Refused, Spec, Why};
 use key_extract::Extract;
-use linked_set::{ByRow, add_index, check_index};
 
 impl<R: Drop, E: Extract<R> + Drop> MultiIndex<R, E> {
     /// Adds an index, the last, which has all records: in a sequence or a hashed index by rising stamp, and in one in order
@@ -29,16 +28,16 @@ impl<R: Drop, E: Extract<R> + Drop> MultiIndex<R, E> {
         ensures handed_back { IfErr result (λ refused. refused.row ≡ Some keys) }
         ensures unchanged { OnErr result (self.new ≡ self.old) }
     {
-        if self.set.specs().len() == self.set.columns() {
+        if self.set.specs().len() == self.set.most() {
             return Err(Refused {
                 why: Why::Definition,
                 row: Some(keys),
             });
         }
-        if self.writes == u64::MAX {
-            return Err(self.spent_index(spec, keys));
+        if let Some(why) = self.spent() {
+            return Err(self.refused_index(spec, keys, why));
         }
-        match add_index(self.alloc, &mut self.set, &self.slots, spec, keys) {
+        match self.set.add_index(spec, keys) {
             Ok(()) => {
                 self.writes += 1;
                 Ok(())
@@ -47,10 +46,10 @@ impl<R: Drop, E: Extract<R> + Drop> MultiIndex<R, E> {
         }
     }
 
-    // Why an index may not be added where the last write has the greatest number: a clash comes first.
-    fn spent_index(&mut self, spec: Spec, keys: E) -> Refused<E>
+    // Why an index may not be added where no write may take place: a clash comes first.
+    fn refused_index(&mut self, spec: Spec, keys: E, spent: Why) -> Refused<E>
         requires room { length self.old.specs < self.old.most }
-        requires spent { spent self.old ≡ Some Why.Spent }
+        requires spent { the_spent self.old ≡ Some spent }
         requires keys { HasKeysWith E.has_key E.order_of E.hash_of self.old spec keys }
         ensures why { (Some result.why ≡ add_index_refusal E.order_of self.old spec keys) ⊎
             ((result.why ≡ Why.Memory) ×
@@ -58,14 +57,14 @@ impl<R: Drop, E: Extract<R> + Drop> MultiIndex<R, E> {
         ensures handed_back { result.row ≡ Some keys }
         ensures unchanged { self.new ≡ self.old }
     {
-        let keys = ByRow { keys };
-        let why = match check_index(self.alloc, &mut self.set, &self.slots, spec, &keys) {
-            Ok(()) => Why::Spent,
+        let (checked, given) = self.set.check_index(spec, keys);
+        let why = match checked {
+            Ok(()) => spent,
             Err(why) => why,
         };
         Refused {
             why,
-            row: Some(keys.keys),
+            row: Some(given),
         }
     }
 }

@@ -1,12 +1,11 @@
 //! Where a key stands in an index that is in order.
-ghost use Rattle.std.specs.Prelude.{◌≡◌, ◌<◌, IsTrue, length};
+ghost use Rattle.std.specs.Prelude.{◌≡◌, IsTrue};
 ghost use Rattle.container_model.specs.State.{is_sorted_kind, is_ranked_kind};
 ghost use Rattle.container_model.specs.Find.{found_lower, found_upper, found_rank, lower_rank as the_lower_rank, upper_rank as the_upper_rank, kind_at};
 
 use crate::container::MultiIndex;
 use container_model::{Handle, Kind, Why};
 use key_extract::Extract;
-use linked_set::position_at;
 
 impl<R: Drop, E: Extract<R> + Drop> MultiIndex<R, E> {
     /// The first record of the index that does not come before the key, or the end; an index that is not in order has no
@@ -17,7 +16,7 @@ impl<R: Drop, E: Extract<R> + Drop> MultiIndex<R, E> {
         ensures { result ≡ found_lower E.probe_order_of self.now index probe.now }
     {
         if self.is_sorted(index) {
-            Ok(position_at(&self.set, self.set.lower(index, probe)))
+            Ok(self.set.lower(index, probe))
         } else {
             Err(Why::Kind)
         }
@@ -31,7 +30,7 @@ impl<R: Drop, E: Extract<R> + Drop> MultiIndex<R, E> {
         ensures { result ≡ found_upper E.probe_order_of self.now index probe.now }
     {
         if self.is_sorted(index) {
-            Ok(position_at(&self.set, self.set.upper(index, probe)))
+            Ok(self.set.upper(index, probe))
         } else {
             Err(Why::Kind)
         }
@@ -79,8 +78,7 @@ impl<R: Drop, E: Extract<R> + Drop> MultiIndex<R, E> {
 
     // Whether the index keeps its records in order.
     pub(crate) fn is_sorted(&self, index: usize) -> bool
-        ensures is { result ≡ is_sorted_kind (kind_at self.now index) }
-        ensures there { IsTrue result → index < length self.now.specs }
+        ensures { result ≡ is_sorted_kind (kind_at self.now index) }
     {
         match self.kind(index) {
             Kind::Ordered | Kind::Ranked => true,
@@ -90,8 +88,7 @@ impl<R: Drop, E: Extract<R> + Drop> MultiIndex<R, E> {
 
     // Whether the index has ranks.
     pub(crate) fn is_ranked(&self, index: usize) -> bool
-        ensures is { result ≡ is_ranked_kind (kind_at self.now index) }
-        ensures there { IsTrue result → index < length self.now.specs }
+        ensures { result ≡ is_ranked_kind (kind_at self.now index) }
     {
         match self.kind(index) {
             Kind::Ranked => true,

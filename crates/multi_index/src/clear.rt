@@ -19,7 +19,6 @@ impl<R: Drop, E: Extract<R> + Drop> MultiIndex<R, E> {
             return Err(Refused { why, row: None });
         }
         self.set.clear();
-        self.slots.clear();
         self.writes += 1;
         Ok(())
     }

@@ -1,50 +1,37 @@
 //! The container.
-ghost use Rattle.any_index.specs.Keyed.{marks_of};
-ghost use Rattle.std.specs.Prelude.{◌≡◌, ◌↔◌, ◌<◌, ◌≤◌, ◌^◌, ◌-◌, ◌==◌, IsTrue, false, length, [], None, map, unwrap_or, Some, IfOk, IfErr, IfSome, OnOk, OnErr};
-ghost use Rattle.list_model.specs.Place.{find_equal};
-ghost use Rattle.container_model.specs.State.{IsState, empty, empty_with_most, list_at, row_of, has_key_kind, is_hashed_kind, is_sorted_kind};
+ghost use Rattle.std.specs.Prelude.{◌≡◌, ◌↔◌, ◌≤◌, IsTrue, length, [], None, map, unwrap_or, Some, IfOk, IfErr, IfSome, OnOk, OnErr};
+ghost use Rattle.container_model.specs.State.{IsState, empty, empty_with_most, list_at, row_of, has_key_kind, is_hashed_kind};
 ghost use Rattle.container_model.specs.Find.{counted, found, kind_at};
-ghost use Rattle.std.specs.Option.{option_map_or, option_or};
-ghost use Rattle.container_model.specs.Insert.{ban_from, insert_at_refusal, insert_refusal, limit, new_handle, with_inserted};
-ghost use Rattle.index_set.specs.Places.{place_from};
-ghost use Rattle.index_set.specs.Set.{keys_of, specs_of, contents, record_of, list_of, lists_of, kind_at as set_kind_at, probe_side, IsSound, IsKeyed, IsUniqueExcept};
-ghost use Rattle.linked_set.specs.ByRow.{has_by_row, order_by_row, marks_by_row, probe_by_row};
-ghost use Rattle.linked_set.specs.Linked.{entries_in, handles_in};
-ghost use Rattle.linked_set.specs.Seen.{IsLinked};
-ghost use Rattle.multi_index.specs.Asked.{IsDeclared, IsKeyOf};
+ghost use Rattle.std.specs.Option.{option_or};
+ghost use Rattle.container_model.specs.Insert.{insert_at_refusal, insert_refusal, limit, new_handle, with_inserted};
+ghost use Rattle.linked_set.specs.Asked.{IsDeclared, IsKeyOf};
 
-use container_model::{Entry, Handle, Kind, Refused, Spec, Why};
-use index_set::{FreePlace, IndexSet};
+use container_model::{Handle, Kind, Refused, Spec, Why};
 use key_extract::Extract;
-use linked_set::{ByRow, by_age, free_place, handle_at, in_order, node_at, put_in};
-use node_store::Node;
-use slot_table::SlotTable;
+use linked_set::LinkedSet;
 use std::alloc::{AllocError, Global};
 use std::marker::Model;
 
 /// Records under several indices, each of which keeps all of them in an order of its own. Indices are numbered from 0. A call
-/// that reads may name a number that no index has: it is then answered as of a sequence without records and without places,
-/// by `Kind` where a key, a rank or a place is asked for. A call that writes to an index is to name one that is there.
+/// may name a number that no index has: it is then answered as of a sequence without records and without places, by `Kind`
+/// where a key, a rank or a place is asked for, and a change of its order is a write that leaves every index as it is.
 #[derive(Drop)]
 pub struct MultiIndex<R: Drop, E: Extract<R> + Drop> {
-    pub(crate) set: IndexSet<Entry<R>, ByRow<E>>,
-    pub(crate) slots: SlotTable<Node>,
-    pub(crate) alloc: Global,
+    pub(crate) set: LinkedSet<R, E>,
     pub(crate) max: u32,
     pub(crate) writes: u64,
 }
 
 impl<R: Drop, E: Extract<R> + Drop> Model for MultiIndex<R, E> {
     ghost use Rattle.container_model.specs.State.{State};
-    ghost use Rattle.any_index.specs.Keyed.{marks_of};
-    ghost use Rattle.linked_set.specs.Seen.{seen};
+    ghost use Rattle.linked_set.specs.Records.{state_of};
     ghost use Rattle.multi_index.specs.Container.{IsContainer};
 
     ghost Value = { State E R };
 
-    ghost view = { λ c. seen c.set c.max c.writes };
+    ghost view = { λ c. state_of c.set c.max c.writes };
 
-    ghost invariant = { λ c. IsContainer E.has_key E.order_of (marks_of E.Extract) c.set c.slots.items c.max c.writes };
+    ghost invariant = { λ c. IsContainer E.has_key E.order_of c.set c.max c.writes };
 }
 
 impl<R: Drop, E: Extract<R> + Drop> MultiIndex<R, E> {
@@ -77,9 +64,7 @@ impl<R: Drop, E: Extract<R> + Drop> MultiIndex<R, E> {
             first_write) }
     {
         Ok(MultiIndex {
-            set: IndexSet::new(alloc, specs, ByRow { keys }, most)?,
-            slots: SlotTable::new(alloc),
-            alloc,
+            set: LinkedSet::new(alloc, specs, keys, most)?,
             max,
             writes: first_write,
         })
@@ -111,7 +96,7 @@ impl<R: Drop, E: Extract<R> + Drop> MultiIndex<R, E> {
     pub fn keys(&self) -> &E
         ensures { result.now ≡ self.now.keys }
     {
-        &self.set.keys().keys
+        self.set.keys()
     }
 
     /// Puts a record in: after its equals in the indices that are in order, and last in the others. A refused one is handed
@@ -135,7 +120,6 @@ impl<R: Drop, E: Extract<R> + Drop> MultiIndex<R, E> {
     /// comes before `Place`, where the place is past the end, and that before what `insert` refuses. O(log n) for each index,
     /// but O(n) in the sequence.
     pub fn insert_at(&mut self, index: usize, place: u64, row: R) -> Result<Handle, Refused<R>>
-        requires { index < length self.old.specs }
         ensures handle { IfOk result (λ handle. handle ≡ new_handle self.old) }
         ensures allowed { OnOk result
             (insert_at_refusal E.order_of self.old index place row ≡ None) }
@@ -163,8 +147,8 @@ impl<R: Drop, E: Extract<R> + Drop> MultiIndex<R, E> {
         ensures none { OnErr result (row_of self.now.entries handle ≡ None) }
         ensures why { IfErr result (λ why. why ≡ Why.Stale) }
     {
-        match node_at(&self.set, &self.slots, handle) {
-            Some(node) => Ok(&self.set.get(node).row),
+        match self.set.get(handle) {
+            Some(row) => Ok(row),
             None => Err(Why::Stale),
         }
     }
@@ -179,10 +163,7 @@ impl<R: Drop, E: Extract<R> + Drop> MultiIndex<R, E> {
         if !self.has_key(index) {
             return Err(Why::Kind);
         }
-        match first_with(&self.set, index, probe) {
-            Some(node) => Ok(Some(handle_at(&self.set, node))),
-            None => Ok(None),
-        }
+        Ok(self.set.find(index, probe))
     }
 
     /// How many records of the index have the key; a sequence has none, and answers `Kind`. In O(log n) comparisons and that
@@ -203,35 +184,19 @@ impl<R: Drop, E: Extract<R> + Drop> MultiIndex<R, E> {
         ensures ok { IfOk result (λ handles. handles.items ≡ list_at self.now.lists index) }
         ensures memory_only { IfErr result (λ why. why ≡ Why.Memory) }
     {
-        if self.is_hashed(index) {
-            return by_age(self.alloc, &self.set).map_err(|_| Why::Memory);
-        }
-        if !self.has_index(index) {
-            return Ok(Vec::new(self.alloc));
-        }
-        in_order(self.alloc, &self.set, index).map_err(|_| Why::Memory)
+        self.set.view(index).map_err(|_| Why::Memory)
     }
 
     /// The handles of the records, in the order of their insertion. O(records).
     pub fn handles(&self) -> Result<Vec<Handle>, AllocError>
         ensures { IfOk result (λ handles. handles.items ≡ map (λ e. e.handle) self.now.entries) }
     {
-        by_age(self.alloc, &self.set)
-    }
-
-    // Whether the index is there.
-    pub(crate) fn has_index(&self, index: usize) -> bool
-        ensures there { IsTrue result → index < length self.now.specs }
-        ensures past { result ≡ false → length self.now.specs ≤ index }
-        ensures empty { result ≡ false → list_at self.now.lists index ≡ [] }
-    {
-        index < self.set.specs().len()
+        self.set.handles()
     }
 
     // What the index is: where it is not there, what has no keys, no ranks and no places.
     pub(crate) fn kind(&self, index: usize) -> Kind
-        ensures is { result ≡ kind_at self.now index }
-        ensures past { length self.now.specs ≤ index → result ≡ Kind.Sequenced }
+        ensures { result ≡ kind_at self.now index }
     {
         match self.set.specs().get(index) {
             Some(spec) => spec.kind,
@@ -241,8 +206,7 @@ impl<R: Drop, E: Extract<R> + Drop> MultiIndex<R, E> {
 
     // Whether the index is searched by whole keys alone.
     pub(crate) fn is_hashed(&self, index: usize) -> bool
-        ensures is { result ≡ is_hashed_kind (kind_at self.now index) }
-        ensures there { IsTrue result → index < length self.now.specs }
+        ensures { result ≡ is_hashed_kind (kind_at self.now index) }
     {
         match self.kind(index) {
             Kind::Hashed => true,
@@ -252,8 +216,7 @@ impl<R: Drop, E: Extract<R> + Drop> MultiIndex<R, E> {
 
     // Whether the index has a key.
     pub(crate) fn has_key(&self, index: usize) -> bool
-        ensures is { result ≡ has_key_kind (kind_at self.now index) }
-        ensures there { IsTrue result → index < length self.now.specs }
+        ensures { result ≡ has_key_kind (kind_at self.now index) }
     {
         match self.kind(index) {
             Kind::Sequenced | Kind::Random => false,
@@ -261,23 +224,9 @@ impl<R: Drop, E: Extract<R> + Drop> MultiIndex<R, E> {
         }
     }
 
-    // The record with the handle that it gets where it may go in.
-    fn entry(&self, row: R) -> Entry<R>
-        ensures row { result.row ≡ row }
-        ensures handle { (self.now.writes == 2 ^ 64 - 1) ≡ false → result.handle ≡
-            new_handle self.now }
-    {
-        let handle = Handle {
-            slot: self.slots.least_free() as u32,
-            stamp: self.writes.wrapping_add(1),
-        };
-        Entry { handle, row }
-    }
-
     // Puts a record in: where it is asked for, and elsewhere at its usual places.
     fn put(&mut self, at: Option<(usize, u64)>, row: R) -> Result<Handle, Refused<R>>
-        requires within { IfSome at (λ at. (at.0 < length self.old.specs) ×
-            (at.1 ≤ length self.old.entries)) }
+        requires within { IfSome at (λ at. at.1 ≤ length self.old.entries) }
         ensures handle { IfOk result (λ handle. handle ≡ new_handle self.old) }
         ensures allowed { OnOk result (insert_refusal E.order_of self.old row ≡ None) }
         ensures ok { OnOk result (self.new ≡ with_inserted E.order_of self.old at row) }
@@ -286,33 +235,19 @@ impl<R: Drop, E: Extract<R> + Drop> MultiIndex<R, E> {
         ensures handed_back { IfErr result (λ refused. refused.row ≡ Some row) }
         ensures unchanged { OnErr result (self.new ≡ self.old) }
     {
+        let number = self.writes.wrapping_add(1);
         let limit = self.limit();
-        let entry = self.entry(row);
-        let place = match admitted(&self.set, &self.slots, limit, &entry) {
-            Ok(place) => place,
-            Err(why) => {
-                return Err(Refused {
-                    why,
-                    row: Some(entry.row),
-                });
-            }
-        };
-        let handle = entry.handle;
-        match put_in(&mut self.set, &mut self.slots, at, entry, place) {
-            Ok(()) => {
-                self.writes = handle.stamp;
+        match self.set.insert(at, row, number, limit) {
+            Ok(handle) => {
+                self.writes = number;
                 Ok(handle)
             }
-            Err(refused) => Err(Refused {
-                why: Why::Memory,
-                row: Some(refused.value.row),
-            }),
+            Err(refused) => Err(refused),
         }
     }
 
     // Why no record may go in before a place of an index.
     fn place_refusal(&self, index: usize, place: u64) -> Option<Why>
-        requires { index < length self.now.specs }
         ensures why { (row : R) → insert_at_refusal E.order_of self.now index place row ≡
             option_or result (insert_refusal E.order_of self.now row) }
         ensures within { result ≡ None → place ≤ length self.now.entries }
@@ -333,65 +268,6 @@ impl<R: Drop, E: Extract<R> + Drop> MultiIndex<R, E> {
         if self.len() == self.max as u64 {
             return Some(Why::Full);
         }
-        if self.writes == u64::MAX {
-            return Some(Why::Spent);
-        }
-        None
-    }
-}
-
-// What is known of where a record goes. Else why it may not go in: a ban comes before the limit.
-fn admitted<R, E: Extract<R>>(
-    set: &IndexSet<Entry<R>, ByRow<E>>,
-    slots: &SlotTable<Node>,
-    limit: Option<Why>,
-    entry: &Entry<R>,
-) -> Result<Option<FreePlace>, Why>
-    requires { IsLinked E.has_key E.order_of (marks_of E.Extract) set.now slots.now.items }
-    ensures place { IfOk result (λ place. place ≡ place_from (order_by_row E.order_of (keys_of set.now))
-        (record_of set.now) (lists_of set.now) entry.now 0 (specs_of set.now)) }
-    ensures allowed { OnOk result (option_map_or (λ at. Some (Why.Banned at.0 at.1))
-        (ban_from (E.order_of (keys_of set.now).keys) (entries_in (contents set.now))
-        (handles_in (record_of set.now) (lists_of set.now)) None entry.now.row 0
-        (specs_of set.now)) limit ≡ None) }
-    ensures why { IfErr result (λ why. option_map_or (λ at. Some (Why.Banned at.0 at.1))
-        (ban_from (E.order_of (keys_of set.now).keys) (entries_in (contents set.now))
-        (handles_in (record_of set.now) (lists_of set.now)) None entry.now.row 0
-        (specs_of set.now)) limit ≡ Some why) }
-{
-    let place = match free_place(set, slots, entry) {
-        Ok(place) => place,
-        Err((index, by)) => return Err(Why::Banned { index, by }),
-    };
-    match limit {
-        None => Ok(place),
-        Some(why) => Err(why),
-    }
-}
-
-// The first node of the index that has the key. In a hashed index that is unique no other node has it, so that the search
-// need not go on behind it.
-fn first_with<R, E: Extract<R>>(
-    set: &IndexSet<Entry<R>, ByRow<E>>,
-    index: usize,
-    probe: &E::Probe,
-) -> Option<Node>
-    requires sound { IsSound (has_by_row E.has_key) set.now }
-    requires keyed { IsKeyed (order_by_row E.order_of) (marks_by_row (marks_of E.Extract)) set.now }
-    requires unique { IsUniqueExcept (order_by_row E.order_of) set.now None }
-    requires in_range { index < length (specs_of set.now) }
-    requires has { IsTrue (has_key_kind (set_kind_at set.now index)) }
-    requires fits { IsTrue (is_sorted_kind (set_kind_at set.now index)) →
-        IsTrue (E.does_fit (keys_of set.now).keys index probe.now) }
-    requires whole { IsTrue (is_hashed_kind (set_kind_at set.now index)) →
-        IsTrue (E.is_whole (keys_of set.now).keys index probe.now) }
-    ensures { result ≡ find_equal
-        (probe_side (probe_by_row E.probe_order_of) set.now index probe.now)
-        (list_of set.now index) }
-{
-    let spec = &set.specs()[index];
-    match (spec.kind, spec.unique) {
-        (Kind::Hashed, true) => set.find_any(index, probe),
-        _ => set.find(index, probe),
+        self.spent()
     }
 }

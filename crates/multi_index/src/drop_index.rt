@@ -1,12 +1,11 @@
 //! One index less.
 ghost use Rattle.std.specs.Prelude.{◌≡◌, None, Some, IfErr, OnErr, OnOk};
 ghost use Rattle.container_model.specs.Indices.{drop_index_refusal as the_refusal, without_index};
-ghost use Rattle.multi_index.specs.Asked.{HasKeysWithout};
+ghost use Rattle.linked_set.specs.Asked.{HasKeysWithout};
 
 use crate::container::MultiIndex;
 use container_model::{Refused, Why};
 use key_extract::Extract;
-use linked_set::drop_index;
 
 impl<R: Drop, E: Extract<R> + Drop> MultiIndex<R, E> {
     /// Drops one of several indices; those after it move up by one. From now on the container goes by the given keys, which
@@ -27,7 +26,7 @@ impl<R: Drop, E: Extract<R> + Drop> MultiIndex<R, E> {
                 row: Some(keys),
             });
         }
-        drop_index(&mut self.set, &self.slots, index, keys);
+        self.set.drop_index(index, keys);
         self.writes += 1;
         Ok(())
     }

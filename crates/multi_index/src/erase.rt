@@ -1,12 +1,11 @@
 //! Taking records out.
-ghost use Rattle.std.specs.Prelude.{◌≡◌, ◌+◌, ◌<◌, ◌≤◌, length, option_and_then, None, Some, IfErr, IfOk, IfSome, OnErr, OnOk};
+ghost use Rattle.std.specs.Prelude.{◌≡◌, ◌+◌, option_and_then, None, Some, IfErr, IfOk, OnErr, OnOk};
 ghost use Rattle.container_model.specs.State.{row_of};
 ghost use Rattle.container_model.specs.Change.{erase_refusal, next_in, with_erased};
 
 use crate::container::MultiIndex;
 use container_model::{Handle, Refused, Why};
 use key_extract::Extract;
-use linked_set::{next_at, node_at, take_out};
 
 /// What an erasure took out.
 #[derive(Drop)]
@@ -53,19 +52,6 @@ impl<R: Drop, E: Extract<R> + Drop> MultiIndex<R, E> {
         self.spent()
     }
 
-    // The index, where it is named and there.
-    fn there(&self, index: Option<usize>) -> Option<usize>
-        ensures there { IfSome result (λ i. (i < length self.now.specs) × (index ≡ Some i)) }
-        ensures none { result ≡ None → IfSome index (λ i. length self.now.specs ≤ i) }
-    {
-        let index = index?;
-        if self.has_index(index) {
-            Some(index)
-        } else {
-            None
-        }
-    }
-
     // Takes out a record that nothing keeps in.
     fn erase_live(&mut self, handle: Handle, index: Option<usize>) -> Erased<R>
         requires { erase_refusal self.old handle index ≡ None }
@@ -73,14 +59,8 @@ impl<R: Drop, E: Extract<R> + Drop> MultiIndex<R, E> {
         ensures next { result.next ≡ option_and_then (λ i. next_in self.old i handle) index }
         ensures left { self.new ≡ with_erased self.old handle }
     {
-        let node = node_at(&self.set, &self.slots, handle).unwrap();
-        let here = self.there(index);
-        let next = next_at(&self.set, here, node);
         self.writes += 1;
-        let entry = take_out(&mut self.set, &mut self.slots, node);
-        Erased {
-            row: entry.row,
-            next,
-        }
+        let (row, next) = self.set.take_out(handle, index);
+        Erased { row, next }
     }
 }

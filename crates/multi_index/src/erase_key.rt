@@ -1,13 +1,12 @@
 //! Taking out all records of a key.
-ghost use Rattle.std.specs.Prelude.{◌≡◌, ◌+◌, ◌<◌, ◌≤◌, length, None, Some, IsTrue, IfErr, IfOk, OnErr, OnOk};
+ghost use Rattle.std.specs.Prelude.{◌≡◌, ◌+◌, ◌≤◌, None, Some, IsTrue, IfErr, IfOk, OnErr, OnOk};
 ghost use Rattle.container_model.specs.Find.{is_unique_at};
 ghost use Rattle.container_model.specs.Change.{erase_key_refusal, erased_count, with_key_erased};
-ghost use Rattle.multi_index.specs.Asked.{IsKeyOf};
+ghost use Rattle.linked_set.specs.Asked.{IsKeyOf};
 
 use crate::container::MultiIndex;
 use container_model::{Refused, Why};
 use key_extract::Extract;
-use linked_set::take_key;
 
 impl<R: Drop, E: Extract<R> + Drop> MultiIndex<R, E> {
     /// Takes out every record that has the key at the index, also a leading part of one, and answers how many there were: at
@@ -31,15 +30,14 @@ impl<R: Drop, E: Extract<R> + Drop> MultiIndex<R, E> {
         if let Some(why) = self.erase_key_refusal(index) {
             return Err(Refused { why, row: None });
         }
-        let count = take_key(&mut self.set, &mut self.slots, index, probe);
+        let count = self.set.take_key(index, probe);
         self.writes += 1;
         Ok(count)
     }
 
     // Why the records of a key may not be taken out.
     fn erase_key_refusal(&self, index: usize) -> Option<Why>
-        ensures is { result ≡ erase_key_refusal self.now index }
-        ensures there { result ≡ None → index < length self.now.specs }
+        ensures { result ≡ erase_key_refusal self.now index }
     {
         if !self.has_key(index) {
             return Some(Why::Kind);

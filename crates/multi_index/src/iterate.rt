@@ -1,27 +1,18 @@
 //! The records of an index one after the other.
-ghost use Rattle.any_index.specs.Keyed.{marks_of};
-ghost use Rattle.std.specs.Prelude.{◌≡◌, ◌<◌, IsTrue, None, count_by, filter, length, not, slice_get};
+ghost use Rattle.std.specs.Prelude.{◌≡◌, IsTrue, filter, not};
 ghost use Rattle.std.specs.Ordering.{is_eq};
 ghost use Rattle.std.specs.Range.Bound.{bound_map};
 ghost use Rattle.std.specs.declared.ops.Bound.TheVariants.{Included};
-ghost use Rattle.list_model.specs.Place.{is_to, range};
-ghost use Rattle.container_model.specs.State.{is_hashed_kind, is_sorted_kind, list_at};
+ghost use Rattle.list_model.specs.Place.{range};
+ghost use Rattle.container_model.specs.State.{is_hashed_kind, list_at};
 ghost use Rattle.container_model.specs.Find.{kind_at, probe_side};
-ghost use Rattle.index_set.specs.Asked.{HasIndex};
-ghost use Rattle.index_set.specs.Set as nodes;
-ghost use Rattle.index_set.specs.Set.{keys_of, specs_of, list_of, IsSound, IsKeyed};
-ghost use Rattle.linked_set.specs.ByRow.{has_by_row, order_by_row, marks_by_row};
-ghost use Rattle.linked_set.specs.Edges.{edge_of, node_edge, KeyFits};
-ghost use Rattle.multi_index.specs.Asked.{AreBoundsOf};
-ghost use Rattle.multi_index.specs.Iteration.{with_rows};
+ghost use Rattle.linked_set.specs.Edges.{edge_of};
+ghost use Rattle.linked_set.specs.Iteration.{with_rows};
+ghost use Rattle.linked_set.specs.Asked.{AreBoundsOf};
 
 use crate::container::MultiIndex;
-use crate::iter::Iter;
-use container_model::Entry;
-use index_set::IndexSet;
 use key_extract::Extract;
-use linked_set::{ByRow, first_from, up_to};
-use node_store::Node;
+use linked_set::Iter;
 use std::ops::Bound;
 
 impl<R: Drop, E: Extract<R> + Drop> MultiIndex<R, E> {
@@ -31,12 +22,7 @@ impl<R: Drop, E: Extract<R> + Drop> MultiIndex<R, E> {
         requires kind { IsTrue (not (is_hashed_kind (kind_at self.now index))) }
         ensures { result ≡ with_rows self.now (list_at self.now.lists index) }
     {
-        Iter {
-            set: &self.set,
-            index,
-            next: first_of(&self.set, index),
-            end: None,
-        }
+        self.set.iter(index)
     }
 
     /// The records of an index in order from the low bound up to the high one, with their handles and in its order; none
@@ -55,13 +41,7 @@ impl<R: Drop, E: Extract<R> + Drop> MultiIndex<R, E> {
             (edge_of (probe_side E.probe_order_of self.now index)
             (bound_map (λ p. p.now) high.entry)) (list_at self.now.lists index)) }
     {
-        let first = first_from(&self.set, index, low);
-        Iter {
-            set: &self.set,
-            index,
-            next: up_to(&self.set, index, first, high),
-            end: first_past(&self.set, index, high),
-        }
+        self.set.iter_range(index, low, high)
     }
 
     /// The records of an index in order that have the key, with their handles and in its order. It takes no memory. O(log n).
@@ -72,43 +52,6 @@ impl<R: Drop, E: Extract<R> + Drop> MultiIndex<R, E> {
             (filter (λ h. is_eq (probe_side E.probe_order_of self.now index probe.now h))
             (list_at self.now.lists index)) }
     {
-        self.iter_range(index, Bound::Included(probe), Bound::Included(probe))
-    }
-}
-
-// The first node of an index, where it is there and has one.
-fn first_of<R, E: Extract<R>>(set: &IndexSet<Entry<R>, ByRow<E>>, index: usize) -> Option<Node>
-    requires sound { IsSound (has_by_row E.has_key) set.now }
-    requires kind { IsTrue (not (is_hashed_kind (nodes.kind_at set.now index))) }
-    ensures { result ≡ slice_get (list_of set.now index) 0 }
-{
-    if index < set.specs().len() {
-        set.first(index)
-    } else {
-        None
-    }
-}
-
-// The first node of an index in order that stands past the high bound.
-fn first_past<R, E: Extract<R>>(
-    set: &IndexSet<Entry<R>, ByRow<E>>,
-    index: usize,
-    high: Bound<&E::Probe>,
-) -> Option<Node>
-    requires sound { IsSound (has_by_row E.has_key) set.now }
-    requires index { index < length (specs_of set.now) }
-    requires kind { IsTrue (is_sorted_kind (nodes.kind_at set.now index)) }
-    requires fits { KeyFits (E.does_fit (keys_of set.now).keys index)
-        (bound_map (λ p. p.now) high) }
-    requires keyed { IsKeyed (order_by_row E.order_of) (marks_by_row (marks_of E.Extract)) set.now }
-    ensures { result ≡ slice_get (list_of set.now index)
-        (count_by
-        (is_to (node_edge E.probe_order_of set.now index (bound_map (λ p. p.now) high.entry)))
-        (list_of set.now index)) }
-{
-    match high {
-        Bound::Included(probe) => set.upper(index, probe),
-        Bound::Excluded(probe) => set.lower(index, probe),
-        Bound::Unbounded => None,
+        self.set.iter_equal(index, probe)
     }
 }

@@ -6,9 +6,9 @@ ghost use Rattle.container_model.specs.Change.{modify_refusal, with_modified};
 ghost use Rattle.linked_set.specs.Modified.{told};
 
 use crate::container::MultiIndex;
-use container_model::{Handle, Refused, Why};
+use container_model::{Handle, Refused};
 use key_extract::Extract;
-use linked_set::{Modified, change, node_at};
+use linked_set::Modified;
 use modify_ops::Edit;
 
 impl<R: Drop, E: Extract<R> + Drop> MultiIndex<R, E> {
@@ -37,19 +37,13 @@ impl<R: Drop, E: Extract<R> + Drop> MultiIndex<R, E> {
         ensures not_applied { OnErr result (edit.new ≡ edit.old) }
         ensures unchanged { OnErr result (self.new ≡ self.old) }
     {
-        let Some(node) = node_at(&self.set, &self.slots, handle) else {
-            return Err(Refused {
-                why: Why::Stale,
-                row: None,
-            });
-        };
-        if self.writes == u64::MAX {
-            return Err(Refused {
-                why: Why::Spent,
-                row: None,
-            });
+        let limit = self.spent();
+        match self.set.change(handle, edit, limit) {
+            Ok(told) => {
+                self.writes += 1;
+                Ok(told)
+            }
+            Err(why) => Err(Refused { why, row: None }),
         }
-        self.writes += 1;
-        Ok(change(&mut self.set, &mut self.slots, node, edit))
     }
 }

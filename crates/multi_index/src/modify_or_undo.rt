@@ -4,9 +4,8 @@ ghost use Rattle.container_model.specs.State.{row_of};
 ghost use Rattle.container_model.specs.Undone.{KeepsKeys, modify_or_undo_refusal, with_modified_or_undone};
 
 use crate::container::MultiIndex;
-use container_model::{Handle, Refused, Why};
+use container_model::{Handle, Refused};
 use key_extract::Extract;
-use linked_set::{change_or_undo, node_at};
 use modify_ops::Edit;
 
 impl<R: Drop, E: Extract<R> + Drop> MultiIndex<R, E> {
@@ -35,13 +34,7 @@ impl<R: Drop, E: Extract<R> + Drop> MultiIndex<R, E> {
             (T.applied edit.old r)) }
         ensures not_applied { row_of self.old.entries handle ≡ None → edit.new ≡ edit.old }
     {
-        let Some(node) = node_at(&self.set, &self.slots, handle) else {
-            return Err(Refused {
-                why: Why::Stale,
-                row: None,
-            });
-        };
-        if let Some(why) = change_or_undo(&mut self.set, &self.slots, self.writes, node, edit) {
+        if let Some(why) = self.set.change_or_undo(handle, edit, self.writes) {
             return Err(Refused { why, row: None });
         }
         self.writes += 1;

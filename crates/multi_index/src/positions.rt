@@ -1,13 +1,11 @@
 //! Positions in an index: a record, or the end.
-ghost use Rattle.std.specs.Prelude.{◌≡◌, ◌<◌, IsTrue, None, Ok, Err, cond, length, not};
-ghost use Rattle.container_model.specs.State.{has_places_kind, is_hashed_kind, is_handle, is_random_kind, list_at};
-ghost use Rattle.container_model.specs.Find.{is_live, is_position, kind_at, nth as the_nth, place as the_place, rank as the_rank, project_next as the_next, project_prev as the_prev};
-ghost use Rattle.list_model.specs.Walk as walk;
+ghost use Rattle.std.specs.Prelude.{◌≡◌};
+ghost use Rattle.container_model.specs.State.{has_places_kind, is_random_kind};
+ghost use Rattle.container_model.specs.Find.{kind_at, nth as the_nth, place as the_place, rank as the_rank, project_next as the_next, project_prev as the_prev};
 
 use crate::container::MultiIndex;
 use container_model::{Handle, Kind, Why};
 use key_extract::Extract;
-use linked_set::{node_at, position_at};
 
 impl<R: Drop, E: Extract<R> + Drop> MultiIndex<R, E> {
     /// The record at a place of the index, counted from 0, or the end; an index whose places cannot be counted answers
@@ -17,7 +15,7 @@ impl<R: Drop, E: Extract<R> + Drop> MultiIndex<R, E> {
         ensures { result ≡ the_nth self.now index n }
     {
         if self.has_places(index) {
-            Ok(position_at(&self.set, self.set.nth(index, n)))
+            Ok(self.set.nth(index, n))
         } else {
             Err(Why::Kind)
         }
@@ -33,7 +31,7 @@ impl<R: Drop, E: Extract<R> + Drop> MultiIndex<R, E> {
             return Err(Why::Kind);
         }
         match position {
-            Some(handle) => self.place_at(index, handle),
+            Some(handle) => self.set.place_of(index, handle),
             None => Ok(self.set.len() as u64),
         }
     }
@@ -45,7 +43,7 @@ impl<R: Drop, E: Extract<R> + Drop> MultiIndex<R, E> {
         ensures { result ≡ the_place self.now index handle }
     {
         if self.is_random(index) {
-            self.place_at(index, handle)
+            self.set.place_of(index, handle)
         } else {
             Err(Why::Kind)
         }
@@ -65,11 +63,8 @@ impl<R: Drop, E: Extract<R> + Drop> MultiIndex<R, E> {
         if self.is_hashed(index) {
             return Err(Why::Kind);
         }
-        if !self.has_index(index) {
-            return self.end_from(position);
-        }
         match position {
-            Some(handle) => self.next_at(index, handle),
+            Some(handle) => self.set.next(index, handle),
             None => Ok(None),
         }
     }
@@ -88,71 +83,15 @@ impl<R: Drop, E: Extract<R> + Drop> MultiIndex<R, E> {
         if self.is_hashed(index) {
             return Err(Why::Kind);
         }
-        if !self.has_index(index) {
-            return self.end_from(position);
-        }
         match position {
-            Some(handle) => self.prev_at(index, handle),
-            None => Ok(position_at(&self.set, self.set.last(index))),
-        }
-    }
-
-    // The end, from a position in an index without records.
-    fn end_from(&self, position: Option<Handle>) -> Result<Option<Handle>, Why>
-        ensures { result ≡ cond (is_position self.now position) (Ok None) (Err Why.Stale) }
-    {
-        let Some(handle) = position else {
-            return Ok(None);
-        };
-        self.get(handle).map(|_| None)
-    }
-
-    // The place of a record in an index whose places can be counted.
-    #[inline(always)]
-    fn place_at(&self, index: usize, handle: Handle) -> Result<u64, Why>
-        requires in_range { index < length self.now.specs }
-        requires kind { IsTrue (has_places_kind (kind_at self.now index)) }
-        ensures { result ≡ cond (is_live self.now handle)
-            (Ok (walk.place_of (is_handle handle) (list_at self.now.lists index))) (Err Why.Stale) }
-    {
-        match node_at(&self.set, &self.slots, handle) {
-            Some(node) => Ok(self.set.place_of(index, node)),
-            None => Err(Why::Stale),
-        }
-    }
-
-    // The position after a record in an index that is not hashed.
-    #[inline(always)]
-    fn next_at(&self, index: usize, handle: Handle) -> Result<Option<Handle>, Why>
-        requires in_range { index < length self.now.specs }
-        requires kind { IsTrue (not (is_hashed_kind (kind_at self.now index))) }
-        ensures { result ≡ cond (is_live self.now handle)
-            (Ok (walk.next (is_handle handle) (list_at self.now.lists index))) (Err Why.Stale) }
-    {
-        match node_at(&self.set, &self.slots, handle) {
-            Some(node) => Ok(position_at(&self.set, self.set.next(index, node))),
-            None => Err(Why::Stale),
-        }
-    }
-
-    // The position before a record in an index that is not hashed.
-    #[inline(always)]
-    fn prev_at(&self, index: usize, handle: Handle) -> Result<Option<Handle>, Why>
-        requires in_range { index < length self.now.specs }
-        requires kind { IsTrue (not (is_hashed_kind (kind_at self.now index))) }
-        ensures { result ≡ cond (is_live self.now handle)
-            (Ok (walk.prev (is_handle handle) (list_at self.now.lists index))) (Err Why.Stale) }
-    {
-        match node_at(&self.set, &self.slots, handle) {
-            Some(node) => Ok(position_at(&self.set, self.set.prev(index, node))),
-            None => Err(Why::Stale),
+            Some(handle) => self.set.prev(index, handle),
+            None => Ok(self.set.last(index)),
         }
     }
 
     // Whether the record at a place can be asked for.
     fn has_places(&self, index: usize) -> bool
-        ensures is { result ≡ has_places_kind (kind_at self.now index) }
-        ensures there { IsTrue result → index < length self.now.specs }
+        ensures { result ≡ has_places_kind (kind_at self.now index) }
     {
         match self.kind(index) {
             Kind::Random | Kind::Ranked => true,
@@ -162,8 +101,7 @@ impl<R: Drop, E: Extract<R> + Drop> MultiIndex<R, E> {
 
     // Whether the index is a sequence whose places can be counted.
     fn is_random(&self, index: usize) -> bool
-        ensures is { result ≡ is_random_kind (kind_at self.now index) }
-        ensures there { IsTrue result → index < length self.now.specs }
+        ensures { result ≡ is_random_kind (kind_at self.now index) }
     {
         match self.kind(index) {
             Kind::Random => true,

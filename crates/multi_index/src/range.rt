@@ -3,14 +3,12 @@ ghost use Rattle.std.specs.Prelude.{◌≡◌, IfOk, IfErr, IsTrue, Ok, cond};
 ghost use Rattle.std.specs.Range.Bound.{bound_map};
 ghost use Rattle.container_model.specs.State.{is_sorted_kind};
 ghost use Rattle.container_model.specs.Find.{found_range, kind_at, probe_side};
-ghost use Rattle.index_set.specs.Set as nodes;
 ghost use Rattle.linked_set.specs.Edges.{edge_of};
-ghost use Rattle.multi_index.specs.Asked.{AreBoundsOf};
+ghost use Rattle.linked_set.specs.Asked.{AreBoundsOf};
 
 use crate::container::MultiIndex;
 use container_model::{Handle, Why};
 use key_extract::Extract;
-use linked_set::between;
 use std::ops::Bound;
 
 impl<R: Drop, E: Extract<R> + Drop> MultiIndex<R, E> {
@@ -38,6 +36,6 @@ impl<R: Drop, E: Extract<R> + Drop> MultiIndex<R, E> {
         if !self.is_sorted(index) {
             return Err(Why::Kind);
         }
-        between(self.alloc, &self.set, index, low, high).map_err(|_| Why::Memory)
+        self.set.range(index, low, high).map_err(|_| Why::Memory)
     }
 }

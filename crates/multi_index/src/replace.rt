@@ -1,22 +1,11 @@
 //! Giving a record another row.
-ghost use Rattle.any_index.specs.Keyed.{marks_of};
-ghost use Rattle.std.specs.Prelude.{◌≡◌, ◌-◌, ◌^◌, ◌==◌, cond, None, Some, IfOk, IfErr, OnOk, OnErr};
-ghost use Rattle.std.specs.Option.{option_map_or};
+ghost use Rattle.std.specs.Prelude.{◌≡◌, None, Some, IfOk, IfErr, OnOk, OnErr};
 ghost use Rattle.container_model.specs.State.{row_of};
-ghost use Rattle.container_model.specs.Insert.{ban_from};
 ghost use Rattle.container_model.specs.Change.{replace_refusal, with_replaced};
-ghost use Rattle.index_set.specs.Indices.{HoldIt};
-ghost use Rattle.index_set.specs.Set.{keys_of, specs_of, contents, record_of, lists_of};
-ghost use Rattle.linked_set.specs.Linked.{handle_of, entries_in, handles_in};
-ghost use Rattle.linked_set.specs.Seen.{IsLinked};
 
 use crate::container::MultiIndex;
-use container_model::{Entry, Handle, Refused, Why};
-use index_set::IndexSet;
+use container_model::{Handle, Refused};
 use key_extract::Extract;
-use linked_set::{ByRow, node_at, replacement_ban, rewrite};
-use node_store::Node;
-use slot_table::SlotTable;
 
 impl<R: Drop, E: Extract<R> + Drop> MultiIndex<R, E> {
     /// Gives a record another row, and hands out the old one; its handle stays. Refused are, in this order: `Stale`; `Banned`,
@@ -33,45 +22,13 @@ impl<R: Drop, E: Extract<R> + Drop> MultiIndex<R, E> {
         ensures handed_back { IfErr result (λ refused. refused.row ≡ Some row) }
         ensures unchanged { OnErr result (self.new ≡ self.old) }
     {
-        let Some(node) = node_at(&self.set, &self.slots, handle) else {
-            return Err(Refused {
-                why: Why::Stale,
-                row: Some(row),
-            });
-        };
-        let entry = Entry { handle, row };
-        if let Some(why) = keeps_out(&self.set, &self.slots, self.writes, node, &entry) {
-            return Err(Refused {
-                why,
-                row: Some(entry.row),
-            });
+        let limit = self.spent();
+        match self.set.rewrite(handle, row, limit) {
+            Ok(old) => {
+                self.writes += 1;
+                Ok(old)
+            }
+            Err(refused) => Err(refused),
         }
-        self.writes += 1;
-        Ok(rewrite(&mut self.set, &self.slots, node, entry))
     }
-}
-
-// Why a record may not take the place of a node's, under the same handle, after so many writes.
-fn keeps_out<R, E: Extract<R>>(
-    set: &IndexSet<Entry<R>, ByRow<E>>,
-    slots: &SlotTable<Node>,
-    writes: u64,
-    node: Node,
-    entry: &Entry<R>,
-) -> Option<Why>
-    requires linked { IsLinked E.has_key E.order_of (marks_of E.Extract) set.now slots.now.items }
-    requires held { HoldIt (lists_of set.now) node }
-    requires handle { handle_of (record_of set.now) node ≡ entry.now.handle }
-    ensures { result ≡ option_map_or (λ at. Some (Why.Banned at.0 at.1))
-        (ban_from (E.order_of (keys_of set.now).keys) (entries_in (contents set.now))
-        (handles_in (record_of set.now) (lists_of set.now)) (Some entry.now.handle) entry.now.row 0
-        (specs_of set.now)) (cond (writes == 2 ^ 64 - 1) (Some Why.Spent) None) }
-{
-    if let Some((index, by)) = replacement_ban(set, slots, entry, node) {
-        return Some(Why::Banned { index, by });
-    }
-    if writes == u64::MAX {
-        return Some(Why::Spent);
-    }
-    None
 }

@@ -1,12 +1,12 @@
 //! Containers made of what another held.
 ghost use Rattle.std.specs.Prelude.{◌≡◌, ◌↔◌, ◌<◌, ◌^◌, IfOk, IfErr, true};
-ghost use Rattle.multi_index.specs.Asked.{IsDeclared};
+ghost use Rattle.linked_set.specs.Asked.{IsDeclared};
 ghost use Rattle.multi_index.specs.Restored.{AreStamped, AreWithin, IsUnrestorable, saved_state, unrestorable_of};
 
 use crate::container::MultiIndex;
 use container_model::{Entry, Handle, Spec};
 use key_extract::Extract;
-use linked_set::{Misfit, restore};
+use linked_set::{LinkedSet, Misfit};
 use std::alloc::Global;
 
 /// What a container held.
@@ -114,11 +114,9 @@ impl<R: Drop, E: Extract<R> + Drop> MultiIndex<R, E> {
         if !are_within(&saved.entries, max) {
             return Err(Unrestorable::Slots);
         }
-        match restore(alloc, specs, keys, most, saved.entries, &saved.orders) {
-            Ok((set, slots)) => Ok(MultiIndex {
+        match LinkedSet::restore(alloc, specs, keys, most, saved.entries, &saved.orders) {
+            Ok(set) => Ok(MultiIndex {
                 set,
-                slots,
-                alloc,
                 max,
                 writes: saved.writes,
             }),

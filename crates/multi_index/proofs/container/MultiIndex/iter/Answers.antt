@@ -1,28 +1,12 @@
-use Rattle.std.proofs.Common.{◌∙◌, length, None, ap, sym, subst}
-use Rattle.std.specs.Prelude.{IsTrue, not}
+use Rattle.std.proofs.Common.{◌∙◌, ap, not, sym, subst}
+use Rattle.std.specs.Prelude.{IsTrue}
 use Rattle.container_model.specs.State.{is_hashed_kind, list_at}
 use Rattle.container_model.specs.Find.{kind_at}
-use Rattle.index_set.specs.Set.{record_of, list_of}
-use Rattle.multi_index.specs.Iteration.{nodes_left, rows_of_nodes, with_rows}
-use Rattle.multi_index.proofs.Rows.{whole_left}
-use Rattle.multi_index.proofs.Walks.{at_length}
+use Rattle.linked_set.specs.Iteration.{with_rows}
 use Rattle.multi_index.proofs.container.MultiIndex.iter.Goals as goal
 
-pub invariant_of-result : goal.invariant_of-result
-invariant_of-result g c =
-    let list = list_of c.self.inside.set c.args.index in
-    record {
-      sound = c.self.invariant.linked.sound;
-      kind = subst (λ s. IsTrue (not (is_hashed_kind (kind_at s c.args.index)))) (sym c.self.view_is) c.requires.kind;
-      begins = record { place = 0; is = c.first_of.ensures };
-      ends = record { place = length list; is = sym (at_length list) };
-    }
+pub iter-requires : goal.iter-requires
+iter-requires g c = subst (λ s. IsTrue (not (is_hashed_kind (kind_at s c.args.index)))) (sym c.self.view_is) c.requires.kind
 
 pub returns : goal.returns
-returns g c =
-    let set = c.self.inside.set in
-    let linked = c.self.invariant.linked in
-    let list = list_of set c.args.index in
-    ap (λ o. rows_of_nodes (record_of set) (nodes_left o None list)) c.first_of.ensures
-    ∙ (whole_left set c.self.inside.slots.items linked c.args.index c.self.inside.max c.self.inside.writes c.self.invariant.state.indices
-    ∙ ap (λ s. with_rows s (list_at s.lists c.args.index)) c.self.view_is)
+returns g c = c.iter.ensures ∙ ap (λ s. with_rows s (list_at s.lists c.args.index)) c.self.view_is

@@ -1,7 +1,5 @@
-use Rattle.std.proofs.Common.{◌∙◌, ap, sym, length}
-use Rattle.index_set.specs.Set.{store_of}
-use Rattle.linked_set.proofs.Contents.{length-entries}
+use Rattle.std.proofs.Common.{◌∙◌, ap, length}
 use Rattle.multi_index.proofs.container.MultiIndex.len.Goals as goal
 
 pub returns : goal.returns
-returns g c = c.len.ensures ∙ (sym (length-entries (store_of c.self.inside.set) c.self.invariant.linked.sound.nodes) ∙ ap (λ s. length s.entries) c.self.view_is)
+returns g c = c.len.ensures ∙ ap (λ s. length s.entries) c.self.view_is

@@ -1,7 +1,16 @@
-use Rattle.std.proofs.Common.{◌∙◌}
-use Rattle.multi_index.proofs.There.{end_after}
+use Rattle.std.proofs.Common.{◌∙◌, None, ap, not, sym, subst}
+use Rattle.std.specs.Prelude.{IsTrue}
+use Rattle.std.specs.Option.{option_map_or}
+use Rattle.list_model.specs.Walk.{next}
+use Rattle.container_model.specs.State.{is_handle, is_hashed_kind, list_at}
+use Rattle.container_model.specs.Find.{kind_at}
+use Rattle.multi_index.proofs.Answered.{answered_at}
 use Rattle.multi_index.proofs.container.MultiIndex.project_next.Goals as goal
 
-pub returns-then-not-has_index : goal.returns-then-not-has_index
-returns-then-not-has_index g c =
-    c.end_from.ensures ∙ end_after c.args.self.now c.args.index (c.has_index.ensures.past c.if-not-has_index.true) (c.has_index.ensures.empty c.if-not-has_index.true) c.args.position
+pub next-requires : goal.next-requires
+next-requires g c = subst (λ s. IsTrue (not (is_hashed_kind (kind_at s c.args.index)))) (sym c.self.view_is) (ap not (sym c.is_hashed.ensures ∙ c.if-is_hashed.false))
+
+pub returns-in-Some : goal.returns-in-Some
+returns-in-Some g c =
+    answered_at (λ kind. not (is_hashed_kind kind)) c.args.index (λ s position. option_map_or (λ h. next (is_handle h) (list_at s.lists c.args.index)) position None) c.in-Some.handle c.next.result c.self.view_is
+    (ap not (sym c.is_hashed.ensures ∙ c.if-is_hashed.false)) c.in-Some.is c.next.ensures

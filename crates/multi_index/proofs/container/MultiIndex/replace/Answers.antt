@@ -1,66 +1,53 @@
-use Rattle.any_index.specs.Keyed.{marks_of}
-use Rattle.std.proofs.Common.{◌∙◌, ap, sym}
-use Rattle.std.specs.Prelude.{option_map}
-use Rattle.container_model.specs.declared.handle.Entry.{Entry}
-use Rattle.container_model.specs.Change.{replace_refusal}
+use Rattle.std.proofs.Common.{◌∙◌, Some, ap, sym, arith}
 use Rattle.container_model.specs.State.{row_of}
-use Rattle.linked_set.specs.Seen.{seen}
-use Rattle.multi_index.proofs.HeldByAll.{held_by_all}
-use Rattle.linked_set.proofs.Live.{none_seen}
-use Rattle.multi_index.proofs.Replaced.{named, refused_stale, refused_live, not_banned, not_spent, IsContainer_replaced}
-use Rattle.multi_index.proofs.Shrunk.{next_number}
+use Rattle.container_model.specs.Find.{is_live}
+use Rattle.container_model.specs.Insert.{ban}
+use Rattle.container_model.specs.Change.{replace_refusal, spent, with_replaced}
+use Rattle.container_model.proofs.Replaced.{IsState-replaced}
+use Rattle.linked_set.specs.Records.{row_kept_out, state_of}
+use Rattle.multi_index.proofs.Steps.{next_number, none_added, IsContainer-next, IsContainer-same}
+use Rattle.multi_index.proofs.Allowed.{change_allowed, not_banned, write_allowed}
 use Rattle.multi_index.proofs.container.MultiIndex.replace.Goals as goal
 
-pub returns-in_default-clause-why : goal.returns-in_default-clause-why
-returns-in_default-clause-why g c =
-    let order = g.E.Extract.order_of in
-    let none = none_seen c.self.inside.set c.self.inside.slots.items c.self.invariant.linked c.args.handle (λ n at. c.node_at.ensures.none n c.in_default.is at) in
-    sym (ap (λ s. replace_refusal order s c.args.handle c.args.row) (sym c.self.view_is) ∙ refused_stale order (seen c.self.inside.set c.self.inside.max c.self.inside.writes) c.args.handle c.args.row none)
-
-pub keeps_out-requires-clause-held : goal.keeps_out-requires-clause-held
-keeps_out-requires-clause-held g c =
-    let name = named c.self.inside.set c.self.inside.slots.items c.self.invariant.linked c.args.handle c.in-Some.node (c.node_at.ensures.found c.in-Some.node c.in-Some.is) in
-    held_by_all c.self.inside.set c.self.inside.slots.items c.self.inside.max c.self.inside.writes c.self.invariant c.in-Some.node name.node
-
-pub keeps_out-requires-clause-handle : goal.keeps_out-requires-clause-handle
-keeps_out-requires-clause-handle g c =
-    (named c.self.inside.set c.self.inside.slots.items c.self.invariant.linked c.args.handle c.in-Some.node (c.node_at.ensures.found c.in-Some.node c.in-Some.is)).own
-
-pub returns-in-Some-keeps_out-clause-why : goal.returns-in-Some-keeps_out-clause-why
-returns-in-Some-keeps_out-clause-why g c =
-    let order = g.E.Extract.order_of in
-    let name = named c.self.inside.set c.self.inside.slots.items c.self.invariant.linked c.args.handle c.in-Some.node (c.node_at.ensures.found c.in-Some.node c.in-Some.is) in
-    sym c.in-Some-keeps_out.is
-    ∙ (c.keeps_out.ensures
-    ∙ (sym (refused_live order (seen c.self.inside.set c.self.inside.max c.self.inside.writes) c.args.handle c.args.row name.entry.row name.row) ∙ ap (λ t. replace_refusal order t c.args.handle c.args.row) c.self.view_is))
-
-pub rewrite-requires-clause-held : goal.rewrite-requires-clause-held
-rewrite-requires-clause-held g c =
-    let name = named c.self.inside.set c.self.inside.slots.items c.self.invariant.linked c.args.handle c.in-Some.node (c.node_at.ensures.found c.in-Some.node c.in-Some.is) in
-    held_by_all c.self.inside.set c.self.inside.slots.items c.self.inside.max c.self.inside.writes c.self.invariant c.in-Some.node name.node
-
-pub rewrite-requires-clause-allowed : goal.rewrite-requires-clause-allowed
-rewrite-requires-clause-allowed g c = (not_banned _ _ (sym c.keeps_out.ensures ∙ c.in_default-keeps_out.is)).0
+pub overflow_add-self : goal.overflow_add-self
+overflow_add-self g c =
+    let inside = c.self.inside in
+    let s = state_of inside.set inside.max inside.writes in
+    let may = change_allowed (is_live s c.args.handle) _ c.in-Ok.ensures.allowed in
+    let free = not_banned (ban g.E.Extract.order_of s (Some c.args.handle) c.args.row) c.spent-limit.result may.1 in
+    let more = write_allowed s (ap spent c.self.view_is ∙ (sym c.spent-limit.ensures ∙ free.1)) in
+    let next = next_number inside.writes c.self.invariant.numbered more in
+    omega (arith, next)
 
 pub invariant_of-self : goal.invariant_of-self
 invariant_of-self g c =
-    let set = c.self.inside.set in
-    let name = named set c.self.inside.slots.items c.self.invariant.linked c.args.handle c.in-Some.node (c.node_at.ensures.found c.in-Some.node c.in-Some.is) in
-    let free = not_banned _ _ (sym c.keeps_out.ensures ∙ c.in_default-keeps_out.is) in
-    let put = c.rewrite.ensures in
-    IsContainer_replaced g.E.Extract.order_of set c.rewrite.new.set c.args.handle c.args.row c.self.inside.max c.self.inside.writes put.same put.entries put.lists
-    g.E.Extract.has_key (marks_of g.E.Extract) c.self.inside.slots.items g.met.E.Extract.order_total name.entry.row name.row free.0 put.count
-    (next_number c.self.inside.writes c.self.invariant.numbered (not_spent _ free.1)) c.self.invariant put.linked
-
-pub returns-clause-old : goal.returns-clause-old
-returns-clause-old g c =
-    let name = named c.self.inside.set c.self.inside.slots.items c.self.invariant.linked c.args.handle c.in-Some.node (c.node_at.ensures.found c.in-Some.node c.in-Some.is) in
-    ap (λ s. row_of s.entries c.args.handle) (sym c.self.view_is) ∙ (name.row ∙ (sym (ap (option_map (λ (e : Entry _). e.row)) name.has) ∙ c.rewrite.ensures.old))
-
-pub returns-clause-allowed : goal.returns-clause-allowed
-returns-clause-allowed g c =
-    let s = seen c.self.inside.set c.self.inside.max c.self.inside.writes in
+    let has_key = g.E.Extract.has_key in
     let order = g.E.Extract.order_of in
-    let name = named c.self.inside.set c.self.inside.slots.items c.self.invariant.linked c.args.handle c.in-Some.node (c.node_at.ensures.found c.in-Some.node c.in-Some.is) in
-    ap (λ t. replace_refusal order t c.args.handle c.args.row) (sym c.self.view_is)
-    ∙ (refused_live order s c.args.handle c.args.row name.entry.row name.row ∙ (sym c.keeps_out.ensures ∙ c.in_default-keeps_out.is))
+    let inside = c.self.inside in
+    let s = state_of inside.set inside.max inside.writes in
+    let may = change_allowed (is_live s c.args.handle) _ c.in-Ok.ensures.allowed in
+    let free = not_banned (ban g.E.Extract.order_of s (Some c.args.handle) c.args.row) c.spent-limit.result may.1 in
+    let more = write_allowed s (ap spent c.self.view_is ∙ (sym c.spent-limit.ensures ∙ free.1)) in
+    IsContainer-next inside.set c.rewrite.new.self inside.max inside.writes c.self.invariant (none_added c.in-Ok.ensures.added) more (c.in-Ok.ensures.ok inside.max inside.writes) (IsState-replaced has_key order g.met.E.Extract.order_total s c.args.handle c.args.row c.self.invariant.state may.0 free.0)
+
+pub returns-in-Ok-clause-old : goal.returns-in-Ok-clause-old
+returns-in-Ok-clause-old g c = ap (λ s. row_of s.entries c.args.handle) (sym c.self.view_is) ∙ c.in-Ok.ensures.old
+
+pub returns-in-Ok-clause-allowed : goal.returns-in-Ok-clause-allowed
+returns-in-Ok-clause-allowed g c =
+    ap (λ s. replace_refusal g.E.Extract.order_of s c.args.handle c.args.row) (sym c.self.view_is)
+    ∙ (ap (λ why. row_kept_out g.E.Extract.order_of c.self.inside.set c.args.handle c.args.row why) (ap spent c.self.view_is ∙ sym c.spent-limit.ensures) ∙ c.in-Ok.ensures.allowed)
+
+pub returns-in-Ok-clause-ok : goal.returns-in-Ok-clause-ok
+returns-in-Ok-clause-ok g c = c.in-Ok.ensures.ok c.self.inside.max c.self.inside.writes ∙ ap (λ s. with_replaced g.E.Extract.order_of s c.args.handle c.args.row) c.self.view_is
+
+pub returns-in-Err-clause-why : goal.returns-in-Err-clause-why
+returns-in-Err-clause-why g c =
+    c.in-Err.ensures.why
+    ∙ (ap (λ why. row_kept_out g.E.Extract.order_of c.self.inside.set c.args.handle c.args.row why) (c.spent-limit.ensures ∙ ap spent (sym c.self.view_is)) ∙ ap (λ s. replace_refusal g.E.Extract.order_of s c.args.handle c.args.row) c.self.view_is)
+
+pub invariant_of-self-in-Err : goal.invariant_of-self-in-Err
+invariant_of-self-in-Err g c = IsContainer-same c.in-Err.ensures.unchanged c.self.invariant
+
+pub returns-in-Err-clause-unchanged : goal.returns-in-Err-clause-unchanged
+returns-in-Err-clause-unchanged g c = ap (λ r. state_of r c.self.inside.max c.self.inside.writes) c.in-Err.ensures.unchanged ∙ c.self.view_is

@@ -1,28 +1,15 @@
-use Rattle.std.proofs.Common.{◌<◌, length, ◌∙◌, ap, sym, subst}
-use Rattle.std.specs.Prelude.{option_map}
+use Rattle.std.proofs.Common.{◌∙◌, sym}
 use Rattle.list_model.specs.Place.{upper}
-use Rattle.list_model.proofs.Lists.{some_at}
 use Rattle.container_model.specs.State.{is_sorted_kind, list_at}
 use Rattle.container_model.specs.Find as find
-use Rattle.node_store.specs.Store.{IsNodeOf}
-use Rattle.index_set.specs.Set.{store_of, record_of, list_of}
-use Rattle.index_set.proofs.Members.{nodes_held_at}
-use Rattle.linked_set.specs.Linked.{handle_of}
-use Rattle.multi_index.proofs.Places.{answered, upper_seen}
+use Rattle.multi_index.proofs.Answered.{answered}
+use Rattle.linked_set.proofs.Asked.{fits_alone}
 use Rattle.multi_index.proofs.container.MultiIndex.upper.Goals as goal
 
-pub position_at-requires : goal.position_at-requires
-position_at-requires g c m found =
-    let set = c.self.inside.set in
-    let within = subst (λ s. c.args.index < length s.specs) (sym c.self.view_is) (c.is_sorted.ensures.there c.if-is_sorted.true) in
-    some_at (IsNodeOf (store_of set)) (list_of set c.args.index) _ (nodes_held_at set c.self.invariant.linked.sound c.args.index within) m (sym c.upper.ensures ∙ found)
+pub upper-requires : goal.upper-requires
+upper-requires g c = fits_alone c.self.inside.set c.self.inside.max c.self.inside.writes c.self.view_is g.E.Extract.does_fit c.args.index is_sorted_kind c.args.probe.now (sym c.is_sorted.ensures ∙ c.if-is_sorted.true) (c.requires.fits (sym c.is_sorted.ensures ∙ c.if-is_sorted.true))
 
 pub returns-then-is_sorted : goal.returns-then-is_sorted
 returns-then-is_sorted g c =
-    let set = c.self.inside.set in
-    let order = g.E.Extract.probe_order_of in
-    let within = subst (λ s. c.args.index < length s.specs) (sym c.self.view_is) (c.is_sorted.ensures.there c.if-is_sorted.true) in
-    answered is_sorted_kind c.args.index (λ s. upper (find.probe_side order s c.args.index c.args.probe.now) (list_at s.lists c.args.index)) c.position_at.result c.self.view_is
-    (sym c.is_sorted.ensures.is ∙ c.if-is_sorted.true)
-    (c.position_at.ensures ∙ (ap (option_map (handle_of (record_of set))) c.upper.ensures
-    ∙ upper_seen set c.self.inside.slots.items c.self.invariant.linked c.args.index within order c.args.probe.now))
+    answered is_sorted_kind c.args.index (λ s. upper (find.probe_side g.E.Extract.probe_order_of s c.args.index c.args.probe.now) (list_at s.lists c.args.index)) c.upper.result c.self.view_is
+    (sym c.is_sorted.ensures ∙ c.if-is_sorted.true) c.upper.ensures

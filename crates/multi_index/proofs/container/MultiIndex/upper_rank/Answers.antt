@@ -1,14 +1,15 @@
-use Rattle.std.proofs.Common.{◌<◌, length, ◌∙◌, sym, subst}
+use Rattle.std.proofs.Common.{◌∙◌, sym}
 use Rattle.list_model.specs.Place.{not_above}
 use Rattle.container_model.specs.State.{is_ranked_kind, list_at}
 use Rattle.container_model.specs.Find as find
-use Rattle.multi_index.proofs.Places.{answered, not_above_seen}
+use Rattle.multi_index.proofs.Answered.{answered}
+use Rattle.linked_set.proofs.Asked.{fits_alone}
 use Rattle.multi_index.proofs.container.MultiIndex.upper_rank.Goals as goal
+
+pub upper_rank-requires : goal.upper_rank-requires
+upper_rank-requires g c = fits_alone c.self.inside.set c.self.inside.max c.self.inside.writes c.self.view_is g.E.Extract.does_fit c.args.index is_ranked_kind c.args.probe.now (sym c.is_ranked.ensures ∙ c.if-is_ranked.true) (c.requires.fits (sym c.is_ranked.ensures ∙ c.if-is_ranked.true))
 
 pub returns-then-is_ranked : goal.returns-then-is_ranked
 returns-then-is_ranked g c =
-    let order = g.E.Extract.probe_order_of in
-    let within = subst (λ s. c.args.index < length s.specs) (sym c.self.view_is) (c.is_ranked.ensures.there c.if-is_ranked.true) in
-    answered is_ranked_kind c.args.index (λ s. not_above (find.probe_side order s c.args.index c.args.probe.now) (list_at s.lists c.args.index)) c.upper_rank.result c.self.view_is
-    (sym c.is_ranked.ensures.is ∙ c.if-is_ranked.true)
-    (c.upper_rank.ensures ∙ not_above_seen c.self.inside.set c.self.inside.slots.items c.self.invariant.linked c.args.index within order c.args.probe.now)
+    answered is_ranked_kind c.args.index (λ s. not_above (find.probe_side g.E.Extract.probe_order_of s c.args.index c.args.probe.now) (list_at s.lists c.args.index)) c.upper_rank.result c.self.view_is
+    (sym c.is_ranked.ensures ∙ c.if-is_ranked.true) c.upper_rank.ensures

@@ -1,0 +1,134 @@
+-- The node that a handle names, in the list of an index of a container: the list answers of it what the index answers of the handle.
+use Rattle.key_extract.specs.Digests.{Marks}
+use Rattle.std.proofs.Common.{◌≡◌, ℕ, ◌<◌, Bool, true, false, cond, List, ◌∷◌, ◌++◌, length, map, Option, Some, None, Ok, Err, refl, sym, ap, ◌∙◌, arith}
+use Rattle.std.specs.Prelude.{IsTrue, is_some, option_and_then, option_map, count_by}
+use Rattle.std.specs.List.{AllByRecursion}
+use Rattle.std.specs.declared.cmp.Ordering.{Ordering}
+use Rattle.list_model.specs.Walk.{place_of, next, prev}
+use Rattle.list_model.proofs.InOrder.{All-map}
+use Rattle.list_model.proofs.Permuted.{split_at, count_by-permutation}
+use Rattle.container_model.specs.declared.handle.Entry.{Entry}
+use Rattle.container_model.specs.declared.handle.Handle.{Handle}
+use Rattle.container_model.specs.declared.refusal.Why.{Why}
+use Rattle.container_model.specs.declared.refusal.Why.TheVariants.{Stale}
+use Rattle.container_model.specs.State.{AreIndices, is_handle, list_at, row_of}
+use Rattle.container_model.specs.Find.{is_live}
+use Rattle.container_model.proofs.Found.{is_handle_same, count_live}
+use Rattle.node_store.specs.declared.Node.{Node}
+use Rattle.node_store.specs.Nodes.{Holds}
+use Rattle.node_store.specs.Store.{Store, IsNodeOf}
+use Rattle.node_store.specs.ByNode as store
+use Rattle.node_store.specs.ByNode.{same_node}
+use Rattle.node_store.proofs.ByNode.{same_node-true}
+use Rattle.slot_table.specs.Slots.{item_at}
+use Rattle.index_set.specs.declared.set.IndexSet.{IndexSet}
+use Rattle.index_set.specs.Set.{store_of, keys_of, specs_of, contents, record_of, list_of, lists_of}
+use Rattle.index_set.proofs.Reading.{some_spec}
+use Rattle.linked_set.specs.declared.by_row.ByRow.{ByRow}
+use Rattle.linked_set.specs.Linked.{handle_of, entries_in, handles_in}
+use Rattle.linked_set.specs.Records.{Records, alone, kept_out, row_kept_out}
+use Rattle.linked_set.specs.Seen.{IsLinked}
+use Rattle.linked_set.proofs.Indices.{index_here}
+use Rattle.linked_set.proofs.ByHandle.{same_by_handle}
+use Rattle.linked_set.proofs.Contents.{has_record}
+use Rattle.linked_set.proofs.LeadsTo.{row_of_live}
+use Rattle.linked_set.proofs.Live.{live_seen}
+use Rattle.linked_set.proofs.Mapped.{place_mapped, next_mapped, prev_mapped}
+use Rattle.linked_set.proofs.Reading.{list_seen}
+use Rattle.linked_set.proofs.Sides.{count_mapped}
+use Rattle.linked_set.proofs.There.{nodes_here}
+
+-- ---- what a call answers of a handle
+
+pub answered_live : {E R A : Type 0} (h : Handle) (answer : Records E R → A) {s t : Records E R} (a : A) → s ≡ t → is_live (alone s) h ≡ true → a ≡ answer s → Ok a ≡ cond (is_live (alone t) h) (Ok (answer t)) (Err Stale)
+answered_live h answer {s} {t} a same live is = ap Ok (is ∙ ap answer same) ∙ ap (λ b. cond b (Ok (answer t)) (Err Stale)) (sym live ∙ ap (λ u. is_live (alone u) h) same)
+
+pub answered_stale : {E R A : Type 0} (h : Handle) (answer : A) {s t : Records E R} → s ≡ t → is_live (alone s) h ≡ false → Err Stale ≡ cond (is_live (alone t) h) (Ok answer) (Err Stale)
+answered_stale h answer {s} {t} same stale = ap (λ b. cond b (Ok answer) (Err Stale)) (sym stale ∙ ap (λ u. is_live (alone u) h) same)
+
+module _ {E R : Type 0} {has_key : E → ℕ → Bool} {order : E → ℕ → R → R → Ordering} {marks : E → ℕ → R → Marks} (set : IndexSet (Entry R) (ByRow E)) (slots : List (Option Node)) (linked : IsLinked has_key order marks set slots) (h : Handle) where
+  abbrev handle : Node → Handle
+  handle = handle_of (record_of set)
+
+  abbrev entries : List (Entry R)
+  entries = entries_in (contents set)
+
+  module _ (n : Node) (at : item_at slots h.slot ≡ Some n) (named : is_handle h (handle n) ≡ true) where
+    node_here : IsNodeOf (store_of set) n
+    node_here = (linked.leads.slot_of h.slot n at).0
+
+    -- no other node has the handle
+    one_named : (m : Node) → IsNodeOf (store_of set) m → same_node n m ≡ is_handle h (handle m)
+    one_named m is =
+        same_by_handle (store_of set) slots linked.leads n m node_here is ∙ ap (λ g. is_handle g (handle m)) (sym (is_handle_same h (handle n) named))
+
+    module _ (index : ℕ) where
+      abbrev list : List Node
+      list = list_of set index
+
+      abbrev handles : List Handle
+      handles = list_at (handles_in (record_of set) (lists_of set)) index
+
+      seen_here : map handle list ≡ handles
+      seen_here = list_seen set slots linked index
+
+      named_all : AllByRecursion (λ m. same_node n m ≡ is_handle h (handle m)) list
+      named_all = All-map (IsNodeOf (store_of set)) _ one_named list (nodes_here set linked.sound index)
+
+      -- its place
+      pub place_seen : place_of (same_node n) list ≡ place_of (is_handle h) handles
+      place_seen = place_mapped handle (same_node n) (is_handle h) list named_all ∙ ap (place_of (is_handle h)) seen_here
+
+      -- the record after it
+      pub next_seen : option_map handle (next (same_node n) list) ≡ next (is_handle h) handles
+      next_seen = next_mapped handle (same_node n) (is_handle h) list named_all ∙ ap (next (is_handle h)) seen_here
+
+      -- the record before it
+      pub prev_seen : option_map handle (prev (same_node n) list) ≡ prev (is_handle h) handles
+      prev_seen = prev_mapped handle (same_node n) (is_handle h) list named_all ∙ ap (prev (is_handle h)) seen_here
+
+      -- each index has the node
+      pub held_here : index < length (specs_of set) → AreIndices (order (keys_of set).keys) entries 0 (specs_of set) (handles_in (record_of set) (lists_of set)) → Holds list n
+      held_here within indices =
+          let members = (index_here (order (keys_of set).keys) entries 0 index (specs_of set) (handles_in (record_of set) (lists_of set)) some_spec indices within).1.members in
+          let once : count_by (same_node n) list ≡ 1 =
+          count_mapped handle (same_node n) (is_handle h) list named_all
+          ∙ (ap (count_by (is_handle h)) seen_here
+          ∙ (count_by-permutation (is_handle h) (map (λ e. e.handle) entries) handles members ∙ count_live entries h linked.apart (live_seen set slots linked h n at named))) in
+          let s = split_at (same_node n) list (omega (arith, once)) in
+          let one : n ≡ s.member = same_node-true n s.member s.here in
+          record { before = s.front; after = s.back; is = s.whole ∙ ap (λ m. s.front ++ m ∷ s.back) (sym one) }
+
+-- ---- the node of a handle
+
+-- it has the handle, and its record is what the handle finds
+pub record IsNamed {R : Type 0} (s : Store (Entry R)) (h : Handle) (n : Node) : Type 0 where
+  pub node : IsNodeOf s n
+  pub own : handle_of (store.record_of s) n ≡ h
+  pub entry : Entry R
+  pub has : store.record_of s n ≡ Some entry
+  pub row : row_of (entries_in (store.contents s)) h ≡ Some entry.row
+
+module _ {E R : Type 0} {has_key : E → ℕ → Bool} {order : E → ℕ → R → R → Ordering} {marks : E → ℕ → R → Marks} (set : IndexSet (Entry R) (ByRow E)) (slots : List (Option Node)) (linked : IsLinked has_key order marks set slots) (h : Handle) where
+  pub named_at : (n : Node) → (item_at slots h.slot ≡ Some n) × IsTrue (is_handle h (handle_of (record_of set) n)) → IsNamed (store_of set) h n
+  named_at n found =
+      let s = store_of set in
+      let is = (linked.leads.slot_of h.slot n found.0).0 in
+      let p = has_record s n is in
+      record { node = is; own = sym (is_handle_same h _ found.1); entry = p.0; has = p.1; row = row_of_live s slots linked.sound.nodes linked.leads linked.apart h n p.0 found.0 found.1 p.1 }
+
+  -- the record after it, where an index is asked for
+  pub next_named : (n : Node) → item_at slots h.slot ≡ Some n → is_handle h (handle_of (record_of set) n) ≡ true → (index : Option ℕ) →
+      option_and_then (λ i. option_map (handle_of (record_of set)) (next (same_node n) (list_of set i))) index
+      ≡ option_and_then (λ i. next (is_handle h) (list_at (handles_in (record_of set) (lists_of set)) i)) index
+  next_named n at named None = refl
+  next_named n at named (Some i) = next_seen set slots linked h n at named i
+
+-- ---- why its record may not get this row
+
+module _ {E R : Type 0} (order : E → ℕ → R → R → Ordering) (r : Records E R) (h : Handle) (row : R) (limit : Option Why) where
+  pub kept_out_stale : row_of r.entries h ≡ None → row_kept_out order r h row limit ≡ Some Stale
+  kept_out_stale none = ap (λ o. cond (is_some o) (kept_out order r (Some h) row limit) (Some Stale)) none
+
+  pub kept_out_live : (old : R) → row_of r.entries h ≡ Some old → row_kept_out order r h row limit ≡ kept_out order r (Some h) row limit
+  kept_out_live old live = ap (λ o. cond (is_some o) (kept_out order r (Some h) row limit) (Some Stale)) live

@@ -1,0 +1,166 @@
+-- The records of nodes with their handles: those of the handles, and what a walk has left of them.
+use Rattle.key_extract.specs.Digests.{Marks}
+use Rattle.std.proofs.Common.{◌≡◌, ◌⊎◌, inl, inr, ◌+◌, ◌<◌, ◌≤◌, ℕ, ◌==◌, Bool, true, false, List, [], ◌∷◌, length, map, slice_get, Option, Some, None, refl, sym, ap, ◌∙◌, eq-eqb}
+use Rattle.std.specs.Prelude.{IsTrue, not, option_map}
+use Rattle.std.specs.List.{AllByRecursion, filter_map, cons_option}
+use Rattle.std.proofs.lemmas.Bool.{cases_lt, eqb-true}
+use Rattle.std.proofs.lemmas.Option.{same_Some}
+use Rattle.list_model.specs.Walk.{next as node_after}
+use Rattle.std.specs.declared.cmp.Ordering.{Ordering}
+use Rattle.std.specs.declared.ops.Bound.{Bound}
+use Rattle.list_model.specs.Place.{range}
+use Rattle.list_model.proofs.Kept.{All-filter}
+use Rattle.list_model.proofs.Lists.{some_at}
+use Rattle.container_model.specs.declared.handle.Entry.{Entry}
+use Rattle.container_model.specs.declared.handle.Handle.{Handle}
+use Rattle.container_model.specs.declared.handle.Kind.{Kind}
+use Rattle.container_model.specs.declared.handle.Kind.TheVariants.{Sequenced, Random, Ordered, Ranked, Hashed}
+use Rattle.container_model.specs.State.{AreIndices, row_of, list_at, is_hashed_kind, is_sorted_kind}
+use Rattle.container_model.specs.Find.{probe_side}
+use Rattle.node_store.specs.declared.Node.{Node}
+use Rattle.node_store.specs.Nodes.{Holds, IsDistinct}
+use Rattle.node_store.specs.Store.{Store, IsNodeOf, number_of, nodes}
+use Rattle.node_store.specs.ByNode.{same_node}
+use Rattle.node_store.proofs.ByNode.{same_node-refl, same_node-true}
+use Rattle.any_index.proofs.Runs.{next_is}
+use Rattle.index_set.specs.declared.set.IndexSet.{IndexSet}
+use Rattle.index_set.specs.Set.{store_of, keys_of, specs_of, contents, record_of, list_of, lists_of}
+use Rattle.index_set.proofs.Members.{distinct_at, nodes_held_at, Holds_at}
+use Rattle.linked_set.specs.declared.by_row.ByRow.{ByRow}
+use Rattle.linked_set.specs.Edges.{edge_of, node_edge}
+use Rattle.linked_set.specs.Linked.{handle_of, entries_in, handles_in, IsKnown}
+use Rattle.linked_set.specs.Seen.{seen, IsLinked}
+use Rattle.linked_set.proofs.Reading.{known_at, list_seen}
+use Rattle.linked_set.proofs.Sides.{handle_known, row_known}
+use Rattle.linked_set.specs.Iteration.{is_one, is_numbered, nodes_left, rows_of_nodes, with_rows, IsWalk}
+use Rattle.linked_set.proofs.Rising.{range_seen}
+use Rattle.linked_set.proofs.There.{list_past, no_nodes, there_at}
+use Rattle.linked_set.proofs.WalksLeft.{all_left, none_left, one_left, past_end}
+
+module _ {R : Type 0} (records : Node → Option (Entry R)) where
+  -- one node more
+  pub row_more : (n : Node) (ns : List Node) (e : Entry R) → records n ≡ Some e → rows_of_nodes records (n ∷ ns) ≡ (e.handle, e.row) ∷ rows_of_nodes records ns
+  row_more n ns e is = ap (λ o. cons_option (option_map (λ (x : Entry R). (x.handle, x.row)) o) (rows_of_nodes records ns)) is
+
+  module _ (entries : List (Entry R)) where
+    abbrev of_entry : Entry R → Handle × R
+    of_entry e = (e.handle, e.row)
+
+    abbrev of_row : Handle → R → Handle × R
+    of_row h r = (h, r)
+
+    row_seen : (n : Node) → IsKnown records entries n → option_map of_entry (records n) ≡ option_map (of_row (handle_of records n)) (row_of entries (handle_of records n))
+    row_seen n k =
+        ap (option_map of_entry) k.is
+        ∙ (ap (λ (h : Handle). Some (of_row h k.entry.row)) (sym (handle_known records entries n k.entry k.is))
+        ∙ sym (ap (option_map (of_row (handle_of records n))) (row_known records entries n k)))
+
+    -- nodes whose records their handles find
+    pub rows_seen : (ns : List Node) → AllByRecursion (IsKnown records entries) ns → rows_of_nodes records ns ≡ filter_map (λ h. option_map (of_row h) (row_of entries h)) (map (handle_of records) ns)
+    rows_seen [] known = refl
+    rows_seen (n ∷ ns) known = λ i. cons_option (row_seen n known.0 i) (rows_seen ns known.1 i)
+
+-- two nodes of a store are one where they have one number
+one_numbered : {R : Type 0} (s : Store R) (m n : Node) → IsNodeOf s m → IsNodeOf s n → (number_of m == number_of n) ≡ same_node m n
+one_numbered s m n has_m has_n = by_number (number_of m == number_of n) refl (same_node m n) refl
+  where
+    by_number : (b : Bool) → (number_of m == number_of n) ≡ b → (t : Bool) → same_node m n ≡ t → b ≡ t
+    by_number true e true f = refl
+    by_number true e false f =
+        let same : m ≡ n = same_Some _ _ (sym has_m ∙ (ap (nodes s) (eqb-true (number_of m) (number_of n) e) ∙ has_n)) in
+        let bad : true ≡ false = sym (same_node-refl n) ∙ (ap (λ (z : Node). same_node z n) (sym same) ∙ f) in
+        cc
+    by_number false e true f =
+        let bad : true ≡ false = sym (eq-eqb (number_of m) (number_of n) (ap number_of (same_node-true m n f))) ∙ e in
+        cc
+    by_number false e false f = refl
+
+module _ {E R : Type 0} {has_key : E → ℕ → Bool} (set : IndexSet (Entry R) (ByRow E)) (index : ℕ) (next end : Option Node) (w : IsWalk has_key set index next end) where
+  abbrev list : List Node
+  list = list_of set index
+
+  abbrev rows : Option Node → List (Handle × R)
+  rows from = rows_of_nodes (record_of set) (nodes_left from end list)
+
+  -- past the end nothing is left
+  pub over : next ≡ None → rows next ≡ []
+  over e = ap rows e ∙ ap (rows_of_nodes (record_of set)) (past_end end list)
+
+  module _ (n : Node) (is : next ≡ Some n) where
+    here : slice_get list w.begins.place ≡ Some n
+    here = sym w.begins.is ∙ is
+
+    -- so the index is there
+    pub within : index < length (specs_of set)
+    within = there_at set w.sound index w.begins.place n here
+
+    distinct : IsDistinct list
+    distinct = distinct_at set w.sound index within
+
+    -- the next node is one of the index, and of the store
+    pub held : Holds list n
+    held = Holds_at list w.begins.place n here
+
+    pub there : IsNodeOf (store_of set) n
+    there = some_at (IsNodeOf (store_of set)) list w.begins.place (nodes_held_at set w.sound index within) n here
+
+    numbered : (b : Bool) → is_numbered end n ≡ b → is_one end n ≡ b
+    numbered b e = by_end end refl ∙ e
+      where
+        by_end : (o : Option Node) → end ≡ o → is_one o n ≡ is_numbered o n
+        by_end None k = refl
+        by_end (Some m) k = sym (one_numbered (store_of set) m n (some_at (IsNodeOf (store_of set)) list w.ends.place (nodes_held_at set w.sound index within) m (sym w.ends.is ∙ k)) there)
+
+    -- where it ends the walk, nothing is left
+    pub ended : is_numbered end n ≡ true → rows next ≡ []
+    ended e = ap rows is ∙ ap (rows_of_nodes (record_of set)) (none_left list distinct end w.begins.place n here (numbered true e))
+
+    -- where it does not, it is left, and what is left from the node after it on
+    pub stepped : (e : Entry R) (after : Option Node) → is_numbered end n ≡ false → record_of set n ≡ Some e → after ≡ node_after (same_node n) list → rows next ≡ (e.handle, e.row) ∷ rows after
+    stepped e after goes has comes =
+        let at : slice_get list (w.begins.place + 1) ≡ after = sym (comes ∙ next_is list w.begins.place n distinct here) in
+        ap rows is
+        ∙ (ap (rows_of_nodes (record_of set)) (one_left list distinct end w.begins.place n here (numbered false goes))
+        ∙ (row_more (record_of set) n (nodes_left (slice_get list (w.begins.place + 1)) end list) e has ∙ ap (λ o. (e.handle, e.row) ∷ rows o) at))
+
+-- ---- the records of an index
+
+module _ {E R : Type 0} {has_key : E → ℕ → Bool} {order : E → ℕ → R → R → Ordering} {marks : E → ℕ → R → Marks} (set : IndexSet (Entry R) (ByRow E)) (slots : List (Option Node)) (linked : IsLinked has_key order marks set slots)
+    (index : ℕ) (within : index < length (specs_of set)) (max writes : ℕ) where
+  abbrev named : List Handle → List (Handle × R)
+  named = with_rows (seen set max writes)
+
+  abbrev known : AllByRecursion (IsKnown (record_of set) (entries_in (contents set))) (list_of set index)
+  known = known_at set slots linked index
+
+  -- all of them
+  pub whole_seen : rows_of_nodes (record_of set) (list_of set index) ≡ named (list_at (handles_in (record_of set) (lists_of set)) index)
+  whole_seen = rows_seen (record_of set) (entries_in (contents set)) (list_of set index) known ∙ ap named (list_seen set slots linked index)
+
+  -- those between two bounds
+  pub between_seen : {P : Type 0} (probe_order : E → ℕ → R → P → Ordering) (low high : Bound P) →
+      rows_of_nodes (record_of set) (range (node_edge probe_order set index low) (node_edge probe_order set index high) (list_of set index))
+      ≡ named (range (edge_of (probe_side probe_order (seen set max writes) index) low) (edge_of (probe_side probe_order (seen set max writes) index) high) (list_at (handles_in (record_of set) (lists_of set)) index))
+  between_seen probe_order low high =
+      rows_seen (record_of set) (entries_in (contents set)) (range (node_edge probe_order set index low) (node_edge probe_order set index high) (list_of set index)) (All-filter (IsKnown (record_of set) (entries_in (contents set))) _ (list_of set index) known)
+      ∙ ap named (range_seen set slots linked index within probe_order low high)
+
+-- all of them, of an index that is there, and none of one that is not
+module _ {E R : Type 0} {has_key : E → ℕ → Bool} {order : E → ℕ → R → R → Ordering} {marks : E → ℕ → R → Marks} (set : IndexSet (Entry R) (ByRow E)) (slots : List (Option Node)) (linked : IsLinked has_key order marks set slots)
+    (index max writes : ℕ) (indices : AreIndices (order (keys_of set).keys) (entries_in (contents set)) 0 (specs_of set) (handles_in (record_of set) (lists_of set))) where
+  pub whole_left : rows_of_nodes (record_of set) (nodes_left (slice_get (list_of set index) 0) None (list_of set index)) ≡ with_rows (seen set max writes) (list_at (handles_in (record_of set) (lists_of set)) index)
+  whole_left = by_place (cases_lt index (length (specs_of set)))
+    where
+      by_place : (index < length (specs_of set)) ⊎ (length (specs_of set) ≤ index) → rows_of_nodes (record_of set) (nodes_left (slice_get (list_of set index) 0) None (list_of set index)) ≡ with_rows (seen set max writes) (list_at (handles_in (record_of set) (lists_of set)) index)
+      by_place (inl within) = ap (rows_of_nodes (record_of set)) (all_left (list_of set index) (distinct_at set linked.sound index within)) ∙ whole_seen set slots linked index within max writes
+      by_place (inr past) =
+          ap (λ list. rows_of_nodes (record_of set) (nodes_left (slice_get list 0) None list)) (no_nodes set linked.sound index past)
+          ∙ ap (with_rows (seen set max writes)) (sym (list_past (order (keys_of set).keys) (entries_in (contents set)) 0 (specs_of set) (handles_in (record_of set) (lists_of set)) index indices past))
+
+-- an index in order is not hashed
+pub sorted_walks : (kind : Kind) → is_sorted_kind kind ≡ true → IsTrue (not (is_hashed_kind kind))
+sorted_walks Ordered e = refl
+sorted_walks Ranked e = refl
+sorted_walks Sequenced e = cc
+sorted_walks Random e = cc
+sorted_walks Hashed e = cc

@@ -1,0 +1,73 @@
+//! Walks along an index, record by record.
+ghost use Rattle.std.specs.Prelude.{◌≡◌};
+ghost use Rattle.std.specs.Iterator.{YieldsFirstBy, item_count};
+ghost use Rattle.node_store.specs.Store.{number_of};
+ghost use Rattle.linked_set.specs.Iteration.{is_numbered};
+
+use crate::by_row::ByRow;
+use container_model::{Entry, Handle};
+use index_set::IndexSet;
+use key_extract::Extract;
+use node_store::Node;
+use std::marker::Model;
+
+/// The records of an index, or a run of them, in its order and with their handles, seen as the list of those that are left.
+/// A step takes no memory, and is O(1) in a sequence. In an index in order it is O(log n), and O(1) on average over a walk.
+#[derive(Drop)]
+pub struct Iter<'a, R: Drop, E: Extract<R> + Drop> {
+    pub(crate) set: &'a IndexSet<Entry<R>, ByRow<E>>,
+    pub(crate) index: usize,
+    // The node that comes next, and the one before which the walk ends, if it is not to end with the index.
+    pub(crate) next: Option<Node>,
+    pub(crate) end: Option<Node>,
+}
+
+impl<'a, R: Drop, E: Extract<R> + Drop> Model for Iter<'a, R, E> {
+    ghost use Rattle.std.specs.Prelude.{List};
+    ghost use Rattle.container_model.specs.declared.handle.Handle.{Handle};
+    ghost use Rattle.index_set.specs.Set.{list_of, record_of};
+    ghost use Rattle.linked_set.specs.Iteration.{nodes_left, rows_of_nodes, IsWalk};
+
+    ghost Value = { List (Handle × R) };
+
+    ghost view = { λ w. rows_of_nodes (record_of w.set.now) (nodes_left w.next w.end (list_of w.set.now w.index)) };
+
+    ghost invariant = { λ w. IsWalk E.has_key w.set.now w.index w.next w.end };
+}
+
+impl<'a, R: Drop, E: Extract<R> + Drop> Iterator for Iter<'a, R, E> {
+    type Item = (Handle, &'a R);
+
+    ghost next_gives = { YieldsFirstBy (λ item. (item.0, item.1.now)) (λ rest. rest) };
+
+    ghost remaining = { item_count (λ rest. rest) };
+
+    #[inline(always)]
+    fn next(&mut self) -> Option<(Handle, &'a R)> {
+        let Some(node) = self.next else {
+            return None;
+        };
+        if has_number_of(self.end, node) {
+            return None;
+        }
+        let set = self.set;
+        self.next = set.next(self.index, node);
+        let entry = set.get(node);
+        Some((entry.handle, &entry.row))
+    }
+
+    fn size_hint(&self) -> (usize, Option<usize>) {
+        (0, None)
+    }
+}
+
+// Whether the two nodes have one number.
+#[inline(always)]
+fn has_number_of(end: Option<Node>, node: Node) -> bool
+    ensures { result ≡ is_numbered end node }
+{
+    match end {
+        Some(end) => end.number() == node.number(),
+        None => false,
+    }
+}

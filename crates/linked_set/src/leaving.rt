@@ -1,0 +1,57 @@
+//! Taking records out.
+ghost use Rattle.std.specs.Prelude.{◌≡◌, ◌+◌, ℕ, IfSome, IsTrue, Some, not, option_and_then};
+ghost use Rattle.container_model.specs.State.{is_hashed_kind, row_of};
+ghost use Rattle.container_model.specs.Find.{is_live, kind_at};
+ghost use Rattle.container_model.specs.Change.{cleared, erased_count, next_in, with_erased, with_key_erased};
+ghost use Rattle.linked_set.specs.Asked.{CanFindBy};
+ghost use Rattle.linked_set.specs.Records.{alone, state_of};
+
+use crate::erase::{next_at, take_out};
+use crate::erase_key::take_key;
+use crate::linked::node_at;
+use crate::linked_set::LinkedSet;
+use container_model::Handle;
+use key_extract::Extract;
+
+impl<R: Drop, E: Extract<R> + Drop> LinkedSet<R, E> {
+    /// Takes the record of a handle out, and answers it. Where an index is named, the answer also names the record after it
+    /// there. It takes no memory. O(log n) for each index, but O(the records behind it) in one whose places can be counted.
+    pub fn take_out(&mut self, handle: Handle, index: Option<usize>) -> (R, Option<Handle>)
+        requires live { IsTrue (is_live (alone self.old) handle) }
+        requires kind { IfSome index (λ i.
+            IsTrue (not (is_hashed_kind (kind_at (alone self.old) i)))) }
+        ensures row { row_of self.old.entries handle ≡ Some result.0 }
+        ensures next { result.1 ≡ option_and_then (λ i. next_in (alone self.old) i handle) index }
+        ensures left { (max writes : ℕ) → state_of self.new max (writes + 1) ≡
+            with_erased (state_of self.old max writes) handle }
+        ensures added { self.new.added ≡ self.old.added }
+    {
+        let node = node_at(&self.set, &self.slots, handle).unwrap();
+        let next = next_at(&self.set, index, node);
+        let entry = take_out(&mut self.set, &mut self.slots, node);
+        (entry.row, next)
+    }
+
+    /// Takes out every record that has the key at an index with one, also a leading part of it, and answers how many there
+    /// were. It takes no memory. For each record that goes, a look-up and O(log n) for each index; and where there are more
+    /// than a few, O(n) for each index whose places can be counted.
+    pub fn take_key(&mut self, index: usize, probe: &E::Probe) -> u64
+        requires { CanFindBy E.does_fit E.is_whole (alone self.old) index probe.now }
+        ensures count { result ≡ erased_count E.probe_order_of (alone self.old) index probe.now }
+        ensures left { (max writes : ℕ) → state_of self.new max (writes + 1) ≡
+            with_key_erased E.probe_order_of (state_of self.old max writes) index probe.now }
+        ensures added { self.new.added ≡ self.old.added }
+    {
+        take_key(&mut self.set, &mut self.slots, index, probe)
+    }
+
+    /// Takes every record out. It takes no memory. O(records + slots).
+    pub fn clear(&mut self)
+        ensures left { (max writes : ℕ) → state_of self.new max (writes + 1) ≡
+            cleared (state_of self.old max writes) }
+        ensures added { self.new.added ≡ self.old.added }
+    {
+        self.set.clear();
+        self.slots.clear();
+    }
+}

@@ -1,0 +1,75 @@
+//! Positions in an index: a record, or the end. An index that is not there has the end alone.
+ghost use Rattle.std.specs.Prelude.{◌≡◌, IsTrue, Ok, Err, cond, not, slice_get};
+ghost use Rattle.list_model.specs.Walk as walk;
+ghost use Rattle.container_model.specs.State.{has_places_kind, is_hashed_kind, is_handle, list_at};
+ghost use Rattle.container_model.specs.Find.{is_live, kind_at};
+ghost use Rattle.linked_set.specs.Records.{alone};
+
+use crate::beside::{last_of, node_after, node_before};
+use crate::linked::{node_at, position_at};
+use crate::linked_set::LinkedSet;
+use container_model::{Handle, Why};
+use key_extract::Extract;
+
+impl<R: Drop, E: Extract<R> + Drop> LinkedSet<R, E> {
+    /// The record at a place of an index whose places can be counted, counted from 0, or the end. O(log n) in a ranked
+    /// index, O(1) in a random one.
+    #[inline(always)]
+    pub fn nth(&self, index: usize, n: u64) -> Option<Handle>
+        requires { IsTrue (has_places_kind (kind_at (alone self.now) index)) }
+        ensures { result ≡ slice_get (list_at self.now.lists index) n }
+    {
+        position_at(&self.set, self.set.nth(index, n))
+    }
+
+    /// The last record of an index that is not hashed, or the end. O(1) in a sequence, O(log n) in an index in order.
+    #[inline(always)]
+    pub fn last(&self, index: usize) -> Option<Handle>
+        requires { IsTrue (not (is_hashed_kind (kind_at (alone self.now) index))) }
+        ensures { result ≡ walk.last (list_at self.now.lists index) }
+    {
+        position_at(&self.set, last_of(&self.set, index))
+    }
+
+    /// The place of a record, counted from 0, in an index whose places can be counted; a handle that names no record is
+    /// `Stale`. O(log n) in a ranked index, O(1) in a random one.
+    #[inline(always)]
+    pub fn place_of(&self, index: usize, handle: Handle) -> Result<u64, Why>
+        requires { IsTrue (has_places_kind (kind_at (alone self.now) index)) }
+        ensures { result ≡ cond (is_live (alone self.now) handle)
+            (Ok (walk.place_of (is_handle handle) (list_at self.now.lists index))) (Err Why.Stale) }
+    {
+        match node_at(&self.set, &self.slots, handle) {
+            Some(node) => Ok(self.set.place_of(index, node)),
+            None => Err(Why::Stale),
+        }
+    }
+
+    /// The position after a record in an index that is not hashed; a handle that names no record is `Stale`. O(1) in a
+    /// sequence, O(log n) in an index in order.
+    #[inline(always)]
+    pub fn next(&self, index: usize, handle: Handle) -> Result<Option<Handle>, Why>
+        requires { IsTrue (not (is_hashed_kind (kind_at (alone self.now) index))) }
+        ensures { result ≡ cond (is_live (alone self.now) handle)
+            (Ok (walk.next (is_handle handle) (list_at self.now.lists index))) (Err Why.Stale) }
+    {
+        match node_at(&self.set, &self.slots, handle) {
+            Some(node) => Ok(position_at(&self.set, node_after(&self.set, index, node))),
+            None => Err(Why::Stale),
+        }
+    }
+
+    /// The position before a record in an index that is not hashed; a handle that names no record is `Stale`. O(1) in a
+    /// sequence, O(log n) in an index in order.
+    #[inline(always)]
+    pub fn prev(&self, index: usize, handle: Handle) -> Result<Option<Handle>, Why>
+        requires { IsTrue (not (is_hashed_kind (kind_at (alone self.now) index))) }
+        ensures { result ≡ cond (is_live (alone self.now) handle)
+            (Ok (walk.prev (is_handle handle) (list_at self.now.lists index))) (Err Why.Stale) }
+    {
+        match node_at(&self.set, &self.slots, handle) {
+            Some(node) => Ok(position_at(&self.set, node_before(&self.set, index, node))),
+            None => Err(Why::Stale),
+        }
+    }
+}

@@ -1,0 +1,140 @@
+//! Where a key stands in an index.
+ghost use Rattle.any_index.specs.Keyed.{marks_of};
+ghost use Rattle.std.specs.Prelude.{◌≡◌, ◌<◌, IfOk, IsTrue, None, length};
+ghost use Rattle.std.specs.Range.Bound.{bound_map};
+ghost use Rattle.list_model.specs.Place as place;
+ghost use Rattle.list_model.specs.Place.{count_equal, find_equal};
+ghost use Rattle.container_model.specs.State.{has_key_kind, is_hashed_kind, is_ranked_kind, is_sorted_kind, list_at};
+ghost use Rattle.container_model.specs.Find.{probe_side};
+ghost use Rattle.index_set.specs.Set as nodes;
+ghost use Rattle.index_set.specs.Set.{keys_of, specs_of, list_of, IsSound, IsKeyed, IsUniqueExcept};
+ghost use Rattle.linked_set.specs.Asked.{AreBoundsOf, CanFindBy, FitsAt};
+ghost use Rattle.linked_set.specs.ByRow.{has_by_row, order_by_row, marks_by_row, probe_by_row};
+ghost use Rattle.linked_set.specs.Edges.{edge_of};
+ghost use Rattle.linked_set.specs.Records.{alone};
+
+use crate::by_row::ByRow;
+use crate::linked::position_at;
+use crate::linked_set::LinkedSet;
+use crate::range::between;
+use container_model::{Entry, Handle, Kind};
+use index_set::IndexSet;
+use key_extract::Extract;
+use node_store::Node;
+use std::alloc::AllocError;
+use std::ops::Bound;
+
+impl<R: Drop, E: Extract<R> + Drop> LinkedSet<R, E> {
+    /// The first record of an index with a key that has this one, and in a hashed index the one put in first of those that
+    /// have it. O(log n); expected O(1) in a hashed index, and in one that is not unique O(1 + the records that have the
+    /// key) once changes brought records to it that are older than others of it.
+    pub fn find(&self, index: usize, probe: &E::Probe) -> Option<Handle>
+        requires { CanFindBy E.does_fit E.is_whole (alone self.now) index probe.now }
+        ensures { result ≡ find_equal (probe_side E.probe_order_of (alone self.now) index probe.now)
+            (list_at self.now.lists index) }
+    {
+        position_at(&self.set, first_with(&self.set, index, probe))
+    }
+
+    /// How many records of an index with a key have this one. In O(log n) comparisons and that many steps in an ordered
+    /// index, O(log n) in a ranked one, expected O(1 + those records) in a hashed one.
+    pub fn count(&self, index: usize, probe: &E::Probe) -> u64
+        requires { CanFindBy E.does_fit E.is_whole (alone self.now) index probe.now }
+        ensures { result ≡ count_equal (probe_side E.probe_order_of (alone self.now) index probe.now)
+            (list_at self.now.lists index) }
+    {
+        self.set.count(index, probe)
+    }
+
+    /// The first record of an index in order that does not come before the key, or the end. O(log n).
+    pub fn lower(&self, index: usize, probe: &E::Probe) -> Option<Handle>
+        requires { FitsAt is_sorted_kind E.does_fit (alone self.now) index probe.now }
+        ensures { result ≡ place.lower (probe_side E.probe_order_of (alone self.now) index probe.now)
+            (list_at self.now.lists index) }
+    {
+        position_at(&self.set, self.set.lower(index, probe))
+    }
+
+    /// The first record of an index in order that comes after the key, or the end. O(log n).
+    pub fn upper(&self, index: usize, probe: &E::Probe) -> Option<Handle>
+        requires { FitsAt is_sorted_kind E.does_fit (alone self.now) index probe.now }
+        ensures { result ≡ place.upper (probe_side E.probe_order_of (alone self.now) index probe.now)
+            (list_at self.now.lists index) }
+    {
+        position_at(&self.set, self.set.upper(index, probe))
+    }
+
+    /// The rank, counted from 0, of the first record of a ranked index that has the key, or where none has it the number of
+    /// records. O(log n).
+    pub fn find_rank(&self, index: usize, probe: &E::Probe) -> u64
+        requires { FitsAt is_ranked_kind E.does_fit (alone self.now) index probe.now }
+        ensures { result ≡ place.find_rank (probe_side E.probe_order_of (alone self.now) index
+            probe.now) (list_at self.now.lists index) }
+    {
+        self.set.find_rank(index, probe)
+    }
+
+    /// How many records of a ranked index come before the key. O(log n).
+    pub fn lower_rank(&self, index: usize, probe: &E::Probe) -> u64
+        requires { FitsAt is_ranked_kind E.does_fit (alone self.now) index probe.now }
+        ensures { result ≡ place.below (probe_side E.probe_order_of (alone self.now) index probe.now)
+            (list_at self.now.lists index) }
+    {
+        self.set.lower_rank(index, probe)
+    }
+
+    /// How many records of a ranked index do not come after the key. O(log n).
+    pub fn upper_rank(&self, index: usize, probe: &E::Probe) -> u64
+        requires { FitsAt is_ranked_kind E.does_fit (alone self.now) index probe.now }
+        ensures { result ≡ place.not_above (probe_side E.probe_order_of (alone self.now) index
+            probe.now) (list_at self.now.lists index) }
+    {
+        self.set.upper_rank(index, probe)
+    }
+
+    /// The records of an index in order from the low bound up to the high one, in its order; none where the high bound
+    /// stands before the low one. It takes memory for the answer. O(log n + the records answered).
+    pub fn range(
+        &self,
+        index: usize,
+        low: Bound<&E::Probe>,
+        high: Bound<&E::Probe>,
+    ) -> Result<Vec<Handle>, AllocError>
+        requires { AreBoundsOf E.does_fit (alone self.now) index (bound_map (λ p. p.now) low)
+            (bound_map (λ p. p.now) high) }
+        ensures { IfOk result (λ handles. handles.items ≡ place.range
+            (edge_of (probe_side E.probe_order_of (alone self.now) index)
+            (bound_map (λ p. p.now) low.entry))
+            (edge_of (probe_side E.probe_order_of (alone self.now) index)
+            (bound_map (λ p. p.now) high.entry)) (list_at self.now.lists index)) }
+    {
+        between(self.alloc, &self.set, index, low, high)
+    }
+}
+
+// The first node of the index that has the key. In a hashed index that is unique no other node has it, so that the search
+// need not go on behind it.
+fn first_with<R, E: Extract<R>>(
+    set: &IndexSet<Entry<R>, ByRow<E>>,
+    index: usize,
+    probe: &E::Probe,
+) -> Option<Node>
+    requires sound { IsSound (has_by_row E.has_key) set.now }
+    requires keyed { IsKeyed (order_by_row E.order_of) (marks_by_row (marks_of E.Extract)) set.now }
+    requires unique { IsUniqueExcept (order_by_row E.order_of) set.now None }
+    requires in_range { index < length (specs_of set.now) }
+    requires has { IsTrue (has_key_kind (nodes.kind_at set.now index)) }
+    requires fits { IsTrue (is_sorted_kind (nodes.kind_at set.now index)) →
+        IsTrue (E.does_fit (keys_of set.now).keys index probe.now) }
+    requires whole { IsTrue (is_hashed_kind (nodes.kind_at set.now index)) →
+        IsTrue (E.is_whole (keys_of set.now).keys index probe.now) }
+    ensures { result ≡ find_equal
+        (nodes.probe_side (probe_by_row E.probe_order_of) set.now index probe.now)
+        (list_of set.now index) }
+{
+    let spec = &set.specs()[index];
+    match (spec.kind, spec.unique) {
+        (Kind::Hashed, true) => set.find_any(index, probe),
+        _ => set.find(index, probe),
+    }
+}
