@@ -1,5 +1,6 @@
 pub mod Putting
 pub mod Taking
+pub mod ReadingOn
 pub mod Lines
 pub mod OneLine
 pub mod Orders
@@ -16,6 +17,7 @@ pub mod Steps
 pub mod Stood
 pub mod Whole
 pub mod NextOrder
-pub mod Confirmed
 pub mod Said
 pub mod Rows
+pub mod Stays
+mod Example

@@ -2,4 +2,5 @@ pub mod State
 pub mod Writing
 pub mod Reading
 pub mod Standing
+pub mod Staying
 pub mod Parts

@@ -1,13 +1,14 @@
 -- What is left of the bytes of a disk.
 use Rattle.std.specs.Prelude.{codes, ◌≡◌, ℕ, ◌+◌, ◌-◌, ◌<◌, ◌≤◌, List, [], ◌∷◌, ◌++◌, length, take, drop, Option, Some, None, Result, Ok, Err}
 use Rattle.table_cmd.specs.declared.command.Command.{Command}
+use Rattle.table_log.specs.declared.disk.Disk.{Ghosts}
 use Rattle.table_state.specs.declared.fault.StateWhy.{StateWhy}
 use Rattle.table_state.specs.declared.source.Source.{Source}
 use Rattle.table_schema.specs.Shape.{TableShape}
 use Rattle.table_state.specs.Standing.{CanStand}
 use Rattle.table_state.specs.State.{line_of, state_text}
 use Rattle.table_terms.specs.Table.{IsOfSameTable, TableState}
-use Rattle.table_state.specs.Writing.{IsInterruption}
+use Rattle.table_state.specs.Writing.{IsInterruption, failures_of_state}
 
 -- what was read of them and not yet taken
 abbrev pub held : Source → List ℕ
@@ -24,6 +25,14 @@ pub record IsWithin (size : ℕ) (source : Source) : Type 0 where
   pub start : source.start ≤ source.end
   pub end : source.end ≤ length source.piece.items
   pub room : 0 < length source.piece.items
+
+-- Whatever is told of a reading, the disk is as it was but for its failures, and the source has places on it.
+pub record ReadsOn {D T : Type 0} (X : Ghosts D) (old new : D) (source : Source) (result : Result T StateWhy) : Type 0 where
+  pub within : IsWithin (X.size new) source
+  pub contents : X.contents new ≡ X.contents old
+  pub size : X.size new ≡ X.size old
+  pub synced : X.synced new ≡ X.synced old
+  pub failures : X.failures new ≡ failures_of_state result (X.failures old)
 
 -- how many bytes are not yet taken
 abbrev pub unread : Source → ℕ

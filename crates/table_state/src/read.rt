@@ -4,7 +4,7 @@ ghost use Rattle.std.specs.Prelude.{◌≡◌, ◌<◌, ◌≤◌, ◌++◌, [],
 ghost use Rattle.command_lines.specs.Fits.{CommandFits};
 ghost use Rattle.table_schema.specs.Defined.{IsNewIndex};
 ghost use Rattle.table_state.specs.Parts.{EntriesFit, EntryFits, IndexFits, IndicesFit, OrdersFit, cells_from, handles_in};
-ghost use Rattle.table_state.specs.Reading.{IsWithin, Recalls, Seeks, Takes, left_of};
+ghost use Rattle.table_state.specs.Reading.{IsWithin, ReadsOn, Recalls, Seeks, Takes, left_of};
 ghost use Rattle.table_state.specs.Standing.{CanStand};
 ghost use Rattle.table_state.specs.State.{columns_command, count_command, index_command, line_of, lines_text, order_command, order_commands, record_command, state_text};
 ghost use Rattle.table_records.specs.Restored.{restored_table};
@@ -36,11 +36,7 @@ fn read_count<D: Disk>(
     requires within { IsWithin (D.size disk.old) source.old }
     ensures takes { IfOk result (λ count. Takes (D.contents disk.old) source.old (line_of (count_command spec.now name.now count)) source.new) }
     ensures finds { Seeks (D.contents disk.old) source.old (λ count. line_of (count_command spec.now name.now count)) (λ count. CommandFits (count_command spec.now name.now count)) (λ count. count) result }
-    ensures within { IsWithin (D.size disk.new) source.new }
-    ensures contents { D.contents disk.new ≡ D.contents disk.old }
-    ensures size { D.size disk.new ≡ D.size disk.old }
-    ensures synced { D.synced disk.new ≡ D.synced disk.old }
-    ensures failures { D.failures disk.new ≡ failures_of_state result (D.failures disk.old) }
+    ensures reads { ReadsOn D.Disk disk.old disk.new source.new result }
 {
     let Command::Nth { place, .. } = source.next_command(alloc, disk)? else {
         return Err(source.wrong());
@@ -59,11 +55,7 @@ fn read_columns<D: Disk>(
     requires within { IsWithin (D.size disk.old) source.old }
     ensures takes { OnOk result (Takes (D.contents disk.old) source.old (line_of (columns_command spec.now)) source.new) }
     ensures finds { (bytes rest : List ℕ) → D.contents disk.old ≡ Some bytes → CommandFits (columns_command spec.now) → left_of bytes source.old ≡ line_of (columns_command spec.now) ++ rest → IfErr result IsInterruption }
-    ensures within { IsWithin (D.size disk.new) source.new }
-    ensures contents { D.contents disk.new ≡ D.contents disk.old }
-    ensures size { D.size disk.new ≡ D.size disk.old }
-    ensures synced { D.synced disk.new ≡ D.synced disk.old }
-    ensures failures { D.failures disk.new ≡ failures_of_state result (D.failures disk.old) }
+    ensures reads { ReadsOn D.Disk disk.old disk.new source.new result }
 {
     source.next_line(disk)?;
     source.confirm(&columns_command(alloc, spec)?)
@@ -91,11 +83,7 @@ fn read_index<D: Disk>(
     ensures takes { IfOk result (λ index. Takes (D.contents disk.old) source.old (line_of (index_command spec.now index)) source.new) }
     ensures finds { Seeks (D.contents disk.old) source.old (λ index. line_of (index_command spec.now index)) (IndexFits spec.now indices.now) (λ index. index) result }
     ensures fits { IfOk result (λ index. IsNewIndex spec.now.columns indices.now index) }
-    ensures within { IsWithin (D.size disk.new) source.new }
-    ensures contents { D.contents disk.new ≡ D.contents disk.old }
-    ensures size { D.size disk.new ≡ D.size disk.old }
-    ensures synced { D.synced disk.new ≡ D.synced disk.old }
-    ensures failures { D.failures disk.new ≡ failures_of_state result (D.failures disk.old) }
+    ensures reads { ReadsOn D.Disk disk.old disk.new source.new result }
 {
     let Command::AddIndex {
         index,
@@ -131,11 +119,7 @@ fn read_indices<D: Disk>(
     ensures finds { Seeks (D.contents disk.old) source.old (λ indices. lines_text (map (index_command spec.now) indices)) (IndicesFit spec.now count) (λ made. made.indices) result }
     ensures count { IfOk result (λ made. length made.indices ≡ count) }
     ensures same { IfOk result (λ made. IsOfSameTable made spec.now) }
-    ensures within { IsWithin (D.size disk.new) source.new }
-    ensures contents { D.contents disk.new ≡ D.contents disk.old }
-    ensures size { D.size disk.new ≡ D.size disk.old }
-    ensures synced { D.synced disk.new ≡ D.synced disk.old }
-    ensures failures { D.failures disk.new ≡ failures_of_state result (D.failures disk.old) }
+    ensures reads { ReadsOn D.Disk disk.old disk.new source.new result }
 {
     if count == 0 {
         return Err(source.wrong());
@@ -187,11 +171,7 @@ fn read_record<D: Disk>(
     requires within { IsWithin (D.size disk.old) source.old }
     ensures takes { IfOk result (λ entry. Takes (D.contents disk.old) source.old (line_of (record_command spec.now entry)) source.new) }
     ensures finds { Seeks (D.contents disk.old) source.old (λ entry. line_of (record_command spec.now entry)) (EntryFits spec.now) (λ entry. entry) result }
-    ensures within { IsWithin (D.size disk.new) source.new }
-    ensures contents { D.contents disk.new ≡ D.contents disk.old }
-    ensures size { D.size disk.new ≡ D.size disk.old }
-    ensures synced { D.synced disk.new ≡ D.synced disk.old }
-    ensures failures { D.failures disk.new ≡ failures_of_state result (D.failures disk.old) }
+    ensures reads { ReadsOn D.Disk disk.old disk.new source.new result }
 {
     let Command::ModifyKey {
         handle: HandleText::Handle(handle),
@@ -221,11 +201,7 @@ fn read_records<D: Disk>(
     ensures takes { IfOk result (λ entries. Takes (D.contents disk.old) source.old (lines_text (map (record_command spec.now) entries.items)) source.new) }
     ensures finds { Seeks (D.contents disk.old) source.old (λ entries. lines_text (map (record_command spec.now) entries)) (EntriesFit spec.now count) (λ entries. entries.items) result }
     ensures count { IfOk result (λ entries. length entries.items ≡ count) }
-    ensures within { IsWithin (D.size disk.new) source.new }
-    ensures contents { D.contents disk.new ≡ D.contents disk.old }
-    ensures size { D.size disk.new ≡ D.size disk.old }
-    ensures synced { D.synced disk.new ≡ D.synced disk.old }
-    ensures failures { D.failures disk.new ≡ failures_of_state result (D.failures disk.old) }
+    ensures reads { ReadsOn D.Disk disk.old disk.new source.new result }
 {
     let mut entries = Vec::new(alloc);
     while (entries.len() as u64) < count {
@@ -260,11 +236,7 @@ fn read_order<D: Disk>(
     requires within { IsWithin (D.size disk.old) source.old }
     ensures takes { IfOk result (λ handles. Takes (D.contents disk.old) source.old (line_of (order_command spec.now index.now handles.items)) source.new) }
     ensures finds { Seeks (D.contents disk.old) source.old (λ handles. line_of (order_command spec.now index.now handles)) (λ handles. CommandFits (order_command spec.now index.now handles)) (λ handles. handles.items) result }
-    ensures within { IsWithin (D.size disk.new) source.new }
-    ensures contents { D.contents disk.new ≡ D.contents disk.old }
-    ensures size { D.size disk.new ≡ D.size disk.old }
-    ensures synced { D.synced disk.new ≡ D.synced disk.old }
-    ensures failures { D.failures disk.new ≡ failures_of_state result (D.failures disk.old) }
+    ensures reads { ReadsOn D.Disk disk.old disk.new source.new result }
 {
     let Command::Rearrange { handles: texts, .. } = source.next_command(alloc, disk)? else {
         return Err(source.wrong());
@@ -287,11 +259,7 @@ fn read_orders<D: Disk>(
     requires within { IsWithin (D.size disk.old) source.old }
     ensures takes { IfOk result (λ orders. Takes (D.contents disk.old) source.old (lines_text (order_commands spec.now (map (λ order. order.items) orders.items))) source.new) }
     ensures finds { Seeks (D.contents disk.old) source.old (λ lists. lines_text (order_commands spec.now lists)) (OrdersFit spec.now) (λ orders. map (λ order. order.items) orders.items) result }
-    ensures within { IsWithin (D.size disk.new) source.new }
-    ensures contents { D.contents disk.new ≡ D.contents disk.old }
-    ensures size { D.size disk.new ≡ D.size disk.old }
-    ensures synced { D.synced disk.new ≡ D.synced disk.old }
-    ensures failures { D.failures disk.new ≡ failures_of_state result (D.failures disk.old) }
+    ensures reads { ReadsOn D.Disk disk.old disk.new source.new result }
 {
     let indices = spec.indices();
     let mut orders = Vec::with_capacity(alloc, indices.len())?;
@@ -319,11 +287,7 @@ fn read_all<D: Disk>(
     ensures takes { IfOk result (λ told. Takes (D.contents disk.old) source.old (state_text (restored_table told.spec told.saved)) source.new) }
     ensures finds { Seeks (D.contents disk.old) source.old state_text (λ t. CanStand t × IsOfSameTable t.shape spec.now) (λ told. restored_table told.spec told.saved) result }
     ensures same { IfOk result (λ told. IsOfSameTable told.spec spec.now) }
-    ensures within { IsWithin (D.size disk.new) source.new }
-    ensures contents { D.contents disk.new ≡ D.contents disk.old }
-    ensures size { D.size disk.new ≡ D.size disk.old }
-    ensures synced { D.synced disk.new ≡ D.synced disk.old }
-    ensures failures { D.failures disk.new ≡ failures_of_state result (D.failures disk.old) }
+    ensures reads { ReadsOn D.Disk disk.old disk.new source.new result }
 {
     let writes = read_count(alloc, spec, "writes", disk, source)?;
     let indices = read_count(alloc, spec, "indices", disk, source)?;

@@ -4,7 +4,7 @@ ghost use Rattle.std.specs.Prelude.{◌≡◌, ◌∷◌, ◌+◌, ◌<◌, ◌�
 ghost use Rattle.command_lines.specs.Fits.{CommandFits};
 ghost use Rattle.command_text.specs.Line.{IsOneLine};
 ghost use Rattle.table_cmd.specs.declared.command.Command.{Command};
-ghost use Rattle.table_state.specs.Reading.{IsReadOf, IsWithin, Seeks, Takes, TakesByte, held, left_of, unread};
+ghost use Rattle.table_state.specs.Reading.{IsReadOf, IsWithin, ReadsOn, Seeks, Takes, TakesByte, held, left_of, unread};
 ghost use Rattle.table_state.specs.State.{line_of};
 ghost use Rattle.table_state.specs.Writing.{IsInterruption, failures_of_state};
 
@@ -62,15 +62,11 @@ impl Source {
         requires none { self.old.start ≡ self.old.end }
         requires more { self.old.at < self.old.size }
         ensures takes { OnOk result (Takes (D.contents disk.old) self.old [] self.new) }
-        ensures within { IsWithin (D.size disk.new) self.new }
         ensures some { OnOk result (self.new.start < self.new.end) }
         ensures unread { OnOk result (unread self.new ≡ unread self.old) }
         ensures why { IfErr result IsInterruption }
         ensures line { self.new.line ≡ self.old.line }
-        ensures contents { D.contents disk.new ≡ D.contents disk.old }
-        ensures size { D.size disk.new ≡ D.size disk.old }
-        ensures synced { D.synced disk.new ≡ D.synced disk.old }
-        ensures failures { D.failures disk.new ≡ failures_of_state result (D.failures disk.old) }
+        ensures reads { ReadsOn D.Disk disk.old disk.new self.new result }
     {
         match disk.read(self.at, &mut self.piece) {
             Ok(count) => {
@@ -104,14 +100,10 @@ impl Source {
     fn next_byte<D: Disk>(&mut self, disk: &mut D) -> Result<Option<u8>, StateWhy>
         requires within { IsWithin (D.size disk.old) self.old }
         ensures takes { IfOk result (λ byte. TakesByte (D.contents disk.old) self.old byte self.new) }
-        ensures within { IsWithin (D.size disk.new) self.new }
         ensures less { IfOk result (λ byte. IfSome byte (λ _. unread self.new < unread self.old)) }
         ensures why { IfErr result IsInterruption }
         ensures line { self.new.line ≡ self.old.line }
-        ensures contents { D.contents disk.new ≡ D.contents disk.old }
-        ensures size { D.size disk.new ≡ D.size disk.old }
-        ensures synced { D.synced disk.new ≡ D.synced disk.old }
-        ensures failures { D.failures disk.new ≡ failures_of_state result (D.failures disk.old) }
+        ensures reads { ReadsOn D.Disk disk.old disk.new self.new result }
     {
         if self.start < self.end {
             return Ok(Some(self.take_held()));
@@ -131,11 +123,7 @@ impl Source {
         ensures takes { OnOk result (Takes (D.contents disk.old) self.old (self.new.line.items ++ codes "\n") self.new) }
         ensures one_line { OnOk result (IsOneLine self.new.line.items) }
         ensures found { Seeks (D.contents disk.old) self.old (λ line. line ++ codes "\n") IsOneLine (λ _. self.new.line.items) result }
-        ensures within { IsWithin (D.size disk.new) self.new }
-        ensures contents { D.contents disk.new ≡ D.contents disk.old }
-        ensures size { D.size disk.new ≡ D.size disk.old }
-        ensures synced { D.synced disk.new ≡ D.synced disk.old }
-        ensures failures { D.failures disk.new ≡ failures_of_state result (D.failures disk.old) }
+        ensures reads { ReadsOn D.Disk disk.old disk.new self.new result }
     {
         self.line.clear();
         self.number = self.number.saturating_add(1);
@@ -164,11 +152,7 @@ impl Source {
         ensures takes { OnOk result (Takes (D.contents disk.old) self.old (self.new.line.items ++ codes "\n") self.new) }
         ensures back { (command : Command) (bytes rest : List ℕ) → D.contents disk.old ≡ Some bytes → CommandFits command
             → left_of bytes self.old ≡ line_of command ++ rest → IsReadOf command self.new.line.items result }
-        ensures within { IsWithin (D.size disk.new) self.new }
-        ensures contents { D.contents disk.new ≡ D.contents disk.old }
-        ensures size { D.size disk.new ≡ D.size disk.old }
-        ensures synced { D.synced disk.new ≡ D.synced disk.old }
-        ensures failures { D.failures disk.new ≡ failures_of_state result (D.failures disk.old) }
+        ensures reads { ReadsOn D.Disk disk.old disk.new self.new result }
     {
         self.next_line(disk)?;
         match read_command(alloc, &self.line) {

@@ -3,7 +3,7 @@ use Rattle.std.proofs.lemmas.Result.{err_from_is_err_and}
 use Rattle.command_text.specs.Text.{command_text}
 use Rattle.command_text.proofs.Law.{command_text_line}
 use Rattle.table_state.specs.State.{columns_command, line_of}
-use Rattle.table_state.proofs.Confirmed.{no_failure}
+use Rattle.table_state.proofs.ReadingOn.{reads_confirmed}
 use Rattle.table_state.proofs.Seeking.{line_is}
 use Rattle.table_state.proofs.read.read_columns.Goals as goal
 
@@ -21,5 +21,5 @@ returns-clause-finds g c = λ bytes rest known fits front.
     let line = c.in_ok-next_line.ensures.found (command_text command) bytes rest known (command_text_line command fits) front in
     c.confirm.ensures.differs (line_is c.next_line.new.self.line.items command line ∙ sym (ap line_of c.in_ok-columns_command.ensures))
 
-pub returns-clause-failures : goal.returns-clause-failures
-returns-clause-failures g c = c.in_ok-next_line.ensures.failures ∙ sym (no_failure c.confirm.result (g.D.Disk.failures c.args.disk.now) c.confirm.ensures.not_disk)
+pub returns-clause-reads : goal.returns-clause-reads
+returns-clause-reads g c = reads_confirmed c.confirm.result c.in_ok-next_line.ensures.reads c.confirm.ensures.kept c.confirm.ensures.not_disk

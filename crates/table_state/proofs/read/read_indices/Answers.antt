@@ -9,6 +9,7 @@ use Rattle.table_state.specs.State.{index_command, line_of, lines_text}
 use Rattle.table_state.proofs.Fronts.{begins_all, begins_more, begins_none, next_front}
 use Rattle.table_state.proofs.Lines.{lines_one, lines_push}
 use Rattle.table_state.proofs.Spelled.{each_index_fits}
+use Rattle.table_state.proofs.ReadingOn.{reads_then, reads_told}
 use Rattle.table_state.proofs.Taking.{takes_none}
 use Rattle.table_state.proofs.Taking.{takes_then}
 use Rattle.table_state.proofs.read.read_indices.Goals as goal
@@ -25,7 +26,7 @@ loop-alloc-preserved g c =
     let more = ap (λ t. t.indices) made in
     let is = sym (lines_push f c.loop-alloc.made.indices index) ∙ ap (λ xs. lines_text (map f xs)) (sym more) in
     record {
-      takes = takes_then (g.D.Disk.contents c.args.disk.now) (g.D.Disk.contents c.loop-alloc.disk) old.contents c.args.source.now c.loop-alloc.source c.read_index-in-loop-alloc.new.source
+      takes = takes_then (g.D.Disk.contents c.args.disk.now) (g.D.Disk.contents c.loop-alloc.disk) old.reads.contents c.args.source.now c.loop-alloc.source c.read_index-in-loop-alloc.new.source
           (lines_text (map f c.loop-alloc.made.indices)) (line_of (f index)) (lines_text (map f c.in_ok-made-2.made.indices)) is old.takes c.in_ok-next.ensures.takes;
       begins = λ xs bytes rest known fits front.
           let done = c.loop-alloc.made.indices in
@@ -35,7 +36,7 @@ loop-alloc-preserved g c =
           let fit = each_index_fits c.args.spec.now c.args.count xs fits (length done) index lt in
           let here : IndexFits c.args.spec.now c.indices-in-loop-alloc.result.now (get_or xs (length done) index) =
           subst (λ ys. IndexFits c.args.spec.now ys (get_or xs (length done) index)) (sym (old.begins xs bytes rest known fits front) ∙ sym c.indices-in-loop-alloc.ensures.value) fit in
-          let is : index ≡ get_or xs (length done) index = c.in_ok-next.ensures.finds (get_or xs (length done) index) bytes _ (old.contents ∙ known) here next in
+          let is : index ≡ get_or xs (length done) index = c.in_ok-next.ensures.finds (get_or xs (length done) index) bytes _ (old.reads.contents ∙ known) here next in
           let longer = begins_more f (IndicesFit c.args.spec.now c.args.count) (g.D.Disk.contents c.args.disk.now) c.args.source.now c.loop-alloc.source done old.takes old.begins xs bytes rest index index known fits front lt is in
           subst (λ ys. ys ≡ take (length ys) xs) (sym more) longer;
       count = one_more _ _ _ (ap length more ∙ length_push c.loop-alloc.made.indices index) (subst (λ xs. length xs < c.args.count) c.indices.ensures.value c.loop-alloc-test.true);
@@ -46,11 +47,7 @@ loop-alloc-preserved g c =
         place = ap (λ t. t.place) made ∙ old.same.place;
         tables = ap (λ t. t.tables) made ∙ old.same.tables;
       };
-      within = c.in_ok-next.ensures.within;
-      contents = c.in_ok-next.ensures.contents ∙ old.contents;
-      size = c.in_ok-next.ensures.size ∙ old.size;
-      synced = c.in_ok-next.ensures.synced ∙ old.synced;
-      failures = c.in_ok-next.ensures.failures ∙ old.failures;
+      reads = reads_then old.reads c.in_ok-next.ensures.reads;
     }
 
 pub loop-alloc-init : goal.loop-alloc-init
@@ -79,11 +76,7 @@ loop-alloc-init g c =
         place = ap (λ t. t.place) made;
         tables = ap (λ t. t.tables) made;
       };
-      within = c.in_ok-first.ensures.within;
-      contents = c.in_ok-first.ensures.contents;
-      size = c.in_ok-first.ensures.size;
-      synced = c.in_ok-first.ensures.synced;
-      failures = c.in_ok-first.ensures.failures;
+      reads = reads_told c.in_ok-first.ensures.reads;
     }
 
 pub returns-in_err-first-clause-finds : goal.returns-in_err-first-clause-finds
@@ -113,7 +106,7 @@ returns-in_err-next-clause-finds g c = λ xs bytes rest known fits front.
     let here : IndexFits c.args.spec.now c.indices-in-loop-alloc.result.now (get_or xs (length done) none) =
     subst (λ ys. IndexFits c.args.spec.now ys (get_or xs (length done) none)) (sym (old.begins xs bytes rest known fits front) ∙ sym c.indices-in-loop-alloc.ensures.value) fit in
     let p = err_from_is_err_and c.from_residual-in_err-next.result c.from_residual-in_err-next.ensures.1 in rw (p.1, p.2)
-    (c.in_err-next.ensures.finds (get_or xs (length done) none) bytes _ (old.contents ∙ known) here next)
+    (c.in_err-next.ensures.finds (get_or xs (length done) none) bytes _ (old.reads.contents ∙ known) here next)
 
 pub returns-clause-finds : goal.returns-clause-finds
 returns-clause-finds g c = λ xs bytes rest known fits front.

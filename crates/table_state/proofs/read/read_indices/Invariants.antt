@@ -1,6 +1,6 @@
-use Rattle.std.proofs.Common.{◌≡◌, ◌≤◌, ◌-◌, length, map}
+use Rattle.std.proofs.Common.{◌≡◌, ◌≤◌, ◌-◌, length, map, Ok}
 use Rattle.table_state.specs.Parts.{IndicesFit}
-use Rattle.table_state.specs.Reading.{IsWithin, Takes}
+use Rattle.table_state.specs.Reading.{ReadsOn, Takes}
 use Rattle.table_state.specs.State.{index_command, lines_text}
 use Rattle.table_terms.specs.Table.{IsOfSameTable}
 use Rattle.table_state.proofs.Fronts.{Begins}
@@ -12,11 +12,7 @@ invariant-loop-alloc g l = record {
   begins : Begins (g.D.Disk.contents l.fn.disk) l.fn.source (λ indices. lines_text (map (index_command l.spec) indices)) (IndicesFit l.spec l.count) l.made.indices;
   count : length l.made.indices ≤ l.count;
   same : IsOfSameTable l.made l.spec;
-  within : IsWithin (g.D.Disk.size l.disk) l.source;
-  contents : g.D.Disk.contents l.disk ≡ g.D.Disk.contents l.fn.disk;
-  size : g.D.Disk.size l.disk ≡ g.D.Disk.size l.fn.disk;
-  synced : g.D.Disk.synced l.disk ≡ g.D.Disk.synced l.fn.disk;
-  failures : g.D.Disk.failures l.disk ≡ g.D.Disk.failures l.fn.disk;
+  reads : ReadsOn g.D.Disk l.fn.disk l.disk l.source (Ok l.made);
 }
 
 abbrev pub decreases-loop-alloc : goal.decreases-loop-alloc

@@ -12,6 +12,7 @@ use Rattle.table_state.specs.State.{line_of, lines_text, order_at, order_command
 use Rattle.table_state.proofs.Fronts.{begins_all, one_more}
 use Rattle.table_state.proofs.NextOrder.{order_front}
 use Rattle.table_state.proofs.Orders.{last_list, orders_more}
+use Rattle.table_state.proofs.ReadingOn.{reads_then}
 use Rattle.table_state.proofs.Taking.{takes_then}
 use Rattle.table_state.proofs.read.read_orders.Goals as goal
 
@@ -36,7 +37,7 @@ loop-index-preserved g c =
     let is = ap (λ x. lines_text (map (order_at spec lists) (range_with_len 0 i)) ++ line_of x) line ∙ sym (orders_more spec lists order.items i count)
     ∙ ap (λ ls. lines_text (map (order_at spec ls) (range_with_len 0 (i + 1)))) (sym pushed) in
     record {
-      takes = takes_then (g.D.Disk.contents c.args.disk.now) (g.D.Disk.contents c.loop-index.disk) old.contents c.args.source.now c.loop-index.source c.read_order.new.source
+      takes = takes_then (g.D.Disk.contents c.args.disk.now) (g.D.Disk.contents c.loop-index.disk) old.reads.contents c.args.source.now c.loop-index.source c.read_order.new.source
           (lines_text (map (order_at spec lists) (range_with_len 0 i))) (line_of (order_command spec c.as_str.result.now order.items))
           (lines_text (map (order_at spec (map (λ order. order.items) c.push.new.self.items)) (range_with_len 0 (i + 1)))) is old.takes c.in_ok-read_order.ensures.takes;
       begins = λ xs bytes rest known fits front.
@@ -45,16 +46,12 @@ loop-index-preserved g c =
           let next = order_front spec (g.D.Disk.contents c.args.disk.now) c.args.source.now c.loop-index.source lists xs i old.takes (so ∙ as_many) lt bytes rest known front in
           let same_line : order_at spec xs i ≡ order_command spec c.as_str.result.now (list_at xs i) = ap (λ n. order_command spec n (list_at xs i)) (sym named) in
           let is : order.items ≡ list_at xs i =
-          c.in_ok-read_order.ensures.finds (list_at xs i) bytes _ (old.contents ∙ known) (subst CommandFits same_line (fits.each i lt)) (subst (λ l. left_of bytes c.loop-index.source ≡ line_of l ++ (lines_text (drop (i + 1) (order_commands spec xs)) ++ rest)) same_line next) in
+          c.in_ok-read_order.ensures.finds (list_at xs i) bytes _ (old.reads.contents ∙ known) (subst CommandFits same_line (fits.each i lt)) (subst (λ l. left_of bytes c.loop-index.source ≡ line_of l ++ (lines_text (drop (i + 1) (order_commands spec xs)) ++ rest)) same_line next) in
           let at : order.items ≡ get_or xs (length lists) [] = is ∙ ap (list_at xs) (sym count) in
           let below : length lists < length xs = omega (arith, lt, count, fits.count) in
           subst (λ ys. ys ≡ take (length ys) xs) (sym pushed) (one_more xs lists order.items [] below so at);
       count = ap length c.in_ok-push.ensures.items ∙ length_push c.loop-index.orders.items order ∙ ap (λ n. n + 1) old.count;
-      within = c.in_ok-read_order.ensures.within;
-      contents = c.in_ok-read_order.ensures.contents ∙ old.contents;
-      size = c.in_ok-read_order.ensures.size ∙ old.size;
-      synced = c.in_ok-read_order.ensures.synced ∙ old.synced;
-      failures = c.in_ok-read_order.ensures.failures ∙ old.failures;
+      reads = reads_then old.reads c.in_ok-read_order.ensures.reads;
     }
 
 pub returns-clause-takes : goal.returns-clause-takes
@@ -89,4 +86,4 @@ returns-in_err-read_order-clause-finds g c = λ xs bytes rest known fits front.
     let next = order_front spec (g.D.Disk.contents c.args.disk.now) c.args.source.now c.loop-index.source lists xs i old.takes so lt bytes rest known front in
     let same_line : order_at spec xs i ≡ order_command spec c.as_str.result.now (list_at xs i) = ap (λ n. order_command spec n (list_at xs i)) (sym named) in
     let p = err_from_is_err_and c.from_residual-in_err-read_order.result c.from_residual-in_err-read_order.ensures.1 in rw (p.1, p.2)
-    (c.in_err-read_order.ensures.finds (list_at xs i) bytes _ (old.contents ∙ known) (subst CommandFits same_line (fits.each i lt)) (subst (λ l. left_of bytes c.loop-index.source ≡ line_of l ++ (lines_text (drop (i + 1) (order_commands spec xs)) ++ rest)) same_line next))
+    (c.in_err-read_order.ensures.finds (list_at xs i) bytes _ (old.reads.contents ∙ known) (subst CommandFits same_line (fits.each i lt)) (subst (λ l. left_of bytes c.loop-index.source ≡ line_of l ++ (lines_text (drop (i + 1) (order_commands spec xs)) ++ rest)) same_line next))

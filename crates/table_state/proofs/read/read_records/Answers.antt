@@ -8,6 +8,7 @@ use Rattle.table_state.specs.State.{line_of, lines_text, record_command}
 use Rattle.table_state.proofs.Fronts.{begins_all, begins_more, next_front}
 use Rattle.table_state.proofs.Lines.{lines_push}
 use Rattle.table_state.proofs.Recorded.{all_at}
+use Rattle.table_state.proofs.ReadingOn.{reads_then}
 use Rattle.table_state.proofs.Taking.{takes_then}
 use Rattle.table_state.proofs.read.read_records.Goals as goal
 
@@ -18,21 +19,17 @@ loop-alloc-preserved g c =
     let entry = c.in_ok-read_record.field-0 in
     let is = sym (lines_push f c.loop-alloc.entries.items entry) ∙ ap (λ xs. lines_text (map f xs)) (sym c.in_ok-push.ensures.items) in
     record {
-      takes = takes_then (g.D.Disk.contents c.args.disk.now) (g.D.Disk.contents c.loop-alloc.disk) old.contents c.args.source.now c.loop-alloc.source c.read_record.new.source
+      takes = takes_then (g.D.Disk.contents c.args.disk.now) (g.D.Disk.contents c.loop-alloc.disk) old.reads.contents c.args.source.now c.loop-alloc.source c.read_record.new.source
           (lines_text (map f c.loop-alloc.entries.items)) (line_of (f entry)) (lines_text (map f c.push.new.self.items)) is old.takes c.in_ok-read_record.ensures.takes;
       begins = λ xs bytes rest known fits front.
           let done = c.loop-alloc.entries.items in
           let lt : length done < length xs = omega (arith, fits.count) in
           let next = next_front f (EntriesFit c.args.spec.now c.args.count) (g.D.Disk.contents c.args.disk.now) c.args.source.now c.loop-alloc.source done old.takes old.begins xs bytes rest entry known fits front lt in
-          let is : entry ≡ get_or xs (length done) entry = c.in_ok-read_record.ensures.finds (get_or xs (length done) entry) bytes _ (old.contents ∙ known) (all_at (EntryFits c.args.spec.now) xs (length done) entry lt fits.each) next in
+          let is : entry ≡ get_or xs (length done) entry = c.in_ok-read_record.ensures.finds (get_or xs (length done) entry) bytes _ (old.reads.contents ∙ known) (all_at (EntryFits c.args.spec.now) xs (length done) entry lt fits.each) next in
           let more = begins_more f (EntriesFit c.args.spec.now c.args.count) (g.D.Disk.contents c.args.disk.now) c.args.source.now c.loop-alloc.source done old.takes old.begins xs bytes rest entry entry known fits front lt is in
           subst (λ ys. ys ≡ take (length ys) xs) (sym c.in_ok-push.ensures.items) more;
       count = omega (arith, ap length c.in_ok-push.ensures.items ∙ length_push c.loop-alloc.entries.items entry);
-      within = c.in_ok-read_record.ensures.within;
-      contents = c.in_ok-read_record.ensures.contents ∙ old.contents;
-      size = c.in_ok-read_record.ensures.size ∙ old.size;
-      synced = c.in_ok-read_record.ensures.synced ∙ old.synced;
-      failures = c.in_ok-read_record.ensures.failures ∙ old.failures;
+      reads = reads_then old.reads c.in_ok-read_record.ensures.reads;
     }
 
 pub returns-in_err-read_record-clause-finds : goal.returns-in_err-read_record-clause-finds
@@ -44,7 +41,7 @@ returns-in_err-read_record-clause-finds g c = λ xs bytes rest known fits front.
     let lt : length done < length xs = omega (arith, fits.count) in
     let next = next_front f (EntriesFit c.args.spec.now c.args.count) (g.D.Disk.contents c.args.disk.now) c.args.source.now c.loop-alloc.source done old.takes old.begins xs bytes rest none known fits front lt in
     let p = err_from_is_err_and c.from_residual.result c.from_residual.ensures.1 in rw (p.1, p.2)
-    (c.in_err-read_record.ensures.finds (get_or xs (length done) none) bytes _ (old.contents ∙ known) (all_at (EntryFits c.args.spec.now) xs (length done) none lt fits.each) next)
+    (c.in_err-read_record.ensures.finds (get_or xs (length done) none) bytes _ (old.reads.contents ∙ known) (all_at (EntryFits c.args.spec.now) xs (length done) none lt fits.each) next)
 
 pub returns-clause-finds : goal.returns-clause-finds
 returns-clause-finds g c = λ xs bytes rest known fits front.

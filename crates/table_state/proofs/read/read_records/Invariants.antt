@@ -1,6 +1,6 @@
-use Rattle.std.proofs.Common.{◌≡◌, ◌≤◌, ◌-◌, length, map}
+use Rattle.std.proofs.Common.{◌≡◌, ◌≤◌, ◌-◌, length, map, Ok}
 use Rattle.table_state.specs.Parts.{EntriesFit}
-use Rattle.table_state.specs.Reading.{IsWithin, Takes}
+use Rattle.table_state.specs.Reading.{ReadsOn, Takes}
 use Rattle.table_state.specs.State.{lines_text, record_command}
 use Rattle.table_state.proofs.Fronts.{Begins}
 use Rattle.table_state.proofs.read.read_records.Given as goal
@@ -10,11 +10,7 @@ invariant-loop-alloc g l = record {
   takes : Takes (g.D.Disk.contents l.fn.disk) l.fn.source (lines_text (map (record_command l.spec) l.entries.items)) l.source;
   begins : Begins (g.D.Disk.contents l.fn.disk) l.fn.source (λ entries. lines_text (map (record_command l.spec) entries)) (EntriesFit l.spec l.count) l.entries.items;
   count : length l.entries.items ≤ l.count;
-  within : IsWithin (g.D.Disk.size l.disk) l.source;
-  contents : g.D.Disk.contents l.disk ≡ g.D.Disk.contents l.fn.disk;
-  size : g.D.Disk.size l.disk ≡ g.D.Disk.size l.fn.disk;
-  synced : g.D.Disk.synced l.disk ≡ g.D.Disk.synced l.fn.disk;
-  failures : g.D.Disk.failures l.disk ≡ g.D.Disk.failures l.fn.disk;
+  reads : ReadsOn g.D.Disk l.fn.disk l.disk l.source (Ok l.entries);
 }
 
 abbrev pub decreases-loop-alloc : goal.decreases-loop-alloc

@@ -13,7 +13,7 @@ pub returns-in-Ok-clause-read : goal.returns-in-Ok-clause-read
 returns-in-Ok-clause-read g c = λ bytes known.
     let told = restored_table c.in_ok-spec.field-0.spec c.in_ok-spec.field-0.saved in
     all_read (g.D.Disk.contents c.args.disk.now) (g.D.Disk.contents c.read_all.new.disk) c.in_ok-source.source c.read_all.new.source (state_text told)
-    c.in_ok-spec.ensures.contents c.in_ok-source.ensures.left c.in_ok-spec.ensures.takes c.in_ok-end.ensures.none bytes known
+    c.in_ok-spec.ensures.reads.contents c.in_ok-source.ensures.left c.in_ok-spec.ensures.takes c.in_ok-end.ensures.none bytes known
     ∙ ap state_text (sym c.in-Ok.ensures.made)
 
 pub returns-in_err-spec-clause-recalls : goal.returns-in_err-spec-clause-recalls
@@ -30,7 +30,7 @@ returns-in_err-end-clause-recalls g c = λ t stands same known.
     let left = rest_is (g.D.Disk.contents c.args.disk.now) c.in_ok-source.source c.read_all.new.source (state_text told) c.in_ok-spec.ensures.takes (state_text t) [] known
     (front ∙ ap (λ x. state_text x ++ []) (sym is)) in
     let p = err_from_is_err_and c.from_residual-in_err-end.result c.from_residual-in_err-end.ensures.1 in rw (p.1, p.2)
-    (c.in_err-end.ensures.more (state_text t) (c.in_ok-spec.ensures.contents ∙ known) left)
+    (c.in_err-end.ensures.more (state_text t) (c.in_ok-spec.ensures.reads.contents ∙ known) left)
 
 pub returns-in-Ok-clause-recalls : goal.returns-in-Ok-clause-recalls
 returns-in-Ok-clause-recalls g c = λ t stands same known.

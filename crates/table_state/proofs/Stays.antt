@@ -1,0 +1,13 @@
+pub mod Cells
+pub mod Rows
+pub mod Edited
+pub mod Keyed
+pub mod Entries
+pub mod Writes
+pub mod Found
+pub mod Records
+pub mod Indices
+pub mod Reads
+pub mod Steps
+pub mod Begun
+pub mod Logs
