@@ -31,7 +31,7 @@ use Rattle.table_terms.specs.declared.outcome.Outcome.TheVariants as outcomes
 use Rattle.table_terms.specs.Edits.{edited_row, is_edit, keyed_row}
 use Rattle.table_terms.specs.Step.{Step, Steps, Took, changed, refused, reindexed, then_step}
 use Rattle.table_terms.specs.Table.{TableState, Cells, IsOfSameTable, Keys, keys_of, row_order}
-use Rattle.table_terms.specs.Words.{handle_for, key_for, or_fault, place_for, record_for, spelled, whole_key_for}
+use Rattle.table_terms.specs.Words.{handle_for, index_named, key_for, or_fault, record_for, spelled, whole_key_for}
 
 -- the table is the same unless it was written to, and then its indices alone may be declared anew
 pub record KeepsUnlessWritten (t : TableState) (step : Step) : Type 0 where
@@ -77,13 +77,13 @@ module _ (t : TableState) where
   unfolding erase_record
   erase_keeps text index = after_keeps (handle_for text) _ (λ h. changed_keeps (erase_refusal t.records h index) _ _)
 
-  in_sequence : (name : List ℕ) (step : ℕ → Step) → ((index : ℕ) → KeepsUnlessWritten t (step index)) → KeepsUnlessWritten t (then_step t (place_for kinds.Sequence t.shape.indices name) step)
-  in_sequence name step k = after_keeps (place_for kinds.Sequence t.shape.indices name) step k
+  in_sequence : (name : List ℕ) (step : ℕ → Step) → ((index : ℕ) → KeepsUnlessWritten t (step index)) → KeepsUnlessWritten t (then_step t (index_named kinds.Sequence t.shape.indices name) step)
+  in_sequence name step k = after_keeps (index_named kinds.Sequence t.shape.indices name) step k
 
   pub change_keeps : (command : Command) → KeepsUnlessWritten t (change_step t command)
   unfolding replace_row edit_record put_key erase_probe clear_step move_record rearrange_in sort_in reverse_in add_defined drop_at
   change_keeps (commands.Insert table fields None) = row_keeps None fields
-  change_keeps (commands.Insert table fields (Some position)) = in_sequence position.index _ (λ place. row_keeps (Some (place, position.place)) fields)
+  change_keeps (commands.Insert table fields (Some position)) = in_sequence position.index _ (λ index. row_keeps (Some (index, position.place)) fields)
   change_keeps (commands.Replace table text fields) =
       after_keeps _ _ (λ row. after_keeps (handle_for text) _ (λ h. changed_keeps (replace_refusal row_order t.records h row) _ _))
   change_keeps (commands.Modify table text changes rollback) =
@@ -92,7 +92,7 @@ module _ (t : TableState) where
   change_keeps (commands.ModifyKey table name text values rollback) =
       after_keeps (whole_key_for t.shape name values) _ (λ key. after_keeps (handle_for text) _ (λ h. at_row_keeps h _ (λ row. change_row_keeps rollback h (keyed_row (parts_at (keys_of t.shape) key.0) key.1 row))))
   change_keeps (commands.Erase table text None) = erase_keeps text None
-  change_keeps (commands.Erase table text (Some name)) = after_keeps (place_for kinds.Walked t.shape.indices name) _ (λ place. erase_keeps text (Some place))
+  change_keeps (commands.Erase table text (Some name)) = after_keeps (index_named kinds.Walked t.shape.indices name) _ (λ index. erase_keeps text (Some index))
   change_keeps (commands.EraseKey table name values) = after_keeps (key_for t.shape kinds.Keyed name values) _ (λ key. changed_keeps (erase_key_refusal t.records key.0) _ _)
   change_keeps (commands.Clear table) = changed_keeps (spent t.records) _ _
   change_keeps (commands.Move table name text place) =
@@ -106,7 +106,7 @@ module _ (t : TableState) where
       after_keeps (or_fault faults.Definition (defined t.shape.columns t.shape.indices (record { name = name; kind = kind; unique = unique; key = key }))) _
       (λ index. reindexed_keeps (with_index t.shape index) (add_refusal t index) _ (with_table_index t index) (record { name = refl; max = refl; columns = refl; place = refl; tables = refl }))
   change_keeps (commands.DropIndex table name) =
-      after_keeps (place_for kinds.All t.shape.indices name) _ (λ place. reindexed_keeps t.shape (drop_index_refusal t.records) _ (without_table_index t place) (record { name = refl; max = refl; columns = refl; place = refl; tables = refl }))
+      after_keeps (index_named kinds.All t.shape.indices name) _ (λ index. reindexed_keeps t.shape (drop_index_refusal t.records) _ (without_table_index t index) (record { name = refl; max = refl; columns = refl; place = refl; tables = refl }))
   change_keeps read = refused_keeps faults.Command
 
 -- and so is the table that was left

@@ -13,7 +13,7 @@ use Rattle.table_terms.specs.declared.kinds.Kinds.TheVariants as kinds
 use Rattle.table_records.specs.Changes.{refusal_at}
 use Rattle.table_terms.specs.Step.{Step, changed, then_step}
 use Rattle.table_terms.specs.Table.{Cells, TableState, probe_order, row_order}
-use Rattle.table_terms.specs.Words.{at_key, handle_for, or_fault, place_for}
+use Rattle.table_terms.specs.Words.{at_key, handle_for, index_named, or_fault}
 use Rattle.table_terms.specs.Values.{row_from}
 
 -- a row put in
@@ -28,7 +28,7 @@ insert_fields t at fields = then_step t (or_fault faults.Row (row_from t.shape.c
 abbrev pub insert_step : TableState → List Field → Option Position → Step
 insert_step t fields None = insert_fields t None fields
 insert_step t fields (Some position) =
-    then_step t (place_for kinds.Sequence t.shape.indices position.index) (λ place. insert_fields t (Some (place, position.place)) fields)
+    then_step t (index_named kinds.Sequence t.shape.indices position.index) (λ index. insert_fields t (Some (index, position.place)) fields)
 
 -- a record's row replaced
 unfoldable pub replace_row : TableState → Handle → Cells → Step
@@ -53,13 +53,13 @@ erase_text t text index = then_step t (handle_for text) (erase_record t index)
 -- an erasure, which may ask for the next record at an index
 abbrev pub erase_step : TableState → HandleText → Option (List ℕ) → Step
 erase_step t text None = erase_text t text None
-erase_step t text (Some name) = then_step t (place_for kinds.Walked t.shape.indices name) (λ place. erase_text t text (Some place))
+erase_step t text (Some name) = then_step t (index_named kinds.Walked t.shape.indices name) (λ index. erase_text t text (Some index))
 
 -- the records that have a search key taken out
 unfoldable pub erase_probe : TableState → ℕ → Cells → Step
-erase_probe t place probe =
-    changed t (erase_key_refusal t.records place) (counted (t.records.writes + 1) (erased_count probe_order t.records place probe))
-    (with_key_erased probe_order t.records place probe)
+erase_probe t index probe =
+    changed t (erase_key_refusal t.records index) (counted (t.records.writes + 1) (erased_count probe_order t.records index probe))
+    (with_key_erased probe_order t.records index probe)
 
 abbrev pub erase_key_step : TableState → List ℕ → List Value → Step
 erase_key_step t name values = at_key t kinds.Keyed name values (erase_probe t)

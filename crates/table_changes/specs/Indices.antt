@@ -11,7 +11,7 @@ use Rattle.table_schema.specs.Draft.{IndexDraft}
 use Rattle.table_terms.specs.declared.kinds.Kinds.TheVariants as kinds
 use Rattle.table_terms.specs.Step.{Step, reindexed, then_step}
 use Rattle.table_terms.specs.Table.{TableState}
-use Rattle.table_terms.specs.Words.{or_fault, place_for}
+use Rattle.table_terms.specs.Words.{index_named, or_fault}
 
 -- an index added, the last; a clash of two records there is told in its name
 unfoldable pub add_defined : TableState → IndexSpec → Step
@@ -24,10 +24,10 @@ add_draft t draft = then_step t (or_fault faults.Definition (defined t.shape.col
 abbrev pub add_index_step : TableState → List ℕ → Kind → Bool → Option (List (List ℕ)) → Step
 add_index_step t name kind unique key = add_draft t (record { name = name; kind = kind; unique = unique; key = key })
 
--- the index of a place dropped
+-- the index of a number dropped
 unfoldable pub drop_at : TableState → ℕ → Step
-drop_at t place = reindexed t t.shape (drop_index_refusal t.records) (done (t.records.writes + 1)) (without_table_index t place)
+drop_at t index = reindexed t t.shape (drop_index_refusal t.records) (done (t.records.writes + 1)) (without_table_index t index)
 
 -- the one of this name
 abbrev pub drop_index_step : TableState → List ℕ → Step
-drop_index_step t name = then_step t (place_for kinds.All t.shape.indices name) (drop_at t)
+drop_index_step t name = then_step t (index_named kinds.All t.shape.indices name) (drop_at t)

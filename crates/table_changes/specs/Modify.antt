@@ -45,7 +45,7 @@ modify_step t text set add rollback =
 
 -- to the one with the key of an index put in
 unfoldable pub put_key : TableState → ℕ → Cells → (rollback : Bool) → Handle → Step
-put_key t place key rollback h = at_row t h (λ row. change_row t rollback h (keyed_row (parts_at (keys_of t.shape) place) key row))
+put_key t index key rollback h = at_row t h (λ row. change_row t rollback h (keyed_row (parts_at (keys_of t.shape) index) key row))
 
 abbrev pub modify_key_step : TableState → List ℕ → HandleText → List Value → (rollback : Bool) → Step
 modify_key_step t name text values rollback =

@@ -13,7 +13,7 @@ use Rattle.table_schema.specs.Resolved.{part_of}
 use Rattle.table_terms.specs.declared.kinds.Kinds.TheVariants as kinds
 use Rattle.table_terms.specs.Step.{Step, changed, then_step}
 use Rattle.table_terms.specs.Table.{TableState}
-use Rattle.table_terms.specs.Words.{or_fault, place_for, record_for, spelled}
+use Rattle.table_terms.specs.Words.{index_named, or_fault, record_for, spelled}
 
 -- a record moved before a place of a sequence
 unfoldable pub move_record : TableState → ℕ → ℕ → Handle → Step
@@ -28,7 +28,7 @@ rearrange_in t index handles = changed t (rearrange_refusal t.records index hand
 
 abbrev pub rearrange_step : TableState → List ℕ → List HandleText → Step
 rearrange_step t name texts =
-    then_step t (place_for kinds.Sequence t.shape.indices name) (λ index. then_step t (or_fault faults.Handle (spelled texts)) (rearrange_in t index))
+    then_step t (index_named kinds.Sequence t.shape.indices name) (λ index. then_step t (or_fault faults.Handle (spelled texts)) (rearrange_in t index))
 
 -- the parts of a key that one to four texts name
 unfoldable pub parts_named : List Column → List (List ℕ) → Option (List Part)
@@ -42,11 +42,11 @@ abbrev pub sort_named : TableState → ℕ → List (List ℕ) → Step
 sort_named t index names = then_step t (or_fault faults.Key (parts_named t.shape.columns names)) (sort_in t index)
 
 abbrev pub sort_step : TableState → List ℕ → List (List ℕ) → Step
-sort_step t name names = then_step t (place_for kinds.Sequence t.shape.indices name) (λ index. sort_named t index names)
+sort_step t name names = then_step t (index_named kinds.Sequence t.shape.indices name) (λ index. sort_named t index names)
 
 -- the records of a sequence the other way round
 unfoldable pub reverse_in : TableState → ℕ → Step
 reverse_in t index = changed t (sequence_refusal t.records index) (done (t.records.writes + 1)) (with_reversed t.records index)
 
 abbrev pub reverse_step : TableState → List ℕ → Step
-reverse_step t name = then_step t (place_for kinds.Sequence t.shape.indices name) (reverse_in t)
+reverse_step t name = then_step t (index_named kinds.Sequence t.shape.indices name) (reverse_in t)

@@ -21,7 +21,7 @@ pub(crate) enum Changed {
     Next(Option<Handle>),
     /// How many records were taken out.
     Erased(u64),
-    /// The record was lost: in the unique index at a place another has its new key.
+    /// The record was lost: in the unique index of a number another has its new key.
     Lost { index: usize, by: Handle },
 }
 

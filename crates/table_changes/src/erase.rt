@@ -10,7 +10,7 @@ use key_extract::Text;
 use std::alloc::Global;
 use table_cmd::{HandleText, Key};
 use table_records::Records;
-use table_terms::{Kinds, handle_for, key_for, place_for};
+use table_terms::{Kinds, handle_for, index_named, key_for};
 
 /// Takes a record out, and where an index is named tells the record that came next there.
 pub(crate) fn erase(
@@ -24,8 +24,8 @@ pub(crate) fn erase(
     let Some(name) = name else {
         return erase_text(records, text, None);
     };
-    let place = place_for(records.spec().indices(), Kinds::Walked, name.as_str())?;
-    erase_text(records, text, Some(place))
+    let index = index_named(records.spec().indices(), Kinds::Walked, name.as_str())?;
+    erase_text(records, text, Some(index))
 }
 
 #[tactic(auto, unfolding(crate::specs::Changes::erase_record))]
@@ -34,7 +34,7 @@ fn erase_text(
     text: HandleText,
     index: Option<usize>,
 ) -> Result<Changed, Refusal>
-    requires { IfSome index (λ place. place < length records.old.shape.indices) }
+    requires { IfSome index (λ i. i < length records.old.shape.indices) }
     ensures { Makes result records.old records.new (erase_text records.old text index) }
 {
     let handle = handle_for(text)?;
@@ -57,8 +57,8 @@ pub(crate) fn erase_key(
         (erase_key_step records.old name.now key.now) }
 {
     let spec = records.spec();
-    let (place, probe) = key_for(alloc, spec, Kinds::Keyed, name.as_str(), key.as_slice())??;
-    let number = records.erase_key(place, &probe)?;
+    let (index, probe) = key_for(alloc, spec, Kinds::Keyed, name.as_str(), key.as_slice())??;
+    let number = records.erase_key(index, &probe)?;
     Ok(Changed::Erased(number))
 }
 

@@ -8,7 +8,7 @@ use key_extract::Text;
 use table_cmd::{Kind, Names};
 use table_records::Records;
 use table_schema::define_index;
-use table_terms::{Kinds, place_for};
+use table_terms::{Kinds, index_named};
 
 /// Adds an index of this name, kind and key, the last.
 #[tactic(auto, unfolding(crate::specs::Indices::add_defined))]
@@ -37,7 +37,7 @@ pub(crate) fn add_index(
 pub(crate) fn drop_index(records: &mut Records, name: &Text) -> Result<Changed, Refusal>
     ensures { Makes result records.old records.new (drop_index_step records.old name.now) }
 {
-    let place = place_for(records.spec().indices(), Kinds::All, name.as_str())?;
-    records.drop_index(place)?;
+    let index = index_named(records.spec().indices(), Kinds::All, name.as_str())?;
+    records.drop_index(index)?;
     Ok(Changed::Done)
 }

@@ -10,7 +10,7 @@ use std::alloc::Global;
 use table_cmd::{Fields, Position};
 use table_records::Records;
 use table_reply::Fault;
-use table_terms::{Kinds, place_for, row_from};
+use table_terms::{Kinds, index_named, row_from};
 
 /// Puts the row of the fields in, before the position where there is one. Memory is refused before anything is changed.
 pub(crate) fn insert(
@@ -26,8 +26,8 @@ pub(crate) fn insert(
         return insert_fields(alloc, records, None, fields);
     };
     let name = position.index.as_str();
-    let place = place_for(records.spec().indices(), Kinds::Sequence, name)?;
-    insert_fields(alloc, records, Some((place, position.place)), fields)
+    let index = index_named(records.spec().indices(), Kinds::Sequence, name)?;
+    insert_fields(alloc, records, Some((index, position.place)), fields)
 }
 
 #[tactic(auto, unfolding(crate::specs::Changes::insert_row))]

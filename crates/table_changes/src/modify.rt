@@ -64,28 +64,28 @@ pub(crate) fn modify_key(
     ensures { Makes result records.old records.new
         (modify_key_step records.old name.now text key.now rollback) }
 {
-    let (place, key) = whole_key_for(alloc, records.spec(), name.as_str(), key.as_slice())??;
+    let (index, key) = whole_key_for(alloc, records.spec(), name.as_str(), key.as_slice())??;
     let handle = handle_for(text)?;
-    put_key(alloc, records, place, &key, rollback, handle)
+    put_key(alloc, records, index, &key, rollback, handle)
 }
 
 #[tactic(auto, unfolding(crate::specs::Modify::put_key))]
 fn put_key(
     alloc: Global,
     records: &mut Records,
-    place: usize,
+    index: usize,
     key: &Probe,
     rollback: bool,
     handle: Handle,
 ) -> Result<Changed, Refusal>
-    requires { place < length records.old.shape.indices }
+    requires { index < length records.old.shape.indices }
     ensures { Makes result records.old records.new
-        (put_key records.old place key.now rollback handle) }
+        (put_key records.old index key.now rollback handle) }
 {
     let Ok(row) = records.container().get(handle) else {
         return Err(Refusal::Fault(Fault::Handle));
     };
-    let row = keyed_row(alloc, records.spec(), place, key, row)?;
+    let row = keyed_row(alloc, records.spec(), index, key, row)?;
     change_row(records, rollback, handle, row)
 }
 

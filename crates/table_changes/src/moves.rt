@@ -12,7 +12,7 @@ use table_cmd::{HandleText, Handles, Names};
 use table_records::Records;
 use table_reply::Fault;
 use table_schema::{Column, key_of_texts};
-use table_terms::{Kinds, handles_for, place_for, record_for};
+use table_terms::{Kinds, handles_for, index_named, record_for};
 
 /// Moves a record before a place of the named sequence.
 #[tactic(auto, unfolding(crate::specs::Moves::move_record))]
@@ -42,7 +42,7 @@ pub(crate) fn rearrange(
     ensures { Makes result records.old records.new
         (rearrange_step records.old name.now texts.now) }
 {
-    let index = place_for(records.spec().indices(), Kinds::Sequence, name.as_str())?;
+    let index = index_named(records.spec().indices(), Kinds::Sequence, name.as_str())?;
     let handles = handles_for(alloc, texts.as_slice())?;
     let handles = handles.ok_or(Fault::Handle)?;
     records.rearrange(index, &handles)?;
@@ -54,7 +54,7 @@ pub(crate) fn rearrange(
 pub(crate) fn sort(records: &mut Records, name: &Text, names: &Names) -> Result<Changed, Refusal>
     ensures { Makes result records.old records.new (sort_step records.old name.now names.now) }
 {
-    let index = place_for(records.spec().indices(), Kinds::Sequence, name.as_str())?;
+    let index = index_named(records.spec().indices(), Kinds::Sequence, name.as_str())?;
     let key = key_named(records.spec().columns(), names.as_slice())?;
     records.sort(index, &RowSort::new(key))?;
     Ok(Changed::Done)
@@ -77,7 +77,7 @@ fn key_named(columns: &[Column], names: &[Text]) -> Result<KeySpec, Fault>
 pub(crate) fn reverse(records: &mut Records, name: &Text) -> Result<Changed, Refusal>
     ensures { Makes result records.old records.new (reverse_step records.old name.now) }
 {
-    let index = place_for(records.spec().indices(), Kinds::Sequence, name.as_str())?;
+    let index = index_named(records.spec().indices(), Kinds::Sequence, name.as_str())?;
     records.reverse(index)?;
     Ok(Changed::Done)
 }

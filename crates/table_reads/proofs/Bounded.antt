@@ -14,8 +14,8 @@ found_is true xs found e = cc
 found_is false xs found e = cc
 
 -- the records of a range are live
-pub range_live : (records : State Keys Cells) (place : ℕ) (low high : Edge Handle) (found : List Handle) → AllByRecursion (λ h. is_live records h ≡ true) (list_at records.lists place) →
-    found_range records place low high ≡ Ok found → AllByRecursion (λ h. is_live records h ≡ true) found
-range_live records place low high found live e =
-    subst (AllByRecursion (λ h. is_live records h ≡ true)) (found_is (is_sorted_kind (kind_at records place)) _ found e)
-    (All-filter (λ h. is_live records h ≡ true) _ (list_at records.lists place) live)
+pub range_live : (records : State Keys Cells) (index : ℕ) (low high : Edge Handle) (found : List Handle) → AllByRecursion (λ h. is_live records h ≡ true) (list_at records.lists index) →
+    found_range records index low high ≡ Ok found → AllByRecursion (λ h. is_live records h ≡ true) found
+range_live records index low high found live e =
+    subst (AllByRecursion (λ h. is_live records h ≡ true)) (found_is (is_sorted_kind (kind_at records index)) _ found e)
+    (All-filter (λ h. is_live records h ≡ true) _ (list_at records.lists index) live)

@@ -20,16 +20,16 @@ use Rattle.table_terms.specs.Table.{Cells, TableState}
 use Rattle.table_reads.specs.Shown.{entries_of, shown_entries}
 
 found_in : {R : Type 0} (order : ℕ → R → R → Ordering) (entries : List (Entry R)) → EachPair (λ a b. (b.handle.slot == a.handle.slot) ≡ false) entries → (index : ℕ) (specs : List Spec) (lists : List (List Handle)) → AreIndices order entries index specs lists →
-    (place : ℕ) → AllByRecursion (λ h. is_some (row_of entries h) ≡ true) (list_at lists place)
-found_in order entries slots index [] [] are place = tt
-found_in order entries slots index [] (list ∷ lists) are place = absurd are
-found_in order entries slots index (spec ∷ specs) [] are place = absurd are
+    (number : ℕ) → AllByRecursion (λ h. is_some (row_of entries h) ≡ true) (list_at lists number)
+found_in order entries slots index [] [] are number = tt
+found_in order entries slots index [] (list ∷ lists) are number = absurd are
+found_in order entries slots index (spec ∷ specs) [] are number = absurd are
 found_in order entries slots index (spec ∷ specs) (list ∷ lists) are zero = All-map _ _ (λ h f. ap is_some f.1) list (all_found entries list slots are.0.members)
-found_in order entries slots index (spec ∷ specs) (list ∷ lists) are (suc place) = found_in order entries slots (index + 1) specs lists are.1 place
+found_in order entries slots index (spec ∷ specs) (list ∷ lists) are (suc number) = found_in order entries slots (index + 1) specs lists are.1 number
 
 -- the records of each index are live
-pub all_live : {E R : Type 0} (has_key : E → ℕ → Bool) (order : E → ℕ → R → R → Ordering) (s : State E R) → IsState has_key order s → (place : ℕ) → AllByRecursion (λ h. is_live s h ≡ true) (list_at s.lists place)
-all_live has_key order s state place = found_in (order s.keys) s.entries state.slots 0 s.specs s.lists state.indices place
+pub all_live : {E R : Type 0} (has_key : E → ℕ → Bool) (order : E → ℕ → R → R → Ordering) (s : State E R) → IsState has_key order s → (index : ℕ) → AllByRecursion (λ h. is_live s h ≡ true) (list_at s.lists index)
+all_live has_key order s state index = found_in (order s.keys) s.entries state.slots 0 s.specs s.lists state.indices index
 
 abbrev listed_entry : List Heading → Entry Cells → Listed
 listed_entry headings e = record { handle = e.handle; row = named headings e.row }

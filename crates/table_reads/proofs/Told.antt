@@ -23,14 +23,14 @@ use Rattle.table_terms.specs.Step.{Answers, Step, Steps}
 use Rattle.table_terms.specs.Table.{Cells, Keys, TableState, row_order}
 
 -- the records of an index are in the table
-pub list_is_in : (t : TableState) (place : ℕ) → AreLive t (list_at t.records.lists place)
-list_is_in t place state = all_live _ _ t.records state place
+pub list_is_in : (t : TableState) (index : ℕ) → AreLive t (list_at t.records.lists index)
+list_is_in t index state = all_live _ _ t.records state index
 
 -- so are those of a range
-pub range_is_in : (t : TableState) (s : State Keys Cells) → s ≡ t.records → (place : ℕ) (low high : Edge Handle) (found : List Handle) → found_range s place low high ≡ Ok found → AreLive t found
-range_is_in t s e place low high found is =
+pub range_is_in : (t : TableState) (s : State Keys Cells) → s ≡ t.records → (index : ℕ) (low high : Edge Handle) (found : List Handle) → found_range s index low high ≡ Ok found → AreLive t found
+range_is_in t s e index low high found is =
     subst (λ (r : State Keys Cells). (IsState (λ keys index. is_some (key_at keys index)) row_order r → AllByRecursion (λ h. is_live r h ≡ true) found)) e
-    (λ state. range_live s place low high found (all_live _ _ s state place) is)
+    (λ state. range_live s index low high found (all_live _ _ s state index) is)
 
 -- a listing of records by their handles
 pub steps_listed : (outcome : Outcome) (before after : List ℕ) (t : TableState) (step : Step) (headings : List Heading) (records : List Record) (handles : List Handle) (at : ℕ) → step ≡ show_handles t handles → headings ≡ headings_of t.shape.columns → shown_entries records ≡ entries_of t.records.entries handles → at ≡ t.records.writes →

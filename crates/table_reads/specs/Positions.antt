@@ -14,11 +14,11 @@ use Rattle.table_reads.specs.declared.positions.Walk.TheVariants as walks
 use Rattle.table_reads.specs.Reads.{counted_by, found_by}
 use Rattle.table_terms.specs.Step.{Step, refused, then_step}
 use Rattle.table_terms.specs.Table.{Cells, Keys, TableState}
-use Rattle.table_terms.specs.Words.{place_for, position_for, record_for}
+use Rattle.table_terms.specs.Words.{index_named, position_for, record_for}
 
 -- the record at a place, or the end
 abbrev pub nth_step : TableState → List ℕ → ℕ → Step
-nth_step t name n = then_step t (place_for kinds.Counted t.shape.indices name) (λ index. found_by t (nth t.records index n))
+nth_step t name n = then_step t (index_named kinds.Counted t.shape.indices name) (λ index. found_by t (nth t.records index n))
 
 -- the rank of a position
 abbrev pub rank_step : TableState → List ℕ → Option HandleText → Step

@@ -13,22 +13,22 @@ use Rattle.table_terms.specs.declared.kinds.Kinds.TheVariants as kinds
 use Rattle.table_terms.specs.Bounds.{bounds_at, end_of}
 use Rattle.table_terms.specs.Step.{Step, refused_by, then_step}
 use Rattle.table_terms.specs.Table.{TableState, probe_order}
-use Rattle.table_terms.specs.Words.{or_fault, place_for}
+use Rattle.table_terms.specs.Words.{index_named, or_fault}
 
 -- the records that the container answers, or why it refuses
 abbrev pub shown_by : TableState → Result (List Handle) Why → Step
 shown_by t (Ok handles) = show_handles t handles
 shown_by t (Err why) = refused_by t why
 
--- how the records of the index at a place stand to a bound
+-- how the records of the index of a number stand to a bound
 abbrev pub edge_at : TableState → ℕ → ProbeBound → Edge Handle
-edge_at t place bound = edge_of (λ probe. probe_side probe_order t.records place probe) (end_of bound)
+edge_at t index bound = edge_of (λ probe. probe_side probe_order t.records index probe) (end_of bound)
 
 -- the records of an index between two bounds, in its order
 unfoldable pub range_in : TableState → ℕ → (low high : ProbeBound) → Step
-range_in t place low high = shown_by t (found_range t.records place (edge_at t place low) (edge_at t place high))
+range_in t index low high = shown_by t (found_range t.records index (edge_at t index low) (edge_at t index high))
 
 abbrev pub range_step : TableState → List ℕ → (low high : KeyBound) → Step
 range_step t name low high =
-    then_step t (place_for kinds.Sorted t.shape.indices name) (λ place.
-    then_step t (or_fault faults.Key (bounds_at t.shape place low high)) (λ bounds. range_in t place bounds.0 bounds.1))
+    then_step t (index_named kinds.Sorted t.shape.indices name) (λ index.
+    then_step t (or_fault faults.Key (bounds_at t.shape index low high)) (λ bounds. range_in t index bounds.0 bounds.1))

@@ -11,7 +11,7 @@ use Rattle.table_terms.specs.declared.kinds.Kinds.TheVariants as kinds
 use Rattle.table_records.specs.Headings.{headings_of}
 use Rattle.table_terms.specs.Step.{Step, refused, refused_by, then_step, told}
 use Rattle.table_terms.specs.Table.{Cells, TableState}
-use Rattle.table_terms.specs.Words.{handle_for, place_for}
+use Rattle.table_terms.specs.Words.{handle_for, index_named}
 
 -- the record that the container answers, or why it refuses
 abbrev pub found_by : TableState → Result (Option Handle) Why → Step
@@ -47,7 +47,7 @@ show_handles t handles = told t (listed t.records.writes (map (listed_handle t) 
 
 -- the records of an index, in its order
 abbrev pub list_in : TableState → ℕ → Step
-list_in t place = show_handles t (list_at t.records.lists place)
+list_in t index = show_handles t (list_at t.records.lists index)
 
 abbrev pub list_step : TableState → List ℕ → Step
-list_step t name = then_step t (place_for kinds.All t.shape.indices name) (list_in t)
+list_step t name = then_step t (index_named kinds.All t.shape.indices name) (list_in t)

@@ -23,13 +23,13 @@ search_kinds searches.UpperRank = kinds.Ranked
 
 -- the record or the number that it finds by a search key
 unfoldable pub search_probe : TableState → Search → ℕ → Cells → Step
-search_probe t searches.Find place probe = found_by t (found probe_order t.records place probe)
-search_probe t searches.Count place probe = counted_by t (counted probe_order t.records place probe)
-search_probe t searches.Lower place probe = found_by t (found_lower probe_order t.records place probe)
-search_probe t searches.Upper place probe = found_by t (found_upper probe_order t.records place probe)
-search_probe t searches.FindRank place probe = counted_by t (found_rank probe_order t.records place probe)
-search_probe t searches.LowerRank place probe = counted_by t (lower_rank probe_order t.records place probe)
-search_probe t searches.UpperRank place probe = counted_by t (upper_rank probe_order t.records place probe)
+search_probe t searches.Find index probe = found_by t (found probe_order t.records index probe)
+search_probe t searches.Count index probe = counted_by t (counted probe_order t.records index probe)
+search_probe t searches.Lower index probe = found_by t (found_lower probe_order t.records index probe)
+search_probe t searches.Upper index probe = found_by t (found_upper probe_order t.records index probe)
+search_probe t searches.FindRank index probe = counted_by t (found_rank probe_order t.records index probe)
+search_probe t searches.LowerRank index probe = counted_by t (lower_rank probe_order t.records index probe)
+search_probe t searches.UpperRank index probe = counted_by t (upper_rank probe_order t.records index probe)
 
 abbrev pub search_step : TableState → Search → List ℕ → List Value → Step
 search_step t search name values = at_key t (search_kinds search) name values (search_probe t search)

@@ -11,7 +11,7 @@ use multi_index::MultiIndex;
 use table_cmd::{Command, HandleText};
 use table_records::Records;
 use table_reply::Fault;
-use table_terms::{Kinds, place_for, position_for, record_for};
+use table_terms::{Kinds, index_named, position_for, record_for};
 
 // Which neighbour of a position is asked for.
 #[derive(Clone, Copy, Debug, PartialEq, Eq)]
@@ -55,7 +55,7 @@ pub(crate) fn find_position<'a>(
 fn nth<'a>(records: &'a Records, name: &Text, n: u64) -> Result<Found<'a>, Refusal>
     ensures { Reads records.now result (nth_step records.now name.now n) }
 {
-    let index = place_for(records.spec().indices(), Kinds::Counted, name.as_str())?;
+    let index = index_named(records.spec().indices(), Kinds::Counted, name.as_str())?;
     Ok(Found::Position(records.container().nth(index, n)?))
 }
 

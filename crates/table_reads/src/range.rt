@@ -11,7 +11,7 @@ use std::alloc::Global;
 use table_cmd::KeyBound;
 use table_records::Records;
 use table_reply::Fault;
-use table_terms::{Kinds, ProbeBound, bounds_for, place_for};
+use table_terms::{Kinds, ProbeBound, bounds_for, index_named};
 
 /// Finds the records of the named index between two bounds, in its order.
 pub(crate) fn range<'a>(
@@ -23,26 +23,26 @@ pub(crate) fn range<'a>(
 ) -> Result<Found<'a>, Refusal>
     ensures { Reads records.now result (range_step records.now name.now low.now high.now) }
 {
-    let place = place_for(records.spec().indices(), Kinds::Sorted, name.as_str())?;
-    let Some((low, high)) = bounds_for(alloc, records.spec(), place, low, high)? else {
+    let index = index_named(records.spec().indices(), Kinds::Sorted, name.as_str())?;
+    let Some((low, high)) = bounds_for(alloc, records.spec(), index, low, high)? else {
         return Err(Refusal::Fault(Fault::Key));
     };
-    range_in(records, place, &low, &high)
+    range_in(records, index, &low, &high)
 }
 
 #[tactic(auto, unfolding(crate::specs::Ranges::range_in))]
 fn range_in<'a>(
     records: &'a Records,
-    place: usize,
+    index: usize,
     low: &ProbeBound,
     high: &ProbeBound,
 ) -> Result<Found<'a>, Refusal>
-    requires within { place < length records.now.shape.indices }
-    requires low { IsBoundAt records.now.shape place low.now }
-    requires high { IsBoundAt records.now.shape place high.now }
-    ensures { Reads records.now result (range_in records.now place low.now high.now) }
+    requires within { index < length records.now.shape.indices }
+    requires low { IsBoundAt records.now.shape index low.now }
+    requires high { IsBoundAt records.now.shape index high.now }
+    ensures { Reads records.now result (range_in records.now index low.now high.now) }
 {
     let container = records.container();
-    let handles = container.range(place, low.as_bound(), high.as_bound())?;
+    let handles = container.range(index, low.as_bound(), high.as_bound())?;
     Ok(Found::Records(handles))
 }

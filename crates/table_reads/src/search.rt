@@ -53,34 +53,34 @@ pub(crate) fn find_by<'a>(
 ) -> Result<Found<'a>, Refusal>
     ensures { Reads records.now result (search_step records.now search name.now key.now) }
 {
-    let (place, probe) = key_for(
+    let (index, probe) = key_for(
         alloc,
         records.spec(),
         search.kinds(),
         name.as_str(),
         key.as_slice(),
     )??;
-    find_at(records, search, place, &probe)
+    find_at(records, search, index, &probe)
 }
 
 #[tactic(auto, unfolding(crate::specs::Searches::search_probe))]
 fn find_at<'a>(
     records: &'a Records,
     search: Search,
-    place: usize,
+    index: usize,
     probe: &Probe,
 ) -> Result<Found<'a>, Refusal>
-    requires { IsKeyAt records.now.shape place probe.now }
-    ensures { Reads records.now result (search_probe records.now search place probe.now) }
+    requires { IsKeyAt records.now.shape index probe.now }
+    ensures { Reads records.now result (search_probe records.now search index probe.now) }
 {
     let container = records.container();
     match search {
-        Search::Find => Ok(Found::Position(container.find(place, probe)?)),
-        Search::Count => Ok(Found::Number(container.count(place, probe)?)),
-        Search::Lower => Ok(Found::Position(container.lower(place, probe)?)),
-        Search::Upper => Ok(Found::Position(container.upper(place, probe)?)),
-        Search::FindRank => Ok(Found::Number(container.find_rank(place, probe)?)),
-        Search::LowerRank => Ok(Found::Number(container.lower_rank(place, probe)?)),
-        Search::UpperRank => Ok(Found::Number(container.upper_rank(place, probe)?)),
+        Search::Find => Ok(Found::Position(container.find(index, probe)?)),
+        Search::Count => Ok(Found::Number(container.count(index, probe)?)),
+        Search::Lower => Ok(Found::Position(container.lower(index, probe)?)),
+        Search::Upper => Ok(Found::Position(container.upper(index, probe)?)),
+        Search::FindRank => Ok(Found::Number(container.find_rank(index, probe)?)),
+        Search::LowerRank => Ok(Found::Number(container.lower_rank(index, probe)?)),
+        Search::UpperRank => Ok(Found::Number(container.upper_rank(index, probe)?)),
     }
 }

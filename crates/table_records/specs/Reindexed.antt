@@ -19,8 +19,8 @@ add_refusal t index = add_index_refusal row_order t.records (spec_of index) (key
 
 -- a table without an index, and why it may not lose it
 abbrev pub without_table_index : TableState → ℕ → TableState
-without_table_index t place =
-    record { shape = without_index t.shape place; records = without_container_index t.records place (keys_of (without_index t.shape place)) }
+without_table_index t index =
+    record { shape = without_index t.shape index; records = without_container_index t.records index (keys_of (without_index t.shape index)) }
 
 -- nothing refused the change, and it left this table; or it left the table as it was
 abbrev pub Becomes : {T E : Type 0} → Result T E → TableState → TableState → Option Why → TableState → Type 0

@@ -53,21 +53,21 @@ impl Records {
 
     /// Drops an index from the declaration and from the container; those after it move up by one. The only one may not go. It takes
     /// memory for the keys of those that stay. Costs what `MultiIndex::drop_index` does.
-    pub fn drop_index(&mut self, place: usize) -> Result<(), Why>
-        requires { place < length self.old.shape.indices }
+    pub fn drop_index(&mut self, index: usize) -> Result<(), Why>
+        requires { index < length self.old.shape.indices }
         ensures becomes { Becomes result self.old self.new (drop_index_refusal self.old.records)
-            (without_table_index self.old place) }
+            (without_table_index self.old index) }
         ensures why { IfErr result (IsNotDropped self.old) }
     {
         if self.spec.indices().len() == 1 {
             return Err(Why::Definition);
         }
-        let Ok(keys) = self.container.keys().without(place) else {
+        let Ok(keys) = self.container.keys().without(index) else {
             return Err(Why::Memory);
         };
-        match self.container.drop_index(place, keys) {
+        match self.container.drop_index(index, keys) {
             Ok(()) => {
-                self.spec.drop_index(place);
+                self.spec.drop_index(index);
                 Ok(())
             }
             Err(refused) => Err(refused.why),

@@ -27,7 +27,7 @@ impl Records {
     {
         let inserted = match at {
             None => self.container.insert(row),
-            Some((place, before)) => self.container.insert_at(place, before, row),
+            Some((index, before)) => self.container.insert_at(index, before, row),
         };
         inserted.map_err(|refused| refused.why)
     }
@@ -63,7 +63,7 @@ impl Records {
 
     /// Takes a record out, and answers the one after it at an index where one is asked. Costs what `MultiIndex::erase` does.
     pub fn erase(&mut self, handle: Handle, index: Option<usize>) -> Result<Option<Handle>, Why>
-        requires { IfSome index (λ place. place < length self.old.shape.indices) }
+        requires { IfSome index (λ i. i < length self.old.shape.indices) }
         ensures next { IfOk result (λ next. next ≡
             option_and_then (λ i. next_in self.old.records i handle) index) }
         ensures leaves { Leaves result self.old self.new
@@ -77,15 +77,15 @@ impl Records {
     }
 
     /// Takes out the records that have a search key at an index, and answers how many. Costs what `MultiIndex::erase_key` does.
-    pub fn erase_key(&mut self, place: usize, probe: &Probe) -> Result<u64, Why>
-        requires { IsKeyAt self.old.shape place probe.now }
+    pub fn erase_key(&mut self, index: usize, probe: &Probe) -> Result<u64, Why>
+        requires { IsKeyAt self.old.shape index probe.now }
         ensures number { IfOk result (λ number. number ≡ erased_count probe_order self.old.records
-            place probe.now) }
-        ensures leaves { Leaves result self.old self.new (erase_key_refusal self.old.records place)
-            (with_key_erased probe_order self.old.records place probe.now) }
-        ensures why { IfErr result (λ why. Some why ≡ erase_key_refusal self.old.records place) }
+            index probe.now) }
+        ensures leaves { Leaves result self.old self.new (erase_key_refusal self.old.records index)
+            (with_key_erased probe_order self.old.records index probe.now) }
+        ensures why { IfErr result (λ why. Some why ≡ erase_key_refusal self.old.records index) }
     {
-        match self.container.erase_key(place, probe) {
+        match self.container.erase_key(index, probe) {
             Ok(number) => Ok(number),
             Err(refused) => Err(refused.why),
         }

@@ -82,20 +82,20 @@ unlike a b h = by_test (bytes_eq b a) refl
     by_test false e = refl
 
 -- one of several goes
-pub valid_without : (t : TableShape) (place : ℕ) → place < length t.indices → 1 < length t.indices → IsValidTable t → IsValidTable (without_index t place)
-valid_without t place within several v =
+pub valid_without : (t : TableShape) (index : ℕ) → index < length t.indices → 1 < length t.indices → IsValidTable t → IsValidTable (without_index t index)
+valid_without t index within several v =
     let names = and_parts _ _ v.index_names in
     let few = and_parts (nat_le 1 (length t.indices)) (nat_le (length t.indices) 8) v.indices in
-    let count = length-remove t.indices place within in
-    let left = remove t.indices place in
+    let count = length-remove t.indices index within in
+    let left = remove t.indices index in
     record {
       name = v.name;
       max = v.max;
       columns = v.columns;
       indices = both (nat_le 1 (length left)) (nat_le (length left) 8) (grind (arith, nat_tests)) (grind (arith, nat_tests));
       column_names = v.column_names;
-      index_names = subst (λ l. are_names l ≡ true) (sym (map_removed (λ i. i.name) t.indices place)) (both _ _ (all_removed is_name _ place names.0) (distinct_removed bytes_eq _ place names.1));
-      keys = all_removed (has_good_key (length t.columns)) t.indices place v.keys;
+      index_names = subst (λ l. are_names l ≡ true) (sym (map_removed (λ i. i.name) t.indices index)) (both _ _ (all_removed is_name _ index names.0) (distinct_removed bytes_eq _ index names.1));
+      keys = all_removed (has_good_key (length t.columns)) t.indices index v.keys;
       place = v.place;
       tables = v.tables;
     }

@@ -41,7 +41,7 @@ abbrev pub with_index : TableShape → IndexSpec → TableShape
 with_index t index = record t { indices = t.indices ++ index ∷ [] }
 
 abbrev pub without_index : TableShape → ℕ → TableShape
-without_index t place = record t { indices = remove t.indices place }
+without_index t index = record t { indices = remove t.indices index }
 
 -- with an index in place of all
 abbrev pub with_only_index : TableShape → IndexSpec → TableShape

@@ -126,12 +126,12 @@ impl TableSpec {
     }
 
     /// Drops one of several indices; those after it move up by one. It takes no memory. O(indices).
-    pub fn drop_index(&mut self, place: usize)
-        requires place { place < length self.old.indices }
+    pub fn drop_index(&mut self, index: usize)
+        requires index { index < length self.old.indices }
         requires several { 1 < length self.old.indices }
-        ensures { self.new ≡ without_index self.old place }
+        ensures { self.new ≡ without_index self.old index }
     {
-        self.indices.remove(place);
+        self.indices.remove(index);
     }
 
     /// An equal table, newly allocated. O(columns + indices).

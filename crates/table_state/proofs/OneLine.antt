@@ -7,12 +7,6 @@ use Rattle.command_text.specs.Line.{IsOneLine}
 abbrev IsWithin : ℕ → Type 0
 IsWithin b = (b == 10) ≡ false
 
-pub one_none : IsOneLine []
-one_none = All-nil IsWithin
-
-pub one_byte : (line : List ℕ) (b : ℕ) → IsOneLine line → (b == 10) ≡ false → IsOneLine (line ++ b ∷ [])
-one_byte line b one is = All-append IsWithin line (b ∷ []) one (All-cons IsWithin b [] is one_none)
-
 first_of_line : (b : ℕ) (bs : List ℕ) → IsOneLine (b ∷ bs) → (b == 10) ≡ false
 first_of_line b bs one = one 0 b (omega arith)
 

@@ -31,10 +31,6 @@ module _ (bytes : Option (List ℕ)) (size : ℕ) (before after : List ℕ) wher
   pub stops_first : (text : List ℕ) → Stops (gathered bytes size before) (gathered bytes size after) text
   stops_first text = record { front = []; is_front = (before ++ text, refl); bytes = append_none bytes }
 
--- nothing was put
-pub puts_none : (bytes : Option (List ℕ)) (size : ℕ) (before : List ℕ) → Puts (gathered bytes size before) (gathered bytes size before) []
-puts_none bytes size before = puts_gathered bytes size before before [] (sym (append-nil before))
-
 module _ (old mid : Gathered) (first : List ℕ) (put : Puts old mid first) (new : Gathered) (second : List ℕ) where
   -- two texts were put, one after another
   pub puts_both : Puts mid new second → Puts old new (first ++ second)

@@ -57,10 +57,10 @@ module _ (t : TableState) (stands : CanStand t) where
   specs_many : length t.records.specs ≡ length t.shape.indices
   specs_many = ap length stands.indices.specs ∙ length-map t.shape.indices spec_of
 
-  list_fits : (place : ℕ) → place < length t.shape.indices → AllByRecursion HandleFits (list_at t.records.lists place)
-  list_fits place lt =
-      let index = each_index (row_order t.records.keys) entries place t.records.specs t.records.lists (omega (arith, lt, specs_many)) stands.kept.indices in
-      All-moved HandleFits (map (λ e. e.handle) entries) (list_at t.records.lists place) index.members (All-of_map (λ (e : Entry Cells). e.handle) HandleFits entries all_handles)
+  list_fits : (number : ℕ) → number < length t.shape.indices → AllByRecursion HandleFits (list_at t.records.lists number)
+  list_fits number lt =
+      let index = each_index (row_order t.records.keys) entries number t.records.specs t.records.lists (omega (arith, lt, specs_many)) stands.kept.indices in
+      All-moved HandleFits (map (λ e. e.handle) entries) (list_at t.records.lists number) index.members (All-of_map (λ (e : Entry Cells). e.handle) HandleFits entries all_handles)
 
   index_names : list_all is_name (map (λ i. i.name) t.shape.indices) ≡ true
   index_names = (and_parts (list_all is_name (map (λ i. i.name) t.shape.indices)) (are_distinct bytes_eq (map (λ i. i.name) t.shape.indices)) stands.declared.index_names).0
@@ -68,7 +68,7 @@ module _ (t : TableState) (stands : CanStand t) where
   pub orders_fit : OrdersFit t.shape t.records.lists
   orders_fit = record {
     count = as_many (row_order t.records.keys) entries 0 t.records.specs t.records.lists stands.kept.indices ∙ specs_many;
-    each = λ place lt. (name_fits t.shape stands.declared, named_utf8 (λ (i : IndexSpec). i.name) t.shape.indices index_names place, texts_fit _ (list_fits place lt));
+    each = λ number lt. (name_fits t.shape stands.declared, named_utf8 (λ (i : IndexSpec). i.name) t.shape.indices index_names number, texts_fit _ (list_fits number lt));
   }
 
 -- a table that can stand is restored, if memory allows

@@ -61,10 +61,6 @@ pub takes_held : (contents : Option (List ℕ)) (old new : Source) (b : ℕ) →
 takes_held contents old new b is at bytes known =
     ap (λ xs. xs ++ drop old.at bytes) is ∙ ap (λ n. b ∷ (held new ++ drop n bytes)) (sym at)
 
--- a further byte of a line
-pub takes_byte : (contents : Option (List ℕ)) (old mid new : Source) (line : List ℕ) (b : ℕ) → Takes contents old line mid → Takes contents mid (b ∷ []) new → Takes contents old (line ++ b ∷ []) new
-takes_byte contents old mid new line b = takes_both contents old mid new line (b ∷ [])
-
 module _ (contents known : Option (List ℕ)) (same : known ≡ contents) where
   -- the disk's bytes are the same as before
   pub takes_at : (old new : Source) (text : List ℕ) → Takes known old text new → Takes contents old text new

@@ -58,4 +58,4 @@ pub record EntriesFit (shape : TableShape) (many : ℕ) (entries : List (Entry C
 -- there is an order for each index, whose line can be read
 pub record OrdersFit (shape : TableShape) (lists : List (List Handle)) : Type 0 where
   pub count : length lists ≡ length shape.indices
-  pub each : (place : ℕ) → place < length shape.indices → CommandFits (order_at shape lists place)
+  pub each : (index : ℕ) → index < length shape.indices → CommandFits (order_at shape lists index)

@@ -61,10 +61,10 @@ head_commands shape writes indices records =
     ∷ columns_command shape
     ∷ []
 
--- the order of the index at a place
+-- the order of the index of a number
 abbrev pub order_at : TableShape → List (List Handle) → ℕ → Command
-order_at shape lists place =
-    order_command shape (option_map_or (λ i. i.name) (slice_get shape.indices place) []) (list_at lists place)
+order_at shape lists index =
+    order_command shape (option_map_or (λ i. i.name) (slice_get shape.indices index) []) (list_at lists index)
 
 -- the orders of its indices
 abbrev pub order_commands : TableShape → List (List Handle) → List Command

@@ -164,21 +164,21 @@ fn put_records<D: Disk>(
 fn put_order<D: Disk>(
     alloc: Global,
     table: &Table,
-    place: usize,
+    index: usize,
     disk: &mut D,
     lines: &mut Out,
 ) -> Result<(), StateWhy>
-    requires { place < length table.now.shape.indices }
+    requires { index < length table.now.shape.indices }
     ensures puts { Putting result (gathered (D.contents disk.old) (D.size disk.old) lines.old.bytes) (gathered (D.contents disk.new) (D.size disk.new) lines.new.bytes)
-        (line_of (order_at table.now.shape table.now.records.lists place)) }
+        (line_of (order_at table.now.shape table.now.records.lists index)) }
     ensures synced { D.synced disk.new ≡ D.synced disk.old }
     ensures failures { D.failures disk.new ≡ failures_of_state result (D.failures disk.old) }
 {
     let spec = table.records().spec();
-    let Ok(handles) = table.records().container().view(place) else {
+    let Ok(handles) = table.records().container().view(index) else {
         return Err(StateWhy::Memory);
     };
-    let command = order_command(alloc, spec, spec.indices()[place].name.as_str(), &handles)?;
+    let command = order_command(alloc, spec, spec.indices()[index].name.as_str(), &handles)?;
     put(disk, lines, &command)
 }
 
@@ -194,8 +194,8 @@ fn put_orders<D: Disk>(
     ensures synced { D.synced disk.new ≡ D.synced disk.old }
     ensures failures { D.failures disk.new ≡ failures_of_state result (D.failures disk.old) }
 {
-    for place in 0..table.records().spec().indices().len() {
-        put_order(alloc, table, place, disk, lines)?;
+    for index in 0..table.records().spec().indices().len() {
+        put_order(alloc, table, index, disk, lines)?;
     }
     Ok(())
 }

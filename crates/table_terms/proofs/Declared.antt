@@ -17,27 +17,27 @@ use Rattle.table_terms.specs.Table.{Cells, Keys, keys_of, spec_of, specs_of}
 use Rattle.table_terms.specs.Values.{parts_of}
 
 -- the key of a declared index
-pub key_at_place : (indices : List IndexSpec) (place : ℕ) (index : IndexSpec) → slice_get indices place ≡ Some index → key_at (map (λ i. i.key) indices) place ≡ index.key
-key_at_place [] place index e = cc
-key_at_place (i ∷ is) zero index e = let same : i ≡ index = cc in ap (λ x. x.key) same
-key_at_place (i ∷ is) (suc place) index e = key_at_place is place index e
+pub key_at_index : (indices : List IndexSpec) (number : ℕ) (index : IndexSpec) → slice_get indices number ≡ Some index → key_at (map (λ i. i.key) indices) number ≡ index.key
+key_at_index [] number index e = cc
+key_at_index (i ∷ is) zero index e = let same : i ≡ index = cc in ap (λ x. x.key) same
+key_at_index (i ∷ is) (suc number) index e = key_at_index is number index e
 
-pub parts_at_place : (shape : TableShape) (place : ℕ) (index : IndexSpec) → slice_get shape.indices place ≡ Some index → parts_at (keys_of shape) place ≡ parts_of index
-parts_at_place shape place index e = ap (λ key. unwrap_or key []) (key_at_place shape.indices place index e)
+pub parts_at_index : (shape : TableShape) (number : ℕ) (index : IndexSpec) → slice_get shape.indices number ≡ Some index → parts_at (keys_of shape) number ≡ parts_of index
+parts_at_index shape number index e = ap (λ key. unwrap_or key []) (key_at_index shape.indices number index e)
 
 -- and its kind
-pub kind_at_place : (shape : TableShape) (place : ℕ) (index : IndexSpec) (records : State Keys Cells) → slice_get shape.indices place ≡ Some index → records.specs ≡ specs_of shape → kind_at records place ≡ index.kind
-kind_at_place shape place index records e specs =
-    let there : slice_get records.specs place ≡ Some (spec_of index) = ap (λ ss. slice_get ss place) specs ∙ (slice_get-map spec_of shape.indices place ∙ ap (option_map spec_of) e) in
+pub kind_at_index : (shape : TableShape) (number : ℕ) (index : IndexSpec) (records : State Keys Cells) → slice_get shape.indices number ≡ Some index → records.specs ≡ specs_of shape → kind_at records number ≡ index.kind
+kind_at_index shape number index records e specs =
+    let there : slice_get records.specs number ≡ Some (spec_of index) = ap (λ ss. slice_get ss number) specs ∙ (slice_get-map spec_of shape.indices number ∙ ap (option_map spec_of) e) in
     ap (λ s. option_map_or (λ spec. spec.kind) s Sequenced) there
 
 -- the names of a valid table's indices are short
-names_are_short : (indices : List IndexSpec) → IsTrue (list_all is_name (map (λ i. i.name) indices)) → (place : ℕ) → length (option_map_or (λ i. i.name) (slice_get indices place) []) ≤ 32
-names_are_short [] h place = omega arith
+names_are_short : (indices : List IndexSpec) → IsTrue (list_all is_name (map (λ i. i.name) indices)) → (number : ℕ) → length (option_map_or (λ i. i.name) (slice_get indices number) []) ≤ 32
+names_are_short [] h number = omega arith
 names_are_short (x ∷ xs) h zero = name_is_short x.name (and_parts (is_name x.name) (list_all is_name (map (λ i. i.name) xs)) h).0
-names_are_short (x ∷ xs) h (suc place) = names_are_short xs (and_parts (is_name x.name) (list_all is_name (map (λ i. i.name) xs)) h).1 place
+names_are_short (x ∷ xs) h (suc number) = names_are_short xs (and_parts (is_name x.name) (list_all is_name (map (λ i. i.name) xs)) h).1 number
 
-pub index_name_is_short : (shape : TableShape) → IsValidTable shape → (place : ℕ) → length (option_map_or (λ i. i.name) (slice_get shape.indices place) []) ≤ 32
-index_name_is_short shape valid place =
+pub index_name_is_short : (shape : TableShape) → IsValidTable shape → (number : ℕ) → length (option_map_or (λ i. i.name) (slice_get shape.indices number) []) ≤ 32
+index_name_is_short shape valid number =
     let names = map (λ i. i.name) shape.indices in
-    names_are_short shape.indices (and_parts (list_all is_name names) (are_distinct bytes_eq names) valid.index_names).0 place
+    names_are_short shape.indices (and_parts (list_all is_name names) (are_distinct bytes_eq names) valid.index_names).0 number

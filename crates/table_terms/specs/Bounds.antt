@@ -12,21 +12,21 @@ use Rattle.table_terms.specs.Table.{Cells}
 use Rattle.table_terms.specs.Values.{◌>>=◌, probe_from}
 use Rattle.table_terms.specs.Words.{IsKeyAt}
 
--- the search key that values are at the index of a place
+-- the search key that values are at the index of a number
 abbrev pub probe_there : TableShape → ℕ → List Value → Option Cells
-probe_there shape place values = option_and_then (λ i. probe_from shape.columns i values) (slice_get shape.indices place)
+probe_there shape index values = option_and_then (λ i. probe_from shape.columns i values) (slice_get shape.indices index)
 
--- a bound with the search key that its values are at the index of a place
+-- a bound with the search key that its values are at the index of a number
 abbrev pub bound_at : TableShape → ℕ → KeyBound → Option ProbeBound
-bound_at shape place (keys.Included values) = option_map (λ probe. probes.Included probe) (probe_there shape place values)
-bound_at shape place (keys.Excluded values) = option_map (λ probe. probes.Excluded probe) (probe_there shape place values)
-bound_at shape place keys.Unbounded = Some probes.Unbounded
+bound_at shape index (keys.Included values) = option_map (λ probe. probes.Included probe) (probe_there shape index values)
+bound_at shape index (keys.Excluded values) = option_map (λ probe. probes.Excluded probe) (probe_there shape index values)
+bound_at shape index keys.Unbounded = Some probes.Unbounded
 
 -- two bounds, where each has a search key or needs none
 abbrev pub bounds_at : TableShape → ℕ → (low high : KeyBound) → Option (ProbeBound × ProbeBound)
-bounds_at shape place low high = do
-  l ← bound_at shape place low
-  h ← bound_at shape place high
+bounds_at shape index low high = do
+  l ← bound_at shape index low
+  h ← bound_at shape index high
   Some (l, h)
 
 -- as the container takes it
@@ -35,8 +35,8 @@ end_of (probes.Included probe) = ends.Included probe
 end_of (probes.Excluded probe) = ends.Excluded probe
 end_of probes.Unbounded = ends.Unbounded
 
--- a bound by a search key of the index at a place, or by none
+-- a bound by a search key of the index of a number, or by none
 abbrev pub IsBoundAt : TableShape → ℕ → ProbeBound → Type 0
-IsBoundAt shape place (probes.Included probe) = IsKeyAt shape place probe
-IsBoundAt shape place (probes.Excluded probe) = IsKeyAt shape place probe
-IsBoundAt shape place probes.Unbounded = ⊤
+IsBoundAt shape index (probes.Included probe) = IsKeyAt shape index probe
+IsBoundAt shape index (probes.Excluded probe) = IsKeyAt shape index probe
+IsBoundAt shape index probes.Unbounded = ⊤

@@ -55,7 +55,7 @@ pub record HasIndices (shape : TableShape) (records : State Keys Cells) : Type 0
 abbrev pub new_table : TableShape → TableState
 new_table shape = record { shape = shape; records = empty (keys_of shape) (specs_of shape) shape.max 0 }
 
--- the name of the index at a place
+-- the name of the index of a number
 abbrev pub index_name : TableState → ℕ → List ℕ
 index_name t index = option_map_or (λ i. i.name) (slice_get t.shape.indices index) []
 

@@ -24,30 +24,30 @@ abbrev pub or_fault : {A : Type 0} → Fault → Option A → Result A Fault
 or_fault why None = Err why
 or_fault why (Some x) = Ok x
 
--- the place of the index of a name
+-- the number of the index of a name
 abbrev pub index_at : List IndexSpec → List ℕ → Option ℕ
 index_at indices name = position (λ i. bytes_eq i.name name) indices
 
--- a place whose index is of one of the kinds
+-- a number whose index is of one of the kinds
 abbrev pub of_kind : Kinds → List IndexSpec → ℕ → Result ℕ Fault
-of_kind kinds indices place = if option_map_or (λ i. takes kinds i.kind) (slice_get indices place) false then Ok place else Err faults.Kind
+of_kind kinds indices index = if option_map_or (λ i. takes kinds i.kind) (slice_get indices index) false then Ok index else Err faults.Kind
 
--- the place of the index of a name, which is to be of one of the kinds
-abbrev pub place_for : Kinds → List IndexSpec → List ℕ → Result ℕ Fault
-place_for kinds indices name = option_map_or (of_kind kinds indices) (index_at indices name) (Err faults.Index)
+-- the number of the index of a name, which is to be of one of the kinds
+abbrev pub index_named : Kinds → List IndexSpec → List ℕ → Result ℕ Fault
+index_named kinds indices name = option_map_or (of_kind kinds indices) (index_at indices name) (Err faults.Index)
 
--- a place with the search key that values are at its index
+-- a number with the search key that values are at its index
 abbrev pub probe_at : TableShape → List Value → ℕ → Result (ℕ × Cells) Fault
-probe_at shape values place =
-    or_fault faults.Key (option_map (λ probe. (place, probe)) (option_and_then (λ i. probe_from shape.columns i values) (slice_get shape.indices place)))
+probe_at shape values index =
+    or_fault faults.Key (option_map (λ probe. (index, probe)) (option_and_then (λ i. probe_from shape.columns i values) (slice_get shape.indices index)))
 
-abbrev pub key_of_place : TableShape → List Value → Result ℕ Fault → Result (ℕ × Cells) Fault
-key_of_place shape values (Ok place) = probe_at shape values place
-key_of_place shape values (Err why) = Err why
+abbrev pub key_of_index : TableShape → List Value → Result ℕ Fault → Result (ℕ × Cells) Fault
+key_of_index shape values (Ok index) = probe_at shape values index
+key_of_index shape values (Err why) = Err why
 
--- the place of the index of a name, and the search key that values are there
+-- the number of the index of a name, and the search key that values are there
 abbrev pub key_for : TableShape → Kinds → List ℕ → List Value → Result (ℕ × Cells) Fault
-key_for shape kinds name values = key_of_place shape values (place_for kinds shape.indices name)
+key_for shape kinds name values = key_of_index shape values (index_named kinds shape.indices name)
 
 -- a search key that is all of the key of its index
 abbrev pub if_whole : TableShape → ℕ × Cells → Result (ℕ × Cells) Fault
@@ -57,7 +57,7 @@ abbrev pub whole_of : TableShape → Result (ℕ × Cells) Fault → Result (ℕ
 whole_of shape (Ok key) = if_whole shape key
 whole_of shape (Err why) = Err why
 
--- the place of the index of a name, and its whole key that values are there
+-- the number of the index of a name, and its whole key that values are there
 abbrev pub whole_key_for : TableShape → List ℕ → List Value → Result (ℕ × Cells) Fault
 whole_key_for shape name values = whole_of shape (key_for shape Keyed name values)
 
@@ -93,17 +93,17 @@ both (Ok x) (Ok y) = Ok (x, y)
 both (Ok x) (Err why) = Err why
 both (Err why) other = Err why
 
--- the place of the index of a name, which is to be of one of the kinds, and the handle
+-- the number of the index of a name, which is to be of one of the kinds, and the handle
 abbrev pub record_for : Kinds → List IndexSpec → List ℕ → HandleText → Result (ℕ × Handle) Fault
-record_for kinds indices name text = both (place_for kinds indices name) (handle_for text)
+record_for kinds indices name text = both (index_named kinds indices name) (handle_for text)
 
 -- and the position
 abbrev pub position_for : Kinds → List IndexSpec → List ℕ → Option HandleText → Result (ℕ × Option Handle) Fault
-position_for kinds indices name text = both (place_for kinds indices name) (end_or_handle text)
+position_for kinds indices name text = both (index_named kinds indices name) (end_or_handle text)
 
--- a search key of the index at a place
-pub record IsKeyAt (shape : TableShape) (place : ℕ) (probe : Cells) : Type 0 where
-  pub within : place < length shape.indices
-  pub fits : IsTrue (probe_fits (parts_at (keys_of shape) place) probe)
+-- a search key of the index of a number
+pub record IsKeyAt (shape : TableShape) (index : ℕ) (probe : Cells) : Type 0 where
+  pub within : index < length shape.indices
+  pub fits : IsTrue (probe_fits (parts_at (keys_of shape) index) probe)
   -- a hashed index is searched by a whole key
-  pub whole : (records : State Keys Cells) → HasIndices shape records → IsTrue (is_hashed_kind (kind_at records place)) → IsTrue (probe_is_whole (parts_at records.keys place) probe)
+  pub whole : (records : State Keys Cells) → HasIndices shape records → IsTrue (is_hashed_kind (kind_at records index)) → IsTrue (probe_is_whole (parts_at records.keys index) probe)

@@ -36,61 +36,61 @@ impl ProbeBound {
     }
 }
 
-// The search key that values are at the index of a place.
+// The search key that values are at the index of a number.
 fn probe_there(
     alloc: Global,
     spec: &TableSpec,
-    place: usize,
+    index: usize,
     values: &[Value],
 ) -> Result<Option<Probe>, AllocError>
-    requires { place < length spec.now.indices }
-    ensures probe { IfOk result (λ probe. probe ≡ probe_there spec.now place values.now) }
-    ensures searches { IfOk result (λ probe. IfSome probe (IsKeyAt spec.now place)) }
+    requires { index < length spec.now.indices }
+    ensures probe { IfOk result (λ probe. probe ≡ probe_there spec.now index values.now) }
+    ensures searches { IfOk result (λ probe. IfSome probe (IsKeyAt spec.now index)) }
 {
-    probe_from(alloc, spec.columns(), &spec.indices()[place], values)
+    probe_from(alloc, spec.columns(), &spec.indices()[index], values)
 }
 
-// A bound with the search key that its values are at the index of a place.
+// A bound with the search key that its values are at the index of a number.
 fn bound_at(
     alloc: Global,
     spec: &TableSpec,
-    place: usize,
+    index: usize,
     bound: &KeyBound,
 ) -> Result<Option<ProbeBound>, AllocError>
-    requires { place < length spec.now.indices }
-    ensures bound { IfOk result (λ found. found ≡ bound_at spec.now place bound.now) }
-    ensures searches { IfOk result (λ found. IfSome found (IsBoundAt spec.now place)) }
+    requires { index < length spec.now.indices }
+    ensures bound { IfOk result (λ found. found ≡ bound_at spec.now index bound.now) }
+    ensures searches { IfOk result (λ found. IfSome found (IsBoundAt spec.now index)) }
 {
     match bound {
         KeyBound::Included(key) => {
-            let probe = probe_there(alloc, spec, place, key.as_slice())?;
+            let probe = probe_there(alloc, spec, index, key.as_slice())?;
             Ok(probe.map(ProbeBound::Included))
         }
         KeyBound::Excluded(key) => {
-            let probe = probe_there(alloc, spec, place, key.as_slice())?;
+            let probe = probe_there(alloc, spec, index, key.as_slice())?;
             Ok(probe.map(ProbeBound::Excluded))
         }
         KeyBound::Unbounded => Ok(Some(ProbeBound::Unbounded)),
     }
 }
 
-/// Two bounds with the search keys that their values are at the index of a place, where each that has values has one.
+/// Two bounds with the search keys that their values are at the index of a number, where each that has values has one.
 /// O(values · longest text).
 pub fn bounds_for(
     alloc: Global,
     spec: &TableSpec,
-    place: usize,
+    index: usize,
     low: &KeyBound,
     high: &KeyBound,
 ) -> Result<Option<(ProbeBound, ProbeBound)>, AllocError>
-    requires { place < length spec.now.indices }
-    ensures bounds { IfOk result (λ found. found ≡ bounds_at spec.now place low.now high.now) }
-    ensures searches { IfOk result (λ found. IfSome found (λ ends. IsBoundAt spec.now place ends.0 × IsBoundAt spec.now place ends.1)) }
+    requires { index < length spec.now.indices }
+    ensures bounds { IfOk result (λ found. found ≡ bounds_at spec.now index low.now high.now) }
+    ensures searches { IfOk result (λ found. IfSome found (λ ends. IsBoundAt spec.now index ends.0 × IsBoundAt spec.now index ends.1)) }
 {
-    let Some(low) = bound_at(alloc, spec, place, low)? else {
+    let Some(low) = bound_at(alloc, spec, index, low)? else {
         return Ok(None);
     };
-    let Some(high) = bound_at(alloc, spec, place, high)? else {
+    let Some(high) = bound_at(alloc, spec, index, high)? else {
         return Ok(None);
     };
     Ok(Some((low, high)))

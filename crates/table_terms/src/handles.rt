@@ -3,7 +3,7 @@
 ghost use Rattle.std.specs.Prelude.{◌≡◌, ◌<◌, IfOk, length, option_map};
 ghost use Rattle.table_terms.specs.Words.{end_or_handle, handle_for, position_for, record_for, spelled};
 
-use crate::indices::place_for;
+use crate::indices::index_named;
 use crate::kinds::Kinds;
 use std::alloc::{AllocError, Global};
 use table_cmd::{Handle, HandleText};
@@ -45,7 +45,7 @@ pub fn handles_for(alloc: Global, texts: &[HandleText]) -> Result<Option<Vec<Han
     Ok(Some(handles))
 }
 
-/// The place of the index of a name, where it is of one of the kinds, and the handle that a text spells, or the first
+/// The number of the index of a name, where it is of one of the kinds, and the handle that a text spells, or the first
 /// fault of the two. O(indices).
 pub fn record_for(
     indices: &[IndexSpec],
@@ -56,12 +56,12 @@ pub fn record_for(
     ensures record { result ≡ record_for kinds indices.now name.now text }
     ensures within { IfOk result (λ at. at.0 < length indices.now) }
 {
-    let place = place_for(indices, kinds, name)?;
+    let index = index_named(indices, kinds, name)?;
     let handle = handle_for(text)?;
-    Ok((place, handle))
+    Ok((index, handle))
 }
 
-/// The place of the index of a name, where it is of one of the kinds, and the position that is asked for there, where no
+/// The number of the index of a name, where it is of one of the kinds, and the position that is asked for there, where no
 /// text is the end; or the first fault of the two. O(indices).
 pub fn position_for(
     indices: &[IndexSpec],
@@ -72,7 +72,7 @@ pub fn position_for(
     ensures position { result ≡ position_for kinds indices.now name.now text }
     ensures within { IfOk result (λ at. at.0 < length indices.now) }
 {
-    let place = place_for(indices, kinds, name)?;
+    let index = index_named(indices, kinds, name)?;
     let position = end_or_handle(text)?;
-    Ok((place, position))
+    Ok((index, position))
 }

@@ -3,37 +3,37 @@
 ghost use Rattle.std.specs.Prelude.{◌≡◌, ◌<◌, ◌-◌, [], IfOk, IfSome, length, slice_get};
 ghost use Rattle.std.specs.Option.{option_map_or};
 ghost use Rattle.table_schema.specs.Valid.{IsValidTable};
-ghost use Rattle.table_terms.specs.Words.{index_at, place_for};
+ghost use Rattle.table_terms.specs.Words.{index_at, index_named};
 
 use crate::kinds::Kinds;
 use table_reply::Fault;
 use table_schema::{IndexSpec, TableSpec};
 
-// The place of the index of a name.
+// The number of the index of a name.
 fn index_at(indices: &[IndexSpec], name: &str) -> Option<usize>
-    ensures place { result ≡ index_at indices.now name.now }
-    ensures within { IfSome result (λ place. place < length indices.now) }
+    ensures index { result ≡ index_at indices.now name.now }
+    ensures within { IfSome result (λ index. index < length indices.now) }
 {
     indices.iter().position(|index| index.name.as_str() == name)
 }
 
-/// The place of the index of a name, counted from 0. The fault is `index` where no index has the name, and `kind` where
+/// The number of the index of a name, counted from 0. The fault is `index` where no index has the name, and `kind` where
 /// the index is of none of the kinds. O(indices).
-pub fn place_for(indices: &[IndexSpec], kinds: Kinds, name: &str) -> Result<usize, Fault>
-    ensures place { result ≡ place_for kinds indices.now name.now }
-    ensures within { IfOk result (λ place. place < length indices.now) }
+pub fn index_named(indices: &[IndexSpec], kinds: Kinds, name: &str) -> Result<usize, Fault>
+    ensures index { result ≡ index_named kinds indices.now name.now }
+    ensures within { IfOk result (λ index. index < length indices.now) }
 {
-    let Some(place) = index_at(indices, name) else {
+    let Some(index) = index_at(indices, name) else {
         return Err(Fault::Index);
     };
-    if kinds.takes(indices[place].kind) {
-        Ok(place)
+    if kinds.takes(indices[index].kind) {
+        Ok(index)
     } else {
         Err(Fault::Kind)
     }
 }
 
-/// The name of the index at a place.
+/// The name of the index of a number.
 #[tactic(auto, using(std::proofs::lemmas::Option::slice_get_past))]
 pub(crate) fn index_name(spec: &TableSpec, index: usize) -> &str
     ensures name { result.now ≡ option_map_or (λ i. i.name) (slice_get spec.now.indices index) [] }

@@ -16,7 +16,7 @@ mod values;
 pub use bounds::{ProbeBound, bounds_for};
 pub use edits::{edited_row, is_edit};
 pub use handles::{handle_for, handles_for, position_for, record_for};
-pub use indices::place_for;
+pub use indices::index_named;
 pub use keys::{key_for, whole_key_for};
 pub use kinds::Kinds;
 pub use new_key::keyed_row;

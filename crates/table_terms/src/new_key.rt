@@ -27,20 +27,20 @@ fn keyed_cell<'a>(parts: &[Part], key: &'a [Cell], place: usize, cell: &'a Cell)
     }
 }
 
-/// The row with a key of the index at a place put into the columns of its parts. O(columns · parts), and the length of the
+/// The row with a key of the index of a number put into the columns of its parts. O(columns · parts), and the length of the
 /// cells.
 #[tactic(auto, unfolding(crate::specs::Edits::keyed_row))]
 pub fn keyed_row(
     alloc: Global,
     spec: &TableSpec,
-    place: usize,
+    index: usize,
     key: &Probe,
     row: &Row,
 ) -> Result<Row, AllocError>
-    requires { place < length spec.now.indices }
-    ensures { IfOk result (λ keyed. keyed ≡ keyed_row (parts_at (keys_of spec.now) place) key.now row.now) }
+    requires { index < length spec.now.indices }
+    ensures { IfOk result (λ keyed. keyed ≡ keyed_row (parts_at (keys_of spec.now) index) key.now row.now) }
 {
-    let parts = parts_at(spec, place);
+    let parts = parts_at(spec, index);
     let cells = row.cells();
     let mut keyed = Vec::with_capacity(alloc, cells.len())?;
     for (column, cell) in cells.iter().enumerate() {

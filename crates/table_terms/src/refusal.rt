@@ -55,7 +55,7 @@ pub fn tell_why(spec: &TableSpec, at: u64, why: Why, out: &mut Out) -> Outcome
 }
 
 /// Appends the line of a change, the write of number `at` on a table of this declaration, by which a record is lost: in the
-/// unique index at a place another record has its new key. Takes no memory. O(1).
+/// unique index of a number another record has its new key. Takes no memory. O(1).
 pub fn tell_lost(spec: &TableSpec, at: u64, index: usize, by: Handle, out: &mut Out) -> Outcome
     requires { READY_ROOM ≤ out.old.room }
     ensures line { (t : TableState) → t.shape ≡ spec.now → out.new.bytes ≡ out.old.bytes ++ answer_text (erased at (index_name t index) by) }

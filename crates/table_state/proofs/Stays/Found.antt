@@ -17,8 +17,8 @@ use Rattle.table_terms.specs.declared.kinds.Kinds.TheVariants.{Keyed}
 use Rattle.table_terms.specs.Kinds.{takes}
 use Rattle.table_terms.specs.Table.{Cells, keys_of}
 use Rattle.table_terms.specs.Values.{are_enough, part_cells, parts_of, probe_from}
-use Rattle.table_terms.specs.Words.{both, index_at, key_for, key_of_place, of_kind, or_fault, place_for, probe_at, whole_key_for, whole_of}
-use Rattle.table_terms.proofs.Declared.{parts_at_place}
+use Rattle.table_terms.specs.Words.{both, index_at, index_named, key_for, key_of_index, of_kind, or_fault, probe_at, whole_key_for, whole_of}
+use Rattle.table_terms.proofs.Declared.{parts_at_index}
 
 abbrev if_found : {X : Type 0} → Result X Fault → Option X
 if_found (Ok x) = Some x
@@ -38,7 +38,7 @@ both_found (Ok x) (Ok y) p e = let same = same_Ok (x, y) p e in (ap (λ q. Ok q.
 both_found (Ok x) (Err why) p e = cc
 both_found (Err why) other p e = cc
 
--- ---- places
+-- ---- numbers of indices
 
 place_below : {X : Type 0} (test : X → Bool) (xs : List X) (n : ℕ) → position test xs ≡ Some n → n < length xs
 place_below test xs n e = by (nat_lt (position_or_len test xs) (length xs)) refl e
@@ -47,15 +47,15 @@ place_below test xs n e = by (nat_lt (position_or_len test xs) (length xs)) refl
     by true lt e = subst (λ k. k < length xs) (same_Some (position_or_len test xs) n e) (ltb-true (position_or_len test xs) (length xs) lt)
     by false lt e = cc
 
--- the place of an index is that of one
-pub place_within : (kinds : Kinds) (indices : List IndexSpec) (name : List ℕ) (place : ℕ) → place_for kinds indices name ≡ Ok place → place < length indices
-place_within kinds indices name place e = by (index_at indices name) (place_below (λ (i : IndexSpec). bytes_eq i.name name) indices) e
+-- the number of an index is that of one
+pub index_within : (kinds : Kinds) (indices : List IndexSpec) (name : List ℕ) (index : ℕ) → index_named kinds indices name ≡ Ok index → index < length indices
+index_within kinds indices name index e = by (index_at indices name) (place_below (λ (i : IndexSpec). bytes_eq i.name name) indices) e
   where
-    by_kind : (b : Bool) (n : ℕ) → (if b then Ok n else Err faults.Kind) ≡ Ok place → n ≡ place
-    by_kind true n e = same_Ok n place e
+    by_kind : (b : Bool) (n : ℕ) → (if b then Ok n else Err faults.Kind) ≡ Ok index → n ≡ index
+    by_kind true n e = same_Ok n index e
     by_kind false n e = cc
 
-    by : (o : Option ℕ) → ((n : ℕ) → o ≡ Some n → n < length indices) → option_map_or (of_kind kinds indices) o (Err faults.Index) ≡ Ok place → place < length indices
+    by : (o : Option ℕ) → ((n : ℕ) → o ≡ Some n → n < length indices) → option_map_or (of_kind kinds indices) o (Err faults.Index) ≡ Ok index → index < length indices
     by None below e = cc
     by (Some n) below e =
         subst (λ k. k < length indices) (by_kind (option_map_or (λ i. takes kinds i.kind) (slice_get indices n) false) n e) (below n refl)
@@ -76,22 +76,22 @@ module _ (shape : TableShape) (values : List Value) (key : ℕ × Cells) where
   abbrev pub IsOfValues : Type 0
   IsOfValues = part_cells shape.columns (parts_at (keys_of shape) key.0) values ≡ Some key.1
 
-  probe_found : (place : ℕ) → probe_at shape values place ≡ Ok key → IsOfValues
-  probe_found place e = by_index (slice_get shape.indices place) refl e
+  probe_found : (index : ℕ) → probe_at shape values index ≡ Ok key → IsOfValues
+  probe_found index e = by_index (slice_get shape.indices index) refl e
     where
-      by_probe : (i : IndexSpec) → slice_get shape.indices place ≡ Some i → (o : Option Cells) → probe_from shape.columns i values ≡ o → or_fault faults.Key (option_map (λ probe. (place, probe)) o) ≡ Ok key → IsOfValues
+      by_probe : (i : IndexSpec) → slice_get shape.indices index ≡ Some i → (o : Option Cells) → probe_from shape.columns i values ≡ o → or_fault faults.Key (option_map (λ probe. (index, probe)) o) ≡ Ok key → IsOfValues
       by_probe i is None given e = cc
       by_probe i is (Some probe) given e =
-          subst (λ (k : ℕ × Cells). part_cells shape.columns (parts_at (keys_of shape) k.0) values ≡ Some k.1) (same_Ok (place, probe) key e)
-          (ap (λ parts. part_cells shape.columns parts values) (parts_at_place shape place i is) ∙ probe_cells shape.columns i values probe given)
+          subst (λ (k : ℕ × Cells). part_cells shape.columns (parts_at (keys_of shape) k.0) values ≡ Some k.1) (same_Ok (index, probe) key e)
+          (ap (λ parts. part_cells shape.columns parts values) (parts_at_index shape index i is) ∙ probe_cells shape.columns i values probe given)
 
-      by_index : (o : Option IndexSpec) → slice_get shape.indices place ≡ o → or_fault faults.Key (option_map (λ probe. (place, probe)) (option_and_then (λ i. probe_from shape.columns i values) o)) ≡ Ok key → IsOfValues
+      by_index : (o : Option IndexSpec) → slice_get shape.indices index ≡ o → or_fault faults.Key (option_map (λ probe. (index, probe)) (option_and_then (λ i. probe_from shape.columns i values) o)) ≡ Ok key → IsOfValues
       by_index None is e = cc
       by_index (Some i) is e = by_probe i is (probe_from shape.columns i values) refl e
 
-  at_place : (r : Result ℕ Fault) → key_of_place shape values r ≡ Ok key → IsOfValues
-  at_place (Ok place) e = probe_found place e
-  at_place (Err why) e = cc
+  at_index : (r : Result ℕ Fault) → key_of_index shape values r ≡ Ok key → IsOfValues
+  at_index (Ok index) e = probe_found index e
+  at_index (Err why) e = cc
 
   whole_found : (r : Result (ℕ × Cells) Fault) → whole_of shape r ≡ Ok key → r ≡ Ok key
   whole_found (Ok k) e = by (length k.1 == length (parts_at (keys_of shape) k.0)) e
@@ -102,4 +102,4 @@ module _ (shape : TableShape) (values : List Value) (key : ℕ × Cells) where
   whole_found (Err why) e = cc
 
   pub key_found : (name : List ℕ) → whole_key_for shape name values ≡ Ok key → IsOfValues
-  key_found name e = at_place (place_for Keyed shape.indices name) (whole_found (key_for shape Keyed name values) e)
+  key_found name e = at_index (index_named Keyed shape.indices name) (whole_found (key_for shape Keyed name values) e)

@@ -89,29 +89,29 @@ module _ (t : TableState) (stands : CanStand t) where
 
   -- ---- one less
 
-  module _ (place : ℕ) (within : place < length t.shape.indices) where
+  module _ (index : ℕ) (within : index < length t.shape.indices) where
     several : (length t.records.specs == 1) ≡ false → 1 < length t.shape.indices
     several e = let low = within_low 1 8 (length t.shape.indices) stands.declared.indices in let many = specs_many in grind (arith, nat_tests)
 
-    without_stands : drop_index_refusal t.records ≡ None → CanStand (without_table_index t place)
+    without_stands : drop_index_refusal t.records ≡ None → CanStand (without_table_index t index)
     without_stands e =
         let free = test_fails (length t.records.specs == 1) (spent t.records) Definition e in
-        let valid = valid_without t.shape place within (several free.0) stands.declared in
-        let inside : place < length t.records.specs = omega (arith, within, specs_many) in
+        let valid = valid_without t.shape index within (several free.0) stands.declared in
+        let inside : index < length t.records.specs = omega (arith, within, specs_many) in
         record {
           declared = valid;
-          indices = record { keys = refl; specs = specs_without t.shape t.records.specs stands.indices.specs place (keys_of (without_index t.shape place)) refl };
+          indices = record { keys = refl; specs = specs_without t.shape t.records.specs stands.indices.specs index (keys_of (without_index t.shape index)) refl };
           most = stands.most;
           max = stands.max;
-          kept = IsState-unindexed has_key row_order t.records stands.kept place (keys_of (without_index t.shape place)) inside
-              (match_without t.shape t.records.specs stands.indices.specs place (keys_of (without_index t.shape place)) refl valid)
-              (keeps_rest t.shape t.records.specs stands.indices.specs place (keys_of (without_index t.shape place)) refl (λ key. key_cmp (unwrap_or key [])) t.records.keys stands.indices.keys within);
+          kept = IsState-unindexed has_key row_order t.records stands.kept index (keys_of (without_index t.shape index)) inside
+              (match_without t.shape t.records.specs stands.indices.specs index (keys_of (without_index t.shape index)) refl valid)
+              (keeps_rest t.shape t.records.specs stands.indices.specs index (keys_of (without_index t.shape index)) refl (λ key. key_cmp (unwrap_or key [])) t.records.keys stands.indices.keys within);
           writes = next_write t.records stands.writes free.1;
           stamps = stands.stamps;
           slots = stands.slots;
           rows = stands.rows;
         }
 
-    pub dropped_stands : CanStand (drop_at t place).table
+    pub dropped_stands : CanStand (drop_at t index).table
     unfolding drop_at
-    dropped_stands = reindexed_stands t stands t.shape (drop_index_refusal t.records) _ (without_table_index t place) without_stands
+    dropped_stands = reindexed_stands t stands t.shape (drop_index_refusal t.records) _ (without_table_index t index) without_stands

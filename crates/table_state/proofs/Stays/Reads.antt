@@ -20,7 +20,7 @@ use Rattle.table_reply.specs.declared.fault.Fault.TheVariants as faults
 use Rattle.table_terms.specs.Bounds.{bounds_at}
 use Rattle.table_terms.specs.Step.{Step, refused, then_step, told}
 use Rattle.table_terms.specs.Table.{Cells, TableState, probe_order}
-use Rattle.table_terms.specs.Words.{handle_for, key_for, or_fault, place_for, position_for, record_for}
+use Rattle.table_terms.specs.Words.{handle_for, index_named, key_for, or_fault, position_for, record_for}
 use Rattle.table_terms.specs.declared.kinds.Kinds.TheVariants as kinds
 
 module _ (t : TableState) where
@@ -54,16 +54,16 @@ module _ (t : TableState) where
 
   list_same : (name : List ℕ) → Leaves (list_step t name)
   unfolding show_handles
-  list_same name = after_same (place_for kinds.All t.shape.indices name) _ (λ at. refl)
+  list_same name = after_same (index_named kinds.All t.shape.indices name) _ (λ at. refl)
 
   range_same : (name : List ℕ) (low high : KeyBound) → Leaves (range_step t name low high)
   unfolding range_in
   range_same name low high =
-      after_same (place_for kinds.Sorted t.shape.indices name) _ (λ at.
+      after_same (index_named kinds.Sorted t.shape.indices name) _ (λ at.
       after_same (or_fault faults.Key (bounds_at t.shape at low high)) _ (λ b. shown_same (found_range t.records at (edge_at t at b.0) (edge_at t at b.1))))
 
   position_same : (command : Command) → Leaves (position_step t command)
-  position_same (commands.Nth table index n) = after_same (place_for kinds.Counted t.shape.indices index) _ (λ at. found_same (nth t.records at n))
+  position_same (commands.Nth table index n) = after_same (index_named kinds.Counted t.shape.indices index) _ (λ at. found_same (nth t.records at n))
   position_same (commands.Rank table index position) =
       after_same (position_for kinds.Ranked t.shape.indices index position) _ (λ at. counted_same (rank t.records at.0 at.1))
   position_same (commands.Place table index handle) =

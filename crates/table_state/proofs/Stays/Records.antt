@@ -98,10 +98,10 @@ module _ (t : TableState) (stands : CanStand t) where
   erased_stands index h = changed_stands t stands (erase_refusal t.records h index) _ _ (λ e.
       left_stands (λ g. not (is_handle h g)) (test_passes (is_live t.records h) _ Stale (test_fails _ _ Kind e).1).1)
 
-  pub key_erased_stands : (place : ℕ) (probe : Cells) → CanStand (erase_probe t place probe).table
+  pub key_erased_stands : (index : ℕ) (probe : Cells) → CanStand (erase_probe t index probe).table
   unfolding erase_probe
-  key_erased_stands place probe = changed_stands t stands (erase_key_refusal t.records place) _ _ (λ e.
-      left_stands (λ g. not (is_eq (probe_side probe_order t.records place probe g))) (test_passes _ _ Kind e).1)
+  key_erased_stands index probe = changed_stands t stands (erase_key_refusal t.records index) _ _ (λ e.
+      left_stands (λ g. not (is_eq (probe_side probe_order t.records index probe g))) (test_passes _ _ Kind e).1)
 
   pub cleared_stands : CanStand (clear_step t).table
   unfolding clear_step

@@ -29,10 +29,10 @@ use Rattle.table_terms.specs.Edits.{edited_row, is_edit, keyed_row}
 use Rattle.table_terms.specs.Step.{Step}
 use Rattle.table_terms.specs.Table.{Cells, TableState, keys_of}
 use Rattle.table_terms.specs.Values.{part_cells, row_from}
-use Rattle.table_terms.specs.Words.{handle_for, key_for, or_fault, place_for, record_for, spelled, whole_key_for}
+use Rattle.table_terms.specs.Words.{handle_for, index_named, key_for, or_fault, record_for, spelled, whole_key_for}
 use Rattle.table_state.proofs.Stays.Edited.{row_edited}
 use Rattle.table_state.proofs.Stays.Entries.{row_lasts}
-use Rattle.table_state.proofs.Stays.Found.{both_found, fault_free, key_found, place_within}
+use Rattle.table_state.proofs.Stays.Found.{both_found, fault_free, index_within, key_found}
 use Rattle.table_state.proofs.Stays.Indices.{added_stands, dropped_stands, is_new}
 use Rattle.table_state.proofs.Stays.Keyed.{row_keyed}
 use Rattle.table_state.proofs.Stays.Reads.{read_same}
@@ -87,7 +87,7 @@ module _ (t : TableState) (stands : CanStand t) where
   pub change_stands : (command : Command) → CommandFits command → CanStand (change_step t command).table
   change_stands (commands.Insert table fields None) fits = insert_stands None fields fits.1
   change_stands (commands.Insert table fields (Some position)) fits =
-      then_stands t stands (place_for kinds.Sequence t.shape.indices position.index) _ (λ place _. insert_stands (Some (place, position.place)) fields fits.1)
+      then_stands t stands (index_named kinds.Sequence t.shape.indices position.index) _ (λ index _. insert_stands (Some (index, position.place)) fields fits.1)
   change_stands (commands.Replace table text fields) fits = replace_stands text fields fits.2
   change_stands (commands.Modify table text changes rollback) fits =
       tested_stands t stands (is_edit t.shape.columns (set_in changes) (added_in changes)) _ faults.Row
@@ -96,27 +96,27 @@ module _ (t : TableState) (stands : CanStand t) where
       then_stands t stands (whole_key_for t.shape name values) _ (λ key e.
       then_stands t stands (handle_for text) _ (λ h _. key_stands values key fits.3 (key_found t.shape values key name e) rollback h))
   change_stands (commands.Erase table text None) fits = erase_stands text None
-  change_stands (commands.Erase table text (Some name)) fits = then_stands t stands (place_for kinds.Walked t.shape.indices name) _ (λ place _. erase_stands text (Some place))
+  change_stands (commands.Erase table text (Some name)) fits = then_stands t stands (index_named kinds.Walked t.shape.indices name) _ (λ index _. erase_stands text (Some index))
   change_stands (commands.EraseKey table name values) fits = then_stands t stands (key_for t.shape kinds.Keyed name values) _ (λ key _. key_erased_stands t stands key.0 key.1)
   change_stands (commands.Clear table) fits = cleared_stands t stands
   change_stands (commands.Move table name text place) fits =
       then_stands t stands (record_for kinds.Sequence t.shape.indices name text) _ (λ at e.
-      moved_stands t stands at.0 (place_within kinds.Sequence t.shape.indices name at.0 (both_found (place_for kinds.Sequence t.shape.indices name) (handle_for text) at e).0) place at.1)
+      moved_stands t stands at.0 (index_within kinds.Sequence t.shape.indices name at.0 (both_found (index_named kinds.Sequence t.shape.indices name) (handle_for text) at e).0) place at.1)
   change_stands (commands.Rearrange table name texts) fits =
-      then_stands t stands (place_for kinds.Sequence t.shape.indices name) _ (λ index e.
+      then_stands t stands (index_named kinds.Sequence t.shape.indices name) _ (λ index e.
       then_stands t stands (or_fault faults.Handle (spelled texts)) _ (λ handles _.
-      rearranged_stands t stands index (place_within kinds.Sequence t.shape.indices name index e) handles))
+      rearranged_stands t stands index (index_within kinds.Sequence t.shape.indices name index e) handles))
   change_stands (commands.Sort table name names) fits =
-      then_stands t stands (place_for kinds.Sequence t.shape.indices name) _ (λ index e.
+      then_stands t stands (index_named kinds.Sequence t.shape.indices name) _ (λ index e.
       then_stands t stands (or_fault faults.Key (parts_named t.shape.columns names)) _ (λ parts _.
-      sorted_stands t stands index (place_within kinds.Sequence t.shape.indices name index e) parts))
+      sorted_stands t stands index (index_within kinds.Sequence t.shape.indices name index e) parts))
   change_stands (commands.Reverse table name) fits =
-      then_stands t stands (place_for kinds.Sequence t.shape.indices name) _ (λ index e. reversed_stands t stands index (place_within kinds.Sequence t.shape.indices name index e))
+      then_stands t stands (index_named kinds.Sequence t.shape.indices name) _ (λ index e. reversed_stands t stands index (index_within kinds.Sequence t.shape.indices name index e))
   change_stands (commands.AddIndex table name kind unique key) fits =
       then_stands t stands (or_fault faults.Definition (defined t.shape.columns t.shape.indices (record { name = name; kind = kind; unique = unique; key = key }))) _ (λ index e.
       added_stands t stands index (is_new t.shape.columns t.shape.indices (record { name = name; kind = kind; unique = unique; key = key }) index (fault_free faults.Definition _ index e)))
   change_stands (commands.DropIndex table name) fits =
-      then_stands t stands (place_for kinds.All t.shape.indices name) _ (λ place e. dropped_stands t stands place (place_within kinds.All t.shape.indices name place e))
+      then_stands t stands (index_named kinds.All t.shape.indices name) _ (λ index e. dropped_stands t stands index (index_within kinds.All t.shape.indices name index e))
   change_stands read fits = stands
 
 either_stands : (b : Bool) (x y : Step) → CanStand x.table → CanStand y.table → CanStand (if b then x else y).table

@@ -13,6 +13,6 @@ pub returns : goal.returns
 unfolding range_in
 returns c =
     let state = c.container-container.result.now in
-    let low : Edge Handle = edge_of (probe_side probe_order state c.args.place) (bound_map (λ p. p.now) c.as_bound.result) in
-    let high : Edge Handle = edge_of (probe_side probe_order state c.args.place) (bound_map (λ p. p.now) c.as_bound-2.result) in
-    (range_is_in c.args.records.now state c.container-container.ensures.value c.args.place low high c.in_ok-handles.handles.items c.in_ok-handles.ensures.ok, search rules)
+    let low : Edge Handle = edge_of (probe_side probe_order state c.args.index) (bound_map (λ p. p.now) c.as_bound.result) in
+    let high : Edge Handle = edge_of (probe_side probe_order state c.args.index) (bound_map (λ p. p.now) c.as_bound-2.result) in
+    (range_is_in c.args.records.now state c.container-container.ensures.value c.args.index low high c.in_ok-handles.handles.items c.in_ok-handles.ensures.ok, search rules)

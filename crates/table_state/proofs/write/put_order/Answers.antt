@@ -17,15 +17,15 @@ returns-in_err-command-clause-puts g c =
 pub returns-clause-puts : goal.returns-clause-puts
 returns-clause-puts g c =
     let t = c.args.table.now in
-    let place = c.args.place in
-    let item = c.index-indices-place.result in
+    let index = c.args.index in
+    let item = c.index-indices-index.result in
     let spec : c.spec-spec.result.now ≡ t.shape = cc in
     let same : c.indices.result.now ≡ t.shape.indices = cc in
-    let here : item ≡ get_or t.shape.indices place item = c.index-indices-place.is ∙ ap (λ xs. get_or xs place item) same in
-    let found : slice_get t.shape.indices place ≡ Some item = slice_get_at t.shape.indices place item c.requires ∙ ap Some (sym here) in
-    let named : c.as_str.result.now ≡ option_map_or (λ i. i.name) (slice_get t.shape.indices place) [] = c.as_str.ensures ∙ ap (λ (i : IndexSpec). i.name) (sym c.index-indices-place.is) ∙ sym (ap (λ o. option_map_or (λ i. i.name) o []) found) in
-    let listed : c.deref.result.now ≡ list_at t.records.lists place = cc (c.deref.ensures.value, c.in-Ok.ensures.ok) in
-    let is : c.in_ok-command.command ≡ order_at t.shape t.records.lists place =
+    let here : item ≡ get_or t.shape.indices index item = c.index-indices-index.is ∙ ap (λ xs. get_or xs index item) same in
+    let found : slice_get t.shape.indices index ≡ Some item = slice_get_at t.shape.indices index item c.requires ∙ ap Some (sym here) in
+    let named : c.as_str.result.now ≡ option_map_or (λ i. i.name) (slice_get t.shape.indices index) [] = c.as_str.ensures ∙ ap (λ (i : IndexSpec). i.name) (sym c.index-indices-index.is) ∙ sym (ap (λ o. option_map_or (λ i. i.name) o []) found) in
+    let listed : c.deref.result.now ≡ list_at t.records.lists index = cc (c.deref.ensures.value, c.in-Ok.ensures.ok) in
+    let is : c.in_ok-command.command ≡ order_at t.shape t.records.lists index =
     c.in_ok-command.ensures ∙ ap (λ s. order_command s c.as_str.result.now c.deref.result.now) spec ∙ ap (λ n. order_command t.shape n c.deref.result.now) named
-    ∙ ap (λ hs. order_command t.shape (option_map_or (λ i. i.name) (slice_get t.shape.indices place) []) hs) listed in
+    ∙ ap (λ hs. order_command t.shape (option_map_or (λ i. i.name) (slice_get t.shape.indices index) []) hs) listed in
     putting_as _ _ _ _ c.put.result (ap line_of is) c.put.ensures.puts

@@ -8,6 +8,6 @@ pub invariant_of-self : goal.invariant_of-self
 invariant_of-self c =
     let t : TableShape =
     record { name = c.self.inside.name; max = c.self.inside.max; columns = c.self.inside.columns.items; indices = c.self.inside.indices.items; place = c.self.inside.place; tables = c.self.inside.tables } in
-    let place : c.args.place < length c.self.inside.indices.items = search rules in
+    let within : c.args.index < length c.self.inside.indices.items = search rules in
     let several : 1 < length c.self.inside.indices.items = search rules in
-    subst (λ is. IsValidTable (record t { indices = is })) (sym c.remove.ensures.items) (valid_without t c.args.place place several c.self.invariant)
+    subst (λ is. IsValidTable (record t { indices = is })) (sym c.remove.ensures.items) (valid_without t c.args.index within several c.self.invariant)
