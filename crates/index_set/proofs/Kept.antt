@@ -25,7 +25,7 @@ use Rattle.any_index.specs.Spelled.{kind_of, col_of, index_of}
 use Rattle.any_index.proofs.Alike.{HasOneKey}
 use Rattle.any_index.proofs.Laws.{IsKeyed_alike}
 use Rattle.index_set.specs.declared.changed.Changed.{Changed}
-use Rattle.index_set.specs.declared.set.IndexSet.{IndexSet}
+use Rattle.index_set.specs.declared.parts.Parts.{Parts}
 use Rattle.index_set.specs.Changed.{may_differ, differs, AreFreeBeside}
 use Rattle.index_set.specs.Each.{list_at}
 use Rattle.index_set.specs.Indices.{HoldIt}
@@ -48,7 +48,7 @@ equal_at : (spec : Option Spec) (o : Ordering) → option_map_or (λ (d : Spec).
 equal_at None o e key = absurd (cc)
 equal_at (Some spec) o e key = equal_of (has_key_kind spec.kind) o key e
 
-module _ {R E : Type 0} (order : E → ℕ → R → R → Ordering) (s : IndexSet R E) (changed : Changed) (row before : R) where
+module _ {R E : Type 0} (order : E → ℕ → R → R → Ordering) (s : Parts R E) (changed : Changed) (row before : R) where
   -- two records agree at all indices at which they do not differ
   pub agrees_where : ((j : ℕ) → may_differ changed j ≡ differs (order s.keys) s.specs.items row before j) → AgreesBeside order s changed row before
   agrees_where told = record { equal = λ j lt kept key. equal_at (slice_get s.specs.items j) (order s.keys j row before) (sym (told j) ∙ kept) key }
@@ -58,7 +58,7 @@ module _ {R E : Type 0} (order : E → ℕ → R → R → Ordering) (s : IndexS
   agrees_nowhere all = record { equal = λ j lt kept key. let bad = sym (all j) ∙ kept in absurd (cc) }
 
 module _ {R E : Type 0} {has_key : E → ℕ → Bool} (order : E → ℕ → R → R → Ordering) (total : (keys : E) (index : ℕ) → IsTrue (has_key keys index) → IsTotalOrder (order keys index))
-    (s : IndexSet R E) (sound : IsSound has_key s) (n : Node) (before row : R) (had : record_of s.store n ≡ Some before) (changed : Changed) (agrees : AgreesBeside order s changed row before) where
+    (s : Parts R E) (sound : IsSound has_key s) (n : Node) (before row : R) (had : record_of s.store n ≡ Some before) (changed : Changed) (agrees : AgreesBeside order s changed row before) where
   -- a node whose record is written stays where its keys put it
   module _ (is : IsNodeOf s.store n) (marks : E → ℕ → R → Marks) (alike : (keys : E) (index : ℕ) (a b : R) → IsTrue (has_key keys index) → order keys index a b ≡ Equal → marks keys index a ≡ marks keys index b) where
     one_key : (j : ℕ) → j < length s.specs.items → may_differ changed j ≡ false → IsTrue (has_key_kind (kind_at s j)) → HasOneKey (order s.keys j) (marks s.keys j) before row

@@ -8,12 +8,12 @@ use Rattle.node_store.specs.ByNode.{same_node}
 use Rattle.node_store.proofs.ByNode.{records_kept}
 use Rattle.container_model.specs.declared.handle.Spec.{Spec}
 use Rattle.any_index.proofs.Laws as any
-use Rattle.index_set.specs.declared.set.IndexSet.{IndexSet}
+use Rattle.index_set.specs.declared.parts.Parts.{Parts}
 use Rattle.index_set.specs.Indices.{LackIt}
 use Rattle.index_set.specs.Lists.{AreUniqueFrom}
 use Rattle.index_set.specs.Set.{keys_of, specs_of, lists_of, record_of, contents, IsKeyed, IsKeyedBut, IsKeyedExcept, IsUniqueExcept, IsOfSame}
 
-module _ {R E : Type 0} (order : E → ℕ → R → R → Ordering) (marks : E → ℕ → R → Marks) (s : IndexSet R E) where
+module _ {R E : Type 0} (order : E → ℕ → R → R → Ordering) (marks : E → ℕ → R → Marks) (s : Parts R E) where
   -- what is keyed is so but for any node
   pub but_from : (n : Node) → IsKeyed order marks s → IsKeyedBut order marks s n
   but_from n h = record { each = λ j d e lt. any.IsKeyedBut_from (order s.keys) (marks s.keys) s.store (get_or s.indices.items j e) n (h.each j d e lt) }
@@ -29,7 +29,7 @@ pub unique_empty : {R : Type 0} (order : ℕ → R → R → Ordering) (records 
 unique_empty order records b [] = tt
 unique_empty order records b (spec ∷ specs) = ((λ _. tt), unique_empty order records (b + 1) specs)
 
-module _ {R E : Type 0} (order : E → ℕ → R → R → Ordering) (old new : IndexSet R E) (except : Option Node) where
+module _ {R E : Type 0} (order : E → ℕ → R → R → Ordering) (old new : Parts R E) (except : Option Node) where
   -- that stays where the records and the lists stay
   pub unique_kept : IsOfSame old new → lists_of new ≡ lists_of old → contents new ≡ contents old → IsUniqueExcept order old except → IsUniqueExcept order new except
   unique_kept same lists kept h =

@@ -29,3 +29,13 @@ pub mod Kept
 pub mod Clashless
 pub mod MarksKept
 mod Refilling
+pub mod Holding
+pub mod Others
+pub mod Undone
+pub mod Held
+pub mod Changing
+mod AtIndex
+mod KnownPlaces
+mod Putting
+mod Reordered
+mod Edited

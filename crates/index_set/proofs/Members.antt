@@ -13,11 +13,11 @@ use Rattle.any_index.specs.declared.index.AnyIndex.{AnyIndex}
 use Rattle.any_index.specs.Spelled as any
 use Rattle.any_index.proofs.Laws.{node_held, list_distinct}
 pub use Rattle.any_index.proofs.Laws.{Holds_at}
-use Rattle.index_set.specs.declared.set.IndexSet.{IndexSet}
+use Rattle.index_set.specs.declared.parts.Parts.{Parts}
 use Rattle.index_set.specs.Set.{store_of, specs_of, lists_of, list_of, IsSound}
 use Rattle.index_set.proofs.Reading.{some_spec}
 
-module _ {R E : Type 0} {has_key : E → ℕ → Bool} (s : IndexSet R E) (sound : IsSound has_key s) where
+module _ {R E : Type 0} {has_key : E → ℕ → Bool} (s : Parts R E) (sound : IsSound has_key s) where
   -- there is one list for each index
   pub one_list_each : length (lists_of s) ≡ length (specs_of s)
   one_list_each = length-map s.indices.items (any.list_of (columns_in s.store)) ∙ sound.placed.one_each

@@ -13,7 +13,7 @@ use Rattle.container_model.specs.State.{is_sequence_kind}
 use Rattle.any_index.specs.declared.index.AnyIndex.{AnyIndex}
 use Rattle.any_index.specs.Spelled.{HasRoom, list_of, col_of}
 use Rattle.any_index.specs.Keyed as any
-use Rattle.index_set.specs.declared.set.IndexSet.{IndexSet}
+use Rattle.index_set.specs.declared.parts.Parts.{Parts}
 use Rattle.index_set.specs.Indices.{IsPlaced, ArePlaced, AreWithin, lists_in, HaveRoom, AreKeyed}
 use Rattle.index_set.specs.Set.{IsSound, lists_of, kind_at}
 use Rattle.index_set.proofs.ByKind.{AreKeyed_sequence}
@@ -21,7 +21,7 @@ use Rattle.index_set.proofs.Each.{each_set, each_listed, same_lists}
 use Rattle.index_set.proofs.Frame.{Steps, IsFar, are_far, placed_set, within_set, list_kept, keyed_kept}
 use Rattle.index_set.proofs.Reading.{some_spec, kind_here}
 
-module _ {R E : Type 0} {has_key : E → ℕ → Bool} (s : IndexSet R E) (sound : IsSound has_key s) (k : ℕ) (lt : k < length s.specs.items) (i new : AnyIndex) (e : i ≡ get_or s.indices.items k i)
+module _ {R E : Type 0} {has_key : E → ℕ → Bool} (s : Parts R E) (sound : IsSound has_key s) (k : ℕ) (lt : k < length s.specs.items) (i new : AnyIndex) (e : i ≡ get_or s.indices.items k i)
     (t : Store R) (step : Steps s.store t i new) where
   keep : KeepsOthers (column_of s.store) (column_of t) (col_of (get_or s.indices.items k i))
   keep = subst (KeepsOthers (column_of s.store) (column_of t)) (ap col_of e) step.others

@@ -19,7 +19,7 @@ use Rattle.any_index.specs.Side.{side_of}
 use Rattle.any_index.specs.Keyed as keyed
 use Rattle.any_index.specs.Stored.{CanFind, CanSearchKind, IsOfKind, HasNodeOfKind}
 use Rattle.key_extract.specs.declared.extract.Extract.{Ghosts}
-use Rattle.index_set.specs.declared.set.IndexSet.{IndexSet}
+use Rattle.index_set.specs.declared.parts.Parts.{Parts}
 use Rattle.index_set.specs.Set.{IsSound, IsKeyed, list_of, kind_at, probe_side}
 use Rattle.index_set.proofs.Each.{each_listed}
 use Rattle.index_set.proofs.Frame.{key_here}
@@ -45,12 +45,12 @@ abbrev pub some_spec : Spec
 some_spec = record { kind = Sequenced; unique = false }
 
 -- the number of an index of a kind that has a key has one among the keys
-pub has_its_key : {R E : Type 0} {has_key : E → ℕ → Bool} (s : IndexSet R E) → IsSound has_key s → (k : ℕ) → k < length s.specs.items → IsTrue (has_key_kind (kind_at s k)) → IsTrue (has_key s.keys k)
+pub has_its_key : {R E : Type 0} {has_key : E → ℕ → Bool} (s : Parts R E) → IsSound has_key s → (k : ℕ) → k < length s.specs.items → IsTrue (has_key_kind (kind_at s k)) → IsTrue (has_key s.keys k)
 has_its_key s sound k lt key =
     sound.keys.keyed k some_spec lt
     ∙ (ap (λ (o : Option Spec). has_key_kind (option_map_or (λ (d : Spec). d.kind) o Sequenced)) (sym (slice_get_at s.specs.items k some_spec lt)) ∙ key)
 
-module _ {R E : Type 0} {has_key : E → ℕ → Bool} (s : IndexSet R E) (sound : IsSound has_key s) (k : ℕ) (lt : k < length s.specs.items) (i : AnyIndex) (e : i ≡ get_or s.indices.items k i) where
+module _ {R E : Type 0} {has_key : E → ℕ → Bool} (s : Parts R E) (sound : IsSound has_key s) (k : ℕ) (lt : k < length s.specs.items) (i : AnyIndex) (e : i ≡ get_or s.indices.items k i) where
   pub sound_here : any.IsSound (columns_in s.store) i
   sound_here = subst (λ (z : AnyIndex). any.IsSound (columns_in s.store) z) (sym e) (sound.placed.each k some_spec i lt).sound
 
@@ -107,7 +107,7 @@ module _ {R E : Type 0} {has_key : E → ℕ → Bool} (s : IndexSet R E) (sound
       says (side_of (record_of s.store) (λ a. order s.keys (any.index_of i) a probe)) (any.list_of (columns_in s.store) i) → says (probe_side order s k probe) (list_of s k)
   told_here has says order probe h = subst (λ z. says (probe_side order s k probe) z) list_here (subst (λ z. says (side_of (record_of s.store) (λ a. order s.keys z a probe)) (any.list_of (columns_in s.store) i)) (number_here has) h)
 
-module _ {R E P : Type 0} (X : Ghosts E R P) (s : IndexSet R E) (sound : IsSound X.has_key s) (k : ℕ) (lt : k < length s.specs.items) (i : AnyIndex) (e : i ≡ get_or s.indices.items k i) where
+module _ {R E P : Type 0} (X : Ghosts E R P) (s : Parts R E) (sound : IsSound X.has_key s) (k : ℕ) (lt : k < length s.specs.items) (i : AnyIndex) (e : i ≡ get_or s.indices.items k i) where
   -- so nodes can be looked for there by a probe of the index's key
   pub can_find : (probe : P) → IsTrue (has_key_kind (kind_at s k)) → (IsTrue (is_sorted_kind (kind_at s k)) → IsTrue (X.does_fit s.keys k probe)) → (IsTrue (is_hashed_kind (kind_at s k)) → IsTrue (X.is_whole s.keys k probe)) → IsKeyed X.order_of (marks_of X) s → CanFind X i s.store s.keys probe
   can_find probe kind fits whole keyed = record {

@@ -15,7 +15,7 @@ use Rattle.container_model.specs.declared.handle.Kind.TheVariants.{Sequenced, Ra
 use Rattle.container_model.specs.State.{has_key_kind, is_hashed_kind, is_sorted_kind}
 use Rattle.any_index.specs.declared.index.AnyIndex.{AnyIndex}
 use Rattle.any_index.specs.Spelled as any
-use Rattle.index_set.specs.declared.set.IndexSet.{IndexSet}
+use Rattle.index_set.specs.declared.parts.Parts.{Parts}
 use Rattle.index_set.specs.Indices.{lists_in}
 use Rattle.index_set.specs.Lists.{IsSunk}
 use Rattle.index_set.specs.Set.{IsSound, list_of, lists_of, kind_at}
@@ -32,7 +32,7 @@ by_key_kind Ordered key sorted hashed = sorted refl
 by_key_kind Ranked key sorted hashed = sorted refl
 by_key_kind Hashed key sorted hashed = hashed refl
 
-module _ {R E : Type 0} {has_key : E → ℕ → Bool} (s : IndexSet R E) (sound : IsSound has_key s) where
+module _ {R E : Type 0} {has_key : E → ℕ → Bool} (s : Parts R E) (sound : IsSound has_key s) where
   module _ (k : ℕ) (lt : k < length s.specs.items) (i new : AnyIndex) (e : i ≡ get_or s.indices.items k i) (t : Store R) (step : Steps s.store t i new) where
     abbrev lists : List (List Node)
     lists = lists_in (columns_in t) (set s.indices.items k new)
@@ -82,7 +82,7 @@ two_steps first mid last marked old new same marks kept step = record {
   contents = step.contents ∙ kept;
 }
 
-module _ {R E : Type 0} {has_key : E → ℕ → Bool} (s : IndexSet R E) (sound : IsSound has_key s) where
+module _ {R E : Type 0} {has_key : E → ℕ → Bool} (s : Parts R E) (sound : IsSound has_key s) where
   -- an index with a key is no row, so it has another column
   pub columns_apart : (j k : ℕ) → j < length s.specs.items → k < length s.specs.items → (i r : AnyIndex) → i ≡ get_or s.indices.items j i → r ≡ get_or s.indices.items k r → IsTrue (has_key_kind (kind_at s j)) → kind_at s k ≡ Random → any.col_of i ≢ any.col_of r
   columns_apart j k lt_j lt_k i r e f key row =

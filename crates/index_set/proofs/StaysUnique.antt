@@ -1,6 +1,6 @@
 -- Where each key of a unique index stands once, it does so after each call, in the words of the calls' clauses.
-use Rattle.std.proofs.Common.{◌≡◌, ◌≢◌, ℕ, ◌<◌, Bool, false, List, length, get_or, set, map, Option, Some, None, refl, sym, ap, ◌∙◌, subst}
-use Rattle.std.specs.Prelude.{IsTrue}
+use Rattle.std.proofs.Common.{◌≡◌, ◌≢◌, ℕ, ◌<◌, Bool, false, List, length, get_or, set, map, Option, Some, None, Result, Ok, Err, refl, sym, ap, ◌∙◌, subst}
+use Rattle.std.specs.Prelude.{IsTrue, IfOk, OnErr}
 use Rattle.std.specs.Option.{option_map_or}
 use Rattle.std.specs.Cmp.{IsTotalOrder}
 use Rattle.std.specs.Ordering.{is_eq}
@@ -19,7 +19,7 @@ use Rattle.container_model.specs.declared.handle.Kind.{Kind}
 use Rattle.container_model.specs.declared.handle.Kind.TheVariants as kind
 use Rattle.container_model.specs.Insert.{At}
 use Rattle.container_model.specs.State.{has_key_kind, is_sequence_kind}
-use Rattle.index_set.specs.declared.set.IndexSet.{IndexSet}
+use Rattle.index_set.specs.declared.parts.Parts.{Parts}
 use Rattle.index_set.specs.Each.{changed_from, list_at}
 use Rattle.index_set.specs.Indices.{LackIt, HoldIt}
 use Rattle.index_set.specs.Lists.{entered_at, settled_at, ban_from, AreUniqueFrom}
@@ -39,7 +39,7 @@ keyless kind.Ranked p q = cc
 keyless kind.Hashed p q = cc
 
 -- a unique index is no sequence
-apart_from_sequence : {R E : Type 0} {has_key : E → ℕ → Bool} (s : IndexSet R E) → IsSound has_key s → (k : ℕ) → k < length s.specs.items → IsTrue (is_sequence_kind (kind_at s k)) →
+apart_from_sequence : {R E : Type 0} {has_key : E → ℕ → Bool} (s : Parts R E) → IsSound has_key s → (k : ℕ) → k < length s.specs.items → IsTrue (is_sequence_kind (kind_at s k)) →
     (j : ℕ) → j < length s.specs.items → IsTrue (get_or s.specs.items j some_spec).unique → j ≢ k
 apart_from_sequence s sound k lt sequence j below unique e =
     let there : IsTrue (is_sequence_kind (get_or s.specs.items k some_spec).kind) =
@@ -47,16 +47,16 @@ apart_from_sequence s sound k lt sequence j below unique e =
     keyless (get_or s.specs.items j some_spec).kind (subst (λ z. IsTrue (is_sequence_kind (get_or s.specs.items z some_spec).kind)) (sym e) there) (sound.keys.unique j some_spec below unique)
 
 -- but has a key
-key_at : {R E : Type 0} {has_key : E → ℕ → Bool} (s : IndexSet R E) → IsSound has_key s → (j : ℕ) → j < length s.specs.items → IsTrue (get_or s.specs.items j some_spec).unique → IsTrue (has_key_kind (kind_at s j))
+key_at : {R E : Type 0} {has_key : E → ℕ → Bool} (s : Parts R E) → IsSound has_key s → (j : ℕ) → j < length s.specs.items → IsTrue (get_or s.specs.items j some_spec).unique → IsTrue (has_key_kind (kind_at s j))
 key_at s sound j lt unique =
     ap (λ (o : Option Spec). has_key_kind (option_map_or (λ (d : Spec). d.kind) o kind.Sequenced)) (slice_get_at s.specs.items j some_spec lt) ∙ sound.keys.unique j some_spec lt unique
 
-itself : {R E : Type 0} (s : IndexSet R E) → IsOfSame s s
+itself : {R E : Type 0} (s : Parts R E) → IsOfSame s s
 itself s = record { keys = refl; specs = refl; columns = refl }
 
 module _ {R E : Type 0} (order : E → ℕ → R → R → Ordering) where
   -- the same lists of the same records in another set
-  from_lists : (s t : IndexSet R E) (records : Node → Option R) (lists : List (List Node)) (except : Option Node) → IsOfSame s t → record_of t.store ≡ records → lists_of t ≡ lists →
+  from_lists : (s t : Parts R E) (records : Node → Option R) (lists : List (List Node)) (except : Option Node) → IsOfSame s t → record_of t.store ≡ records → lists_of t ≡ lists →
       AreUnique (order s.keys) records s.specs.items lists except → IsUniqueExcept order t except
   from_lists s t records lists except same has listed h =
       subst (λ (e : E). AreUniqueFrom (order e) (record_of t.store) except 0 t.specs.items (lists_of t)) (sym same.keys)
@@ -67,10 +67,17 @@ module _ {R E : Type 0} (order : E → ℕ → R → R → Ordering) where
       (λ j d lt unique. h j lt (subst (λ (z : Spec). IsTrue z.unique) (get_or_default s.specs.items j d some_spec lt) unique))))))
 
 module _ {R E : Type 0} {has_key : E → ℕ → Bool} (order : E → ℕ → R → R → Ordering) where
-  to_lists : (s : IndexSet R E) (except : Option Node) → IsSound has_key s → IsUniqueExcept order s except → AreUnique (order s.keys) (record_of s.store) s.specs.items (lists_of s) except
+  to_lists : (s : Parts R E) (except : Option Node) → IsSound has_key s → IsUniqueExcept order s except → AreUnique (order s.keys) (record_of s.store) s.specs.items (lists_of s) except
   to_lists s except sound h j lt unique = unique_at (order s.keys) (record_of s.store) except s.specs.items (lists_of s) (one_list_each s sound) h j some_spec lt unique
 
-  module _ (s t : IndexSet R E) (sound : IsSound has_key s) (same : IsOfSame s t) where
+  module _ (s t : Parts R E) (sound : IsSound has_key s) (same : IsOfSame s t) where
+    -- a node was added that is in no index, or could not be
+    pub unique_after_add : {X : Type 0} (value : R) (r : Result Node X) → lists_of t ≡ lists_of s → IfOk r (λ n. AddsNode s.store t.store n value) → IfOk r (λ n. LackIt (lists_of t) n) → OnErr r (t ≡ s) → IsUniqueExcept order s None → IsUniqueExcept order t None
+    unique_after_add value (Ok n) listed adds lacks kept h =
+        from_lists order s t (record_of t.store) (lists_of s) None same refl listed
+        (unique_loose (order s.keys) s.specs.items (lists_of s) (one_list_each s sound) (record_of s.store) (record_of t.store) n adds.records.others (subst (λ ls. LackIt ls n) listed lacks) (to_lists s None sound h))
+    unique_after_add value (Err e) listed adds lacks kept h = subst (λ (z : Parts R E). IsUniqueExcept order z None) (sym kept) h
+
     -- a node was removed that was in no index
     pub unique_after_remove : (n : Node) → lists_of t ≡ lists_of s → RemovesNode s.store t.store n → LackIt (lists_of s) n → IsUniqueExcept order s None → IsUniqueExcept order t None
     unique_after_remove n listed removes lacks h =
@@ -94,7 +101,7 @@ module _ {R E : Type 0} {has_key : E → ℕ → Bool} (order : E → ℕ → R 
         from_lists order s t (record_of s.store) (set (lists_of s) k xs) except same (records_kept s.store t.store kept) listed
         (unique_moved (order s.keys) s.specs.items (lists_of s) (one_list_each s sound) (record_of s.store) k xs except (apart_from_sequence s sound k lt sequence) (to_lists s except sound h))
 
-  module _ (s : IndexSet R E) (sound : IsSound has_key s) (n : Node) where
+  module _ (s : Parts R E) (sound : IsSound has_key s) (n : Node) where
     -- what is unique is so but for any node
     pub unique_except : IsUniqueExcept order s None → IsUniqueExcept order s (Some n)
     unique_except h = from_lists order s s (record_of s.store) (lists_of s) (Some n) (itself s) refl refl (unique_but (order s.keys) s.specs.items (lists_of s) (one_list_each s sound) (record_of s.store) n (to_lists s None sound h))
@@ -114,11 +121,11 @@ module _ {R E : Type 0} {has_key : E → ℕ → Bool} (order : E → ℕ → R 
         (written_back s n r w had is) (lists_written t n r ∙ lists_written s n w) (to_lists s None sound h)
 
   module _ (total : (keys : E) (index : ℕ) → IsTrue (has_key keys index) → IsTotalOrder (order keys index)) where
-    total_at : (s : IndexSet R E) → IsSound has_key s → (j : ℕ) → j < length s.specs.items → IsTrue (get_or s.specs.items j some_spec).unique → IsTotalOrder (order s.keys j)
+    total_at : (s : Parts R E) → IsSound has_key s → (j : ℕ) → j < length s.specs.items → IsTrue (get_or s.specs.items j some_spec).unique → IsTotalOrder (order s.keys j)
     total_at s sound j lt unique = total s.keys j (sound.keys.keyed j some_spec lt ∙ sound.keys.unique j some_spec lt unique)
 
     -- a record has the keys again that it had before it was written
-    pub unique_restored : (s : IndexSet R E) → IsSound has_key s → (n : Node) (before : R) → IsNodeOf s.store n → HasKeysOf order s n before → IsUniqueExcept order (with_record s n before) None → IsUniqueExcept order s None
+    pub unique_restored : (s : Parts R E) → IsSound has_key s → (n : Node) (before : R) → IsNodeOf s.store n → HasKeysOf order s n before → IsUniqueExcept order (with_record s n before) None → IsUniqueExcept order s None
     unique_restored s sound n before is keys h =
         let t = with_record s n before in
         from_lists order s s (record_of s.store) (lists_of s) None (itself s) refl refl
@@ -127,7 +134,7 @@ module _ {R E : Type 0} {has_key : E → ℕ → Bool} (order : E → ℕ → R 
         (subst (λ (ls : List (List Node)). OneOfEach (order s.keys) (record_of t.store) None j (list_at ls j)) (lists_written s n before) (to_lists t None (sound_written s n before has_key sound) h j lt unique)))
 
     -- a record that nothing bans was added and entered
-    pub unique_after_enter : (s t u : IndexSet R E) → IsSound has_key s → IsOfSame s t → IsOfSame t u → (n : Node) (row : R) (at : At) →
+    pub unique_after_enter : (s t u : Parts R E) → IsSound has_key s → IsOfSame s t → IsOfSame t u → (n : Node) (row : R) (at : At) →
         lists_of t ≡ lists_of s → AddsNode s.store t.store n row → LackIt (lists_of t) n →
         lists_of u ≡ changed_from (entered_at (order t.keys) (record_of t.store) (age_of t.store) at n) 0 t.specs.items (lists_of t) → contents u.store ≡ contents t.store →
         ban_from (order s.keys) (record_of s.store) (lists_of s) None row 0 s.specs.items ≡ None → IsUniqueExcept order s None → IsUniqueExcept order u None
@@ -139,7 +146,7 @@ module _ {R E : Type 0} {has_key : E → ℕ → Bool} (order : E → ℕ → R 
         (subst (λ ls. LackIt ls n) listed lacks) none (to_lists s None sound h))
 
     -- a node whose record nothing else bans was settled
-    pub unique_after_settle : (s t : IndexSet R E) → IsSound has_key s → IsOfSame s t → (n : Node) (row : R) → record_of s.store n ≡ Some row → HoldIt (lists_of s) n →
+    pub unique_after_settle : (s t : Parts R E) → IsSound has_key s → IsOfSame s t → (n : Node) (row : R) → record_of s.store n ≡ Some row → HoldIt (lists_of s) n →
         lists_of t ≡ changed_from (settled_at (order s.keys) (record_of s.store) n) 0 s.specs.items (lists_of s) → contents t.store ≡ contents s.store →
         ban_from (order s.keys) (record_of s.store) (lists_of s) (Some n) row 0 s.specs.items ≡ None → IsUniqueExcept order s (Some n) → IsUniqueExcept order t None
     unique_after_settle s t sound same n row has held settled kept none h =

@@ -21,7 +21,7 @@ use Rattle.any_index.specs.Side.{order_at}
 use Rattle.any_index.specs.Spelled.{kind_of, col_of, index_of}
 use Rattle.any_index.proofs.Alike.{HasOneKey, order_alike}
 use Rattle.any_index.proofs.Laws.{IsKeyedBut_rewritten, IsKeyed_restored, IsKeyed_alike}
-use Rattle.index_set.specs.declared.set.IndexSet.{IndexSet}
+use Rattle.index_set.specs.declared.parts.Parts.{Parts}
 use Rattle.index_set.specs.Indices.{ArePlaced, lists_in}
 use Rattle.index_set.specs.Set.{IsSound, IsKeyed, IsKeyedBut, HasKeysOf, IsRestored, lists_of, kind_at, with_record}
 use Rattle.index_set.proofs.Reading.{has_its_key, kind_here, number_here}
@@ -64,7 +64,7 @@ module _ {R : Type 0} (s : Store R) (n : Node) (r : R) where
             ap (λ o. option_and_then (λ x. cond (same_node x m) (xs (number_of m)) None) o) here
             ∙ ap (λ b. cond b (xs (number_of m)) None) (same_node-false n m (λ e. apart (sym e)))
 
-module _ {R E : Type 0} (s : IndexSet R E) (n : Node) (r : R) where
+module _ {R E : Type 0} (s : Parts R E) (n : Node) (r : R) where
   pub lists_written : lists_of (with_record s n r) ≡ lists_of s
   lists_written = ap (λ (cs : Columns). lists_in cs s.indices.items) (links_written s.store n r)
 
@@ -90,7 +90,7 @@ module _ {R E : Type 0} (s : IndexSet R E) (n : Node) (r : R) where
           IsKeyedBut_rewritten (order s.keys) (marks s.keys) s.store (store.with_record s.store n r) n x (ap (λ (cs : ℕ → Column). cs (col_of x)) (columns_written s.store n r)) (others_written s.store n r is) (ages_with_record s.store n r) (h.each j d i lt);
     }
 
-module _ {R E : Type 0} (s : IndexSet R E) (n : Node) (r w : R) (had : record_of s.store n ≡ Some r) (is : IsNodeOf s.store n) where
+module _ {R E : Type 0} (s : Parts R E) (n : Node) (r w : R) (had : record_of s.store n ≡ Some r) (is : IsNodeOf s.store n) where
   -- the record that a node had, written back, is as if none was written
   pub written_back : record_of (with_record (with_record s n w) n r).store ≡ record_of s.store
   written_back = λ i m. at m i
@@ -122,7 +122,7 @@ module _ {R E : Type 0} (s : IndexSet R E) (n : Node) (r w : R) (had : record_of
 
 -- the record of a node has the keys that it had before it was written
 module _ {R E : Type 0} {has_key : E → ℕ → Bool} (order : E → ℕ → R → R → Ordering) (total : (keys : E) (index : ℕ) → IsTrue (has_key keys index) → IsTotalOrder (order keys index))
-    (s : IndexSet R E) (sound : IsSound has_key s) (n : Node) (before : R) (is : IsNodeOf s.store n) (keys : HasKeysOf order s n before) where
+    (s : Parts R E) (sound : IsSound has_key s) (n : Node) (before : R) (is : IsNodeOf s.store n) (keys : HasKeysOf order s n before) where
   -- at each index with a key all nodes stand to one another as they did
   pub order_restored : (j : ℕ) → j < length s.specs.items → IsTrue (has_key_kind (kind_at s j)) → order_at (record_of s.store) (order s.keys j) ≡ order_at (record_of (store.with_record s.store n before)) (order s.keys j)
   order_restored j lt key =

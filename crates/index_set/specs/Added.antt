@@ -7,7 +7,7 @@ use Rattle.std.specs.declared.cmp.Ordering.{Ordering}
 use Rattle.list_model.specs.Order.{EachPair}
 use Rattle.node_store.specs.ByNode.{columns_in}
 use Rattle.node_store.specs.declared.Node.{Node}
-use Rattle.node_store.specs.Nodes.{IsDistinct}
+use Rattle.node_store.specs.Nodes.{Holds, IsDistinct}
 use Rattle.node_store.specs.Store.{IsNodeOf, age_of}
 use Rattle.container_model.specs.declared.handle.Kind.{Kind}
 use Rattle.container_model.specs.declared.handle.Spec.{Spec}
@@ -21,8 +21,7 @@ use Rattle.any_index.specs.Side.{order_at}
 use Rattle.any_index.specs.Spelled.{list_of, col_of}
 use Rattle.index_set.specs.declared.build.NoIndex.{NoIndex}
 use Rattle.index_set.specs.declared.build.NoIndex.TheVariants.{Columns, Clash, Memory}
-use Rattle.index_set.specs.declared.set.IndexSet.{IndexSet}
-use Rattle.index_set.specs.Asked.{IsFiled}
+use Rattle.index_set.specs.declared.parts.Parts.{Parts}
 use Rattle.index_set.specs.Indices.{IsPlaced}
 use Rattle.index_set.specs.Set.{store_of, keys_of, specs_of, columns_of, record_of}
 
@@ -51,10 +50,10 @@ IsCause has_column clash (Clash first second) = has_column × (clash ≡ Some (f
 IsCause has_column clash Memory = has_column
 
 -- there is a column for one index more
-abbrev pub HasColumn : {R E : Type 0} → IndexSet R E → Type 0
+abbrev pub HasColumn : {R E : Type 0} → Parts R E → Type 0
 HasColumn s = length (specs_of s) < columns_of s
 
-module _ {R E P : Type 0} (X : Ghosts E R P) (s : IndexSet R E) (spec : Spec) (given : E) (ns : List Node) where
+module _ {R E P : Type 0} (X : Ghosts E R P) (s : Parts R E) (spec : Spec) (given : E) (ns : List Node) where
   -- how two nodes stand to one another by the key of the new index
   abbrev pub new_order : Node → Node → Ordering
   new_order = order_at (record_of s) (X.order_of given (length (specs_of s)))
@@ -63,18 +62,18 @@ module _ {R E P : Type 0} (X : Ghosts E R P) (s : IndexSet R E) (spec : Spec) (g
   abbrev pub new_list : List Node
   new_list = entered_all (age_of (store_of s)) new_order spec.kind [] ns
 
-  -- the keys are those of the set and one more, and the nodes are of the set, each once
+  -- the keys are those of the set and one more, and the nodes are those of the set, each once
   pub record CanAdd : Type 0 where
-    pub filed : IsFiled X s
     pub keys : KeysMatch (X.has_key given) (specs_of s ++ spec ∷ [])
     pub orders : KeepsEach (X.order_of (keys_of s)) (X.order_of given) (specs_of s)
     pub hashes : KeepsEach (X.hash_of (keys_of s)) (X.hash_of given) (specs_of s)
     pub nodes : AllByRecursion (IsNodeOf (store_of s)) ns
     pub distinct : IsDistinct ns
+    pub all : (n : Node) → IsNodeOf (store_of s) n → Holds ns n
 
   -- this index is the next of a set that is now like this: of the number, the kind, the nodes and the keys that it is to have,
   -- in a column of its own
-  pub record IsNext (now : IndexSet R E) (made : AnyIndex) : Type 0 where
+  pub record IsNext (now : Parts R E) (made : AnyIndex) : Type 0 where
     pub placed : IsPlaced (columns_in (store_of now)) (length (specs_of now)) spec made
     pub within : col_of made < columns_of now
     pub apart : (j : ℕ) (d : AnyIndex) → j < length (specs_of now) → col_of (slice_index_or now.indices.items j d) ≢ col_of made

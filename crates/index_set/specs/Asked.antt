@@ -2,20 +2,20 @@
 use Rattle.any_index.specs.Keyed.{marks_of}
 use Rattle.std.specs.Prelude.{ℕ, ◌<◌, length, Some, None, IsTrue}
 use Rattle.node_store.specs.declared.Node.{Node}
-use Rattle.container_model.specs.State.{has_key_kind, is_hashed_kind, is_sorted_kind}
+use Rattle.container_model.specs.State.{has_key_kind, is_hashed_kind, is_sequence_kind, is_sorted_kind}
 use Rattle.key_extract.specs.declared.extract.Extract.{Ghosts}
-use Rattle.index_set.specs.declared.set.IndexSet.{IndexSet}
-use Rattle.index_set.specs.Set.{keys_of, specs_of, kind_at, IsSound, IsKeyed, IsKeyedBut, IsUniqueExcept}
+use Rattle.index_set.specs.declared.parts.Parts.{Parts}
+use Rattle.index_set.specs.Set.{keys_of, specs_of, kind_at, IsSound, IsKeyed, IsKeyedBut, IsUniqueExcept, AreHeld}
 
 module _ {R E P : Type 0} (X : Ghosts E R P) where
   -- there is an index of this number
-  pub record HasIndex (s : IndexSet R E) (k : ℕ) : Type 0 where
+  pub record HasIndex (s : Parts R E) (k : ℕ) : Type 0 where
     pub sound : IsSound X.has_key s
     pub index : k < length (specs_of s)
 
   -- nodes can be looked for by the probe: it is a key of the index, a whole one where the index is hashed, and the
   -- nodes are where their keys put them
-  pub record CanFind (s : IndexSet R E) (k : ℕ) (probe : P) : Type 0 where
+  pub record CanFind (s : Parts R E) (k : ℕ) (probe : P) : Type 0 where
     pub sound : IsSound X.has_key s
     pub index : k < length (specs_of s)
     pub kind : IsTrue (has_key_kind (kind_at s k))
@@ -24,7 +24,7 @@ module _ {R E P : Type 0} (X : Ghosts E R P) where
     pub keyed : IsKeyed X.order_of (marks_of X) s
 
   -- the same where the probe may be a leading part of a key
-  pub record CanSearch (s : IndexSet R E) (k : ℕ) (probe : P) : Type 0 where
+  pub record CanSearch (s : Parts R E) (k : ℕ) (probe : P) : Type 0 where
     pub sound : IsSound X.has_key s
     pub index : k < length (specs_of s)
     pub fits : IsTrue (X.does_fit (keys_of s) k probe)
@@ -32,13 +32,23 @@ module _ {R E P : Type 0} (X : Ghosts E R P) where
 
 module _ {R E P : Type 0} (X : Ghosts E R P) where
   -- each index has its nodes where their keys put them, and a unique one has each key once
-  pub record IsFiled (s : IndexSet R E) : Type 0 where
+  pub record IsFiled (s : Parts R E) : Type 0 where
     pub sound : IsSound X.has_key s
     pub keyed : IsKeyed X.order_of (marks_of X) s
     pub unique : IsUniqueExcept X.order_of s None
 
   -- but for this node, whose record may have changed
-  pub record IsFiledBut (s : IndexSet R E) (n : Node) : Type 0 where
+  pub record IsFiledBut (s : Parts R E) (n : Node) : Type 0 where
     pub sound : IsSound X.has_key s
     pub keyed : IsKeyedBut X.order_of (marks_of X) s n
     pub unique : IsUniqueExcept X.order_of s (Some n)
+
+  -- what holds of every set: it is filed, and each index has each node
+  pub record IsKept (s : Parts R E) : Type 0 where
+    pub filed : IsFiled s
+    pub held : AreHeld s
+
+-- there is a sequence of this number
+pub record IsSequence {R E : Type 0} (s : Parts R E) (k : ℕ) : Type 0 where
+  pub index : k < length (specs_of s)
+  pub kind : IsTrue (is_sequence_kind (kind_at s k))

@@ -10,8 +10,7 @@ use Rattle.key_extract.specs.declared.extract.Extract.{Ghosts}
 use Rattle.any_index.specs.declared.index.AnyIndex.{AnyIndex}
 use Rattle.any_index.specs.Keyed.{IsKeyed, IsSameKey}
 use Rattle.any_index.specs.Spelled.{IsSound, HasRoom, list_of, kind_of, col_of, index_of}
-use Rattle.index_set.specs.declared.set.IndexSet.{IndexSet}
-use Rattle.index_set.specs.Asked.{IsFiled}
+use Rattle.index_set.specs.declared.parts.Parts.{Parts}
 use Rattle.index_set.specs.Set.{keys_of, specs_of}
 
 -- an index goes by the keys of this number now, if it has a key, and is else as it was
@@ -34,10 +33,9 @@ module _ {R : Type 0} (s : Store R) where
   abbrev pub AreRenumbered : (old new : List AnyIndex) → Type 0
   AreRenumbered old new = (j : ℕ) (d : AnyIndex) → j < length old → IsRenumbered s j (slice_index_or old j d) (slice_index_or new j d)
 
-module _ {R E P : Type 0} (X : Ghosts E R P) (s : IndexSet R E) (gone : ℕ) (given : E) where
+module _ {R E P : Type 0} (X : Ghosts E R P) (s : Parts R E) (gone : ℕ) (given : E) where
   -- it is one of several indices, and the keys are those of the others
   pub record CanDrop : Type 0 where
-    pub filed : IsFiled X s
     pub index : gone < length (specs_of s)
     pub several : 1 < length (specs_of s)
     pub keys : KeysMatch (X.has_key given) (remove (specs_of s) gone)

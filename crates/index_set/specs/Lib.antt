@@ -9,3 +9,7 @@ pub mod Asked
 pub mod Added
 pub mod Refilled
 pub mod Dropped
+pub mod At
+pub mod ByRow
+pub mod Writes
+pub mod Codes

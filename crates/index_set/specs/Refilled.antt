@@ -8,16 +8,15 @@ use Rattle.node_store.specs.Store.{IsNodeOf, age_of}
 use Rattle.container_model.specs.declared.handle.Kind.TheVariants.{Sequenced}
 use Rattle.key_extract.specs.declared.extract.Extract.{Ghosts}
 use Rattle.any_index.specs.Side.{order_at}
-use Rattle.index_set.specs.declared.set.IndexSet.{IndexSet}
+use Rattle.index_set.specs.declared.parts.Parts.{Parts}
 use Rattle.index_set.specs.Added as added
-use Rattle.index_set.specs.Asked.{IsFiled}
 use Rattle.index_set.specs.Set.{store_of, keys_of, specs_of, record_of, kind_at}
 
 -- whether an index is unique
-abbrev pub is_unique_at : {R E : Type 0} → IndexSet R E → ℕ → Bool
+abbrev pub is_unique_at : {R E : Type 0} → Parts R E → ℕ → Bool
 is_unique_at s index = (slice_index_or (specs_of s) index (record { kind = Sequenced; unique = false })).unique
 
-module _ {R E P : Type 0} (X : Ghosts E R P) (s : IndexSet R E) (index : ℕ) (ns : List Node) where
+module _ {R E P : Type 0} (X : Ghosts E R P) (s : Parts R E) (index : ℕ) (ns : List Node) where
   -- how two nodes stand to one another by the key of the index
   abbrev pub order_here : Node → Node → Ordering
   order_here = order_at (record_of s) (X.order_of (keys_of s) index)
@@ -32,7 +31,6 @@ module _ {R E P : Type 0} (X : Ghosts E R P) (s : IndexSet R E) (index : ℕ) (n
 
   -- there is such an index, and the nodes are of the set, each once
   pub record CanRefill : Type 0 where
-    pub filed : IsFiled X s
     pub within : index < length (specs_of s)
     pub nodes : AllByRecursion (IsNodeOf (store_of s)) ns
     pub distinct : IsDistinct ns

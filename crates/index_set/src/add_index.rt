@@ -2,10 +2,11 @@
 ghost use Rattle.any_index.specs.Keyed.{marks_of};
 ghost use Rattle.std.specs.Prelude.{◌≡◌, ◌<◌, ◌++◌, ◌∷◌, [], None, IfOk, IfErr, OnOk, OnErr, vec_len, vec_capacity};
 ghost use Rattle.index_set.specs.Added.{CanAdd, HasColumn, IsNext, IsCause, clash, new_order, new_list};
+ghost use Rattle.index_set.specs.Asked.{IsFiled};
 ghost use Rattle.index_set.specs.Set.{store_of, keys_of, specs_of, columns_of, contents, lists_of, HasRoom, IsSound, IsKeyed, IsUniqueExcept, IsOfSame};
 
 use crate::build::{NoIndex, build, free_column};
-use crate::set::IndexSet;
+use crate::parts::Parts;
 use any_index::AnyIndex;
 use container_model::Spec;
 use key_extract::Extract;
@@ -21,7 +22,7 @@ pub struct NotAdded<E> {
     pub keys: E,
 }
 
-impl<R, E: Extract<R>> IndexSet<R, E> {
+impl<R, E: Extract<R>> Parts<R, E> {
     // Makes room for one index more.
     fn reserve_index(&mut self) -> Result<(), AllocError>
         requires { IsSound E.has_key self.old }
@@ -41,7 +42,8 @@ impl<R, E: Extract<R>> IndexSet<R, E> {
 
     // The index that is to be the next, with these nodes, outside the set, in which there is room for it.
     fn made_index(&mut self, spec: Spec, keys: &E, nodes: &[Node]) -> Result<AnyIndex, NoIndex>
-        requires { CanAdd E.Extract self.old spec keys.now nodes.now }
+        requires filed { IsFiled E.Extract self.old }
+        requires can { CanAdd E.Extract self.old spec keys.now nodes.now }
         ensures sound { IsSound E.has_key self.new }
         ensures same { IsOfSame self.old self.new }
         ensures lists { lists_of self.new ≡ lists_of self.old }
@@ -80,14 +82,20 @@ impl<R, E: Extract<R>> IndexSet<R, E> {
     }
 }
 
-impl<R, E: Extract<R> + Drop> IndexSet<R, E> {
+impl<R, E: Extract<R> + Drop> Parts<R, E> {
     /// Adds an index, the last, with these nodes, put in one after the other: so they stand in their order in a sequence,
     /// and so do equal ones in the order of a key. From now on the set goes by the given keys, which order and hash
     /// records as its own did at each index that is there. The index goes through the least column that none uses;
     /// where there is none, where it is unique and two of the nodes have one key, or where memory is refused, the keys are
     /// handed back and all is as before. O(n log n) in a tree, O(n) in a sequence and expected O(n) in buckets, for n nodes.
-    pub fn add_index(&mut self, spec: Spec, keys: E, nodes: &[Node]) -> Result<(), NotAdded<E>>
-        requires { CanAdd E.Extract self.old spec keys nodes.now }
+    pub(crate) fn add_index(
+        &mut self,
+        spec: Spec,
+        keys: E,
+        nodes: &[Node],
+    ) -> Result<(), NotAdded<E>>
+        requires filed { IsFiled E.Extract self.old }
+        requires can { CanAdd E.Extract self.old spec keys nodes.now }
         ensures sound { IsSound E.has_key self.new }
         ensures keyed { IsKeyed E.order_of (marks_of E.Extract) self.new }
         ensures unique { IsUniqueExcept E.order_of self.new None }
@@ -120,8 +128,14 @@ impl<R, E: Extract<R> + Drop> IndexSet<R, E> {
 
     /// Why such an index may not be added, as `add_index` tells it; nothing changes. It takes the memory and the time that
     /// adding it takes.
-    pub fn check_index(&mut self, spec: Spec, keys: &E, nodes: &[Node]) -> Result<(), NoIndex>
-        requires { CanAdd E.Extract self.old spec keys.now nodes.now }
+    pub(crate) fn check_index(
+        &mut self,
+        spec: Spec,
+        keys: &E,
+        nodes: &[Node],
+    ) -> Result<(), NoIndex>
+        requires filed { IsFiled E.Extract self.old }
+        requires can { CanAdd E.Extract self.old spec keys.now nodes.now }
         ensures sound { IsSound E.has_key self.new }
         ensures keyed { IsKeyed E.order_of (marks_of E.Extract) self.new }
         ensures unique { IsUniqueExcept E.order_of self.new None }

@@ -26,14 +26,19 @@ fn differs_at<R, E: Extract<R>>(keys: &E, kind: Kind, index: usize, before: &R, 
 
 impl Changed {
     /// All indices. O(1).
-    pub fn all() -> Changed
+    pub(crate) fn all() -> Changed
         ensures { (index : ℕ) → may_differ result index ≡ true }
     {
         Changed { at: [true; 8] }
     }
 
     /// The indices at which two records have different keys. A comparison for each index that has a key.
-    pub fn between<R, E: Extract<R>>(keys: &E, specs: &[Spec], before: &R, after: &R) -> Changed
+    pub(crate) fn between<R, E: Extract<R>>(
+        keys: &E,
+        specs: &[Spec],
+        before: &R,
+        after: &R,
+    ) -> Changed
         requires few { length specs.now ≤ 8 }
         requires keys { KeysMatch (E.has_key keys.now) specs.now }
         ensures { (index : ℕ) → may_differ result index ≡

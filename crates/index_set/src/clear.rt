@@ -7,7 +7,7 @@ ghost use Rattle.node_store.specs.Age.{nodes_of};
 ghost use Rattle.index_set.specs.Set.{store_of, specs_of, lists_of, IsSound, IsKeyed, IsUniqueExcept, IsOfSame};
 
 use crate::every::empty_each;
-use crate::set::IndexSet;
+use crate::parts::Parts;
 use key_extract::Extract;
 use node_store::NodeStore;
 
@@ -24,11 +24,11 @@ fn remove_all<R: Drop>(store: &mut NodeStore<R>)
     }
 }
 
-impl<R: Drop, E: Extract<R>> IndexSet<R, E> {
+impl<R: Drop, E: Extract<R>> Parts<R, E> {
     /// Takes every record out of each index, and removes it. The indices, their keys and the count of adds stay, so a new
     /// node has an age that none had before. It takes no memory, and leaves no room that was reserved.
     /// O(records + indices).
-    pub fn clear(&mut self)
+    pub(crate) fn clear(&mut self)
         requires { IsSound E.has_key self.old }
         ensures sound { IsSound E.has_key self.new }
         ensures same { IsOfSame self.old self.new }

@@ -2,9 +2,10 @@
 ghost use Rattle.any_index.specs.Keyed.{marks_of};
 ghost use Rattle.std.specs.Prelude.{◌≡◌, None, length, remove};
 ghost use Rattle.index_set.specs.Dropped.{CanDrop, AreSound, AreRenumbered};
+ghost use Rattle.index_set.specs.Asked.{IsFiled};
 ghost use Rattle.index_set.specs.Set.{keys_of, specs_of, columns_of, contents, lists_of, HasRoom, IsSound, IsKeyed, IsUniqueExcept};
 
-use crate::set::IndexSet;
+use crate::parts::Parts;
 use any_index::AnyIndex;
 use key_extract::Extract;
 use node_store::NodeStore;
@@ -20,12 +21,13 @@ fn renumber_each<R>(store: &NodeStore<R>, indices: &mut Vec<AnyIndex>)
     }
 }
 
-impl<R, E: Extract<R> + Drop> IndexSet<R, E> {
+impl<R, E: Extract<R> + Drop> Parts<R, E> {
     /// Drops one of several indices; those after it move up by one. From now on the set goes by the given keys, which at
     /// each index that stays order and hash records as its own did, at its new number. The index's column is free
     /// then. It takes no memory. O(nodes) for one with places or buckets, and O(indices) otherwise.
-    pub fn drop_index(&mut self, index: usize, keys: E)
-        requires { CanDrop E.Extract self.old index keys }
+    pub(crate) fn drop_index(&mut self, index: usize, keys: E)
+        requires filed { IsFiled E.Extract self.old }
+        requires can { CanDrop E.Extract self.old index keys }
         ensures sound { IsSound E.has_key self.new }
         ensures keyed { IsKeyed E.order_of (marks_of E.Extract) self.new }
         ensures unique { IsUniqueExcept E.order_of self.new None }

@@ -7,11 +7,11 @@ ghost use Rattle.list_model.specs.Walk.{relocated};
 ghost use Rattle.node_store.specs.Nodes.{Holds};
 ghost use Rattle.node_store.specs.ByNode.{same_node};
 
-use crate::set::IndexSet;
+use crate::parts::Parts;
 use key_extract::Extract;
 use node_store::Node;
 
-impl<R, E: Extract<R>> IndexSet<R, E> {
+impl<R, E: Extract<R>> Parts<R, E> {
     ghost use Rattle.index_set.specs.Asked.{HasIndex, CanFind};
     ghost use Rattle.index_set.specs.Lists.{IsSunk, is_match};
     ghost use Rattle.index_set.specs.Set.{contents, lists_of, list_of, kind_at, probe_side, HasRoom, IsSound, IsKeyed, IsOfSame};
@@ -19,7 +19,7 @@ impl<R, E: Extract<R>> IndexSet<R, E> {
     /// Moves `n` before the node at the place of a sequence, or last. The place counts with `n` still in. It takes no
     /// memory. O(the distance of the place from the nearer end), in one with places O(the nodes between both
     /// places). Others have no such call.
-    pub fn move_to(&mut self, index: usize, place: u64, n: Node)
+    pub(crate) fn move_to(&mut self, index: usize, place: u64, n: Node)
         requires at { HasIndex E.Extract self.old index }
         requires kind { IsTrue (is_sequence_kind (kind_at self.old index)) }
         requires held { Holds (list_of self.old index) n }
@@ -37,7 +37,7 @@ impl<R, E: Extract<R>> IndexSet<R, E> {
     }
 
     /// Puts the nodes of a sequence into this order. It takes no memory. O(nodes). Others have no such call.
-    pub fn rearrange(&mut self, index: usize, order: &[Node])
+    pub(crate) fn rearrange(&mut self, index: usize, order: &[Node])
         requires at { HasIndex E.Extract self.old index }
         requires kind { IsTrue (is_sequence_kind (kind_at self.old index)) }
         requires members { IsPermutation (list_of self.old index) order.now }
@@ -53,7 +53,7 @@ impl<R, E: Extract<R>> IndexSet<R, E> {
     }
 
     /// Turns the order of a sequence round. It takes no memory. O(nodes). Others have no such call.
-    pub fn reverse(&mut self, index: usize)
+    pub(crate) fn reverse(&mut self, index: usize)
         requires at { HasIndex E.Extract self.old index }
         requires kind { IsTrue (is_sequence_kind (kind_at self.old index)) }
         ensures sound { IsSound E.has_key self.new }
@@ -72,7 +72,7 @@ impl<R, E: Extract<R>> IndexSet<R, E> {
     /// their order. It reads the records of the key alone, and takes no memory. A look-up in index `index`, a step for each
     /// node that has the key, and O(the nodes of the row from the first of them on). A row is a sequence with places, and
     /// others have no such call.
-    pub fn sink(&mut self, row: usize, index: usize, probe: &E::Probe)
+    pub(crate) fn sink(&mut self, row: usize, index: usize, probe: &E::Probe)
         requires at { HasIndex E.Extract self.old row }
         requires kind { kind_at self.old row ≡ Random }
         requires key { CanFind E.Extract self.old index probe.now }

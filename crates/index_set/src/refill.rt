@@ -3,20 +3,22 @@ ghost use Rattle.any_index.specs.Keyed.{marks_of};
 ghost use Rattle.std.specs.Prelude.{◌≡◌, None, IfOk, IfErr, OnOk, slice_set};
 ghost use Rattle.index_set.specs.Added.{IsCause};
 ghost use Rattle.index_set.specs.Refilled.{CanRefill, clash_here, new_list};
+ghost use Rattle.index_set.specs.Asked.{IsFiled};
 ghost use Rattle.index_set.specs.Set.{contents, lists_of, IsSound, IsKeyed, IsUniqueExcept, IsOfSame};
 
 use crate::build::{NoIndex, build};
-use crate::set::IndexSet;
+use crate::parts::Parts;
 use key_extract::Extract;
 use node_store::Node;
 
-impl<R: Drop, E: Extract<R> + Drop> IndexSet<R, E> {
+impl<R: Drop, E: Extract<R> + Drop> Parts<R, E> {
     /// The set with these nodes in an index in place of those that it has, put in one after the other: so they stand in their
     /// order in a sequence, and so do equal ones in the order of a key. Where the index is unique and two of the nodes have
     /// one key, or where memory is refused, the set is dropped. O(n log n) in a tree, O(n) in a sequence and expected O(n)
     /// in buckets, for n nodes.
-    pub fn refilled(mut self, index: usize, nodes: &[Node]) -> Result<Self, NoIndex>
-        requires { CanRefill E.Extract self index nodes.now }
+    pub(crate) fn refilled(mut self, index: usize, nodes: &[Node]) -> Result<Self, NoIndex>
+        requires filed { IsFiled E.Extract self }
+        requires can { CanRefill E.Extract self index nodes.now }
         ensures sound { IfOk result (λ made. IsSound E.has_key made) }
         ensures keyed { IfOk result (λ made. IsKeyed E.order_of (marks_of E.Extract) made) }
         ensures unique { IfOk result (λ made. IsUniqueExcept E.order_of made None) }

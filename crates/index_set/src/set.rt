@@ -1,43 +1,46 @@
-//! The set, its records, and changes of all indices.
-ghost use Rattle.any_index.specs.Keyed.{marks_of};
+//! The set, its reads, and changes of its records.
 ghost use Rattle.std.specs.Prelude.{◌≡◌, ◌+◌, ◌≤◌, ◌<◌, ◌^◌, ℕ, [], map, length, Some, None, IfOk, IfErr, IfSome, OnOk, OnErr};
-ghost use Rattle.std.specs.Borrow.{sem};
-ghost use Rattle.list_model.specs.Walk.{without};
-ghost use Rattle.node_store.specs.Store.{IsNodeOf, aged, age_of, len_of, width_of, empty_store};
-ghost use Rattle.node_store.specs.Age.{last_below};
-ghost use Rattle.node_store.specs.ByNode.{AddsNode, RemovesNode, same_node};
+ghost use Rattle.node_store.specs.Store.{IsNodeOf, width_of, empty_store};
 ghost use Rattle.container_model.specs.State.{KeysMatch};
-ghost use Rattle.any_index.specs.Side.{AreNodesOf};
-ghost use Rattle.index_set.specs.Changed.{may_differ, differs};
-ghost use Rattle.index_set.specs.Each.{changed_from};
-ghost use Rattle.index_set.specs.Indices.{LackIt, HoldIt};
-ghost use Rattle.index_set.specs.Lists.{entered_at, settled_at, ban_from};
-ghost use Rattle.index_set.specs.Places.{place_from, IsPlaceAt};
+ghost use Rattle.index_set.specs.Lists.{ban_from};
+ghost use Rattle.index_set.specs.Places.{place_from};
 
-use crate::bans::{first_ban, free_place};
-use crate::changed::Changed;
-use crate::every::{empty_indices, enter_each, leave_each, reserve_each, settle_each};
+use crate::at::IndexRef;
+use crate::nodes::Nodes;
+use crate::parts::Parts;
 use crate::places::FreePlace;
-use any_index::AnyIndex;
 use container_model::Spec;
 use key_extract::Extract;
-use node_store::{NoRoom, Node, NodeStore};
+use node_store::{NoRoom, Node};
 use std::alloc::{AllocError, Global};
+use std::marker::Model;
+use std::mem::replace;
 
-/// Records under one to eight indices, each of which may have any of its nodes. Each goes through a column of the store of
-/// its own, one of the first `columns`.
+/// Records under one to eight indices, each of which has each node where the record's key puts it, and a unique one each key
+/// once. Each goes through a column of the store of its own, one of the first `columns`.
 #[derive(Drop)]
-pub struct IndexSet<R, E> {
-    pub(crate) alloc: Global,
-    pub(crate) store: NodeStore<R>,
-    pub(crate) columns: usize,
-    pub(crate) keys: E,
-    pub(crate) specs: Vec<Spec>,
-    pub(crate) indices: Vec<AnyIndex>,
+pub struct IndexSet<R, E: Extract<R>> {
+    pub(crate) parts: Parts<R, E>,
+}
+
+impl<R, E: Extract<R>> Model for IndexSet<R, E> {
+    ghost use Rattle.index_set.specs.declared.parts.Parts.{Parts};
+    ghost use Rattle.index_set.specs.Codes.{parts_code};
+
+    ghost Value = { Parts R E };
+
+    ghost coded = { parts_code R.code E.code };
+
+    ghost use Rattle.index_set.specs.Asked.{IsKept};
+
+    ghost view = { λ s. s.parts };
+
+    ghost invariant = { λ s. IsKept E.Extract s.parts };
 }
 
 impl<R: Drop, E: Extract<R> + Drop> IndexSet<R, E> {
-    ghost use Rattle.index_set.specs.Set.{store_of, keys_of, specs_of, columns_of, lists_of, IsSound, IsKeyed};
+    ghost use Rattle.index_set.specs.Asked.{IsKept};
+    ghost use Rattle.index_set.specs.Set.{store_of, keys_of, specs_of, columns_of, lists_of};
 
     /// A set without records, in which there is room for `columns` indices. Index number j of `specs` is asked for by key
     /// number j. O(indices).
@@ -51,8 +54,7 @@ impl<R: Drop, E: Extract<R> + Drop> IndexSet<R, E> {
         requires few { length specs.items ≤ columns }
         requires most { columns ≤ 8 }
         requires keys { KeysMatch (E.has_key keys) specs.items }
-        ensures sound { IfOk result (λ made. IsSound E.has_key made) }
-        ensures keyed { IfOk result (λ made. IsKeyed E.order_of (marks_of E.Extract) made) }
+        ensures kept { IfOk result (λ made. IsKept E.Extract made) }
         ensures lists { IfOk result (λ made. lists_of made ≡ map (λ _. []) specs.items) }
         ensures empty { IfOk result (λ made.
             store_of made ≡ empty_store (width_of (store_of made))) }
@@ -60,277 +62,72 @@ impl<R: Drop, E: Extract<R> + Drop> IndexSet<R, E> {
         ensures specs { IfOk result (λ made. specs_of made ≡ specs.items) }
         ensures columns { IfOk result (λ made. columns_of made ≡ columns) }
     {
-        let indices = empty_indices(alloc, &specs)?;
-        Ok(IndexSet {
-            alloc,
-            store: NodeStore::new(alloc, columns),
-            columns,
-            keys,
-            specs,
-            indices,
-        })
+        let parts = Parts::new(alloc, specs, keys, columns)?;
+        Ok(IndexSet { parts })
     }
 }
 
-impl<R: Drop, E: Extract<R>> IndexSet<R, E> {
-    ghost use Rattle.index_set.specs.Set.{store_of, record_of, lists_of, HasRoom, IsSound, IsKeyed, IsOfSame};
+impl<R, E: Extract<R>> Nodes<R, E> for IndexSet<R, E> {
+    ghost parts = { λ s. s };
 
-    /// Adds a record, which is in no index yet. Where there is no memory for it, it is handed back. O(1).
-    pub fn add(&mut self, value: R) -> Result<Node, NoRoom<R>>
-        requires sound { IsSound E.has_key self.old }
-        requires count { (store_of self.old).added + 1 < 2 ^ 64 }
-        ensures sound { IsSound E.has_key self.new }
-        ensures same { IsOfSame self.old self.new }
-        ensures lists { lists_of self.new ≡ lists_of self.old }
-        ensures age { IfOk result (λ n. age_of (store_of self.new) n ≡ (store_of self.old).added) }
-        ensures count { OnOk result ((store_of self.new).added ≡ (store_of self.old).added + 1) }
-        ensures added { IfOk result (λ n. AddsNode (store_of self.old)
-            (store_of self.new) n value) }
-        ensures len { OnOk result (len_of (store_of self.new) ≡ len_of (store_of self.old) + 1) }
-        ensures loose { IfOk result (λ n. LackIt (lists_of self.new) n) }
-        ensures keyed { IsKeyed E.order_of (marks_of E.Extract) self.old →
-            IsKeyed E.order_of (marks_of E.Extract) self.new }
-        ensures room { HasRoom self.old → HasRoom self.new }
-        ensures unchanged { OnErr result (self.new ≡ self.old) }
-        ensures returned { IfErr result (λ e. e.value ≡ value) }
-    {
-        self.store.add(value)
+    fn len(&self) -> usize {
+        self.parts.store.len()
     }
 
-    /// Removes a node that is in no index, and returns its record. O(1).
-    pub fn remove(&mut self, n: Node) -> R
-        requires sound { IsSound E.has_key self.old }
-        requires node { IsNodeOf (store_of self.old) n }
-        requires loose { LackIt (lists_of self.old) n }
-        ensures sound { IsSound E.has_key self.new }
-        ensures same { IsOfSame self.old self.new }
-        ensures lists { lists_of self.new ≡ lists_of self.old }
-        ensures value { record_of self.old n ≡ Some result }
-        ensures removed { RemovesNode (store_of self.old) (store_of self.new) n }
-        ensures count { (store_of self.new).added ≡ (store_of self.old).added }
-        ensures len { len_of (store_of self.new) + 1 ≡ len_of (store_of self.old) }
-        ensures keyed { IsKeyed E.order_of (marks_of E.Extract) self.old →
-            IsKeyed E.order_of (marks_of E.Extract) self.new }
-        ensures room { HasRoom self.old → HasRoom self.new }
-    {
-        self.store.remove(n)
+    fn newest(&self) -> Option<Node> {
+        self.parts.store.newest()
+    }
+
+    fn older(&self, n: Node) -> Option<Node> {
+        self.parts.store.older(n)
+    }
+
+    fn get(&self, n: Node) -> &R {
+        self.parts.store.get(n)
+    }
+
+    fn specs(&self) -> &[Spec] {
+        self.parts.specs.as_slice()
+    }
+
+    fn at(&self, index: usize) -> IndexRef<'_, R, E> {
+        IndexRef {
+            parts: &self.parts,
+            index,
+        }
     }
 }
 
 impl<R, E: Extract<R>> IndexSet<R, E> {
-    ghost use Rattle.index_set.specs.Lends.{lends_record};
-    ghost use Rattle.index_set.specs.Set.{store_of, keys_of, specs_of, columns_of, contents, record_of, lists_of, list_of, HasRoom, IsSound, IsKeyed, IsKeyedBut, IsKeyedExcept, IsUniqueExcept, HasKeysOf, IsRestored, IsKeyedBeside, IsFreeBeside, IsOfSame, with_record};
+    ghost use Rattle.index_set.specs.Asked.{IsKept};
+    ghost use Rattle.index_set.specs.Set.{store_of, keys_of, specs_of, columns_of, record_of, lists_of};
+    ghost use Rattle.index_set.specs.Writes.{IsRewritten};
 
-    /// How many records there are, in indices or not. O(1).
-    pub fn len(&self) -> usize
-        ensures { result ≡ len_of (store_of self.now) }
-    {
-        self.store.len()
-    }
-
-    /// How many records were added so far, whether or not they were removed since. O(1).
+    /// How many records were put in so far, whether or not they were taken out since. O(1).
     pub fn added(&self) -> u64
         ensures { result ≡ (store_of self.now).added }
     {
-        self.store.added()
-    }
-
-    /// What each index is to be, in the order of their numbers. O(1).
-    pub fn specs(&self) -> &[Spec]
-        ensures { result.now ≡ specs_of self.now }
-    {
-        self.specs.as_slice()
+        self.parts.store.added()
     }
 
     /// How many indices there may be. O(1).
     pub fn columns(&self) -> usize
         ensures { result ≡ columns_of self.now }
     {
-        self.columns
+        self.parts.columns
     }
 
     /// The keys of the indices. O(1).
     pub fn keys(&self) -> &E
         ensures { result.now ≡ keys_of self.now }
     {
-        &self.keys
-    }
-
-    /// The node that was added last, of those that are there. O(1).
-    pub fn newest(&self) -> Option<Node>
-        ensures { result ≡ last_below (aged (store_of self.now)) (store_of self.now).added }
-    {
-        self.store.newest()
-    }
-
-    /// The node that was added last before `n`, of those that are there. O(1).
-    pub fn older(&self, n: Node) -> Option<Node>
-        requires { IsNodeOf (store_of self.now) n }
-        ensures { result ≡ last_below (aged (store_of self.now)) (age_of (store_of self.now) n) }
-    {
-        self.store.older(n)
-    }
-
-    /// The node's record. O(1).
-    pub fn get(&self, n: Node) -> &R
-        requires { IsNodeOf (store_of self.now) n }
-        ensures { record_of self.now n ≡ Some result.now }
-    {
-        self.store.get(n)
-    }
-
-    /// The node's record for writing. Each index stays as it is, so `settle` has to follow where a key may have changed.
-    /// O(1).
-    pub fn get_mut(&mut self, n: Node) -> &mut R
-        requires { IsNodeOf (store_of self.old) n }
-        ensures* writes_back { sem 𝓛 (lends_record R.row E.row self.entry n result) }
-        ensures value { record_of self.old n ≡ Some result.now }
-    {
-        self.store.get_mut(n)
-    }
-
-    /// Makes room for one more node in each index. Where memory is refused, the lists are as before. O(indices) on
-    /// average over many insertions.
-    pub fn reserve_one(&mut self) -> Result<(), AllocError>
-        requires { IsSound E.has_key self.old }
-        ensures sound { IsSound E.has_key self.new }
-        ensures same { IsOfSame self.old self.new }
-        ensures lists { lists_of self.new ≡ lists_of self.old }
-        ensures contents { contents self.new ≡ contents self.old }
-        ensures room { OnOk result (HasRoom self.new) }
-        ensures full { OnErr result (¬ HasRoom self.old) }
-        ensures keyed { IsKeyed E.order_of (marks_of E.Extract) self.old →
-            IsKeyed E.order_of (marks_of E.Extract) self.new }
-    {
-        reserve_each(&mut self.store, &self.specs, &mut self.indices)
-    }
-
-    /// Puts a node that is in no index into each, in room that was reserved: by its key, or in a sequence last. With
-    /// `at` an index and a place in it: in that sequence before the node at the place. An index in which the place of its
-    /// record is `known` is not searched. O(log n) for each index.
-    pub fn enter(&mut self, n: Node, at: Option<(usize, u64)>, known: Option<FreePlace>)
-        requires sound { IsSound E.has_key self.old }
-        requires node { IsNodeOf (store_of self.old) n }
-        requires loose { LackIt (lists_of self.old) n }
-        requires room { HasRoom self.old }
-        requires place { (j p : ℕ) → at ≡ Some (j, p) → p ≤ length (list_of self.old j) }
-        requires known { IfSome known (IsPlaceAt (E.order_of (keys_of self.old))
-            (record_of self.old) (lists_of self.old) n) }
-        requires keyed { IsKeyed E.order_of (marks_of E.Extract) self.old }
-        ensures sound { IsSound E.has_key self.new }
-        ensures same { IsOfSame self.old self.new }
-        ensures lists { lists_of self.new ≡ changed_from
-            (entered_at (E.order_of (keys_of self.old)) (record_of self.old)
-            (age_of (store_of self.old)) at n) 0
-            (specs_of self.old) (lists_of self.old) }
-        ensures keyed { IsKeyed E.order_of (marks_of E.Extract) self.new }
-        ensures contents { contents self.new ≡ contents self.old }
-    {
-        enter_each(
-            &mut self.store,
-            &self.keys,
-            &self.specs,
-            &mut self.indices,
-            n,
-            at,
-            known,
-        );
-    }
-
-    /// Takes a node out of each index. It reads no record, so the node's may have changed. It takes no memory, and
-    /// leaves room for one node. O(log n) for each index, but O(the nodes behind it) in one with places.
-    pub fn leave(&mut self, n: Node)
-        requires sound { IsSound E.has_key self.old }
-        requires held { HoldIt (lists_of self.old) n }
-        ensures sound { IsSound E.has_key self.new }
-        ensures same { IsOfSame self.old self.new }
-        ensures lists { lists_of self.new ≡ map (without (same_node n)) (lists_of self.old) }
-        ensures room { HasRoom self.new }
-        ensures keyed { IsKeyedBut E.order_of (marks_of E.Extract) self.old n →
-            IsKeyed E.order_of (marks_of E.Extract) self.new }
-        ensures contents { contents self.new ≡ contents self.old }
-    {
-        leave_each(&mut self.store, &self.specs, &mut self.indices, n);
-    }
-
-    /// Puts a node, whose record may have changed, where its keys put it in each index. Sequences stay as they are. It
-    /// takes no memory. O(log n) for each index.
-    pub fn settle(&mut self, n: Node)
-        requires sound { IsSound E.has_key self.old }
-        requires held { HoldIt (lists_of self.old) n }
-        requires keyed { IsKeyedBut E.order_of (marks_of E.Extract) self.old n }
-        ensures sound { IsSound E.has_key self.new }
-        ensures same { IsOfSame self.old self.new }
-        ensures lists { lists_of self.new ≡ changed_from
-            (settled_at (E.order_of (keys_of self.old)) (record_of self.old) n) 0
-            (specs_of self.old) (lists_of self.old) }
-        ensures keyed { IsKeyed E.order_of (marks_of E.Extract) self.new }
-        ensures contents { contents self.new ≡ contents self.old }
-    {
-        self.settle_changed(n, Changed::all());
-    }
-
-    /// As `settle`, where the record has kept its key at all indices but the changed ones, which alone are settled. It takes
-    /// no memory. O(log n) for each of these.
-    pub fn settle_changed(&mut self, n: Node, changed: Changed)
-        requires sound { IsSound E.has_key self.old }
-        requires held { HoldIt (lists_of self.old) n }
-        requires keyed { IsKeyedBut E.order_of (marks_of E.Extract) self.old n }
-        requires beside { IsKeyedBeside E.order_of (marks_of E.Extract) self.old changed }
-        ensures sound { IsSound E.has_key self.new }
-        ensures same { IsOfSame self.old self.new }
-        ensures lists { lists_of self.new ≡ changed_from
-            (settled_at (E.order_of (keys_of self.old)) (record_of self.old) n) 0
-            (specs_of self.old) (lists_of self.old) }
-        ensures keyed { IsKeyed E.order_of (marks_of E.Extract) self.new }
-        ensures contents { contents self.new ≡ contents self.old }
-    {
-        settle_each(
-            &mut self.store,
-            &self.keys,
-            &self.specs,
-            &mut self.indices,
-            n,
-            changed,
-        );
-    }
-
-    /// Called in place of `settle` where the record of `n`, after writes through `get_mut`, has the keys again that it had
-    /// before them: as writing a record moves no node, each index has all its nodes where their keys put them, and a unique
-    /// one each key once, as before. It takes no memory. O(1).
-    pub fn put_back(&mut self, n: Node)
-        requires sound { IsSound E.has_key self.old }
-        requires node { IsNodeOf (store_of self.old) n }
-        requires restored { IsRestored E.order_of (marks_of E.Extract) self.old n }
-        ensures unchanged { self.new ≡ self.old }
-        ensures keyed { IsKeyed E.order_of (marks_of E.Extract) self.new }
-        ensures unique { (before : R) → HasKeysOf E.order_of self.old n before →
-            IsUniqueExcept E.order_of (with_record self.old n before) None →
-            IsUniqueExcept E.order_of self.new None }
-    {
-        // Each node stands where it stood.
-    }
-
-    /// The first unique index in which a node other than the excepted one has the record's key, with that node. The
-    /// excepted node's record may have changed. It takes no memory. O(log n) for each index.
-    pub fn bans(&self, r: &R, except: Option<Node>) -> Option<(usize, Node)>
-        requires sound { IsSound E.has_key self.now }
-        requires except { AreNodesOf (store_of self.now) except }
-        requires keyed { IsKeyedExcept E.order_of (marks_of E.Extract) self.now except }
-        requires unique { IsUniqueExcept E.order_of self.now except }
-        ensures { result ≡ ban_from (E.order_of (keys_of self.now)) (record_of self.now)
-            (lists_of self.now) except r.now 0 (specs_of self.now) }
-    {
-        self.bans_changed(r, except, Changed::all())
+        &self.parts.keys
     }
 
     /// The first unique index in which a node has the record's key, with that node, as an `Err`. Where none has it, where the
-    /// record goes in the first of the unique trees in which a node comes before it, for `enter`; `None` where there is no such
+    /// record goes in the first of the unique trees in which a node comes before it, for `put`; `None` where there is no such
     /// tree. It takes no memory. One search of each unique index: O(log n) for each tree, expected O(1) for buckets.
     pub fn free_place(&self, r: &R) -> Result<Option<FreePlace>, (usize, Node)>
-        requires sound { IsSound E.has_key self.now }
-        requires keyed { IsKeyedExcept E.order_of (marks_of E.Extract) self.now None }
-        requires unique { IsUniqueExcept E.order_of self.now None }
         ensures free { OnOk result (ban_from (E.order_of (keys_of self.now)) (record_of self.now)
             (lists_of self.now) None r.now 0 (specs_of self.now) ≡ None) }
         ensures place { IfOk result (λ place. place ≡ place_from (E.order_of (keys_of self.now))
@@ -338,44 +135,75 @@ impl<R, E: Extract<R>> IndexSet<R, E> {
         ensures taken { IfErr result (λ by. ban_from (E.order_of (keys_of self.now))
             (record_of self.now) (lists_of self.now) None r.now 0 (specs_of self.now) ≡ Some by) }
     {
-        free_place(&self.store, &self.keys, &self.specs, &self.indices, r)
+        self.parts.free_place(r)
     }
 
-    /// The indices at which a record has another key than that of `n`. A comparison for each index that has a key.
-    pub fn changed_by(&self, n: Node, r: &R) -> Changed
-        requires sound { IsSound E.has_key self.now }
-        requires node { IsNodeOf (store_of self.now) n }
-        ensures { (before : R) (index : ℕ) → record_of self.now n ≡ Some before →
-            may_differ result index ≡
-            differs (E.order_of (keys_of self.now)) (specs_of self.now) r.now before index }
-    {
-        Changed::between(&self.keys, &self.specs, self.get(n), r)
-    }
-
-    /// As `bans`, where the record has the excepted node's key at all indices but the changed ones, which alone are asked. It
-    /// takes no memory. O(log n) for each of these.
-    pub fn bans_changed(
-        &self,
-        r: &R,
-        except: Option<Node>,
-        changed: Changed,
-    ) -> Option<(usize, Node)>
-        requires sound { IsSound E.has_key self.now }
-        requires except { AreNodesOf (store_of self.now) except }
-        requires keyed { IsKeyedExcept E.order_of (marks_of E.Extract) self.now except }
-        requires unique { IsUniqueExcept E.order_of self.now except }
-        requires free { IsFreeBeside E.order_of self.now changed except r.now }
+    /// The first unique index in which a node other than `n` has the record's key, with that node. Only the indices at which
+    /// the key is another than that of the record of `n` are asked. It takes no memory. O(log n) for each of these.
+    pub fn bans(&self, r: &R, n: Node) -> Option<(usize, Node)>
+        requires { IsNodeOf (store_of self.now) n }
         ensures { result ≡ ban_from (E.order_of (keys_of self.now)) (record_of self.now)
-            (lists_of self.now) except r.now 0 (specs_of self.now) }
+            (lists_of self.now) (Some n) r.now 0 (specs_of self.now) }
     {
-        first_ban(
-            &self.store,
-            &self.keys,
-            &self.specs,
-            &self.indices,
-            r,
-            except,
-            changed,
-        )
+        let changed = self.parts.changed_by(n, r);
+        self.parts.bans_changed(r, Some(n), changed)
+    }
+
+    /// Gives a node another record, which nothing else bans, and settles it in each index; the old record is handed out. In a
+    /// sequence the node keeps its place. It takes no memory. O(log n) for each index at which the key differs.
+    pub fn replace(&mut self, n: Node, value: R) -> R
+        requires node { IsNodeOf (store_of self.old) n }
+        requires allowed { ban_from (E.order_of (keys_of self.old)) (record_of self.old)
+            (lists_of self.old) (Some n) value 0 (specs_of self.old) ≡ None }
+        ensures kept { IsKept E.Extract self.new }
+        ensures old { record_of self.old n ≡ Some result }
+        ensures written { IsRewritten E.order_of self.old self.new n value }
+    {
+        let changed = self.parts.changed_by(n, &value);
+        let old = replace(self.parts.get_mut(n), value);
+        self.parts.settle_changed(n, changed);
+        old
+    }
+}
+
+impl<R: Drop, E: Extract<R>> IndexSet<R, E> {
+    ghost use Rattle.index_set.specs.Asked.{IsKept};
+    ghost use Rattle.index_set.specs.Set.{store_of, record_of, IsOfSame, IsAlike};
+    ghost use Rattle.index_set.specs.Writes.{CanPut, IsPut, IsTaken};
+
+    /// Puts a record in: in each index by its key, or in a sequence last. With `at` an index and a place in it: in that
+    /// sequence before the node at the place. An index in which the record's place is `known` is not searched. Where memory is
+    /// refused the record is handed back, and nothing has changed. O(log n) for each index.
+    pub fn put(
+        &mut self,
+        value: R,
+        at: Option<(usize, u64)>,
+        known: Option<FreePlace>,
+    ) -> Result<Node, NoRoom<R>>
+        requires { CanPut E.order_of self.old value at known }
+        ensures kept { IsKept E.Extract self.new }
+        ensures same { IsOfSame self.old self.new }
+        ensures put { IfOk result (λ n. IsPut E.order_of self.old self.new n value at) }
+        ensures unchanged { OnErr result (IsAlike self.old self.new) }
+        ensures returned { IfErr result (λ e. e.value ≡ value) }
+    {
+        let Ok(()) = self.parts.reserve_one() else {
+            return Err(NoRoom { value });
+        };
+        let n = self.parts.add(value)?;
+        self.parts.enter(n, at, known);
+        Ok(n)
+    }
+
+    /// Takes a node out of each index, and its record out of the set. It takes no memory. O(log n) for each index, but
+    /// O(the nodes behind it) in one with places.
+    pub fn take(&mut self, n: Node) -> R
+        requires { IsNodeOf (store_of self.old) n }
+        ensures kept { IsKept E.Extract self.new }
+        ensures value { record_of self.old n ≡ Some result }
+        ensures taken { IsTaken self.old self.new n }
+    {
+        self.parts.leave(n);
+        self.parts.remove(n)
     }
 }

@@ -2,3 +2,4 @@ pub mod Ordered
 pub mod Alone
 pub mod Framing
 pub mod ByTens
+pub mod Arrived

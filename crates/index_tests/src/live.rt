@@ -8,7 +8,7 @@ ghost use Rattle.index_tests.specs.Tens.{has_tens, IsLive};
 use crate::set::insert;
 use crate::tens::Tens;
 use container_model::{Kind, Spec};
-use index_set::{IndexSet, NoIndex};
+use index_set::{IndexSet, NoIndex, Nodes};
 use node_store::Node;
 use std::alloc::{AllocError, Global};
 
@@ -149,13 +149,14 @@ impl Live {
             return None;
         }
         let mut walked = [None; 3];
-        let mut at = self.set.first(index);
+        let order = self.set.at(index);
+        let mut at = order.first();
         for place in 0..3usize {
             let Some(n) = at else {
                 return Some(walked);
             };
             walked[place] = Some(n.number());
-            at = self.set.next(index, n);
+            at = order.next(n);
         }
         Some(walked)
     }
@@ -167,7 +168,7 @@ impl Live {
         if index >= self.set.keys().keyed {
             return None;
         }
-        let found = self.set.find(index, &number)?;
+        let found = self.set.at(index).find(&number)?;
         Some(found.number())
     }
 }

@@ -1,15 +1,12 @@
 //! A record comes into a set of two kinds of index, is found in each, changes and goes.
-ghost use Rattle.std.specs.Prelude.{◌≡◌, ◌≢◌, ◌+◌, ◌∷◌, ◌<◌, ◌≤◌, ℕ, [], true, false, length, IfOk, IfSome, OnSome, IsTrue, None, Some};
-ghost use Rattle.node_store.specs.declared.Node.{Node};
-ghost use Rattle.std.specs.declared.cmp.Ordering.TheVariants.{Equal};
+ghost use Rattle.std.specs.Prelude.{◌≡◌, ◌∷◌, ◌<◌, [], true, false, IfOk, IfSome, None};
 ghost use Rattle.node_store.specs.Store.{IsNodeOf};
 ghost use Rattle.container_model.specs.declared.handle.Kind.TheVariants.{Ordered, Hashed};
-ghost use Rattle.container_model.specs.State.{has_key_kind};
-ghost use Rattle.any_index.specs.Keyed.{marks_of};
-ghost use Rattle.index_set.specs.Set.{store_of, keys_of, specs_of, record_of, kind_at, IsSound, IsKeyed, IsUniqueExcept, IsOfSame};
+ghost use Rattle.index_set.specs.Set.{store_of, IsOfSame};
+ghost use Rattle.index_set.specs.Writes.{IsPut};
 
-use container_model::{Kind, Spec};
-use index_set::IndexSet;
+use container_model::{Entry, Handle, Kind, Spec};
+use index_set::{ByRow, IndexSet, Nodes, RowEdit};
 use key_extract::Extract;
 use node_store::Node;
 use std::alloc::{AllocError, Global};
@@ -107,48 +104,38 @@ impl Extract<u64> for OneKey {
 
 // Puts a record into each index, unless a unique one has its key.
 pub(crate) fn insert<R: Drop, E: Extract<R>>(set: &mut IndexSet<R, E>, value: R) -> Option<Node>
-    requires sound { IsSound E.has_key set.old }
-    requires keyed { IsKeyed E.order_of (marks_of E.Extract) set.old }
-    requires unique { IsUniqueExcept E.order_of set.old None }
-    requires count { (store_of set.old).added < 1000 }
-    ensures sound { IsSound E.has_key set.new }
-    ensures keyed { IsKeyed E.order_of (marks_of E.Extract) set.new }
-    ensures unique { OnSome result (IsUniqueExcept E.order_of set.new None) }
-    ensures same { IsOfSame set.old set.new }
-    ensures count { (store_of set.new).added ≤ (store_of set.old).added + 1 }
-    ensures node { IfSome result (λ n. IsNodeOf (store_of set.new) n) }
-    ensures others { OnSome result ((m : Node) → IsNodeOf (store_of set.old) m →
-        IsNodeOf (store_of set.new) m) }
-    ensures apart { IfSome result (λ n. (m : Node) → IsNodeOf (store_of set.old) m → m ≢ n) }
+    requires { (store_of set.old).added < 1000 }
+    ensures { IfSome result (λ n. IsPut E.order_of set.old set.new n value None) }
 {
-    let Ok(()) = set.reserve_one() else {
+    let Ok(_) = set.free_place(&value) else {
         return None;
     };
-    if set.bans(&value, None).is_some() {
-        return None;
-    }
-    let Ok(n) = set.add(value) else {
-        return None;
-    };
-    set.enter(n, None, None);
-    Some(n)
+    set.put(value, None, None).ok()
 }
 
-// Gives a node another record of the same keys.
-fn rewrite<R: Drop, E: Extract<R>>(set: &mut IndexSet<R, E>, n: Node, value: R)
-    requires sound { IsSound E.has_key set.old }
-    requires keyed { IsKeyed E.order_of (marks_of E.Extract) set.old }
-    requires node { IsNodeOf (store_of set.old) n }
-    requires same { (index : ℕ) (row : R) → index < length (specs_of set.old) →
-        IsTrue (has_key_kind (kind_at set.old index)) → record_of set.old n ≡ Some row →
-        E.order_of (keys_of set.old) index value row ≡ Equal }
-    ensures sound { IsSound E.has_key set.new }
-    ensures keyed { IsKeyed E.order_of (marks_of E.Extract) set.new }
+// Gives a node another record, unless a unique index has its key at another node. Answers whether it did.
+fn rewrite<R: Drop, E: Extract<R>>(set: &mut IndexSet<R, E>, n: Node, value: R) -> bool
+    requires { IsNodeOf (store_of set.old) n }
     ensures same { IsOfSame set.old set.new }
-    ensures written { record_of set.new n ≡ Some value }
+    ensures node { IsNodeOf (store_of set.new) n }
 {
-    *set.get_mut(n) = value;
-    set.put_back(n);
+    match set.bans(&value, n) {
+        Some(_) => false,
+        None => {
+            set.replace(n, value);
+            true
+        }
+    }
+}
+
+// Gives a node another row, and its own again. Answers whether no other record has the key of either.
+fn rewrite_and_undo(set: &mut IndexSet<Entry<u64>, ByRow<OneKey>>, n: Node, row: u64) -> bool
+    requires { IsNodeOf (store_of set.old) n }
+    ensures same { IsOfSame set.old set.new }
+    ensures node { IsNodeOf (store_of set.new) n }
+{
+    let mut edit = RowEdit::new(row);
+    set.modify_or_undo(n, &mut edit, false).is_none()
 }
 
 // An index in order, and a hashed one without two records of one key.
@@ -168,22 +155,31 @@ fn two_indices(alloc: Global) -> Result<Vec<Spec>, AllocError>
     Ok(specs)
 }
 
-/// Whether a number that was put in is found at its key in each index, also once it is another of that key, until the set
-/// is emptied.
+// A record of this row.
+fn entry(row: u64) -> Entry<u64> {
+    let handle = Handle { slot: 0, stamp: 0 };
+    Entry { handle, row }
+}
+
+/// Whether a number that was put in is found at its key in each index, also once it is another of that key, and once a change
+/// was undone, until the set is emptied.
 pub(crate) fn script(alloc: Global) -> Option<bool> {
     let Ok(specs) = two_indices(alloc) else {
         return None;
     };
-    let Ok(made) = IndexSet::new(alloc, specs, OneKey, 2) else {
+    let keys = ByRow { keys: OneKey };
+    let Ok(made) = IndexSet::new(alloc, specs, keys, 2) else {
         return None;
     };
     let mut set = made;
-    let n = insert(&mut set, 7)?;
-    let found = set.find(0, &()) == Some(n) && set.find(1, &()) == Some(n);
-    rewrite(&mut set, n, 8);
-    let found_again = set.find_any(0, &()) == Some(n) && set.find_any(1, &()) == Some(n);
+    let n = insert(&mut set, entry(7))?;
+    let found = set.at(0).find(&()) == Some(n) && set.at(1).find(&()) == Some(n);
+    let changes = rewrite(&mut set, n, entry(8)) && rewrite_and_undo(&mut set, n, 9);
+    let is_changed = changes && set.get(n).row == 8;
+    let found_again = set.at(0).find_any(&()) == Some(n) && set.at(1).find_any(&()) == Some(n);
     let one = set.specs().len() == 2 && set.len() == 1;
     set.clear();
-    let none = set.find_any(0, &()).is_none() && set.find_any(1, &()).is_none();
-    Some(found && found_again && one && none && set.len() == 0 && set.added() == 1)
+    let none = set.at(0).find_any(&()).is_none() && set.at(1).find_any(&()).is_none();
+    let empty = none && set.len() == 0 && set.added() == 1;
+    Some(found && is_changed && found_again && one && empty)
 }

@@ -7,13 +7,16 @@ use Rattle.list_model.specs.Order.{EachPair}
 use Rattle.list_model.proofs.Lists.{EachPair-push}
 use Rattle.list_model.proofs.Kept.{All-split}
 use Rattle.node_store.specs.declared.Node.{Node}
-use Rattle.node_store.specs.Nodes.{Lacks, IsDistinct}
+use Rattle.node_store.specs.Nodes.{Lacks, Holds, IsDistinct}
 use Rattle.node_store.specs.Store.{Store, IsStore, IsNodeOf, aged, age_of}
 use Rattle.node_store.specs.ByNode.{contents}
 use Rattle.node_store.specs.Age.{all_below, nodes_of}
 use Rattle.node_store.proofs.Age.{all_below-each, all_nodes_of}
+use Rattle.node_store.proofs.Ages.{at_its_age, age_below}
+use Rattle.node_store.proofs.Members.{each_held}
 use Rattle.container_model.specs.declared.handle.Entry.{Entry}
 use Rattle.linked_set.specs.Linked.{nodes_in}
+use Rattle.linked_set.proofs.Contents.{all_below-at}
 use Rattle.linked_set.proofs.Entered.{AreOlder}
 
 -- each node was added before those after it
@@ -57,3 +60,8 @@ module _ {R : Type 0} (s : Store (Entry R)) (store : IsStore s) where
   pub nodes_held : AllByRecursion (IsNodeOf s) (nodes_in (contents s))
   unfolding contents
   nodes_held = recursion_from_All _ (nodes_of s) (all_nodes_of s store)
+
+  -- each node of the store is one of them
+  pub holds_each : (n : Node) → IsNodeOf s n → Holds (nodes_in (contents s)) n
+  unfolding contents
+  holds_each n is = all_below-at (Holds (nodes_of s)) (aged s) s.added (age_of s n) n (age_below s store n is) (at_its_age s store n is) (each_held (nodes_of s))

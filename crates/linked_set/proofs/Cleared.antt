@@ -10,10 +10,10 @@ use Rattle.node_store.specs.Age.{nodes_of}
 use Rattle.node_store.specs.ByNode as node
 use Rattle.container_model.specs.declared.handle.Entry.{Entry}
 use Rattle.container_model.specs.Change.{cleared}
-use Rattle.index_set.specs.declared.set.IndexSet.{IndexSet}
+use Rattle.index_set.specs.declared.parts.Parts.{Parts}
 use Rattle.index_set.specs.Set.{store_of, keys_of, specs_of, contents, record_of, lists_of, IsSound, IsKeyed, IsUniqueExcept, IsOfSame}
-use Rattle.linked_set.specs.ByRow.{has_by_row, order_by_row, marks_by_row}
-use Rattle.linked_set.specs.declared.by_row.ByRow.{ByRow}
+use Rattle.index_set.specs.ByRow.{has_by_row, order_by_row, marks_by_row}
+use Rattle.index_set.specs.declared.by_row.ByRow.{ByRow}
 use Rattle.linked_set.specs.LeadsTo.{LeadsTo}
 use Rattle.linked_set.specs.Linked.{entries_in, handles_in}
 use Rattle.linked_set.specs.Records.{IsWhole}
@@ -31,7 +31,7 @@ leads_nowhere s none = record {
   slot_of = λ k n at. cc;
 }
 
-module _ {E R : Type 0} (old new : IndexSet (Entry R) (ByRow E)) (same : IsOfSame old new) (lists : lists_of new ≡ map (λ _. []) (specs_of old)) (none : nodes_of (store_of new) ≡ []) where
+module _ {E R : Type 0} (old new : Parts (Entry R) (ByRow E)) (same : IsOfSame old new) (lists : lists_of new ≡ map (λ _. []) (specs_of old)) (none : nodes_of (store_of new) ≡ []) where
   no_entries : entries_in (contents new) ≡ []
   no_entries = no_records (store_of new) none
 

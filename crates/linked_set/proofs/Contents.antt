@@ -50,7 +50,7 @@ All-in_filter_map f P (x ∷ xs) h = let parts = at_head P (f x) (filter_map f x
     at_head P (Some x) ys h = ((λ y e. subst P (same_Some x y e) h.0), h.1)
 
 -- what holds of all that stands below a number holds of what stands at one below it
-all_below-at : {A : Type 0} (P : A → Type 0) (f : ℕ → Option A) (k i : ℕ) (x : A) → i < k → f i ≡ Some x → AllByRecursion P (all_below f k) → P x
+pub all_below-at : {A : Type 0} (P : A → Type 0) (f : ℕ → Option A) (k i : ℕ) (x : A) → i < k → f i ≡ Some x → AllByRecursion P (all_below f k) → P x
 all_below-at P f zero i x less at all = absurd (omega arith)
 all_below-at {A} P f (suc k) i x less at all =
     let parts = All-split P (all_below f k) (option_map_or (λ y. y ∷ []) (f k) []) all in

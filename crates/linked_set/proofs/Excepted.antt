@@ -10,7 +10,7 @@ use Rattle.node_store.specs.ByNode.{record_of}
 use Rattle.any_index.specs.Side.{AreNodesOf}
 use Rattle.container_model.specs.declared.handle.Entry.{Entry}
 use Rattle.container_model.proofs.Found.{is_handle_flip}
-use Rattle.index_set.specs.declared.set.IndexSet.{IndexSet}
+use Rattle.index_set.specs.declared.parts.Parts.{Parts}
 use Rattle.index_set.specs.Set.{IsSound, IsKeyed, IsKeyedExcept, IsUniqueExcept}
 use Rattle.index_set.proofs.Keys.{but_from, except_none, except_some}
 use Rattle.index_set.proofs.StaysUnique.{unique_except}
@@ -29,7 +29,7 @@ module _ {R : Type 0} (s : Store (Entry R)) (slots : List (Option Node)) (leads 
   told_of None there lists are = told_none (record_of s) lists
   told_of (Some n) there lists are = told_some n (there n refl) lists are
 
-module _ {R E : Type 0} (order : E → ℕ → R → R → Ordering) (s : IndexSet R E) where
+module _ {R E : Type 0} (order : E → ℕ → R → R → Ordering) (s : Parts R E) where
   -- what is keyed is so but for any node
   pub keyed_except : (marks : E → ℕ → R → Marks) (except : Option Node) → IsKeyed order marks s → IsKeyedExcept order marks s except
   keyed_except marks None h = except_none order marks s h

@@ -3,33 +3,31 @@ use Rattle.key_extract.specs.Digests.{Marks}
 use Rattle.std.proofs.Common.{◌≡◌, ℕ, ◌+◌, ◌<◌, ◌==◌, Bool, false, List, [], ◌∷◌, ◌++◌, Option, Some, None, refl, sym, ap, ◌∙◌, subst, arith}
 use Rattle.std.specs.Prelude.{IsTrue, option_map}
 use Rattle.std.specs.List.{AllByRecursion}
-use Rattle.std.specs.Cmp.{IsTotalOrder}
 use Rattle.std.specs.declared.cmp.Ordering.{Ordering}
-use Rattle.std.proofs.lemmas.Cmp.{on_total}
 use Rattle.list_model.specs.Order.{EachPair}
 use Rattle.list_model.proofs.InOrder.{All-map}
 use Rattle.list_model.proofs.Lists.{EachPair-push}
 use Rattle.node_store.specs.declared.Node.{Node}
 use Rattle.node_store.specs.Store.{Store, IsStore, IsNodeOf, age_of}
 use Rattle.node_store.specs.ByNode.{contents, record_of, AddsNode}
-use Rattle.node_store.proofs.Ages.{age_below}
+use Rattle.node_store.proofs.Ages.{age_below, IsStore_kept}
+use Rattle.node_store.proofs.ByNode.{added_kept, ages_kept, records_kept, IsNodeOf_kept}
 use Rattle.container_model.specs.declared.handle.Entry.{Entry}
 use Rattle.container_model.specs.declared.handle.Spec.{Spec}
 use Rattle.container_model.specs.Insert.{At, entered_from, is_free, ban_from as ban_of_handles}
 use Rattle.container_model.proofs.FreeSlot.{free_slot-is_free}
 use Rattle.container_model.proofs.Handles.{free_is_apart}
 use Rattle.slot_table.specs.Slots.{first_free, with_item}
-use Rattle.index_set.specs.declared.set.IndexSet.{IndexSet}
+use Rattle.index_set.specs.declared.parts.Parts.{Parts}
 use Rattle.index_set.specs.Set as set
-use Rattle.index_set.specs.Set.{store_of, keys_of, specs_of, lists_of, IsSound, IsKeyed, IsOfSame}
-use Rattle.index_set.specs.Indices.{LackIt}
+use Rattle.index_set.specs.Set.{store_of, keys_of, specs_of, lists_of, IsSound, IsKeyed, IsUniqueExcept, IsOfSame}
+use Rattle.index_set.specs.Writes.{IsPut}
 use Rattle.index_set.proofs.Members.{nodes_held}
 use Rattle.index_set.proofs.Keys.{unique_kept}
-use Rattle.index_set.proofs.StaysUnique.{unique_after_enter}
 use Rattle.index_set.specs.Each.{changed_from}
 use Rattle.index_set.specs.Lists.{entered_at, ban_from}
-use Rattle.linked_set.specs.ByRow.{has_by_row, order_by_row, marks_by_row}
-use Rattle.linked_set.specs.declared.by_row.ByRow.{ByRow}
+use Rattle.index_set.specs.ByRow.{has_by_row, order_by_row, marks_by_row}
+use Rattle.index_set.specs.declared.by_row.ByRow.{ByRow}
 use Rattle.linked_set.specs.Seen.{IsLinked}
 use Rattle.linked_set.specs.Linked.{handle_of, entries_in, handles_in, IsKnown}
 use Rattle.linked_set.specs.LeadsTo.{LeadsTo}
@@ -81,13 +79,16 @@ module _ {R : Type 0} (order : ℕ → R → R → Ordering) (specs : List Spec)
   pub leads_joined : LeadsTo u (with_item slots (first_free slots) (Some n))
   leads_joined = leads_kept t u _ after (leads_added s t n e slots adds slot leads)
 
-  -- what bans no row bans no record of it
-  pub allowed_joined : ban_of_handles order (entries_in (contents s)) (handles_in (record_of s) lists) None e.row 0 specs ≡ None → ban_from by_rows (record_of s) lists None e 0 specs ≡ None
-  allowed_joined allowed = none_before (λ at. (at.0, handle_of (record_of s) at.1)) _ (sym (ban_known order (record_of s) (entries_in (contents s)) lists None known_before (told_none (record_of s) lists) e 0 specs) ∙ allowed)
+-- what bans no row bans no record of it
+pub allowed_record : {R : Type 0} (order : ℕ → R → R → Ordering) (specs : List Spec) (s : Store (Entry R)) (lists : List (List Node)) (e : Entry R) → IsStore s → EachPair (λ a b. (b.handle.slot == a.handle.slot) ≡ false) (entries_in (contents s)) → AllByRecursion (AllByRecursion (IsNodeOf s)) lists →
+    ban_of_handles order (entries_in (contents s)) (handles_in (record_of s) lists) None e.row 0 specs ≡ None → ban_from (λ index a b. order index a.row b.row) (record_of s) lists None e 0 specs ≡ None
+allowed_record order specs s lists e store apart nodes allowed =
+    none_before (λ at. (at.0, handle_of (record_of s) at.1)) _
+    (sym (ban_known order (record_of s) (entries_in (contents s)) lists None (All-map _ _ (λ xs are. All-map _ _ (λ m is. known s m store apart is) xs are) lists nodes) (told_none (record_of s) lists) e 0 specs) ∙ allowed)
 
 module _ {E R : Type 0} (has_key : E → ℕ → Bool) (order : E → ℕ → R → R → Ordering) (marks : E → ℕ → R → Marks) where
   -- a set with the same nodes and lists is linked as the old one is
-  pub IsLinked_kept : (old new : IndexSet (Entry R) (ByRow E)) (slots : List (Option Node)) → IsOfSame old new → set.contents new ≡ set.contents old → lists_of new ≡ lists_of old → IsSound (has_by_row has_key) new →
+  pub IsLinked_kept : (old new : Parts (Entry R) (ByRow E)) (slots : List (Option Node)) → IsOfSame old new → set.contents new ≡ set.contents old → lists_of new ≡ lists_of old → IsSound (has_by_row has_key) new →
       IsKeyed (order_by_row order) (marks_by_row marks) new → IsLinked has_key order marks old slots → IsLinked has_key order marks new slots
   IsLinked_kept old new slots same contents lists sound keyed linked = record {
     sound = sound;
@@ -97,40 +98,53 @@ module _ {E R : Type 0} (has_key : E → ℕ → Bool) (order : E → ℕ → R 
     leads = leads_kept (store_of old) (store_of new) slots contents linked.leads;
   }
 
-  -- a set whose store a node has joined, and then each list
-  module _ (total : (keys : E) (i : ℕ) → IsTrue (has_key keys i) → IsTotalOrder (order keys i)) (old mid new : IndexSet (Entry R) (ByRow E)) (slots : List (Option Node)) (at : At) (n : Node) (e : Entry R) (linked : IsLinked has_key order marks old slots)
-      (same : IsOfSame old mid) (before : lists_of mid ≡ lists_of old) (adds : AddsNode (store_of old) (store_of mid) n e) (age : age_of (store_of mid) n ≡ (store_of old).added) (count : (store_of mid).added ≡ (store_of old).added + 1)
-      (kept : IsOfSame mid new) (entered : lists_of new ≡ changed_from (entered_at (order_by_row order (keys_of mid)) (set.record_of mid) (age_of (store_of mid)) at n) 0 (specs_of mid) (lists_of mid)) (after : set.contents new ≡ set.contents mid)
-      (slot : e.handle.slot ≡ first_free slots) where
-    new_lists : lists_of new ≡ changed_from (entered_at (order_by_row order (keys_of old)) (set.record_of mid) (age_of (store_of mid)) at n) 0 (specs_of old) (lists_of old)
-    new_lists = entered ∙ (λ i. changed_from (entered_at (order_by_row order (same.keys i)) (set.record_of mid) (age_of (store_of mid)) at n) 0 (same.specs i) (before i))
+  -- a set that a record was put into
+  module _ (old new : Parts (Entry R) (ByRow E)) (slots : List (Option Node)) (at : At) (n : Node) (e : Entry R) (linked : IsLinked has_key order marks old slots) (put : IsPut (order_by_row order) old new n e at) (slot : e.handle.slot ≡ first_free slots) where
+    abbrev before : Store (Entry R)
+    before = put.added.before
+
+    abbrev after : Store (Entry R)
+    after = put.added.after
+
+    sound_before : IsStore before
+    sound_before = IsStore_kept (store_of old) before put.added.was linked.sound.nodes
+
+    apart_before : EachPair (λ a b. (b.handle.slot == a.handle.slot) ≡ false) (entries_in (contents before))
+    apart_before = subst (EachPair _) (sym (entries_kept (store_of old) before put.added.was)) linked.apart
+
+    leads_before : LeadsTo before slots
+    leads_before = leads_kept (store_of old) before slots put.added.was linked.leads
+
+    nodes_before : AllByRecursion (AllByRecursion (IsNodeOf before)) (lists_of old)
+    nodes_before = All-map _ _ (λ xs are. All-map _ _ (λ m is. IsNodeOf_kept (store_of old) before m put.added.was is) xs are) (lists_of old) (nodes_held old linked.sound)
+
+    age_after : age_of after n ≡ before.added
+    age_after = ap (λ (f : Node → ℕ). f n) (sym (ages_kept after (store_of new) put.added.is)) ∙ (put.age ∙ sym (added_kept (store_of old) before put.added.was))
+
+    count_after : after.added ≡ before.added + 1
+    count_after = sym (added_kept after (store_of new) put.added.is) ∙ (put.count ∙ ap (λ k. k + 1) (sym (added_kept (store_of old) before put.added.was)))
+
+    new_lists : lists_of new ≡ changed_from (entered_at (order_by_row order (keys_of old)) (record_of after) (age_of after) at n) 0 (specs_of old) (lists_of old)
+    new_lists =
+        put.lists
+        ∙ (λ i. changed_from (entered_at (order_by_row order (keys_of old)) (records_kept after (store_of new) put.added.is i) (ages_kept after (store_of new) put.added.is i) at n) 0 (specs_of old) (lists_of old))
 
     pub entries_grown : entries_in (set.contents new) ≡ entries_in (set.contents old) ++ e ∷ []
     entries_grown =
-        entries_joined (order (keys_of old).keys) (specs_of old) at (store_of old) (store_of mid) (store_of new) (lists_of old) n e slots linked.sound.nodes linked.apart linked.leads
-        (nodes_held old linked.sound) adds age count after slot
+        entries_joined (order (keys_of old).keys) (specs_of old) at before after (store_of new) (lists_of old) n e slots sound_before apart_before leads_before nodes_before put.added.adds age_after count_after put.added.is slot
+        ∙ ap (λ es. es ++ e ∷ []) (entries_kept (store_of old) before put.added.was)
 
     pub lists_grown : handles_in (set.record_of new) (lists_of new) ≡ entered_from (order (keys_of old).keys) (entries_in (set.contents old)) at e.row e.handle 0 (specs_of old) (handles_in (set.record_of old) (lists_of old))
     lists_grown =
         ap (handles_in (set.record_of new)) new_lists
-        ∙ lists_joined (order (keys_of old).keys) (specs_of old) at (store_of old) (store_of mid) (store_of new) (lists_of old) n e slots linked.sound.nodes linked.apart linked.leads
-        (nodes_held old linked.sound) adds age count after slot
+        ∙ (lists_joined (order (keys_of old).keys) (specs_of old) at before after (store_of new) (lists_of old) n e slots sound_before apart_before leads_before nodes_before put.added.adds age_after count_after put.added.is slot
+        ∙ (λ i. entered_from (order (keys_of old).keys) (entries_kept (store_of old) before put.added.was i) at e.row e.handle 0 (specs_of old) (handles_kept (store_of old) before (lists_of old) put.added.was i)))
 
-    pub IsLinked_grown : LackIt (lists_of mid) n → IsSound (has_by_row has_key) new → IsKeyed (order_by_row order) (marks_by_row marks) new →
-        ban_of_handles (order (keys_of old).keys) (entries_in (set.contents old)) (handles_in (set.record_of old) (lists_of old)) None e.row 0 (specs_of old) ≡ None →
-        IsLinked has_key order marks new (with_item slots (first_free slots) (Some n))
-    IsLinked_grown loose sound keyed allowed = record {
+    pub IsLinked_grown : IsSound (has_by_row has_key) new → IsKeyed (order_by_row order) (marks_by_row marks) new → IsUniqueExcept (order_by_row order) new None → IsLinked has_key order marks new (with_item slots (first_free slots) (Some n))
+    IsLinked_grown sound keyed unique = record {
       sound = sound;
       keyed = keyed;
-      unique =
-          unique_after_enter (order_by_row order) (λ keys index has. on_total (λ (x : Entry R). x.row) (total keys.keys index has)) old mid new linked.sound same kept n e at before adds loose entered after
-          (allowed_joined (order (keys_of old).keys) (specs_of old) at (store_of old) (store_of mid) (store_of new) (lists_of old) n e slots linked.sound.nodes linked.apart linked.leads
-          (nodes_held old linked.sound) adds age count after slot allowed)
-          linked.unique;
-      apart =
-          apart_joined (order (keys_of old).keys) (specs_of old) at (store_of old) (store_of mid) (store_of new) (lists_of old) n e slots linked.sound.nodes linked.apart linked.leads
-          (nodes_held old linked.sound) adds age count after slot;
-      leads =
-          leads_joined (order (keys_of old).keys) (specs_of old) at (store_of old) (store_of mid) (store_of new) (lists_of old) n e slots linked.sound.nodes linked.apart linked.leads
-          (nodes_held old linked.sound) adds age count after slot;
+      unique = unique;
+      apart = apart_joined (order (keys_of old).keys) (specs_of old) at before after (store_of new) (lists_of old) n e slots sound_before apart_before leads_before nodes_before put.added.adds age_after count_after put.added.is slot;
+      leads = leads_joined (order (keys_of old).keys) (specs_of old) at before after (store_of new) (lists_of old) n e slots sound_before apart_before leads_before nodes_before put.added.adds age_after count_after put.added.is slot;
     }

@@ -7,34 +7,30 @@ use Rattle.std.specs.Option.{option_map_or}
 use Rattle.std.specs.declared.cmp.Ordering.{Ordering}
 use Rattle.std.proofs.lemmas.Bool.{cases_eq}
 use Rattle.std.proofs.lemmas.Option.{same_Some}
-use Rattle.std.proofs.lemmas.List.Elements.{filter-append, recursion_from_All}
+use Rattle.std.proofs.lemmas.List.Elements.{recursion_from_All}
 use Rattle.list_model.specs.Order.{EachPair}
 use Rattle.list_model.specs.Walk.{without}
 use Rattle.list_model.proofs.InOrder.{All-map}
 use Rattle.list_model.proofs.Kept.{EachPair-filter}
 use Rattle.node_store.specs.declared.Node.{Node}
-use Rattle.node_store.specs.Nodes.{Holds}
 use Rattle.node_store.specs.Store.{Store, IsStore, IsNodeOf, nodes, number_of}
 use Rattle.node_store.specs.Age.{nodes_of}
 use Rattle.node_store.specs.ByNode.{contents, record_of, same_node, RemovesNode}
 use Rattle.node_store.proofs.Age.{all_nodes_of, nodes_of-removed}
-use Rattle.node_store.proofs.ByNode.{same_node-refl, others_removed, records_kept, IsNodeOf_kept}
-use Rattle.node_store.proofs.Members.{same_node-false}
+use Rattle.node_store.proofs.ByNode.{same_node-refl, others_removed, added_kept, records_kept, IsNodeOf_kept}
+use Rattle.node_store.proofs.Ages.{IsStore_kept}
 use Rattle.container_model.specs.declared.handle.Handle.{Handle}
 use Rattle.container_model.specs.declared.handle.Entry.{Entry}
 use Rattle.container_model.specs.State.{is_handle}
 use Rattle.slot_table.specs.Slots.{item_at, with_item}
 use Rattle.slot_table.proofs.Laws.{item_at-with_item}
-use Rattle.index_set.specs.declared.set.IndexSet.{IndexSet}
+use Rattle.index_set.specs.declared.parts.Parts.{Parts}
 use Rattle.index_set.specs.Set as set
-use Rattle.index_set.specs.Set.{store_of, lists_of, IsSound, IsKeyed, IsKeyedBut, IsOfSame}
-use Rattle.index_set.specs.Indices.{HoldIt, LackIt}
+use Rattle.index_set.specs.Set.{store_of, lists_of, IsSound, IsKeyed, IsUniqueExcept}
+use Rattle.index_set.specs.Writes.{IsTaken}
 use Rattle.index_set.proofs.Members.{nodes_held}
-use Rattle.index_set.proofs.Keys.{but_from, lacks_left}
-use Rattle.index_set.proofs.StaysUnique.{unique_except, unique_after_leave, unique_after_remove}
-use Rattle.linked_set.specs.ByRow.{has_by_row, order_by_row, marks_by_row}
-use Rattle.linked_set.specs.declared.by_row.ByRow.{ByRow}
-use Rattle.linked_set.specs.Held.{AreHeld}
+use Rattle.index_set.specs.ByRow.{has_by_row, order_by_row, marks_by_row}
+use Rattle.index_set.specs.declared.by_row.ByRow.{ByRow}
 use Rattle.linked_set.specs.LeadsTo.{LeadsTo}
 use Rattle.linked_set.specs.Linked.{handle_of, entries_in, handles_in}
 use Rattle.linked_set.specs.Seen.{IsLinked}
@@ -42,23 +38,6 @@ use Rattle.linked_set.proofs.Contents.{has_record, handle_of-is, entries_kept, h
 use Rattle.linked_set.proofs.Filtered.{map_left, filter_map_left}
 use Rattle.linked_set.proofs.ByHandle.{same_by_handle}
 use Rattle.linked_set.proofs.LeadsTo.{leads_kept}
-
--- a node that is held stays so when another leaves
-held_without : (n m : Node) → m ≢ n → (xs : List Node) → Holds xs m → Holds (without (same_node n) xs) m
-held_without n m other xs k =
-    let keep : Node → Bool = λ x. not (same_node n x) in
-    record {
-      before = filter keep k.before;
-      after = filter keep k.after;
-      is =
-          ap (filter keep) k.is
-          ∙ filter-append keep k.before (m ∷ k.after)
-          ∙ ap (λ b. filter keep k.before ++ cond (not b) (m ∷ filter keep k.after) (filter keep k.after)) (same_node-false n m (λ e. other (sym e)));
-    }
-
-held_by_each : (n m : Node) → m ≢ n → (lists : List (List Node)) → HoldIt lists m → HoldIt (map (without (same_node n)) lists) m
-held_by_each n m other [] held = tt
-held_by_each n m other (xs ∷ lists) held = (held_without n m other xs held.0, held_by_each n m other lists held.1)
 
 module _ {R : Type 0} (s t : Store (Entry R)) (slots : List (Option Node)) (store : IsStore s) (leads : LeadsTo s slots) (n : Node) (is : IsNodeOf s n) (removes : RemovesNode s t n) where
   -- its handle
@@ -125,22 +104,25 @@ module _ {R : Type 0} (s t : Store (Entry R)) (slots : List (Option Node)) (stor
           (cases_eq k its.slot)
 
 module _ {E R : Type 0} (has_key : E → ℕ → Bool) (order : E → ℕ → R → R → Ordering) (marks : E → ℕ → R → Marks) where
-  -- a set from whose lists a node was taken, and then its record from the store
-  module _ (old mid new : IndexSet (Entry R) (ByRow E)) (slots : List (Option Node)) (linked : IsLinked has_key order marks old slots) (n : Node) (is : IsNodeOf (store_of old) n) (e : Entry R) (has : set.record_of mid n ≡ Some e)
-      (same : IsOfSame old mid) (taken : lists_of mid ≡ map (without (same_node n)) (lists_of old)) (after : set.contents mid ≡ set.contents old) (sound : IsSound (has_by_row has_key) mid)
-      (kept : IsOfSame mid new) (listed : lists_of new ≡ lists_of mid) (removes : RemovesNode (store_of mid) (store_of new) n) (count : (store_of new).added ≡ (store_of mid).added) where
-    leads_mid : LeadsTo (store_of mid) slots
-    leads_mid = leads_kept (store_of old) (store_of mid) slots after linked.leads
+  -- a set that a record was taken out of
+  module _ (old new : Parts (Entry R) (ByRow E)) (slots : List (Option Node)) (linked : IsLinked has_key order marks old slots) (n : Node) (is : IsNodeOf (store_of old) n) (e : Entry R) (has : set.record_of old n ≡ Some e) (taken : IsTaken old new n) where
+    abbrev mid : Store (Entry R)
+    mid = taken.removed.before
 
-    is_mid : IsNodeOf (store_of mid) n
-    is_mid = IsNodeOf_kept (store_of old) (store_of mid) n after is
+    leads_mid : LeadsTo mid slots
+    leads_mid = leads_kept (store_of old) mid slots taken.removed.was linked.leads
 
-    own : handle_of (set.record_of mid) n ≡ e.handle
-    own = handle_of-is (set.record_of mid) n e has
+    is_mid : IsNodeOf mid n
+    is_mid = IsNodeOf_kept (store_of old) mid n taken.removed.was is
 
-    -- its record was there
-    pub had_record : set.record_of old n ≡ Some e
-    had_record = ap (λ (r : Node → Option (Entry R)). r n) (sym (records_kept (store_of old) (store_of mid) after)) ∙ has
+    sound_mid : IsStore mid
+    sound_mid = IsStore_kept (store_of old) mid taken.removed.was linked.sound.nodes
+
+    own : handle_of (record_of mid) n ≡ e.handle
+    own = handle_of-is (record_of mid) n e (ap (λ (r : Node → Option (Entry R)). r n) (records_kept (store_of old) mid taken.removed.was) ∙ has)
+
+    count_mid : (store_of new).added ≡ mid.added
+    count_mid = taken.count ∙ sym (added_kept (store_of old) mid taken.removed.was)
 
     -- the slot that it frees was taken
     pub slot_taken : item_at slots e.handle.slot ≢ None
@@ -148,31 +130,22 @@ module _ {E R : Type 0} (has_key : E → ℕ → Bool) (order : E → ℕ → R 
 
     pub entries_shrunk : entries_in (set.contents new) ≡ filter (λ x. not (is_handle e.handle x.handle)) (entries_in (set.contents old))
     entries_shrunk =
-        entries_left (store_of mid) (store_of new) slots sound.nodes leads_mid n is_mid removes count
-        ∙ (λ i. filter (λ x. not (is_handle (own i) x.handle)) (entries_kept (store_of old) (store_of mid) after i))
+        entries_left mid (store_of new) slots sound_mid leads_mid n is_mid taken.removed.removes count_mid
+        ∙ (λ i. filter (λ x. not (is_handle (own i) x.handle)) (entries_kept (store_of old) mid taken.removed.was i))
 
     pub lists_shrunk : handles_in (set.record_of new) (lists_of new) ≡ map (λ list. filter (λ g. not (is_handle e.handle g)) list) (handles_in (set.record_of old) (lists_of old))
     lists_shrunk =
-        let nodes_mid : AllByRecursion (AllByRecursion (IsNodeOf (store_of mid))) (lists_of old) =
-        All-map _ _ (λ xs are. All-map _ _ (λ m there. IsNodeOf_kept (store_of old) (store_of mid) m after there) xs are) (lists_of old) (nodes_held old linked.sound) in
-        ap (handles_in (set.record_of new)) (listed ∙ taken)
-        ∙ handles_left (store_of mid) (store_of new) slots sound.nodes leads_mid n is_mid removes (lists_of old) nodes_mid
-        ∙ (λ i. map (λ list. filter (λ g. not (is_handle (own i) g)) list) (handles_kept (store_of old) (store_of mid) (lists_of old) after i))
+        let nodes_mid : AllByRecursion (AllByRecursion (IsNodeOf mid)) (lists_of old) =
+        All-map _ _ (λ xs are. All-map _ _ (λ m there. IsNodeOf_kept (store_of old) mid m taken.removed.was there) xs are) (lists_of old) (nodes_held old linked.sound) in
+        ap (handles_in (set.record_of new)) taken.lists
+        ∙ handles_left mid (store_of new) slots sound_mid leads_mid n is_mid taken.removed.removes (lists_of old) nodes_mid
+        ∙ (λ i. map (λ list. filter (λ g. not (is_handle (own i) g)) list) (handles_kept (store_of old) mid (lists_of old) taken.removed.was i))
 
-    pub held_shrunk : AreHeld old → AreHeld new
-    held_shrunk held = record {
-      each = λ m there.
-          let was = was_there (store_of mid) (store_of new) slots sound.nodes leads_mid n is_mid removes m there in
-          subst (λ lists. HoldIt lists m) (sym (listed ∙ taken)) (held_by_each n m was.0 (lists_of old) (held.each m (IsNodeOf_kept (store_of mid) (store_of old) m (sym after) was.1)));
-    }
-
-    pub IsLinked_shrunk : IsSound (has_by_row has_key) new → (IsKeyedBut (order_by_row order) (marks_by_row marks) old n → IsKeyed (order_by_row order) (marks_by_row marks) mid) → (IsKeyed (order_by_row order) (marks_by_row marks) mid → IsKeyed (order_by_row order) (marks_by_row marks) new) → IsLinked has_key order marks new (with_item slots e.handle.slot None)
-    IsLinked_shrunk sound_new keyed_taken keyed_removed = record {
-      sound = sound_new;
-      keyed = keyed_removed (keyed_taken (but_from (order_by_row order) (marks_by_row marks) old n linked.keyed));
-      unique =
-          unique_after_remove (order_by_row order) mid new sound kept n listed removes (subst (λ lists. LackIt lists n) (sym taken) (lacks_left (lists_of old) n))
-          (unique_after_leave (order_by_row order) old mid linked.sound same n taken after (unique_except (order_by_row order) old linked.sound n linked.unique));
+    pub IsLinked_shrunk : IsSound (has_by_row has_key) new → IsKeyed (order_by_row order) (marks_by_row marks) new → IsUniqueExcept (order_by_row order) new None → IsLinked has_key order marks new (with_item slots e.handle.slot None)
+    IsLinked_shrunk sound keyed unique = record {
+      sound = sound;
+      keyed = keyed;
+      unique = unique;
       apart = subst (EachPair _) (sym entries_shrunk) (EachPair-filter _ _ (entries_in (set.contents old)) linked.apart);
-      leads = subst (λ (h : Handle). LeadsTo (store_of new) (with_item slots h.slot None)) own (leads_left (store_of mid) (store_of new) slots sound.nodes leads_mid n is_mid removes);
+      leads = subst (λ (h : Handle). LeadsTo (store_of new) (with_item slots h.slot None)) own (leads_left mid (store_of new) slots sound_mid leads_mid n is_mid taken.removed.removes);
     }

@@ -1,16 +1,17 @@
 pub mod Ages
 pub mod Asked
 pub mod Bans
+mod Barred
 pub mod ByAge
 pub mod ByHandle
 pub mod Changed
 pub mod Clashes
 pub mod Cleared
 pub mod Contents
+mod Edited
 pub mod Entered
 pub mod Excepted
 pub mod Filtered
-pub mod FreePlaces
 pub mod FreeSlots
 pub mod Indices
 pub mod Joined

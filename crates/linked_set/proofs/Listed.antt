@@ -9,9 +9,9 @@ use Rattle.container_model.specs.declared.handle.Spec.{Spec}
 use Rattle.container_model.specs.State.{State, KeysMatch}
 use Rattle.container_model.specs.Indices.{KeepsEach, KeepsRest, clash, with_index, without_index}
 use Rattle.container_model.proofs.Indexed.{AreIndices-indexed, AreIndices-unindexed}
-use Rattle.index_set.specs.declared.set.IndexSet.{IndexSet}
+use Rattle.index_set.specs.declared.parts.Parts.{Parts}
 use Rattle.index_set.specs.Set.{store_of, keys_of, specs_of}
-use Rattle.linked_set.specs.declared.by_row.ByRow.{ByRow}
+use Rattle.index_set.specs.declared.by_row.ByRow.{ByRow}
 use Rattle.linked_set.specs.Records.{Records, AreListed, records_in}
 use Rattle.linked_set.specs.Seen.{seen}
 use Rattle.linked_set.proofs.Written.{AreListedIn, listed_by}
@@ -39,7 +39,7 @@ on_success (Err b) p f = tt
 abbrev records_with : {E R : Type 0} → State E R → ℕ → Records E R
 records_with s added = record { keys = s.keys; specs = s.specs; most = s.most; entries = s.entries; lists = s.lists; added = added }
 
-module _ {E R : Type 0} (old new : IndexSet (Entry R) (ByRow E)) where
+module _ {E R : Type 0} (old new : Parts (Entry R) (ByRow E)) where
   -- sets that are one container, of as many adds, are the same records
   pub same_records : seen new 0 0 ≡ seen old 0 0 → (store_of new).added ≡ (store_of old).added → records_in new ≡ records_in old
   same_records same count = λ i. records_with (same i) (count i)

@@ -8,9 +8,9 @@ use Rattle.container_model.specs.declared.handle.Handle.{Handle}
 use Rattle.container_model.specs.State.{is_handle, row_of}
 use Rattle.node_store.specs.declared.Node.{Node}
 use Rattle.slot_table.specs.Slots.{item_at}
-use Rattle.index_set.specs.declared.set.IndexSet.{IndexSet}
+use Rattle.index_set.specs.declared.parts.Parts.{Parts}
 use Rattle.index_set.specs.Set.{store_of, contents, record_of}
-use Rattle.linked_set.specs.declared.by_row.ByRow.{ByRow}
+use Rattle.index_set.specs.declared.by_row.ByRow.{ByRow}
 use Rattle.linked_set.specs.Linked.{handle_of, entries_in}
 use Rattle.linked_set.specs.Seen.{IsLinked}
 use Rattle.linked_set.proofs.Contents.{has_record}
@@ -20,7 +20,7 @@ is_not : (b : Bool) → IsTrue (not b) → b ≡ false
 is_not false h = refl
 is_not true h = cc
 
-module _ {E R : Type 0} {has_key : E → ℕ → Bool} {order : E → ℕ → R → R → Ordering} {marks : E → ℕ → R → Marks} (set : IndexSet (Entry R) (ByRow E)) (slots : List (Option Node)) (linked : IsLinked has_key order marks set slots) (h : Handle) where
+module _ {E R : Type 0} {has_key : E → ℕ → Bool} {order : E → ℕ → R → R → Ordering} {marks : E → ℕ → R → Marks} (set : Parts (Entry R) (ByRow E)) (slots : List (Option Node)) (linked : IsLinked has_key order marks set slots) (h : Handle) where
   abbrev handle : Node → Handle
   handle = handle_of (record_of set)
 

@@ -10,12 +10,12 @@ use Rattle.container_model.specs.declared.handle.Entry.{Entry}
 use Rattle.container_model.specs.declared.handle.Spec.{Spec}
 use Rattle.container_model.specs.State.{AreIndices, empty_with_most}
 use Rattle.container_model.proofs.Inserted.{indices_empty}
-use Rattle.index_set.specs.declared.set.IndexSet.{IndexSet}
+use Rattle.index_set.specs.declared.parts.Parts.{Parts}
 use Rattle.index_set.specs.Lists.{AreUniqueFrom}
 use Rattle.index_set.proofs.Keys.{unique_empty}
 use Rattle.index_set.specs.Set.{store_of, keys_of, specs_of, columns_of, contents, record_of, lists_of, IsSound, IsKeyed}
-use Rattle.linked_set.specs.ByRow.{has_by_row, order_by_row, marks_by_row}
-use Rattle.linked_set.specs.declared.by_row.ByRow.{ByRow}
+use Rattle.index_set.specs.ByRow.{has_by_row, order_by_row, marks_by_row}
+use Rattle.index_set.specs.declared.by_row.ByRow.{ByRow}
 use Rattle.linked_set.specs.LeadsTo.{LeadsTo}
 use Rattle.linked_set.specs.Linked.{entries_in, handles_in}
 use Rattle.linked_set.specs.Records.{IsWhole}
@@ -34,7 +34,7 @@ listed_empty order entries specs was lists none same empty =
     subst (λ es. AreIndices order es 0 specs lists) (sym none)
     (subst (λ ss. AreIndices order [] 0 ss lists) (sym same) (subst (AreIndices order [] 0 was) (sym empty) (indices_empty order 0 was)))
 
-module _ {E R : Type 0} (set : IndexSet (Entry R) (ByRow E)) (most : ℕ) (keys : E) (specs : List Spec)
+module _ {E R : Type 0} (set : Parts (Entry R) (ByRow E)) (most : ℕ) (keys : E) (specs : List Spec)
     (lists : lists_of set ≡ map (λ _. []) specs) (none : store_of set ≡ empty_store (width_of (store_of set))) (same_keys : (keys_of set).keys ≡ keys) (same_specs : specs_of set ≡ specs) (same_most : columns_of set ≡ most) where
   no_entries : entries_in (contents set) ≡ []
   no_entries = ap (λ (s : Store (Entry R)). entries_in (node.contents s)) none ∙ entries-empty (width_of (store_of set))

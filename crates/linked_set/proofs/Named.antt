@@ -21,10 +21,10 @@ use Rattle.node_store.specs.ByNode as store
 use Rattle.node_store.specs.ByNode.{same_node}
 use Rattle.node_store.proofs.ByNode.{same_node-true}
 use Rattle.slot_table.specs.Slots.{item_at}
-use Rattle.index_set.specs.declared.set.IndexSet.{IndexSet}
+use Rattle.index_set.specs.declared.parts.Parts.{Parts}
 use Rattle.index_set.specs.Set.{store_of, keys_of, specs_of, contents, record_of, list_of, lists_of}
 use Rattle.index_set.proofs.Reading.{some_spec}
-use Rattle.linked_set.specs.declared.by_row.ByRow.{ByRow}
+use Rattle.index_set.specs.declared.by_row.ByRow.{ByRow}
 use Rattle.linked_set.specs.Linked.{handle_of, entries_in, handles_in}
 use Rattle.linked_set.specs.Records.{Records, alone, kept_out, row_kept_out}
 use Rattle.linked_set.specs.Seen.{IsLinked}
@@ -46,7 +46,7 @@ answered_live h answer {s} {t} a same live is = ap Ok (is ∙ ap answer same) �
 pub answered_stale : {E R A : Type 0} (h : Handle) (answer : A) {s t : Records E R} → s ≡ t → is_live (alone s) h ≡ false → Err Stale ≡ cond (is_live (alone t) h) (Ok answer) (Err Stale)
 answered_stale h answer {s} {t} same stale = ap (λ b. cond b (Ok answer) (Err Stale)) (sym stale ∙ ap (λ u. is_live (alone u) h) same)
 
-module _ {E R : Type 0} {has_key : E → ℕ → Bool} {order : E → ℕ → R → R → Ordering} {marks : E → ℕ → R → Marks} (set : IndexSet (Entry R) (ByRow E)) (slots : List (Option Node)) (linked : IsLinked has_key order marks set slots) (h : Handle) where
+module _ {E R : Type 0} {has_key : E → ℕ → Bool} {order : E → ℕ → R → R → Ordering} {marks : E → ℕ → R → Marks} (set : Parts (Entry R) (ByRow E)) (slots : List (Option Node)) (linked : IsLinked has_key order marks set slots) (h : Handle) where
   abbrev handle : Node → Handle
   handle = handle_of (record_of set)
 
@@ -109,7 +109,7 @@ pub record IsNamed {R : Type 0} (s : Store (Entry R)) (h : Handle) (n : Node) : 
   pub has : store.record_of s n ≡ Some entry
   pub row : row_of (entries_in (store.contents s)) h ≡ Some entry.row
 
-module _ {E R : Type 0} {has_key : E → ℕ → Bool} {order : E → ℕ → R → R → Ordering} {marks : E → ℕ → R → Marks} (set : IndexSet (Entry R) (ByRow E)) (slots : List (Option Node)) (linked : IsLinked has_key order marks set slots) (h : Handle) where
+module _ {E R : Type 0} {has_key : E → ℕ → Bool} {order : E → ℕ → R → R → Ordering} {marks : E → ℕ → R → Marks} (set : Parts (Entry R) (ByRow E)) (slots : List (Option Node)) (linked : IsLinked has_key order marks set slots) (h : Handle) where
   pub named_at : (n : Node) → (item_at slots h.slot ≡ Some n) × IsTrue (is_handle h (handle_of (record_of set) n)) → IsNamed (store_of set) h n
   named_at n found =
       let s = store_of set in

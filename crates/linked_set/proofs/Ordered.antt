@@ -24,14 +24,14 @@ use Rattle.container_model.specs.Find.{kind_at, is_live}
 use Rattle.container_model.specs.Sequence.{with_list, has_each_once, relocate_refusal, rearrange_refusal, sequence_refusal}
 use Rattle.container_model.proofs.Found.{count_live, stands_once}
 use Rattle.container_model.proofs.Moved.{AreIndices-set}
-use Rattle.index_set.specs.declared.set.IndexSet.{IndexSet}
+use Rattle.index_set.specs.declared.parts.Parts.{Parts}
 use Rattle.index_set.specs.Set as set
 use Rattle.index_set.specs.Set.{store_of, keys_of, specs_of, contents, record_of, list_of, lists_of, IsSound, IsKeyed, IsOfSame}
 use Rattle.index_set.proofs.Members.{nodes_held_at}
 use Rattle.index_set.proofs.StaysUnique.{unique_after_move}
 use Rattle.index_set.proofs.Reading.{some_spec}
-use Rattle.linked_set.specs.ByRow.{has_by_row, order_by_row, marks_by_row}
-use Rattle.linked_set.specs.declared.by_row.ByRow.{ByRow}
+use Rattle.index_set.specs.ByRow.{has_by_row, order_by_row, marks_by_row}
+use Rattle.index_set.specs.declared.by_row.ByRow.{ByRow}
 use Rattle.linked_set.specs.LeadsTo.{LeadsTo}
 use Rattle.linked_set.specs.Linked.{handle_of, entries_in, handles_in}
 use Rattle.linked_set.specs.Seen.{seen}
@@ -86,7 +86,7 @@ module _ {R : Type 0} (s : Store (Entry R)) (slots : List (Option Node)) (leads 
 
 -- ---- the set
 
-module _ {E R : Type 0} (old new : IndexSet (Entry R) (ByRow E)) (index : ℕ) (xs : List Node) (list : List Handle) (handles : map (handle_of (record_of old)) xs ≡ list)
+module _ {E R : Type 0} (old new : Parts (Entry R) (ByRow E)) (index : ℕ) (xs : List Node) (list : List Handle) (handles : map (handle_of (record_of old)) xs ≡ list)
     (same : IsOfSame old new) (lists : lists_of new ≡ set (lists_of old) index xs) (kept : contents new ≡ contents old) where
   handles_listed : handles_in (record_of new) (lists_of new) ≡ set (handles_in (record_of old) (lists_of old)) index list
   handles_listed =
@@ -115,7 +115,7 @@ module _ {E R : Type 0} (old new : IndexSet (Entry R) (ByRow E)) (index : ℕ) (
 
 -- ---- a record that moves
 
-module _ {E R : Type 0} {has_key : E → ℕ → Bool} {order : E → ℕ → R → R → Ordering} {marks : E → ℕ → R → Marks} (old : IndexSet (Entry R) (ByRow E)) (slots : List (Option Node)) (was : IsWhole has_key order marks old slots)
+module _ {E R : Type 0} {has_key : E → ℕ → Bool} {order : E → ℕ → R → R → Ordering} {marks : E → ℕ → R → Marks} (old : Parts (Entry R) (ByRow E)) (slots : List (Option Node)) (was : IsWhole has_key order marks old slots)
     (index : ℕ) (within : index < length (specs_of old)) where
   -- each index has the handles of all records
   pub members_here : IsPermutation (map (λ e. e.handle) (entries_in (contents old))) (list_at (handles_in (record_of old) (lists_of old)) index)
@@ -156,8 +156,8 @@ module _ {E R : Type 0} (s : State E R) (index place : ℕ) (h : Handle) (sequen
   pub relocate_place : is_live s h ≡ true → length s.entries < place → relocate_refusal s index place h ≡ Some Place
   relocate_place live past = λ i. by_tests (sequence i) (live i) (nat_le_false place (length s.entries) past i) (s.writes == 2 ^ 64 - 1)
 
-  pub relocate_spent : is_live s h ≡ true → place ≤ length s.entries → s.writes ≡ 2 ^ 64 - 1 → relocate_refusal s index place h ≡ Some Spent
-  relocate_spent live within last = λ i. by_tests (sequence i) (live i) (nat_le_true place (length s.entries) within i) (eq-eqb s.writes (2 ^ 64 - 1) last i)
+  pub relocate_spent : is_live s h ≡ true → place ≤ length s.entries → (s.writes == 2 ^ 64 - 1) ≡ true → relocate_refusal s index place h ≡ Some Spent
+  relocate_spent live within last = λ i. by_tests (sequence i) (live i) (nat_le_true place (length s.entries) within i) (last i)
 
   pub relocate_allowed : is_live s h ≡ true → place ≤ length s.entries → (s.writes == 2 ^ 64 - 1) ≡ false → relocate_refusal s index place h ≡ None
   relocate_allowed live within more = λ i. by_tests (sequence i) (live i) (nat_le_true place (length s.entries) within i) (more i)

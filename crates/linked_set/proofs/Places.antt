@@ -15,10 +15,10 @@ use Rattle.container_model.specs.declared.handle.Entry.{Entry}
 use Rattle.container_model.specs.declared.handle.Handle.{Handle}
 use Rattle.container_model.specs.State.{side_of, list_at}
 use Rattle.node_store.specs.declared.Node.{Node}
-use Rattle.index_set.specs.declared.set.IndexSet.{IndexSet}
+use Rattle.index_set.specs.declared.parts.Parts.{Parts}
 use Rattle.index_set.specs.Set.{keys_of, contents, record_of, list_of, lists_of, probe_side}
-use Rattle.linked_set.specs.ByRow.{probe_by_row}
-use Rattle.linked_set.specs.declared.by_row.ByRow.{ByRow}
+use Rattle.index_set.specs.ByRow.{probe_by_row}
+use Rattle.index_set.specs.declared.by_row.ByRow.{ByRow}
 use Rattle.linked_set.specs.Linked.{handle_of, entries_in, handles_in, IsKnown}
 use Rattle.linked_set.specs.Seen.{IsLinked}
 use Rattle.linked_set.proofs.Mapped.{any_mapped, last_mapped}
@@ -30,7 +30,7 @@ pub some_last : {X : Type 0} (P : X → Type 0) (xs : List X) → AllByRecursion
 some_last P [] all x e = cc
 some_last P (y ∷ ys) all x e = some_at P (y ∷ ys) (length ys) all x e
 
-module _ {E R : Type 0} {has_key : E → ℕ → Bool} {order : E → ℕ → R → R → Ordering} {marks : E → ℕ → R → Marks} (set : IndexSet (Entry R) (ByRow E)) (slots : List (Option Node)) (linked : IsLinked has_key order marks set slots)
+module _ {E R : Type 0} {has_key : E → ℕ → Bool} {order : E → ℕ → R → R → Ordering} {marks : E → ℕ → R → Marks} (set : Parts (Entry R) (ByRow E)) (slots : List (Option Node)) (linked : IsLinked has_key order marks set slots)
     (index : ℕ) where
   abbrev handle : Node → Handle
   handle = handle_of (record_of set)

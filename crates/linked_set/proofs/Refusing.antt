@@ -14,9 +14,9 @@ use Rattle.container_model.specs.State.{State, KeysMatch, row_of, has_key_kind}
 use Rattle.container_model.specs.Find.{kind_at}
 use Rattle.container_model.specs.Insert.{ban}
 use Rattle.container_model.specs.Change.{replace_refusal, spent, with_replaced}
-use Rattle.index_set.specs.declared.set.IndexSet.{IndexSet}
+use Rattle.index_set.specs.declared.parts.Parts.{Parts}
 use Rattle.index_set.specs.Set.{contents}
-use Rattle.linked_set.specs.declared.by_row.ByRow.{ByRow}
+use Rattle.index_set.specs.declared.by_row.ByRow.{ByRow}
 use Rattle.linked_set.specs.Linked.{entries_in}
 use Rattle.linked_set.specs.Seen.{seen}
 use Rattle.container_model.specs.Undone.{modify_or_undo_refusal, with_modified_or_undone, with_undone}
@@ -51,7 +51,7 @@ module _ {E R : Type 0} (order : E → ℕ → R → R → Ordering) (s : State 
 
 -- ---- what a change of a node's record left, and why it was undone, if it was
 
-module _ {E R : Type 0} (order : E → ℕ → R → R → Ordering) (old new : IndexSet (Entry R) (ByRow E)) (max writes : ℕ) (h own : Handle) (is : own ≡ h) (change undo : R → R) (row : R) (live : row_of (entries_in (contents old)) h ≡ Some row) (result : Option Why)
+module _ {E R : Type 0} (order : E → ℕ → R → R → Ordering) (old new : Parts (Entry R) (ByRow E)) (max writes : ℕ) (h own : Handle) (is : own ≡ h) (change undo : R → R) (row : R) (live : row_of (entries_in (contents old)) h ≡ Some row) (result : Option Why)
     (why : result ≡ option_map_or (λ (at : ℕ × Handle). Some (Banned at.0 at.1)) (ban order (seen old max writes) (Some own) (change row)) (spent (seen old max writes)))
     (left : seen new max (option_map_or (λ why. writes) result (writes + 1)) ≡ option_map_or (λ why. with_undone (seen old max writes) own (undo row)) result (with_replaced order (seen old max writes) own (change row))) where
   abbrev before : State E R

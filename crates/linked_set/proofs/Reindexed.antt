@@ -18,10 +18,10 @@ use Rattle.container_model.specs.Indices.{clash, new_list, with_index, without_i
 use Rattle.index_set.specs.Added as nodes
 use Rattle.index_set.specs.declared.build.NoIndex.{NoIndex}
 use Rattle.index_set.specs.declared.build.NoIndex.TheVariants.{Columns, Clash, Memory}
-use Rattle.index_set.specs.declared.set.IndexSet.{IndexSet}
+use Rattle.index_set.specs.declared.parts.Parts.{Parts}
 use Rattle.index_set.specs.Set.{store_of, keys_of, specs_of, columns_of, contents, record_of, lists_of, IsSound, IsKeyed, IsUniqueExcept, IsOfSame}
-use Rattle.linked_set.specs.declared.by_row.ByRow.{ByRow}
-use Rattle.linked_set.specs.ByRow.{has_by_row, order_by_row, marks_by_row}
+use Rattle.index_set.specs.declared.by_row.ByRow.{ByRow}
+use Rattle.index_set.specs.ByRow.{has_by_row, order_by_row, marks_by_row}
 use Rattle.linked_set.specs.Linked.{handle_of, nodes_in, entries_in, handles_in, IsKnown}
 use Rattle.linked_set.specs.Refusal.{HasItsNodes, IsRefusal, by_handles}
 use Rattle.linked_set.specs.Seen.{seen, IsLinked}
@@ -38,13 +38,13 @@ map-remove f [] (suc i) = refl
 map-remove f (x ∷ xs) zero = refl
 map-remove f (x ∷ xs) (suc i) = ap (λ l. f x ∷ l) (map-remove f xs i)
 
-module _ {E R : Type 0} {has_key : E → ℕ → Bool} {order : E → ℕ → R → R → Ordering} {marks : E → ℕ → R → Marks} (old : IndexSet (Entry R) (ByRow E)) (slots : List (Option Node)) (linked : IsLinked has_key order marks old slots) where
+module _ {E R : Type 0} {has_key : E → ℕ → Bool} {order : E → ℕ → R → R → Ordering} {marks : E → ℕ → R → Marks} (old : Parts (Entry R) (ByRow E)) (slots : List (Option Node)) (linked : IsLinked has_key order marks old slots) where
   -- the records of the nodes are found by their handles
   pub known_by_age : AllByRecursion (IsKnown (record_of old) (entries_in (contents old))) (nodes_in (contents old))
   known_by_age = All-map _ _ (λ n is. known (store_of old) n linked.sound.nodes linked.apart is) (nodes_in (contents old)) (nodes_held (store_of old) linked.sound.nodes)
 
   -- a set with the same records is linked
-  pub IsLinked_reindexed : (new : IndexSet (Entry R) (ByRow E)) → contents new ≡ contents old → IsSound (has_by_row has_key) new → IsKeyed (order_by_row order) (marks_by_row marks) new → IsUniqueExcept (order_by_row order) new None →
+  pub IsLinked_reindexed : (new : Parts (Entry R) (ByRow E)) → contents new ≡ contents old → IsSound (has_by_row has_key) new → IsKeyed (order_by_row order) (marks_by_row marks) new → IsUniqueExcept (order_by_row order) new None →
       IsLinked has_key order marks new slots
   IsLinked_reindexed new kept sound keyed unique = record {
     sound = sound;
@@ -55,7 +55,7 @@ module _ {E R : Type 0} {has_key : E → ℕ → Bool} {order : E → ℕ → R 
   }
 
   -- the container stays, where nothing else of the set changed
-  pub seen_kept : (new : IndexSet (Entry R) (ByRow E)) (max writes : ℕ) → IsOfSame old new → contents new ≡ contents old → lists_of new ≡ lists_of old → seen new max writes ≡ seen old max writes
+  pub seen_kept : (new : Parts (Entry R) (ByRow E)) (max writes : ℕ) → IsOfSame old new → contents new ≡ contents old → lists_of new ≡ lists_of old → seen new max writes ≡ seen old max writes
   seen_kept new max writes same kept lists =
       let handles = handles_kept (store_of old) (store_of new) (lists_of new) kept ∙ ap (handles_in (record_of old)) lists in
       λ i. state_with (same.columns i) max writes (same.keys i).keys (same.specs i) (entries_kept (store_of old) (store_of new) kept i) (handles i)
@@ -81,7 +81,7 @@ module _ {E R : Type 0} {has_key : E → ℕ → Bool} {order : E → ℕ → R 
       no_clash_seen none = clash_is None none
 
       -- why the set refuses an index where it has room for one
-      module _ (new : IndexSet (Entry R) (ByRow E)) (kept : contents new ≡ contents old) (room : nodes.HasColumn old) where
+      module _ (new : Parts (Entry R) (ByRow E)) (kept : contents new ≡ contents old) (room : nodes.HasColumn old) where
         pub refusal_seen : (why : NoIndex) → nodes.IsCause (nodes.HasColumn old) (node_clash ns) why → IsRefusal (clash order (seen old 0 0) spec keys) (by_handles (record_of new) why)
         refusal_seen Columns is = absurd (is room)
         refusal_seen (Clash first second) is =
@@ -99,7 +99,7 @@ module _ {E R : Type 0} {has_key : E → ℕ → Bool} {order : E → ℕ → R 
         refusal_nodes Memory is = tt
 
     -- the container is the one with the new index
-    pub seen_indexed : (new : IndexSet (Entry R) (ByRow E)) (max writes : ℕ) → (keys_of new).keys ≡ keys → specs_of new ≡ specs_of old ++ spec ∷ [] → columns_of new ≡ columns_of old → contents new ≡ contents old →
+    pub seen_indexed : (new : Parts (Entry R) (ByRow E)) (max writes : ℕ) → (keys_of new).keys ≡ keys → specs_of new ≡ specs_of old ++ spec ∷ [] → columns_of new ≡ columns_of old → contents new ≡ contents old →
         (ns : List Node) → ns ≡ nodes_in (contents old) → lists_of new ≡ lists_of old ++ nodes.entered_all (age_of (store_of old)) (by_rows (record_of old) (entries_in (contents old)) new_order) spec.kind [] ns ∷ [] →
         seen new max (writes + 1) ≡ with_index order (seen old max writes) spec keys
     seen_indexed new max writes same_keys specs columns kept ns is lists =
@@ -113,7 +113,7 @@ module _ {E R : Type 0} {has_key : E → ℕ → Bool} {order : E → ℕ → R 
         λ i. state_with (columns i) max (writes + 1) (same_keys i) (specs i) (entries_kept (store_of old) (store_of new) kept i) (handles i)
 
   -- and the one without an index
-  pub seen_unindexed : (new : IndexSet (Entry R) (ByRow E)) (index : ℕ) (keys : E) (max writes : ℕ) → (keys_of new).keys ≡ keys → specs_of new ≡ remove (specs_of old) index → columns_of new ≡ columns_of old → contents new ≡ contents old →
+  pub seen_unindexed : (new : Parts (Entry R) (ByRow E)) (index : ℕ) (keys : E) (max writes : ℕ) → (keys_of new).keys ≡ keys → specs_of new ≡ remove (specs_of old) index → columns_of new ≡ columns_of old → contents new ≡ contents old →
       lists_of new ≡ remove (lists_of old) index → seen new max (writes + 1) ≡ without_index (seen old max writes) index keys
   seen_unindexed new index keys max writes same_keys specs columns kept lists =
       let handles = handles_kept (store_of old) (store_of new) (lists_of new) kept ∙ ap (handles_in (record_of old)) lists ∙ map-remove (map (handle_of (record_of old))) (lists_of old) index in

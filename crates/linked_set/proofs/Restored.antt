@@ -1,7 +1,7 @@
 -- Lists that are filled in an order that is told.
 use Rattle.std.proofs.Common.{◌≡◌, ◌≢◌, ⊎_elim, eq-eqb, ℕ, suc, ◌+◌, ◌≤◌, ◌<◌, ◌==◌, Bool, true, false, cond, List, [], ◌∷◌, ◌++◌, length, map, get_or, Option, Some, None, Result, Ok, Err, rules, refl, sym, ap, ◌∙◌, subst, arith, append-nil, append_assoc}
 use Rattle.std.specs.Prelude.{find, insert, count_by, is_some, nat_eq, slice_get, slice_set, IfOk, OnOk, IsTrue, IsPermutation}
-use Rattle.std.specs.List.{AllByRecursion, IsDistinct as AreDistinct, filter_map, cons_option, list_all}
+use Rattle.std.specs.List.{AllByRecursion, filter_map, cons_option, list_all}
 use Rattle.std.specs.Option.{option_map_or, option_cmp}
 use Rattle.std.specs.Ordering.{is_eq, is_gt, is_le}
 use Rattle.std.specs.Cmp.{IsTotalOrder}
@@ -42,12 +42,12 @@ use Rattle.any_index.specs.Lists.{entered}
 use Rattle.index_set.specs.Added.{entered_all, clash_from, clash, IsCause}
 use Rattle.index_set.specs.declared.build.NoIndex.{NoIndex}
 use Rattle.index_set.specs.declared.build.NoIndex.TheVariants as no
-use Rattle.index_set.specs.declared.set.IndexSet.{IndexSet}
+use Rattle.index_set.specs.declared.parts.Parts.{Parts}
 use Rattle.index_set.specs.Set.{store_of, keys_of, specs_of, list_of, lists_of, IsSound, IsKeyed, IsOfSame, IsUniqueExcept, contents as contents_of}
 use Rattle.index_set.proofs.Uniques.{unique_at}
 use Rattle.any_index.specs.Side.{order_at}
-use Rattle.linked_set.specs.declared.by_row.ByRow.{ByRow}
-use Rattle.linked_set.specs.ByRow.{has_by_row, order_by_row, marks_by_row}
+use Rattle.index_set.specs.declared.by_row.ByRow.{ByRow}
+use Rattle.index_set.specs.ByRow.{has_by_row, order_by_row, marks_by_row}
 use Rattle.index_set.proofs.Building.{members_all}
 use Rattle.slot_table.specs.Slots.{item_at, with_item}
 use Rattle.linked_set.specs.LeadsTo.{LeadsTo}
@@ -65,7 +65,7 @@ use Rattle.linked_set.proofs.ByAge.{AreByAge, nodes_rise, nodes_held, distinct_b
 use Rattle.linked_set.proofs.Contents.{known, has_record, member, handle_of-is, entries_added, handles_by_age, handles_kept}
 use Rattle.linked_set.proofs.NewList.{by_rows, by_handles, ordered, ranked, last_in_buckets, in_turn as in_turn_by_age}
 use Rattle.linked_set.proofs.StableSort.{map-stable_sorted}
-use Rattle.linked_set.proofs.Rearranged.{all_pass, each_once, entries_apart, slots_of, IsPermutation-unmap}
+use Rattle.linked_set.proofs.Rearranged.{all_pass, each_once, entries_apart, IsPermutation-unmap}
 
 -- ---- lists
 
@@ -334,7 +334,7 @@ module _ {R : Type 0} (s : Store (Entry R)) (slots : List (Option Node)) (store 
 
 -- ---- the set in which it is filled
 
-module _ {E R : Type 0} (set made : IndexSet (Entry R) (ByRow E)) (index : ℕ) (within : index < length (specs_of set)) (one : length (lists_of set) ≡ length (specs_of set)) (same : IsOfSame set made) (kept : contents_of made ≡ contents_of set) (xs : List Node) (lists : lists_of made ≡ slice_set (lists_of set) index xs) where
+module _ {E R : Type 0} (set made : Parts (Entry R) (ByRow E)) (index : ℕ) (within : index < length (specs_of set)) (one : length (lists_of set) ≡ length (specs_of set)) (same : IsOfSame set made) (kept : contents_of made ≡ contents_of set) (xs : List Node) (lists : lists_of made ≡ slice_set (lists_of set) index xs) where
   list_is : get_or (lists_of made) index [] ≡ xs
   list_is = ap (λ ls. get_or ls index []) lists ∙ get_or-set_same (lists_of set) index xs [] (omega (arith, within, one))
 
@@ -385,7 +385,7 @@ both_ok P Q f (Err e) h s = tt
 -- ---- records are added that lie in slots
 
 -- so far, where these come next
-pub record AreAdded {E R : Type 0} (has_key : E → ℕ → Bool) (order : E → ℕ → R → R → Ordering) (marks : E → ℕ → R → Marks) (old new : IndexSet (Entry R) (ByRow E)) (all rest : List (Entry R)) (slots : List (Option Node)) : Type 0 where
+pub record AreAdded {E R : Type 0} (has_key : E → ℕ → Bool) (order : E → ℕ → R → R → Ordering) (marks : E → ℕ → R → Marks) (old new : Parts (Entry R) (ByRow E)) (all rest : List (Entry R)) (slots : List (Option Node)) : Type 0 where
   pub sound : IsSound (has_by_row has_key) new
   pub keyed : IsKeyed (order_by_row order) (marks_by_row marks) new
   pub same : IsOfSame old new
@@ -395,18 +395,18 @@ pub record AreAdded {E R : Type 0} (has_key : E → ℕ → Bool) (order : E →
   pub leads : LeadsTo (store_of new) slots
   pub count : (store_of new).added ≡ length (entries_in (contents_of new))
 
-module _ {E R : Type 0} {has_key : E → ℕ → Bool} {order : E → ℕ → R → R → Ordering} {marks : E → ℕ → R → Marks} (old set : IndexSet (Entry R) (ByRow E)) (all rest : List (Entry R)) (e : Entry R) (slots : List (Option Node)) (h : AreAdded has_key order marks old set all (e ∷ rest) slots) where
+module _ {E R : Type 0} {has_key : E → ℕ → Bool} {order : E → ℕ → R → R → Ordering} {marks : E → ℕ → R → Marks} (old set : Parts (Entry R) (ByRow E)) (all rest : List (Entry R)) (e : Entry R) (slots : List (Option Node)) (h : AreAdded has_key order marks old set all (e ∷ rest) slots) where
   abbrev so_far : List (Entry R)
   so_far = entries_in (contents_of set)
 
-  pub added_one : (new : IndexSet (Entry R) (ByRow E)) (n : Node) → item_at slots e.handle.slot ≡ None → IsSound (has_by_row has_key) new → (IsKeyed (order_by_row order) (marks_by_row marks) set → IsKeyed (order_by_row order) (marks_by_row marks) new) → IsOfSame set new →
+  pub added_one : (new : Parts (Entry R) (ByRow E)) (n : Node) → item_at slots e.handle.slot ≡ None → IsSound (has_by_row has_key) new → IsKeyed (order_by_row order) (marks_by_row marks) new → IsOfSame set new →
       lists_of new ≡ lists_of set → (store_of new).added ≡ (store_of set).added + 1 → AddsNode (store_of set) (store_of new) n e →
       AreAdded has_key order marks old new all rest (with_item slots e.handle.slot (Some n))
   added_one new n free sound keyed same lists count adds =
       let entries : entries_in (contents_of new) ≡ so_far ++ e ∷ [] = entries_added (store_of set) (store_of new) n e adds h.sound.nodes count in
       record {
         sound = sound;
-        keyed = keyed h.keyed;
+        keyed = keyed;
         same = record { keys = same.keys ∙ h.same.keys; specs = same.specs ∙ h.same.specs; columns = same.columns ∙ h.same.columns };
         lists = lists ∙ h.lists;
         entries = ap (λ es. es ++ rest) entries ∙ (append_assoc so_far (e ∷ []) rest ∙ h.entries);
@@ -443,18 +443,18 @@ each_index order entries b (spec ∷ specs) (list ∷ lists) one each = (
     at_next b j = omega arith
 
 -- so many are filled
-pub record AreFilled {E R : Type 0} (has_key : E → ℕ → Bool) (order : E → ℕ → R → R → Ordering) (marks : E → ℕ → R → Marks) (slots : List (Option Node)) (old new : IndexSet (Entry R) (ByRow E)) (lists : List (List Handle)) (index : ℕ) : Type 0 where
+pub record AreFilled {E R : Type 0} (has_key : E → ℕ → Bool) (order : E → ℕ → R → R → Ordering) (marks : E → ℕ → R → Marks) (slots : List (Option Node)) (old new : Parts (Entry R) (ByRow E)) (lists : List (List Handle)) (index : ℕ) : Type 0 where
   pub linked : IsLinked has_key order marks new slots
   pub same : IsOfSame old new
   pub contents : contents_of new ≡ contents_of old
   pub listed : (j : ℕ) → j < index → list_at (handles_in (record_of (store_of new)) (lists_of new)) j ≡ list_at lists j
   pub fits : (j : ℕ) → j < index → IsIndex (order (keys_of old).keys j) (entries_in (contents_of old)) (spec_at (specs_of old) j) (list_at lists j)
 
-module _ {E R : Type 0} {has_key : E → ℕ → Bool} {order : E → ℕ → R → R → Ordering} {marks : E → ℕ → R → Marks} (slots : List (Option Node)) (old set : IndexSet (Entry R) (ByRow E)) (lists : List (List Handle)) (index : ℕ) (h : AreFilled has_key order marks slots old set lists index) (one : length lists ≡ length (specs_of old)) where
+module _ {E R : Type 0} {has_key : E → ℕ → Bool} {order : E → ℕ → R → R → Ordering} {marks : E → ℕ → R → Marks} (slots : List (Option Node)) (old set : Parts (Entry R) (ByRow E)) (lists : List (List Handle)) (index : ℕ) (h : AreFilled has_key order marks slots old set lists index) (one : length lists ≡ length (specs_of old)) where
   listed_count : length (handles_in (record_of (store_of set)) (lists_of set)) ≡ length (specs_of old)
   listed_count = length-map (lists_of set) (map (handle_of (record_of (store_of set)))) ∙ (one_list_each set h.linked.sound ∙ ap length h.same.specs)
 
-  pub filled_one : (new : IndexSet (Entry R) (ByRow E)) (list : List Handle) → index < length lists → list ≡ list_at lists index → IsLinked has_key order marks new slots → IsOfSame set new → contents_of new ≡ contents_of set →
+  pub filled_one : (new : Parts (Entry R) (ByRow E)) (list : List Handle) → index < length lists → list ≡ list_at lists index → IsLinked has_key order marks new slots → IsOfSame set new → contents_of new ≡ contents_of set →
       handles_in (record_of (store_of new)) (lists_of new) ≡ slice_set (handles_in (record_of (store_of set)) (lists_of set)) index list →
       IsIndex (order (keys_of set).keys index) (entries_in (contents_of set)) (spec_at (specs_of set) index) list →
       AreFilled has_key order marks slots old new lists (index + 1)
@@ -496,7 +496,7 @@ unfit_misfit es order specs lists index unfit.Members lt h = (lt, h)
 unfit_misfit es order specs lists index unfit.Order lt h = (lt, h)
 unfit_misfit es order specs lists index unfit.Clash lt h = (lt, h)
 
-module _ {E R : Type 0} {has_key : E → ℕ → Bool} {order : E → ℕ → R → R → Ordering} {marks : E → ℕ → R → Marks} (slots : List (Option Node)) (old set : IndexSet (Entry R) (ByRow E)) (lists : List (List Handle)) (index : ℕ) (h : AreFilled has_key order marks slots old set lists index) (one : length lists ≡ length (specs_of old)) where
+module _ {E R : Type 0} {has_key : E → ℕ → Bool} {order : E → ℕ → R → R → Ordering} {marks : E → ℕ → R → Marks} (slots : List (Option Node)) (old set : Parts (Entry R) (ByRow E)) (lists : List (List Handle)) (index : ℕ) (h : AreFilled has_key order marks slots old set lists index) (one : length lists ≡ length (specs_of old)) where
   -- what does not fit the next index does not fit all
   pub misfit_next : (list : List Handle) (why : Unfit) → index < length lists → list ≡ list_at lists index → IsUnfit (entries_in (contents_of set)) (order (keys_of set).keys index) (spec_at (specs_of set) index) list why →
       IsMisfit (entries_in (contents_of old)) (order (keys_of old).keys) (specs_of old) lists (misfit_of why index)

@@ -20,11 +20,11 @@ use Rattle.container_model.specs.declared.handle.Spec.{Spec}
 use Rattle.container_model.specs.State.{AreIndices, IsIndex, compare_of, is_sorted_kind, list_at, side_of}
 use Rattle.container_model.proofs.Keys.{has_key-of_sorted, kind_at_is}
 use Rattle.node_store.specs.declared.Node.{Node}
-use Rattle.index_set.specs.declared.set.IndexSet.{IndexSet}
+use Rattle.index_set.specs.declared.parts.Parts.{Parts}
 use Rattle.index_set.specs.Set.{keys_of, specs_of, contents, record_of, list_of, lists_of, kind_at, probe_side}
 use Rattle.index_set.proofs.Reading.{some_spec}
-use Rattle.linked_set.specs.ByRow.{probe_by_row}
-use Rattle.linked_set.specs.declared.by_row.ByRow.{ByRow}
+use Rattle.index_set.specs.ByRow.{probe_by_row}
+use Rattle.index_set.specs.declared.by_row.ByRow.{ByRow}
 use Rattle.linked_set.specs.Edges.{edge_of, node_edge, KeyFits, Rises}
 use Rattle.linked_set.specs.Linked.{handle_of, entries_in, handles_in, IsKnown}
 use Rattle.linked_set.specs.Seen.{seen, IsLinked}
@@ -55,7 +55,7 @@ bound_rises side fits xs (Included probe) fit rise = rise probe fit
 bound_rises side fits xs (Excluded probe) fit rise = rise probe fit
 bound_rises side fits xs Unbounded fit rise = tt
 
-module _ {E R : Type 0} {has_key : E → ℕ → Bool} {order : E → ℕ → R → R → Ordering} {marks : E → ℕ → R → Marks} (set : IndexSet (Entry R) (ByRow E)) (slots : List (Option Node)) (linked : IsLinked has_key order marks set slots)
+module _ {E R : Type 0} {has_key : E → ℕ → Bool} {order : E → ℕ → R → R → Ordering} {marks : E → ℕ → R → Marks} (set : Parts (Entry R) (ByRow E)) (slots : List (Option Node)) (linked : IsLinked has_key order marks set slots)
     (index : ℕ) (within : index < length (specs_of set)) {P : Type 0} (probe_order : E → ℕ → R → P → Ordering) where
   abbrev handle : Node → Handle
   handle = handle_of (record_of set)

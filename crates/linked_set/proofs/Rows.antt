@@ -23,10 +23,10 @@ use Rattle.node_store.specs.Store.{Store, IsNodeOf, number_of, nodes}
 use Rattle.node_store.specs.ByNode.{same_node}
 use Rattle.node_store.proofs.ByNode.{same_node-refl, same_node-true}
 use Rattle.any_index.proofs.Runs.{next_is}
-use Rattle.index_set.specs.declared.set.IndexSet.{IndexSet}
+use Rattle.index_set.specs.declared.parts.Parts.{Parts}
 use Rattle.index_set.specs.Set.{store_of, keys_of, specs_of, contents, record_of, list_of, lists_of}
 use Rattle.index_set.proofs.Members.{distinct_at, nodes_held_at, Holds_at}
-use Rattle.linked_set.specs.declared.by_row.ByRow.{ByRow}
+use Rattle.index_set.specs.declared.by_row.ByRow.{ByRow}
 use Rattle.linked_set.specs.Edges.{edge_of, node_edge}
 use Rattle.linked_set.specs.Linked.{handle_of, entries_in, handles_in, IsKnown}
 use Rattle.linked_set.specs.Seen.{seen, IsLinked}
@@ -75,7 +75,7 @@ one_numbered s m n has_m has_n = by_number (number_of m == number_of n) refl (sa
         cc
     by_number false e false f = refl
 
-module _ {E R : Type 0} {has_key : E → ℕ → Bool} (set : IndexSet (Entry R) (ByRow E)) (index : ℕ) (next end : Option Node) (w : IsWalk has_key set index next end) where
+module _ {E R : Type 0} {has_key : E → ℕ → Bool} (set : Parts (Entry R) (ByRow E)) (index : ℕ) (next end : Option Node) (w : IsWalk has_key set index next end) where
   abbrev list : List Node
   list = list_of set index
 
@@ -125,7 +125,7 @@ module _ {E R : Type 0} {has_key : E → ℕ → Bool} (set : IndexSet (Entry R)
 
 -- ---- the records of an index
 
-module _ {E R : Type 0} {has_key : E → ℕ → Bool} {order : E → ℕ → R → R → Ordering} {marks : E → ℕ → R → Marks} (set : IndexSet (Entry R) (ByRow E)) (slots : List (Option Node)) (linked : IsLinked has_key order marks set slots)
+module _ {E R : Type 0} {has_key : E → ℕ → Bool} {order : E → ℕ → R → R → Ordering} {marks : E → ℕ → R → Marks} (set : Parts (Entry R) (ByRow E)) (slots : List (Option Node)) (linked : IsLinked has_key order marks set slots)
     (index : ℕ) (within : index < length (specs_of set)) (max writes : ℕ) where
   abbrev named : List Handle → List (Handle × R)
   named = with_rows (seen set max writes)
@@ -146,7 +146,7 @@ module _ {E R : Type 0} {has_key : E → ℕ → Bool} {order : E → ℕ → R 
       ∙ ap named (range_seen set slots linked index within probe_order low high)
 
 -- all of them, of an index that is there, and none of one that is not
-module _ {E R : Type 0} {has_key : E → ℕ → Bool} {order : E → ℕ → R → R → Ordering} {marks : E → ℕ → R → Marks} (set : IndexSet (Entry R) (ByRow E)) (slots : List (Option Node)) (linked : IsLinked has_key order marks set slots)
+module _ {E R : Type 0} {has_key : E → ℕ → Bool} {order : E → ℕ → R → R → Ordering} {marks : E → ℕ → R → Marks} (set : Parts (Entry R) (ByRow E)) (slots : List (Option Node)) (linked : IsLinked has_key order marks set slots)
     (index max writes : ℕ) (indices : AreIndices (order (keys_of set).keys) (entries_in (contents set)) 0 (specs_of set) (handles_in (record_of set) (lists_of set))) where
   pub whole_left : rows_of_nodes (record_of set) (nodes_left (slice_get (list_of set index) 0) None (list_of set index)) ≡ with_rows (seen set max writes) (list_at (handles_in (record_of set) (lists_of set)) index)
   whole_left = by_place (cases_lt index (length (specs_of set)))

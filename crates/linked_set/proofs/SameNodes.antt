@@ -14,10 +14,10 @@ use Rattle.container_model.proofs.Moved.{each_once_is}
 use Rattle.node_store.specs.declared.Node.{Node}
 use Rattle.node_store.specs.Store.{IsNodeOf}
 use Rattle.slot_table.specs.Slots.{item_at}
-use Rattle.index_set.specs.declared.set.IndexSet.{IndexSet}
+use Rattle.index_set.specs.declared.parts.Parts.{Parts}
 use Rattle.index_set.specs.Set.{store_of, specs_of, contents, record_of, list_of, lists_of}
 use Rattle.index_set.proofs.Members.{nodes_held_at}
-use Rattle.linked_set.specs.declared.by_row.ByRow.{ByRow}
+use Rattle.index_set.specs.declared.by_row.ByRow.{ByRow}
 use Rattle.linked_set.specs.Linked.{handle_of, entries_in, handles_in}
 use Rattle.linked_set.specs.Records.{IsWhole}
 use Rattle.linked_set.proofs.Ordered.{members_here}
@@ -25,7 +25,7 @@ use Rattle.linked_set.proofs.Reading.{list_seen}
 use Rattle.linked_set.proofs.Rearranged.{IsPermutation-unmap}
 
 -- nodes whose handles are each record's once are those of each index
-module _ {E R : Type 0} {has_key : E → ℕ → Bool} {order : E → ℕ → R → R → Ordering} {marks : E → ℕ → R → Marks} (set : IndexSet (Entry R) (ByRow E)) (slots : List (Option Node)) (was : IsWhole has_key order marks set slots)
+module _ {E R : Type 0} {has_key : E → ℕ → Bool} {order : E → ℕ → R → R → Ordering} {marks : E → ℕ → R → Marks} (set : Parts (Entry R) (ByRow E)) (slots : List (Option Node)) (was : IsWhole has_key order marks set slots)
     (index : ℕ) (within : index < length (specs_of set)) where
   pub same_nodes : (nodes : List Node) (handles : List Handle) → AllByRecursion (IsNodeOf (store_of set)) nodes → map (handle_of (record_of set)) nodes ≡ handles → has_each_once (entries_in (contents set)) handles ≡ true → IsPermutation (list_of set index) nodes
   same_nodes nodes handles are named once =

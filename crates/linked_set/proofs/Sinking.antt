@@ -30,7 +30,7 @@ use Rattle.any_index.specs.Side.{side_of}
 use Rattle.any_index.proofs.ByAge.{Holds_moved}
 use Rattle.any_index.proofs.Laws.{Holds_last}
 use Rattle.any_index.proofs.Marking.{held_passes, match_held}
-use Rattle.index_set.specs.declared.set.IndexSet.{IndexSet}
+use Rattle.index_set.specs.declared.parts.Parts.{Parts}
 use Rattle.index_set.specs.Indices.{HoldIt}
 use Rattle.index_set.specs.Lists.{IsSunk, is_match}
 use Rattle.index_set.specs.Set as set
@@ -38,9 +38,10 @@ use Rattle.index_set.specs.Set.{store_of, keys_of, specs_of, contents, record_of
 use Rattle.index_set.proofs.Members.{nodes_held_at, one_list_each}
 use Rattle.index_set.proofs.Sinking.{sunk_alike}
 use Rattle.index_set.proofs.StaysUnique.{unique_after_move}
-use Rattle.linked_set.specs.ByRow.{has_by_row, order_by_row, marks_by_row, probe_by_row}
-use Rattle.linked_set.specs.declared.by_row.ByRow.{ByRow}
-use Rattle.linked_set.specs.Held.{AreHeld, has_other_key}
+use Rattle.index_set.specs.ByRow.{has_by_row, order_by_row, marks_by_row, probe_by_row}
+use Rattle.index_set.specs.declared.by_row.ByRow.{ByRow}
+use Rattle.index_set.specs.Set.{AreHeld}
+use Rattle.linked_set.specs.Held.{has_other_key}
 use Rattle.linked_set.specs.Linked.{handle_of, entries_in, handles_in}
 use Rattle.linked_set.proofs.Contents.{entries_kept, handles_kept}
 use Rattle.linked_set.proofs.LeadsTo.{leads_kept}
@@ -88,15 +89,15 @@ all_set P (x ∷ xs) (suc k) y h all = (all.0, all_set P xs k y h all.1)
 -- ---- one index
 
 -- where each list has each node, the list of an index has it
-pub each_held : {E R : Type 0} {has_key : E → ℕ → Bool} (s : IndexSet R E) → IsSound has_key s → AreHeld s → (n : Node) → IsNodeOf (store_of s) n → (k : ℕ) → k < length (specs_of s) → Holds (list_of s k) n
+pub each_held : {E R : Type 0} {has_key : E → ℕ → Bool} (s : Parts R E) → IsSound has_key s → AreHeld s → (n : Node) → IsNodeOf (store_of s) n → (k : ℕ) → k < length (specs_of s) → Holds (list_of s k) n
 each_held s sound held n is k lt = All-at (λ xs. Holds xs n) (lists_of s) k [] (omega (arith, lt, one_list_each s sound)) (held.each n is)
 
 -- the kind of an index, read from the specs
-pub kind_said : {R E : Type 0} (s : IndexSet R E) (k : ℕ) (d : Spec) (specs : List Spec) (kind : Kind) → specs ≡ specs_of s → k < length (specs_of s) → (get_or specs k d).kind ≡ kind → kind_at s k ≡ kind
+pub kind_said : {R E : Type 0} (s : Parts R E) (k : ℕ) (d : Spec) (specs : List Spec) (kind : Kind) → specs ≡ specs_of s → k < length (specs_of s) → (get_or specs k d).kind ≡ kind → kind_at s k ≡ kind
 kind_said s k d specs kind same lt is =
     ap (λ (o : Option Spec). option_map_or (λ (spec : Spec). spec.kind) o Sequenced) (slice_get_at (specs_of s) k d lt) ∙ (ap (λ (l : List Spec). (get_or l k d).kind) (sym same) ∙ is)
 
-module _ {E R P : Type 0} {has_key : E → ℕ → Bool} {order : E → ℕ → R → R → Ordering} {marks : E → ℕ → R → Marks} (probe_order : E → ℕ → R → P → Ordering) (index : ℕ) (probe : P) (old now new : IndexSet (Entry R) (ByRow E)) (slots : List (Option Node))
+module _ {E R P : Type 0} {has_key : E → ℕ → Bool} {order : E → ℕ → R → R → Ordering} {marks : E → ℕ → R → Marks} (probe_order : E → ℕ → R → P → Ordering) (index : ℕ) (probe : P) (old now new : Parts (Entry R) (ByRow E)) (slots : List (Option Node))
     (was : Thinned has_key order marks (has_other_key probe_order old index probe) old now slots) (within : index < length (specs_of old)) where
   abbrev keep : Handle → Bool
   keep = has_other_key probe_order old index probe
@@ -157,7 +158,7 @@ module _ {E R P : Type 0} {has_key : E → ℕ → Bool} {order : E → ℕ → 
 
 -- ---- the last node of an index
 
-module _ {E R : Type 0} {has_key : E → ℕ → Bool} (s : IndexSet R E) (sound : IsSound has_key s) where
+module _ {E R : Type 0} {has_key : E → ℕ → Bool} (s : Parts R E) (sound : IsSound has_key s) where
   -- it is one of the store
   pub last_of_store : (k : ℕ) → k < length (specs_of s) → (n : Node) → last (list_of s k) ≡ Some n → IsNodeOf (store_of s) n
   last_of_store k lt n is =
@@ -173,5 +174,5 @@ if_some None f h = tt
 if_some (Some x) f h = f x h
 
 -- the records that have a key are the same ones where the keys and the entries are
-pub same_test : {E R P : Type 0} (probe_order : E → ℕ → R → P → Ordering) (index : ℕ) (probe : P) (old new : IndexSet (Entry R) (ByRow E)) → IsOfSame old new → contents new ≡ contents old → has_other_key probe_order new index probe ≡ has_other_key probe_order old index probe
+pub same_test : {E R P : Type 0} (probe_order : E → ℕ → R → P → Ordering) (index : ℕ) (probe : P) (old new : Parts (Entry R) (ByRow E)) → IsOfSame old new → contents new ≡ contents old → has_other_key probe_order new index probe ≡ has_other_key probe_order old index probe
 same_test probe_order index probe old new same kept = λ i h. not (is_eq (handle_side (λ a. probe_order (same.keys i).keys index a probe) (entries_in (kept i)) h))

@@ -15,7 +15,7 @@ use Rattle.container_model.specs.declared.handle.Spec.{Spec}
 use Rattle.container_model.specs.State.{State, AreIndices, list_at}
 use Rattle.container_model.specs.Find.{kind_at}
 use Rattle.node_store.specs.declared.Node.{Node}
-use Rattle.index_set.specs.declared.set.IndexSet.{IndexSet}
+use Rattle.index_set.specs.declared.parts.Parts.{Parts}
 use Rattle.node_store.specs.Store.{IsNodeOf}
 use Rattle.index_set.specs.Set.{store_of, specs_of, list_of, lists_of, IsSound}
 use Rattle.index_set.proofs.Members.{nodes_held, one_list_each}
@@ -44,12 +44,12 @@ within_lists [] index place x at = cc
 within_lists (list ∷ lists) zero place x at = omega arith
 within_lists (list ∷ lists) (suc index) place x at = let rest = within_lists lists index place x at in omega (arith, rest)
 
-pub there_at : {R E : Type 0} {has_key : E → ℕ → Bool} (set : IndexSet R E) (sound : IsSound has_key set) (index place : ℕ) (n : Node) → slice_get (list_of set index) place ≡ Some n → index < length (specs_of set)
+pub there_at : {R E : Type 0} {has_key : E → ℕ → Bool} (set : Parts R E) (sound : IsSound has_key set) (index place : ℕ) (n : Node) → slice_get (list_of set index) place ≡ Some n → index < length (specs_of set)
 there_at set sound index place n at =
     let within = within_lists (lists_of set) index place n at in
     omega (arith, within, one_list_each set sound)
 
-pub no_nodes : {R E : Type 0} {has_key : E → ℕ → Bool} (set : IndexSet R E) (sound : IsSound has_key set) (index : ℕ) → length (specs_of set) ≤ index → list_of set index ≡ []
+pub no_nodes : {R E : Type 0} {has_key : E → ℕ → Bool} (set : Parts R E) (sound : IsSound has_key set) (index : ℕ) → length (specs_of set) ≤ index → list_of set index ≡ []
 no_nodes set sound index past = get_or_past (lists_of set) index [] (omega (arith, past, one_list_each set sound))
 
 -- ---- the list of any number
@@ -67,5 +67,5 @@ map_at f (list ∷ lists) zero = refl
 map_at f (list ∷ lists) (suc index) = map_at f lists index
 
 -- its nodes are those of the store
-pub nodes_here : {R E : Type 0} {has_key : E → ℕ → Bool} (set : IndexSet R E) (sound : IsSound has_key set) (index : ℕ) → AllByRecursion (IsNodeOf (store_of set)) (list_of set index)
+pub nodes_here : {R E : Type 0} {has_key : E → ℕ → Bool} (set : Parts R E) (sound : IsSound has_key set) (index : ℕ) → AllByRecursion (IsNodeOf (store_of set)) (list_of set index)
 nodes_here set sound index = all_at (AllByRecursion (IsNodeOf (store_of set))) tt (lists_of set) index (nodes_held set sound)

@@ -26,13 +26,14 @@ use Rattle.container_model.specs.Find.{probe_side}
 use Rattle.container_model.specs.Change.{erased_count}
 use Rattle.container_model.proofs.Found.{is_handle_same, row_of_members}
 use Rattle.any_index.specs.Side as nodes
-use Rattle.index_set.specs.declared.set.IndexSet.{IndexSet}
+use Rattle.index_set.specs.declared.parts.Parts.{Parts}
 use Rattle.index_set.specs.Set as set
 use Rattle.index_set.specs.Set.{store_of, keys_of, specs_of, contents, record_of, list_of, lists_of, IsOfSame}
 use Rattle.index_set.proofs.Members.{nodes_held, nodes_held_at, one_list_each}
-use Rattle.linked_set.specs.ByRow.{probe_by_row}
-use Rattle.linked_set.specs.declared.by_row.ByRow.{ByRow}
-use Rattle.linked_set.specs.Held.{AreHeld, has_other_key}
+use Rattle.index_set.specs.ByRow.{probe_by_row}
+use Rattle.index_set.specs.declared.by_row.ByRow.{ByRow}
+use Rattle.index_set.specs.Set.{AreHeld}
+use Rattle.linked_set.specs.Held.{has_other_key}
 use Rattle.linked_set.specs.Linked.{handle_of, entries_in, handles_in, IsKnown}
 use Rattle.linked_set.specs.Seen.{IsLinked}
 use Rattle.linked_set.proofs.Contents.{all_members, handle_of-is, has_record, member}
@@ -102,11 +103,11 @@ module _ {E R P : Type 0} (order : ℕ → R → R → Ordering) (probe_order : 
 -- ---- while records are taken out
 
 -- the indices are of the same kinds
-pub kind_kept : {R E : Type 0} (old now : IndexSet R E) (index : ℕ) → IsOfSame old now → set.kind_at now index ≡ set.kind_at old index
+pub kind_kept : {R E : Type 0} (old now : Parts R E) (index : ℕ) → IsOfSame old now → set.kind_at now index ≡ set.kind_at old index
 kind_kept old now index same = ap (λ (specs : List Spec). option_map_or (λ (spec : Spec). spec.kind) (slice_get specs index) Sequenced) same.specs
 
 -- records whose handles do not pass were taken out, and the others stand as they stood
-pub record Thinned {E R : Type 0} (has_key : E → ℕ → Bool) (order : E → ℕ → R → R → Ordering) (marks : E → ℕ → R → Marks) (keep : Handle → Bool) (old now : IndexSet (Entry R) (ByRow E)) (slots : List (Option Node)) : Type 0 where
+pub record Thinned {E R : Type 0} (has_key : E → ℕ → Bool) (order : E → ℕ → R → R → Ordering) (marks : E → ℕ → R → Marks) (keep : Handle → Bool) (old now : Parts (Entry R) (ByRow E)) (slots : List (Option Node)) : Type 0 where
   pub linked : IsLinked has_key order marks now slots
   pub held : AreHeld now
   pub same : IsOfSame old now
@@ -120,7 +121,7 @@ pub record Thinned {E R : Type 0} (has_key : E → ℕ → Bool) (order : E → 
 passes : (keep : Handle → Bool) (h : Handle) → keep h ≡ false → (g : Handle) → keep g ≡ true → not (is_handle h g) ≡ true
 passes keep h stopped g kept = ap not (false_from_ne_true _ (λ same. let bad = sym stopped ∙ (ap keep (is_handle_same h g same) ∙ kept) in cc))
 
-module _ {E R : Type 0} {has_key : E → ℕ → Bool} {order : E → ℕ → R → R → Ordering} {marks : E → ℕ → R → Marks} (keep : Handle → Bool) (old : IndexSet (Entry R) (ByRow E)) where
+module _ {E R : Type 0} {has_key : E → ℕ → Bool} {order : E → ℕ → R → R → Ordering} {marks : E → ℕ → R → Marks} (keep : Handle → Bool) (old : Parts (Entry R) (ByRow E)) where
   pub none_thinned : (slots : List (Option Node)) → IsLinked has_key order marks old slots → AreHeld old → Thinned has_key order marks keep old old slots
   none_thinned slots linked held = record {
     linked = linked;
@@ -134,7 +135,7 @@ module _ {E R : Type 0} {has_key : E → ℕ → Bool} {order : E → ℕ → R 
   }
 
   -- one more is taken out
-  pub one_thinned : (now new : IndexSet (Entry R) (ByRow E)) (slots more : List (Option Node)) → Thinned has_key order marks keep old now slots → (h : Handle) → keep h ≡ false →
+  pub one_thinned : (now new : Parts (Entry R) (ByRow E)) (slots more : List (Option Node)) → Thinned has_key order marks keep old now slots → (h : Handle) → keep h ≡ false →
       IsLinked has_key order marks new more → AreHeld new → IsOfSame now new → entries_in (contents new) ≡ filter (λ e. not (is_handle h e.handle)) (entries_in (contents now)) →
       handles_in (record_of new) (lists_of new) ≡ map (λ list. filter (λ g. not (is_handle h g)) list) (handles_in (record_of now) (lists_of now)) → (store_of new).added ≡ (store_of now).added →
       len_of (store_of new) + 1 ≡ len_of (store_of now) → Thinned has_key order marks keep old new more
@@ -154,7 +155,7 @@ module _ {E R : Type 0} {has_key : E → ℕ → Bool} {order : E → ℕ → R 
   }
 
   -- once all pass
-  module _ (now : IndexSet (Entry R) (ByRow E)) (slots : List (Option Node)) (was : Thinned has_key order marks keep old now slots) (all : (n : Node) → IsNodeOf (store_of now) n → keep (handle_of (record_of now) n) ≡ true) where
+  module _ (now : Parts (Entry R) (ByRow E)) (slots : List (Option Node)) (was : Thinned has_key order marks keep old now slots) (all : (n : Node) → IsNodeOf (store_of now) n → keep (handle_of (record_of now) n) ≡ true) where
     pub entries_thinned : entries_in (contents now) ≡ filter (λ e. keep e.handle) (entries_in (contents old))
     entries_thinned =
         sym (filter_all (λ e. keep e.handle) (entries_in (contents now))
@@ -169,7 +170,7 @@ module _ {E R : Type 0} {has_key : E → ℕ → Bool} {order : E → ℕ → R 
 
 -- ---- while those of a key are
 
-module _ {E R P : Type 0} {has_key : E → ℕ → Bool} {order : E → ℕ → R → R → Ordering} {marks : E → ℕ → R → Marks} (probe_order : E → ℕ → R → P → Ordering) (index : ℕ) (probe : P) (old now : IndexSet (Entry R) (ByRow E)) (slots : List (Option Node))
+module _ {E R P : Type 0} {has_key : E → ℕ → Bool} {order : E → ℕ → R → R → Ordering} {marks : E → ℕ → R → Marks} (probe_order : E → ℕ → R → P → Ordering) (index : ℕ) (probe : P) (old now : Parts (Entry R) (ByRow E)) (slots : List (Option Node))
     (was : Thinned has_key order marks (has_other_key probe_order old index probe) old now slots) (within : index < length (specs_of old)) where
   abbrev side : Node → Ordering
   side = set.probe_side (probe_by_row probe_order) now index probe

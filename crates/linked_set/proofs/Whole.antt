@@ -6,12 +6,12 @@ use Rattle.std.specs.declared.cmp.Ordering.{Ordering}
 use Rattle.std.proofs.lemmas.List.{length-map}
 use Rattle.node_store.specs.declared.Node.{Node}
 use Rattle.container_model.specs.declared.handle.Entry.{Entry}
-use Rattle.index_set.specs.declared.set.IndexSet.{IndexSet}
+use Rattle.index_set.specs.declared.parts.Parts.{Parts}
 use Rattle.index_set.specs.Set.{store_of, keys_of, specs_of, contents, record_of, list_of, lists_of}
 use Rattle.index_set.proofs.Members.{nodes_held}
 use Rattle.index_set.proofs.Reading.{some_spec}
-use Rattle.linked_set.specs.declared.by_row.ByRow.{ByRow}
-use Rattle.linked_set.specs.Held.{AreHeld}
+use Rattle.index_set.specs.declared.by_row.ByRow.{ByRow}
+use Rattle.index_set.specs.Set.{AreHeld}
 use Rattle.linked_set.specs.Linked.{handle_of, entries_in, handles_in}
 use Rattle.linked_set.specs.Records.{IsWhole}
 use Rattle.linked_set.proofs.ByHandle.{held_by_lists}
@@ -20,7 +20,7 @@ use Rattle.linked_set.proofs.Indices.{as_many_each}
 use Rattle.linked_set.proofs.Reading.{list_seen}
 use Rattle.linked_set.proofs.Sides.{row_known}
 
-module _ {E R : Type 0} {has_key : E → ℕ → Bool} {order : E → ℕ → R → R → Ordering} {marks : E → ℕ → R → Marks} (set : IndexSet (Entry R) (ByRow E)) (slots : List (Option Node)) (whole : IsWhole has_key order marks set slots) where
+module _ {E R : Type 0} {has_key : E → ℕ → Bool} {order : E → ℕ → R → R → Ordering} {marks : E → ℕ → R → Marks} (set : Parts (Entry R) (ByRow E)) (slots : List (Option Node)) (whole : IsWhole has_key order marks set slots) where
   -- each index has each node
   pub all_held : AreHeld set
   all_held = record {

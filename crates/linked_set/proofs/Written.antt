@@ -20,9 +20,9 @@ use Rattle.container_model.proofs.Found.{row_of-push}
 use Rattle.container_model.proofs.FreeSlot.{free_slot-is_free}
 use Rattle.container_model.proofs.Handles.{free_is_apart}
 use Rattle.container_model.proofs.Replaced.{all_replaced}
-use Rattle.index_set.specs.declared.set.IndexSet.{IndexSet}
+use Rattle.index_set.specs.declared.parts.Parts.{Parts}
 use Rattle.index_set.specs.Set.{store_of, keys_of, specs_of, columns_of, contents, record_of, lists_of, IsOfSame}
-use Rattle.linked_set.specs.declared.by_row.ByRow.{ByRow}
+use Rattle.index_set.specs.declared.by_row.ByRow.{ByRow}
 use Rattle.linked_set.specs.Linked.{entries_in, handles_in}
 use Rattle.linked_set.specs.Records.{Records, AreListed, records_in}
 use Rattle.linked_set.specs.Seen.{seen}
@@ -33,7 +33,7 @@ abbrev pub AreListedIn : {E R : Type 0} → (E → ℕ → R → R → Ordering)
 AreListedIn order s = AreIndices (order s.keys) s.entries 0 s.specs s.lists
 
 -- so where the container is another one by its limit and its writes alone
-pub listed_by : {E R : Type 0} (order : E → ℕ → R → R → Ordering) (set : IndexSet (Entry R) (ByRow E)) (max writes : ℕ) (s : State E R) → seen set max writes ≡ s → AreListedIn order s → AreListed order (records_in set)
+pub listed_by : {E R : Type 0} (order : E → ℕ → R → R → Ordering) (set : Parts (Entry R) (ByRow E)) (max writes : ℕ) (s : State E R) → seen set max writes ≡ s → AreListedIn order s → AreListed order (records_in set)
 listed_by order set max writes s is kept = subst (AreListedIn order) (sym is) kept
 
 -- ---- refusals
@@ -45,7 +45,7 @@ not_banned (Some at) rest e = absurd (cc)
 
 -- ---- other entries and other lists
 
-module _ {E R : Type 0} (order : E → ℕ → R → R → Ordering) (old new : IndexSet (Entry R) (ByRow E)) (same : IsOfSame old new) where
+module _ {E R : Type 0} (order : E → ℕ → R → R → Ordering) (old new : Parts (Entry R) (ByRow E)) (same : IsOfSame old new) where
   pub listed_after : (entries : List (Entry R)) (lists : List (List Handle)) → entries_in (contents new) ≡ entries → handles_in (record_of new) (lists_of new) ≡ lists →
       AreIndices (order (keys_of old).keys) entries 0 (specs_of old) lists → AreListed order (records_in new)
   listed_after entries lists e l kept = subst (AreListedIn order) (sym (λ i. state_with (same.columns i) 0 0 (same.keys i).keys (same.specs i) (e i) (l i))) kept
@@ -74,7 +74,7 @@ abbrev records_with : {E R : Type 0} → E → List Spec → ℕ → List (Entry
 records_with keys specs most entries lists added = record { keys = keys; specs = specs; most = most; entries = entries; lists = lists; added = added }
 
 -- a set with the entries and the lists that it had has the records that it had
-pub records_kept : {E R : Type 0} (old new : IndexSet (Entry R) (ByRow E)) → IsOfSame old new → entries_in (contents new) ≡ entries_in (contents old) → handles_in (record_of new) (lists_of new) ≡ handles_in (record_of old) (lists_of old) →
+pub records_kept : {E R : Type 0} (old new : Parts (Entry R) (ByRow E)) → IsOfSame old new → entries_in (contents new) ≡ entries_in (contents old) → handles_in (record_of new) (lists_of new) ≡ handles_in (record_of old) (lists_of old) →
     (store_of new).added ≡ (store_of old).added → records_in new ≡ records_in old
 records_kept old new same entries lists added = λ i. records_with (same.keys i).keys (same.specs i) (same.columns i) (entries i) (lists i) (added i)
 

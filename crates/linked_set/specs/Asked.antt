@@ -11,11 +11,11 @@ use Rattle.container_model.specs.Find as find
 use Rattle.container_model.specs.Indices.{KeepsEach, KeepsRest}
 use Rattle.container_model.specs.State.{State, KeysMatch, has_key_kind, is_hashed_kind, is_sorted_kind}
 use Rattle.key_extract.specs.declared.extract.Extract.{Ghosts}
-use Rattle.index_set.specs.declared.set.IndexSet.{IndexSet}
+use Rattle.index_set.specs.declared.parts.Parts.{Parts}
 use Rattle.index_set.specs.Set.{keys_of, specs_of, columns_of, kind_at}
-use Rattle.linked_set.specs.declared.by_row.ByRow.{ByRow}
+use Rattle.index_set.specs.declared.by_row.ByRow.{ByRow}
 use Rattle.linked_set.specs.Edges.{KeyFits}
-use Rattle.linked_set.specs.Held.{AreHeld}
+use Rattle.index_set.specs.Set.{AreHeld}
 use Rattle.linked_set.specs.Records.{Records}
 use Rattle.linked_set.specs.Seen.{IsLinked}
 
@@ -71,7 +71,7 @@ pub record CanGrow {E R : Type 0} (r : Records E R) (limit : Option Why) : Type 
 
 -- the records of a key can be taken out: each index has each node, and the probe is a key of the index, a whole one
 -- where the index is hashed
-pub record CanTakeKey {E R P : Type 0} (X : Ghosts E R P) (set : IndexSet (Entry R) (ByRow E)) (slots : List (Option Node)) (k : ℕ) (probe : P) : Type 0 where
+pub record CanTakeKey {E R P : Type 0} (X : Ghosts E R P) (set : Parts (Entry R) (ByRow E)) (slots : List (Option Node)) (k : ℕ) (probe : P) : Type 0 where
   pub linked : IsLinked X.has_key X.order_of (marks_of X) set slots
   pub held : AreHeld set
   pub index : k < length (specs_of set)
@@ -79,7 +79,7 @@ pub record CanTakeKey {E R P : Type 0} (X : Ghosts E R P) (set : IndexSet (Entry
   pub fits : IsTrue (is_sorted_kind (kind_at set k)) → IsTrue (X.does_fit (keys_of set).keys k probe)
   pub whole : IsTrue (is_hashed_kind (kind_at set k)) → IsTrue (X.is_whole (keys_of set).keys k probe)
 
-module _ {E R P : Type 0} (X : Ghosts E R P) (set : IndexSet (Entry R) (ByRow E)) (slots : List (Option Node)) where
+module _ {E R P : Type 0} (X : Ghosts E R P) (set : Parts (Entry R) (ByRow E)) (slots : List (Option Node)) where
   -- an index may be added: there may be one more, and the keys are those of the set and one more
   pub record CanAddIndex (spec : Spec) (given : E) : Type 0 where
     pub linked : IsLinked X.has_key X.order_of (marks_of X) set slots

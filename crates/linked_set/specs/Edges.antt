@@ -9,10 +9,10 @@ use Rattle.list_model.specs.Order.{EachPair}
 use Rattle.list_model.specs.Place.{Edge, Inclusive, Exclusive, Open}
 use Rattle.node_store.specs.declared.Node.{Node}
 use Rattle.container_model.specs.declared.handle.Entry.{Entry}
-use Rattle.index_set.specs.declared.set.IndexSet.{IndexSet}
+use Rattle.index_set.specs.declared.parts.Parts.{Parts}
 use Rattle.index_set.specs.Set.{probe_side}
-use Rattle.linked_set.specs.declared.by_row.ByRow.{ByRow}
-use Rattle.linked_set.specs.ByRow.{probe_by_row}
+use Rattle.index_set.specs.declared.by_row.ByRow.{ByRow}
+use Rattle.index_set.specs.ByRow.{probe_by_row}
 
 -- the bound, where `side` says how a member stands to a key
 abbrev pub edge_of : {P X : Type 0} → (P → X → Ordering) → Bound P → Edge X
@@ -21,7 +21,7 @@ edge_of side (Excluded probe) = Exclusive (side probe)
 edge_of side Unbounded = Open
 
 -- the bound among the nodes of an index
-abbrev pub node_edge : {E R P : Type 0} → (E → ℕ → R → P → Ordering) → IndexSet (Entry R) (ByRow E) → ℕ → Bound P → Edge Node
+abbrev pub node_edge : {E R P : Type 0} → (E → ℕ → R → P → Ordering) → Parts (Entry R) (ByRow E) → ℕ → Bound P → Edge Node
 node_edge {E} {R} order set index bound = edge_of (probe_side (probe_by_row order) set index) bound
 
 -- the key of the bound, if it has one, fits

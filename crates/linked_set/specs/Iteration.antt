@@ -9,10 +9,10 @@ use Rattle.container_model.specs.State.{State, is_hashed_kind, row_of}
 use Rattle.node_store.specs.declared.Node.{Node}
 use Rattle.node_store.specs.Store.{number_of}
 use Rattle.node_store.specs.ByNode.{same_node}
-use Rattle.index_set.specs.declared.set.IndexSet.{IndexSet}
+use Rattle.index_set.specs.declared.parts.Parts.{Parts}
 use Rattle.index_set.specs.Set.{list_of, kind_at, IsSound}
-use Rattle.linked_set.specs.ByRow.{has_by_row}
-use Rattle.linked_set.specs.declared.by_row.ByRow.{ByRow}
+use Rattle.index_set.specs.ByRow.{has_by_row}
+use Rattle.index_set.specs.declared.by_row.ByRow.{ByRow}
 
 -- the records of these handles, with the handles
 abbrev pub with_rows : {E R : Type 0} → State E R → List Handle → List (Handle × R)
@@ -42,7 +42,7 @@ pub record StandsIn (nodes : List Node) (position : Option Node) : Type 0 where
   pub is : position ≡ slice_get nodes place
 
 -- what holds of every walk
-pub record IsWalk {E R : Type 0} (has_key : E → ℕ → Bool) (set : IndexSet (Entry R) (ByRow E)) (index : ℕ) (next end : Option Node) : Type 0 where
+pub record IsWalk {E R : Type 0} (has_key : E → ℕ → Bool) (set : Parts (Entry R) (ByRow E)) (index : ℕ) (next end : Option Node) : Type 0 where
   pub sound : IsSound (has_by_row has_key) set
   pub kind : IsTrue (not (is_hashed_kind (kind_at set index)))
   pub begins : StandsIn (list_of set index) next

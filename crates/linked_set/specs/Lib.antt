@@ -1,5 +1,4 @@
 pub mod Asked
-pub mod ByRow
 pub mod Edges
 pub mod Held
 pub mod Iteration

@@ -4,7 +4,7 @@ use Rattle.std.specs.Option.{option_map_or}
 use Rattle.std.specs.declared.cmp.Ordering.{Ordering}
 use Rattle.key_extract.specs.Digests.{Marks}
 use Rattle.node_store.specs.declared.Node.{Node}
-use Rattle.index_set.specs.declared.set.IndexSet.{IndexSet}
+use Rattle.index_set.specs.declared.parts.Parts.{Parts}
 use Rattle.index_set.specs.Set.{store_of, keys_of, specs_of, columns_of, contents, record_of, lists_of}
 use Rattle.container_model.specs.declared.handle.Handle.{Handle}
 use Rattle.container_model.specs.declared.handle.Entry.{Entry}
@@ -14,7 +14,7 @@ use Rattle.container_model.specs.declared.refusal.Why.TheVariants.{Banned, Stale
 use Rattle.container_model.specs.State.{State, AreIndices}
 use Rattle.container_model.specs.Find.{is_live}
 use Rattle.container_model.specs.Insert.{ban}
-use Rattle.linked_set.specs.declared.by_row.ByRow.{ByRow}
+use Rattle.index_set.specs.declared.by_row.ByRow.{ByRow}
 use Rattle.linked_set.specs.Linked.{entries_in, handles_in}
 use Rattle.linked_set.specs.Seen.{IsLinked}
 
@@ -34,7 +34,7 @@ pub record Records (E R : Type 0) : Type 0 where
 
 module _ {E R : Type 0} where
   -- those that a set of nodes has
-  abbrev pub records_in : IndexSet (Entry R) (ByRow E) → Records E R
+  abbrev pub records_in : Parts (Entry R) (ByRow E) → Records E R
   records_in set =
       record {
         keys = (keys_of set).keys;
@@ -67,6 +67,6 @@ module _ {E R : Type 0} where
   AreListed order r = AreIndices (order r.keys) r.entries 0 r.specs r.lists
 
   -- a set and slots in step, each of whose indices has each record
-  pub record IsWhole (has_key : E → ℕ → Bool) (order : E → ℕ → R → R → Ordering) (marks : E → ℕ → R → Marks) (set : IndexSet (Entry R) (ByRow E)) (slots : List (Option Node)) : Type 0 where
+  pub record IsWhole (has_key : E → ℕ → Bool) (order : E → ℕ → R → R → Ordering) (marks : E → ℕ → R → Marks) (set : Parts (Entry R) (ByRow E)) (slots : List (Option Node)) : Type 0 where
     pub linked : IsLinked has_key order marks set slots
     pub listed : AreListed order (records_in set)

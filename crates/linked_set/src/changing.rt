@@ -14,14 +14,13 @@ ghost use Rattle.linked_set.specs.Modified.{told};
 ghost use Rattle.linked_set.specs.Records.{alone, row_kept_out, state_of};
 ghost use Rattle.linked_set.specs.Seen.{IsLinked};
 
-use crate::by_row::ByRow;
 use crate::linked::{node_at, replacement_ban};
 use crate::linked_set::LinkedSet;
 use crate::modify::{Modified, change};
 use crate::modify_or_undo::change_or_undo;
 use crate::replace::rewrite;
 use container_model::{Entry, Handle, Refused, Why};
-use index_set::IndexSet;
+use index_set::{ByRow, IndexSet};
 use key_extract::Extract;
 use modify_ops::Edit;
 use node_store::Node;

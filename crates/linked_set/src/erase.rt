@@ -7,16 +7,15 @@ ghost use Rattle.node_store.specs.ByNode.{same_node};
 ghost use Rattle.container_model.specs.State.{is_handle, is_hashed_kind};
 ghost use Rattle.index_set.specs.Indices.{HoldIt};
 ghost use Rattle.index_set.specs.Set.{store_of, contents, record_of, lists_of, list_of, kind_at, IsSound, IsOfSame};
-ghost use Rattle.linked_set.specs.ByRow.{has_by_row};
+ghost use Rattle.index_set.specs.ByRow.{has_by_row};
 ghost use Rattle.linked_set.specs.Linked.{handle_of, entries_in, handles_in};
 ghost use Rattle.linked_set.specs.Seen.{IsLinked};
-ghost use Rattle.linked_set.specs.Held.{AreHeld};
+ghost use Rattle.index_set.specs.Set.{AreHeld};
 
 use crate::beside::node_after;
-use crate::by_row::ByRow;
 use crate::linked::handle_at;
 use container_model::{Entry, Handle};
-use index_set::IndexSet;
+use index_set::{ByRow, IndexSet};
 use key_extract::Extract;
 use node_store::Node;
 use slot_table::SlotTable;
@@ -60,8 +59,7 @@ pub(crate) fn take_out<R: Drop, E: Extract<R>>(
     ensures count { (store_of set.new).added ≡ (store_of set.old).added }
     ensures len { len_of (store_of set.new) + 1 ≡ len_of (store_of set.old) }
 {
-    set.leave(node);
-    let entry = set.remove(node);
+    let entry = set.take(node);
     slots.release(entry.handle.slot as usize);
     entry
 }

@@ -7,15 +7,16 @@ ghost use Rattle.node_store.specs.Nodes.{Holds};
 ghost use Rattle.node_store.specs.Store.{IsNodeOf, len_of};
 ghost use Rattle.index_set.specs.Set.{probe_side, store_of, keys_of, contents, record_of, list_of, lists_of, IsSound, IsOfSame};
 ghost use Rattle.linked_set.specs.Asked.{CanTakeKey};
-ghost use Rattle.linked_set.specs.ByRow.{has_by_row, probe_by_row};
-ghost use Rattle.linked_set.specs.Held.{AreHeld, has_other_key};
+ghost use Rattle.index_set.specs.ByRow.{has_by_row, probe_by_row};
+ghost use Rattle.index_set.specs.Set.{AreHeld};
+ghost use Rattle.linked_set.specs.Held.{has_other_key};
 ghost use Rattle.linked_set.specs.Linked.{entries_in, handles_in};
 ghost use Rattle.linked_set.specs.Seen.{IsLinked};
 
-use crate::by_row::ByRow;
+use crate::beside::last_of;
 use crate::erase::take_out;
 use container_model::{Entry, Kind};
-use index_set::IndexSet;
+use index_set::{ByRow, IndexSet, Nodes};
 use key_extract::Extract;
 use node_store::Node;
 use slot_table::SlotTable;
@@ -46,7 +47,7 @@ pub(crate) fn take_key<R: Drop, E: Extract<R>>(
     ensures added { (store_of set.new).added ≡ (store_of set.old).added }
     ensures count { result + len_of (store_of set.new) ≡ len_of (store_of set.old) }
 {
-    if set.count(index, probe) > FEW {
+    if set.at(index).count(probe) > FEW {
         sink_key(set, slots, index, probe);
     }
     take_each(set, slots, index, probe)
@@ -121,7 +122,7 @@ fn last_or_any<R, E: Extract<R>>(
     if last.is_some() {
         return last;
     }
-    set.find_any(index, probe)
+    set.at(index).find_any(probe)
 }
 
 // The last node of the first index whose places can be counted and whose last record has the key.
@@ -138,7 +139,7 @@ fn last_of_key<R, E: Extract<R>>(
 {
     for row in 0..set.specs().len() {
         if let Kind::Random = set.specs()[row].kind {
-            if let Some(node) = set.last(row) {
+            if let Some(node) = last_of(set, row) {
                 if set.keys().order_probe(index, set.get(node), probe) == Ordering::Equal {
                     return Some(node);
                 }

@@ -7,16 +7,15 @@ ghost use Rattle.container_model.specs.declared.handle.Spec.{Spec};
 ghost use Rattle.container_model.specs.State.{IsIndex, is_hashed_kind, is_sorted_kind};
 ghost use Rattle.node_store.specs.Store.{IsNodeOf};
 ghost use Rattle.index_set.specs.Set.{store_of, keys_of, specs_of, contents, record_of, list_of, lists_of, IsSound, IsOfSame};
-ghost use Rattle.linked_set.specs.ByRow.{has_by_row};
+ghost use Rattle.index_set.specs.ByRow.{has_by_row};
 ghost use Rattle.linked_set.specs.Linked.{handle_of, entries_in, handles_in, nodes_in};
 ghost use Rattle.linked_set.specs.Restored.{HasMembers, IsUnfit, spec_at, unfit_of};
 ghost use Rattle.linked_set.specs.Seen.{IsLinked};
 
-use crate::by_row::ByRow;
 use crate::rearrange::{all_live, has_each_once, nodes_of};
 use crate::walk::{by_age, in_order, nodes_by_age};
 use container_model::{Entry, Handle, Kind};
-use index_set::{IndexSet, NoIndex};
+use index_set::{ByRow, Filling, NoIndex, Nodes};
 use key_extract::Extract;
 use node_store::Node;
 use slot_table::SlotTable;
@@ -53,7 +52,7 @@ fn are_same(given: &[Handle], listed: &[Handle]) -> bool
 // The nodes of an order that has each record's handle once.
 fn named_nodes<R, E: Extract<R>>(
     alloc: Global,
-    set: &IndexSet<Entry<R>, ByRow<E>>,
+    set: &Filling<Entry<R>, ByRow<E>>,
     slots: &SlotTable<Node>,
     order: &[Handle],
 ) -> Result<Vec<Node>, Unfit>
@@ -84,7 +83,7 @@ fn named_nodes<R, E: Extract<R>>(
 // The nodes of all records by age, where that is the order.
 fn aged_nodes<R, E: Extract<R>>(
     alloc: Global,
-    set: &IndexSet<Entry<R>, ByRow<E>>,
+    set: &Filling<Entry<R>, ByRow<E>>,
     order: &[Handle],
 ) -> Result<Vec<Node>, Unfit>
     requires { IsSound (has_by_row E.has_key) set.now }
@@ -110,7 +109,7 @@ fn aged_nodes<R, E: Extract<R>>(
 // The nodes in the order of their handles, which has each record's once, and in a hashed index is that of insertion.
 fn ordered_nodes<R, E: Extract<R>>(
     alloc: Global,
-    set: &IndexSet<Entry<R>, ByRow<E>>,
+    set: &Filling<Entry<R>, ByRow<E>>,
     slots: &SlotTable<Node>,
     index: usize,
     order: &[Handle],
@@ -140,7 +139,7 @@ fn ordered_nodes<R, E: Extract<R>>(
 // Whether the list of an index that is in order is this one; the others are not asked.
 fn is_in_place<R, E: Extract<R>>(
     alloc: Global,
-    set: &IndexSet<Entry<R>, ByRow<E>>,
+    set: &Filling<Entry<R>, ByRow<E>>,
     index: usize,
     order: &[Handle],
 ) -> Result<bool, AllocError>
@@ -176,11 +175,11 @@ fn told(why: NoIndex) -> Unfit
 /// O(n log n).
 pub(crate) fn filled<R: Drop, E: Extract<R> + Drop>(
     alloc: Global,
-    set: IndexSet<Entry<R>, ByRow<E>>,
+    set: Filling<Entry<R>, ByRow<E>>,
     slots: &SlotTable<Node>,
     index: usize,
     order: &[Handle],
-) -> Result<IndexSet<Entry<R>, ByRow<E>>, Unfit>
+) -> Result<Filling<Entry<R>, ByRow<E>>, Unfit>
     requires linked { IsLinked E.has_key E.order_of (marks_of E.Extract) set slots.now.items }
     requires index { index < length (specs_of set) }
     ensures linked { IfOk result (λ made. IsLinked E.has_key E.order_of (marks_of E.Extract)
@@ -198,7 +197,7 @@ pub(crate) fn filled<R: Drop, E: Extract<R> + Drop>(
         Ok(nodes) => nodes,
         Err(why) => return Err(why),
     };
-    let made = match set.refilled(index, &nodes) {
+    let made = match set.filled(index, &nodes) {
         Ok(made) => made,
         Err(why) => return Err(told(why)),
     };

@@ -7,11 +7,10 @@ ghost use Rattle.linked_set.specs.Asked.{CanAddIndex, CanDropIndex};
 ghost use Rattle.linked_set.specs.Refusal.{HasItsNodes, IsRefusal, by_handles};
 ghost use Rattle.linked_set.specs.Seen.{seen, IsLinked};
 
-use crate::by_row::ByRow;
 use crate::linked::handle_at;
 use crate::walk::nodes_by_age;
 use container_model::{Entry, Refused, Spec, Why};
-use index_set::{IndexSet, NoIndex};
+use index_set::{ByRow, IndexSet, NoIndex};
 use key_extract::Extract;
 use node_store::Node;
 use slot_table::SlotTable;

@@ -5,10 +5,10 @@ ghost use Rattle.linked_set.specs.Asked.{HasKeysWith, HasKeysWithout};
 ghost use Rattle.linked_set.specs.Records.{alone, state_of};
 ghost use Rattle.linked_set.specs.Refusal.{IsRefusal};
 
-use crate::by_row::ByRow;
 use crate::index_changes::{add_index, check_index, drop_index};
 use crate::linked_set::LinkedSet;
 use container_model::{Refused, Spec, Why};
+use index_set::ByRow;
 use key_extract::Extract;
 
 impl<R: Drop, E: Extract<R> + Drop> LinkedSet<R, E> {

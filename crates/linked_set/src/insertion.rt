@@ -6,17 +6,16 @@ ghost use Rattle.container_model.specs.Insert.{ban_from, free_slot, with_inserte
 ghost use Rattle.index_set.specs.Places.{place_from};
 ghost use Rattle.index_set.specs.Set.{keys_of, specs_of, contents, record_of, lists_of};
 ghost use Rattle.linked_set.specs.Asked.{CanGrow};
-ghost use Rattle.linked_set.specs.ByRow.{order_by_row};
+ghost use Rattle.index_set.specs.ByRow.{order_by_row};
 ghost use Rattle.linked_set.specs.Linked.{entries_in, handles_in};
 ghost use Rattle.linked_set.specs.Records.{kept_out, state_of};
 ghost use Rattle.linked_set.specs.Seen.{IsLinked};
 
 use crate::beside::is_there;
-use crate::by_row::ByRow;
 use crate::linked::{free_place, put_in};
 use crate::linked_set::LinkedSet;
 use container_model::{Entry, Handle, Refused, Why};
-use index_set::{FreePlace, IndexSet};
+use index_set::{ByRow, FreePlace, IndexSet};
 use key_extract::Extract;
 use node_store::Node;
 use slot_table::SlotTable;

@@ -4,9 +4,8 @@ ghost use Rattle.std.specs.Iterator.{YieldsFirstBy, item_count};
 ghost use Rattle.node_store.specs.Store.{number_of};
 ghost use Rattle.linked_set.specs.Iteration.{is_numbered};
 
-use crate::by_row::ByRow;
 use container_model::{Entry, Handle};
-use index_set::IndexSet;
+use index_set::{ByRow, IndexSet, Nodes};
 use key_extract::Extract;
 use node_store::Node;
 use std::marker::Model;
@@ -51,7 +50,7 @@ impl<'a, R: Drop, E: Extract<R> + Drop> Iterator for Iter<'a, R, E> {
             return None;
         }
         let set = self.set;
-        self.next = set.next(self.index, node);
+        self.next = set.at(self.index).next(node);
         let entry = set.get(node);
         Some((entry.handle, &entry.row))
     }

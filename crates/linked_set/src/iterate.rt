@@ -9,18 +9,17 @@ ghost use Rattle.container_model.specs.Find.{kind_at, probe_side};
 ghost use Rattle.index_set.specs.Set as nodes;
 ghost use Rattle.index_set.specs.Set.{keys_of, specs_of, list_of, IsSound, IsKeyed};
 ghost use Rattle.linked_set.specs.Asked.{AreBoundsOf, FitsAt};
-ghost use Rattle.linked_set.specs.ByRow.{has_by_row, order_by_row, marks_by_row};
+ghost use Rattle.index_set.specs.ByRow.{has_by_row, order_by_row, marks_by_row};
 ghost use Rattle.linked_set.specs.Edges.{edge_of, node_edge, KeyFits};
 ghost use Rattle.linked_set.specs.Iteration.{with_rows};
 ghost use Rattle.linked_set.specs.Records.{alone};
 
 use crate::beside::first_of;
-use crate::by_row::ByRow;
 use crate::iter::Iter;
 use crate::linked_set::LinkedSet;
 use crate::range::{first_from, up_to};
 use container_model::Entry;
-use index_set::IndexSet;
+use index_set::{ByRow, IndexSet, Nodes};
 use key_extract::Extract;
 use node_store::Node;
 use std::ops::Bound;
@@ -94,8 +93,8 @@ fn first_past<R, E: Extract<R>>(
         (list_of set.now index)) }
 {
     match high {
-        Bound::Included(probe) => set.upper(index, probe),
-        Bound::Excluded(probe) => set.lower(index, probe),
+        Bound::Included(probe) => set.at(index).upper(probe),
+        Bound::Excluded(probe) => set.at(index).lower(probe),
         Bound::Unbounded => None,
     }
 }

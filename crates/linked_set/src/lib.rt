@@ -5,7 +5,6 @@
 #![tactic(auto)]
 
 mod beside;
-mod by_row;
 mod changing;
 mod erase;
 mod erase_key;
@@ -26,14 +25,15 @@ mod reads;
 mod rearrange;
 mod replace;
 mod restoring;
-mod row_changes;
 mod saved;
 mod seek;
 mod sort;
+mod spent;
 mod walk;
 
-pub use by_row::ByRow;
+pub use index_set::ByRow;
 pub use iter::Iter;
 pub use linked_set::LinkedSet;
 pub use modify::Modified;
 pub use restoring::Misfit;
+pub use spent::is_spent;

@@ -8,23 +8,24 @@ ghost use Rattle.container_model.specs.Insert.{ban_from, entered_from};
 ghost use Rattle.slot_table.specs.Slots.{first_free, item_at};
 ghost use Rattle.index_set.specs.Indices.{HoldIt};
 ghost use Rattle.index_set.specs.Places.{place_from, IsPlaceOf};
-ghost use Rattle.index_set.specs.Set.{store_of, keys_of, specs_of, contents, record_of, list_of, lists_of, HasRoom, IsOfSame};
-ghost use Rattle.linked_set.specs.ByRow.{order_by_row};
+ghost use Rattle.index_set.specs.Set.{store_of, keys_of, specs_of, contents, record_of, list_of, lists_of, IsOfSame};
+ghost use Rattle.index_set.specs.ByRow.{order_by_row};
 ghost use Rattle.linked_set.specs.Linked.{handle_of, entries_in, handles_in};
 ghost use Rattle.linked_set.specs.Seen.{IsLinked};
 
-use crate::by_row::ByRow;
 use container_model::{Entry, Handle};
-use index_set::{FreePlace, IndexSet};
+use index_set::{ByRow, FreePlace, IndexSet, Nodes};
 use key_extract::Extract;
 use node_store::{NoRoom, Node};
 use slot_table::SlotTable;
-use std::alloc::AllocError;
 
 /// The handle of a node's record. O(1).
-pub(crate) fn handle_at<R, E: Extract<R>>(set: &IndexSet<Entry<R>, ByRow<E>>, node: Node) -> Handle
-    requires { IsNodeOf (store_of set.now) node }
-    ensures { result ≡ handle_of (record_of set.now) node }
+pub(crate) fn handle_at<R, E: Extract<R>, S: Nodes<Entry<R>, ByRow<E>>>(
+    set: &S,
+    node: Node,
+) -> Handle
+    requires { IsNodeOf (store_of (S.parts set.now)) node }
+    ensures { result ≡ handle_of (record_of (S.parts set.now)) node }
 {
     set.get(node).handle
 }
@@ -44,16 +45,16 @@ pub(crate) fn position_at<R, E: Extract<R>>(
 }
 
 /// The node whose record has the handle, or none where that record has gone. O(1).
-pub(crate) fn node_at<R, E: Extract<R>>(
-    set: &IndexSet<Entry<R>, ByRow<E>>,
+pub(crate) fn node_at<R, E: Extract<R>, S: Nodes<Entry<R>, ByRow<E>>>(
+    set: &S,
     slots: &SlotTable<Node>,
     handle: Handle,
 ) -> Option<Node>
-    requires { (k : ℕ) → AreNodesOf (store_of set.now) (item_at slots.now.items k) }
+    requires { (k : ℕ) → AreNodesOf (store_of (S.parts set.now)) (item_at slots.now.items k) }
     ensures found { (n : Node) → result ≡ Some n → (item_at slots.now.items handle.slot ≡ Some n) ×
-        IsTrue (is_handle handle (handle_of (record_of set.now) n)) }
+        IsTrue (is_handle handle (handle_of (record_of (S.parts set.now)) n)) }
     ensures none { (n : Node) → result ≡ None → item_at slots.now.items handle.slot ≡ Some n →
-        IsTrue (not (is_handle handle (handle_of (record_of set.now) n))) }
+        IsTrue (not (is_handle handle (handle_of (record_of (S.parts set.now)) n))) }
 {
     let node = slots.get(handle.slot as usize)?;
     if handle == handle_at(set, node) {
@@ -101,27 +102,8 @@ pub(crate) fn replacement_ban<R, E: Extract<R>>(
         (handles_in (record_of set.now) (lists_of set.now))
         (Some (handle_of (record_of set.now) node)) entry.now.row 0 (specs_of set.now) }
 {
-    let changed = set.changed_by(node, entry);
-    let (index, by) = set.bans_changed(entry, Some(node), changed)?;
+    let (index, by) = set.bans(entry, node)?;
     Some((index, handle_at(set, by)))
-}
-
-// Makes room for one more record. Where memory is refused, nothing is changed.
-fn reserve_one<R, E: Extract<R>>(
-    set: &mut IndexSet<Entry<R>, ByRow<E>>,
-    slots: &mut SlotTable<Node>,
-) -> Result<(), AllocError>
-    requires { IsLinked E.has_key E.order_of (marks_of E.Extract) set.old slots.old.items }
-    ensures linked { IsLinked E.has_key E.order_of (marks_of E.Extract) set.new slots.new.items }
-    ensures same { IsOfSame set.old set.new }
-    ensures contents { contents set.new ≡ contents set.old }
-    ensures lists { lists_of set.new ≡ lists_of set.old }
-    ensures items { slots.new.items ≡ slots.old.items }
-    ensures room { OnOk result (HasRoom set.new) }
-    ensures slot { OnOk result (first_free slots.new.items < slots.new.capacity) }
-{
-    slots.reserve_one()?;
-    set.reserve_one()
 }
 
 /// Adds a record, whose handle has the least free slot, and puts its node into each index: before the place where one is
@@ -160,11 +142,10 @@ pub(crate) fn put_in<R: Drop, E: Extract<R>>(
         handles_in (record_of set.old) (lists_of set.old)) }
     ensures same_count { OnErr result ((store_of set.new).added ≡ (store_of set.old).added) }
 {
-    if reserve_one(set, slots).is_err() {
+    if slots.reserve_one().is_err() {
         return Err(NoRoom { value: entry });
     }
-    let node = set.add(entry)?;
-    set.enter(node, at, known);
+    let node = set.put(entry, at, known)?;
     slots.take(node);
     Ok(())
 }

@@ -4,11 +4,10 @@ ghost use Rattle.container_model.specs.State.{empty_with_most, list_at, row_of};
 ghost use Rattle.linked_set.specs.Asked.{IsDeclared};
 ghost use Rattle.linked_set.specs.Records.{state_of};
 
-use crate::by_row::ByRow;
 use crate::linked::node_at;
 use crate::walk::{by_age, in_order};
 use container_model::{Entry, Handle, Kind, Spec};
-use index_set::IndexSet;
+use index_set::{ByRow, IndexSet, Nodes};
 use key_extract::Extract;
 use node_store::Node;
 use slot_table::SlotTable;

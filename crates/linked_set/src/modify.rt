@@ -9,13 +9,11 @@ ghost use Rattle.linked_set.specs.Linked.{handle_of};
 ghost use Rattle.linked_set.specs.Modified.{told};
 ghost use Rattle.linked_set.specs.Seen.{seen, IsLinked};
 
-use crate::by_row::ByRow;
 use crate::linked::handle_at;
-use crate::row_changes::changed_rows;
 use container_model::{Entry, Handle};
-use index_set::IndexSet;
+use index_set::{ByRow, IndexSet};
 use key_extract::Extract;
-use modify_ops::{Edit, settle_or_leave_changed};
+use modify_ops::{Edit, modify_node};
 use node_store::Node;
 use slot_table::SlotTable;
 
@@ -51,17 +49,13 @@ pub(crate) fn change<R: Drop, E: Extract<R>, T: Edit<R>>(
     ensures edit { (r : R) → option_map (λ e. e.row) (record_of set.old node) ≡ Some r → edit.new ≡
         T.after_apply edit.old r }
 {
-    edit.apply(&mut set.get_mut(node).row);
-    let changed = changed_rows(set, node, edit.replaced());
-    let Some((index, by)) = settle_or_leave_changed(set, node, changed) else {
+    let Some(lost) = modify_node(set, node, edit) else {
         return Modified::Kept;
     };
-    let by = handle_at(set, by);
-    let entry = set.remove(node);
-    slots.release(entry.handle.slot as usize);
+    slots.release(lost.value.handle.slot as usize);
     Modified::Erased {
-        row: entry.row,
-        index,
-        by,
+        row: lost.value.row,
+        index: lost.index,
+        by: handle_at(set, lost.by),
     }
 }

@@ -3,25 +3,20 @@ ghost use Rattle.any_index.specs.Keyed.{marks_of};
 ghost use Rattle.std.specs.Prelude.{◌≡◌, ◌+◌, ◌-◌, ◌<◌, ◌^◌, ◌==◌, ℕ, cond, length, option_map, IsTrue, None, Some};
 ghost use Rattle.std.specs.Option.{option_map_or};
 ghost use Rattle.std.specs.declared.cmp.Ordering.TheVariants.{Equal};
-ghost use Rattle.node_store.specs.Store.{IsNodeOf};
-ghost use Rattle.container_model.specs.declared.handle.Entry.{Entry};
 ghost use Rattle.container_model.specs.State.{has_key_kind};
 ghost use Rattle.container_model.specs.Insert.{ban};
 ghost use Rattle.container_model.specs.Change.{spent, with_replaced, with_row};
 ghost use Rattle.index_set.specs.Indices.{HoldIt};
-ghost use Rattle.index_set.specs.Lists.{ban_from};
-ghost use Rattle.index_set.specs.Set.{store_of, keys_of, specs_of, kind_at, contents, record_of, lists_of, IsSound, IsKeyedBut, IsUniqueExcept, IsFreeBeside};
-ghost use Rattle.linked_set.specs.ByRow.{has_by_row, order_by_row, marks_by_row};
+ghost use Rattle.index_set.specs.Set.{store_of, keys_of, specs_of, kind_at, contents, record_of, lists_of};
 ghost use Rattle.linked_set.specs.Linked.{entries_in, handle_of};
 ghost use Rattle.linked_set.specs.Seen.{seen, IsLinked};
 
-use crate::by_row::ByRow;
 use crate::linked::handle_at;
-use crate::row_changes::changed_rows;
+use crate::spent::is_spent;
 use container_model::{Entry, Why};
-use index_set::{Changed, IndexSet};
+use index_set::{ByRow, IndexSet};
 use key_extract::Extract;
-use modify_ops::Edit;
+use modify_ops::{Edit, modify_or_undo_node};
 use node_store::Node;
 use slot_table::SlotTable;
 
@@ -62,44 +57,19 @@ pub(crate) fn change_or_undo<R, E: Extract<R>, T: Edit<R>>(
         option_map_or (λ why. T.after_undo (T.after_apply edit.old r) (T.applied edit.old r)) result
         (T.after_apply edit.old r) }
 {
-    edit.apply(&mut set.get_mut(node).row);
-    let changed = changed_rows(set, node, edit.replaced());
-    let Some(why) = changed_refusal(set, writes, node, changed) else {
-        set.settle_changed(node, changed);
-        return None;
+    let stays = !is_spent(writes);
+    let Some((index, by)) = modify_or_undo_node(set, node, edit, stays) else {
+        return spent_unless(stays);
     };
-    edit.undo(&mut set.get_mut(node).row);
-    set.put_back(node);
-    Some(why)
+    Some(Why::Banned {
+        index,
+        by: handle_at(set, by),
+    })
 }
 
-// Why a node's record, which was changed, may not stay so after so many writes. It has kept its key at all indices but the
-// changed ones.
-fn changed_refusal<R, E: Extract<R>>(
-    set: &IndexSet<Entry<R>, ByRow<E>>,
-    writes: u64,
-    node: Node,
-    changed: Changed,
-) -> Option<Why>
-    requires sound { IsSound (has_by_row E.has_key) set.now }
-    requires node { IsNodeOf (store_of set.now) node }
-    requires keyed { IsKeyedBut (order_by_row E.order_of) (marks_by_row (marks_of E.Extract)) set.now node }
-    requires unique { IsUniqueExcept (order_by_row E.order_of) set.now (Some node) }
-    requires free { (e : Entry R) → record_of set.now node ≡ Some e →
-        IsFreeBeside (order_by_row E.order_of) set.now changed (Some node) e }
-    ensures { (e : Entry R) → record_of set.now node ≡ Some e → result ≡
-        option_map_or (λ at. Some (Why.Banned at.0 (handle_of (record_of set.now) at.1)))
-        (ban_from (order_by_row E.order_of (keys_of set.now)) (record_of set.now) (lists_of set.now)
-        (Some node) e 0 (specs_of set.now)) (cond (writes == 2 ^ 64 - 1) (Some Why.Spent) None) }
+// That no write is left, unless a record may stay as it was changed.
+fn spent_unless(stays: bool) -> Option<Why>
+    ensures { result ≡ cond stays None (Some Why.Spent) }
 {
-    if let Some((index, by)) = set.bans_changed(set.get(node), Some(node), changed) {
-        return Some(Why::Banned {
-            index,
-            by: handle_at(set, by),
-        });
-    }
-    if writes == u64::MAX {
-        return Some(Why::Spent);
-    }
-    None
+    if stays { None } else { Some(Why::Spent) }
 }

@@ -14,13 +14,13 @@ ghost use Rattle.linked_set.specs.Records.{alone, state_of};
 ghost use Rattle.linked_set.specs.Seen.{seen, IsLinked};
 
 use crate::beside::is_there;
-use crate::by_row::ByRow;
 use crate::linked::node_at;
 use crate::linked_set::LinkedSet;
 use crate::rearrange::{all_live, has_each_once, nodes_of};
 use crate::sort::sorted_nodes;
+use crate::spent::is_spent;
 use container_model::{Entry, Handle, Kind, Why};
-use index_set::IndexSet;
+use index_set::{ByRow, IndexSet, Nodes};
 use key_extract::{Extract, RowOrder};
 use node_store::Node;
 use slot_table::SlotTable;
@@ -157,7 +157,7 @@ fn movable<R, E: Extract<R>>(
     if place > set.len() as u64 {
         return Err(Why::Place);
     }
-    if writes == u64::MAX {
+    if is_spent(writes) {
         return Err(Why::Spent);
     }
     Ok(node)
@@ -196,7 +196,7 @@ fn arrangement<R, E: Extract<R>>(
     if !each_once {
         return Err(Why::Order);
     }
-    if writes == u64::MAX {
+    if is_spent(writes) {
         return Err(Why::Spent);
     }
     let Ok(nodes) = nodes_of(alloc, set, slots, handles) else {

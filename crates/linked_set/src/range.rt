@@ -9,14 +9,13 @@ ghost use Rattle.container_model.specs.State.{is_sorted_kind};
 ghost use Rattle.container_model.specs.Find.{kind_at};
 ghost use Rattle.index_set.specs.Set as nodes;
 ghost use Rattle.index_set.specs.Set.{store_of, keys_of, specs_of, record_of, list_of, IsSound, IsKeyed};
-ghost use Rattle.linked_set.specs.ByRow.{has_by_row, order_by_row, marks_by_row};
+ghost use Rattle.index_set.specs.ByRow.{has_by_row, order_by_row, marks_by_row};
 ghost use Rattle.linked_set.specs.Edges.{node_edge, KeyFits, Rises};
 ghost use Rattle.linked_set.specs.Linked.{handle_of};
 
-use crate::by_row::ByRow;
 use crate::linked::handle_at;
 use container_model::{Entry, Handle};
-use index_set::IndexSet;
+use index_set::{ByRow, IndexSet, Nodes};
 use key_extract::Extract;
 use node_store::Node;
 use std::alloc::{AllocError, Global};
@@ -49,10 +48,11 @@ pub(crate) fn between<R, E: Extract<R>>(
         (bound_map (λ p. p.now) high.entry)) (list_of set.now index))) }
 {
     let mut handles = Vec::new(alloc);
+    let listed = set.at(index);
     let mut next = up_to(set, index, first_from(set, index, low), high);
     while let Some(node) = next {
         handles.push(handle_at(set, node))?;
-        next = up_to(set, index, set.next(index, node), high);
+        next = up_to(set, index, listed.next(node), high);
     }
     Ok(handles)
 }
@@ -75,9 +75,9 @@ pub(crate) fn first_from<R, E: Extract<R>>(
         (list_of set.now index)) }
 {
     match low {
-        Bound::Included(probe) => set.lower(index, probe),
-        Bound::Excluded(probe) => set.upper(index, probe),
-        Bound::Unbounded => set.first(index),
+        Bound::Included(probe) => set.at(index).lower(probe),
+        Bound::Excluded(probe) => set.at(index).upper(probe),
+        Bound::Unbounded => set.at(index).first(),
     }
 }
 

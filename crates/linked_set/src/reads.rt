@@ -9,6 +9,7 @@ use crate::beside::{last_of, node_after, node_before};
 use crate::linked::{node_at, position_at};
 use crate::linked_set::LinkedSet;
 use container_model::{Handle, Why};
+use index_set::Nodes;
 use key_extract::Extract;
 
 impl<R: Drop, E: Extract<R> + Drop> LinkedSet<R, E> {
@@ -19,7 +20,7 @@ impl<R: Drop, E: Extract<R> + Drop> LinkedSet<R, E> {
         requires { IsTrue (has_places_kind (kind_at (alone self.now) index)) }
         ensures { result ≡ slice_get (list_at self.now.lists index) n }
     {
-        position_at(&self.set, self.set.nth(index, n))
+        position_at(&self.set, self.set.at(index).nth(n))
     }
 
     /// The last record of an index that is not hashed, or the end. O(1) in a sequence, O(log n) in an index in order.
@@ -40,7 +41,7 @@ impl<R: Drop, E: Extract<R> + Drop> LinkedSet<R, E> {
             (Ok (walk.place_of (is_handle handle) (list_at self.now.lists index))) (Err Why.Stale) }
     {
         match node_at(&self.set, &self.slots, handle) {
-            Some(node) => Ok(self.set.place_of(index, node)),
+            Some(node) => Ok(self.set.at(index).place_of(node)),
             None => Err(Why::Stale),
         }
     }

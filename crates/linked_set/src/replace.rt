@@ -8,9 +8,8 @@ ghost use Rattle.index_set.specs.Set.{store_of, keys_of, specs_of, contents, rec
 ghost use Rattle.linked_set.specs.Linked.{handle_of, entries_in, handles_in};
 ghost use Rattle.linked_set.specs.Seen.{IsLinked};
 
-use crate::by_row::ByRow;
 use container_model::Entry;
-use index_set::IndexSet;
+use index_set::{ByRow, IndexSet};
 use key_extract::Extract;
 use modify_ops::replace_node;
 use node_store::Node;

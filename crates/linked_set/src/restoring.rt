@@ -7,16 +7,15 @@ ghost use Rattle.container_model.specs.declared.handle.Spec.{Spec};
 ghost use Rattle.container_model.specs.State.{AreIndices, KeysMatch};
 ghost use Rattle.slot_table.specs.Slots.{item_at};
 ghost use Rattle.index_set.specs.Set.{store_of, keys_of, specs_of, contents, record_of, lists_of, IsSound, IsKeyed, IsOfSame};
-ghost use Rattle.linked_set.specs.ByRow.{has_by_row, order_by_row, marks_by_row};
+ghost use Rattle.index_set.specs.ByRow.{has_by_row, order_by_row, marks_by_row};
 ghost use Rattle.linked_set.specs.LeadsTo.{LeadsTo};
 ghost use Rattle.linked_set.specs.Linked.{entries_in, handles_in};
 ghost use Rattle.linked_set.specs.Restored.{AreApart, IsMisfit, misfit_of, restored};
 ghost use Rattle.linked_set.specs.Seen.{seen, IsLinked};
 
-use crate::by_row::ByRow;
 use crate::fill::{Unfit, filled};
 use container_model::{Entry, Handle, Spec};
-use index_set::IndexSet;
+use index_set::{ByRow, Filling, IndexSet};
 use key_extract::Extract;
 use node_store::Node;
 use slot_table::{SlotTable, put};
@@ -50,7 +49,7 @@ fn lying_in(slots: &[Option<Node>], slot: usize) -> Option<Node>
 // Adds the records, in no index yet, and makes the list of slots that lead to their nodes.
 fn add_all<R: Drop, E: Extract<R>>(
     alloc: Global,
-    set: &mut IndexSet<Entry<R>, ByRow<E>>,
+    set: &mut Filling<Entry<R>, ByRow<E>>,
     entries: Vec<Entry<R>>,
 ) -> Result<Vec<Option<Node>>, Misfit>
     requires sound { IsSound (has_by_row E.has_key) set.old }
@@ -100,10 +99,10 @@ fn told(why: Unfit, index: usize) -> Misfit
 // The set with all its records in each index, in the index's order.
 fn fill_all<R: Drop, E: Extract<R> + Drop>(
     alloc: Global,
-    set: IndexSet<Entry<R>, ByRow<E>>,
+    set: Filling<Entry<R>, ByRow<E>>,
     slots: &SlotTable<Node>,
     orders: &[Vec<Handle>],
-) -> Result<IndexSet<Entry<R>, ByRow<E>>, Misfit>
+) -> Result<Filling<Entry<R>, ByRow<E>>, Misfit>
     requires linked { IsLinked E.has_key E.order_of (marks_of E.Extract) set slots.now.items }
     requires one_each { length orders.now ≡ length (specs_of set) }
     ensures linked { IfOk result (λ made. IsLinked E.has_key E.order_of (marks_of E.Extract)
@@ -155,9 +154,10 @@ pub(crate) fn restore<R: Drop, E: Extract<R> + Drop>(
     ensures cause { IfErr result (IsMisfit entries.items (E.order_of keys) specs.items
         (map (λ order. order.items) orders.now)) }
 {
-    let Ok(mut set) = IndexSet::new(alloc, specs, ByRow { keys }, columns) else {
+    let Ok(empty) = IndexSet::new(alloc, specs, ByRow { keys }, columns) else {
         return Err(Misfit::Memory);
     };
+    let mut set = empty.open();
     let items = match add_all(alloc, &mut set, entries) {
         Ok(items) => items,
         Err(why) => return Err(why),
@@ -166,7 +166,7 @@ pub(crate) fn restore<R: Drop, E: Extract<R> + Drop>(
         return Err(Misfit::Memory);
     };
     match fill_all(alloc, set, &slots, orders) {
-        Ok(set) => Ok((set, slots)),
+        Ok(set) => Ok((set.close(), slots)),
         Err(why) => Err(why),
     }
 }

@@ -9,16 +9,15 @@ ghost use Rattle.container_model.specs.Find.{probe_side};
 ghost use Rattle.index_set.specs.Set as nodes;
 ghost use Rattle.index_set.specs.Set.{keys_of, specs_of, list_of, IsSound, IsKeyed, IsUniqueExcept};
 ghost use Rattle.linked_set.specs.Asked.{AreBoundsOf, CanFindBy, FitsAt};
-ghost use Rattle.linked_set.specs.ByRow.{has_by_row, order_by_row, marks_by_row, probe_by_row};
+ghost use Rattle.index_set.specs.ByRow.{has_by_row, order_by_row, marks_by_row, probe_by_row};
 ghost use Rattle.linked_set.specs.Edges.{edge_of};
 ghost use Rattle.linked_set.specs.Records.{alone};
 
-use crate::by_row::ByRow;
 use crate::linked::position_at;
 use crate::linked_set::LinkedSet;
 use crate::range::between;
 use container_model::{Entry, Handle, Kind};
-use index_set::IndexSet;
+use index_set::{ByRow, IndexSet, Nodes};
 use key_extract::Extract;
 use node_store::Node;
 use std::alloc::AllocError;
@@ -43,7 +42,7 @@ impl<R: Drop, E: Extract<R> + Drop> LinkedSet<R, E> {
         ensures { result ≡ count_equal (probe_side E.probe_order_of (alone self.now) index probe.now)
             (list_at self.now.lists index) }
     {
-        self.set.count(index, probe)
+        self.set.at(index).count(probe)
     }
 
     /// The first record of an index in order that does not come before the key, or the end. O(log n).
@@ -52,7 +51,7 @@ impl<R: Drop, E: Extract<R> + Drop> LinkedSet<R, E> {
         ensures { result ≡ place.lower (probe_side E.probe_order_of (alone self.now) index probe.now)
             (list_at self.now.lists index) }
     {
-        position_at(&self.set, self.set.lower(index, probe))
+        position_at(&self.set, self.set.at(index).lower(probe))
     }
 
     /// The first record of an index in order that comes after the key, or the end. O(log n).
@@ -61,7 +60,7 @@ impl<R: Drop, E: Extract<R> + Drop> LinkedSet<R, E> {
         ensures { result ≡ place.upper (probe_side E.probe_order_of (alone self.now) index probe.now)
             (list_at self.now.lists index) }
     {
-        position_at(&self.set, self.set.upper(index, probe))
+        position_at(&self.set, self.set.at(index).upper(probe))
     }
 
     /// The rank, counted from 0, of the first record of a ranked index that has the key, or where none has it the number of
@@ -71,7 +70,7 @@ impl<R: Drop, E: Extract<R> + Drop> LinkedSet<R, E> {
         ensures { result ≡ place.find_rank (probe_side E.probe_order_of (alone self.now) index
             probe.now) (list_at self.now.lists index) }
     {
-        self.set.find_rank(index, probe)
+        self.set.at(index).find_rank(probe)
     }
 
     /// How many records of a ranked index come before the key. O(log n).
@@ -80,7 +79,7 @@ impl<R: Drop, E: Extract<R> + Drop> LinkedSet<R, E> {
         ensures { result ≡ place.below (probe_side E.probe_order_of (alone self.now) index probe.now)
             (list_at self.now.lists index) }
     {
-        self.set.lower_rank(index, probe)
+        self.set.at(index).lower_rank(probe)
     }
 
     /// How many records of a ranked index do not come after the key. O(log n).
@@ -89,7 +88,7 @@ impl<R: Drop, E: Extract<R> + Drop> LinkedSet<R, E> {
         ensures { result ≡ place.not_above (probe_side E.probe_order_of (alone self.now) index
             probe.now) (list_at self.now.lists index) }
     {
-        self.set.upper_rank(index, probe)
+        self.set.at(index).upper_rank(probe)
     }
 
     /// The records of an index in order from the low bound up to the high one, in its order; none where the high bound
@@ -134,7 +133,7 @@ fn first_with<R, E: Extract<R>>(
 {
     let spec = &set.specs()[index];
     match (spec.kind, spec.unique) {
-        (Kind::Hashed, true) => set.find_any(index, probe),
-        _ => set.find(index, probe),
+        (Kind::Hashed, true) => set.at(index).find_any(probe),
+        _ => set.at(index).find(probe),
     }
 }

@@ -2,46 +2,46 @@
 ghost use Rattle.std.specs.Prelude.{◌≡◌, ◌<◌, IfOk, IsTrue, length, map, not};
 ghost use Rattle.container_model.specs.State.{is_hashed_kind};
 ghost use Rattle.index_set.specs.Set.{contents, record_of, specs_of, list_of, kind_at, IsSound};
-ghost use Rattle.linked_set.specs.ByRow.{has_by_row};
+ghost use Rattle.index_set.specs.ByRow.{has_by_row};
 ghost use Rattle.linked_set.specs.Linked.{handle_of, nodes_in};
 
-use crate::by_row::ByRow;
 use crate::linked::handle_at;
 use container_model::{Entry, Handle};
-use index_set::IndexSet;
+use index_set::{ByRow, Nodes};
 use key_extract::Extract;
 use node_store::Node;
 use std::alloc::{AllocError, Global};
 
 /// Those of an index that is not hashed, in its order. O(records).
-pub(crate) fn in_order<R, E: Extract<R>>(
+pub(crate) fn in_order<R, E: Extract<R>, S: Nodes<Entry<R>, ByRow<E>>>(
     alloc: Global,
-    set: &IndexSet<Entry<R>, ByRow<E>>,
+    set: &S,
     index: usize,
 ) -> Result<Vec<Handle>, AllocError>
-    requires sound { IsSound (has_by_row E.has_key) set.now }
-    requires index { index < length (specs_of set.now) }
-    requires kind { IsTrue (not (is_hashed_kind (kind_at set.now index))) }
-    ensures { IfOk result (λ handles. handles.items ≡ map (handle_of (record_of set.now))
-        (list_of set.now index)) }
+    requires sound { IsSound (has_by_row E.has_key) (S.parts set.now) }
+    requires index { index < length (specs_of (S.parts set.now)) }
+    requires kind { IsTrue (not (is_hashed_kind (kind_at (S.parts set.now) index))) }
+    ensures { IfOk result (λ handles. handles.items ≡ map (handle_of (record_of (S.parts set.now)))
+        (list_of (S.parts set.now) index)) }
 {
     let mut handles = Vec::with_capacity(alloc, set.len())?;
-    let mut next = set.first(index);
+    let listed = set.at(index);
+    let mut next = listed.first();
     while let Some(node) = next {
         handles.push(handle_at(set, node))?;
-        next = set.next(index, node);
+        next = listed.next(node);
     }
     Ok(handles)
 }
 
 /// Those of all records, in the order of their adds. O(records).
-pub(crate) fn by_age<R, E: Extract<R>>(
+pub(crate) fn by_age<R, E: Extract<R>, S: Nodes<Entry<R>, ByRow<E>>>(
     alloc: Global,
-    set: &IndexSet<Entry<R>, ByRow<E>>,
+    set: &S,
 ) -> Result<Vec<Handle>, AllocError>
-    requires { IsSound (has_by_row E.has_key) set.now }
-    ensures { IfOk result (λ handles. handles.items ≡ map (handle_of (record_of set.now))
-        (nodes_in (contents set.now))) }
+    requires { IsSound (has_by_row E.has_key) (S.parts set.now) }
+    ensures { IfOk result (λ handles. handles.items ≡ map (handle_of (record_of (S.parts set.now)))
+        (nodes_in (contents (S.parts set.now)))) }
 {
     let mut handles = Vec::with_capacity(alloc, set.len())?;
     let mut next = set.newest();
@@ -54,12 +54,12 @@ pub(crate) fn by_age<R, E: Extract<R>>(
 }
 
 // The nodes of all records, in the order of their adds. O(records).
-pub(crate) fn nodes_by_age<R, E: Extract<R>>(
+pub(crate) fn nodes_by_age<R, E: Extract<R>, S: Nodes<Entry<R>, ByRow<E>>>(
     alloc: Global,
-    set: &IndexSet<Entry<R>, ByRow<E>>,
+    set: &S,
 ) -> Result<Vec<Node>, AllocError>
-    requires { IsSound (has_by_row E.has_key) set.now }
-    ensures { IfOk result (λ nodes. nodes.items ≡ nodes_in (contents set.now)) }
+    requires { IsSound (has_by_row E.has_key) (S.parts set.now) }
+    ensures { IfOk result (λ nodes. nodes.items ≡ nodes_in (contents (S.parts set.now))) }
 {
     let mut nodes = Vec::with_capacity(alloc, set.len())?;
     let mut next = set.newest();

@@ -10,7 +10,7 @@ use Rattle.container_model.specs.declared.refusal.Why.TheVariants.{Banned, Defin
 use Rattle.container_model.specs.State.{State, has_key_kind, is_hashed_kind, row_of}
 use Rattle.container_model.specs.Find.{is_live, kind_at}
 use Rattle.container_model.specs.Insert.{limit}
-use Rattle.container_model.specs.Change.{spent, erase_key_refusal, erase_refusal, replace_refusal}
+use Rattle.container_model.specs.Change.{spent, erase_key_refusal, replace_refusal}
 use Rattle.container_model.specs.Indices.{drop_index_refusal}
 use Rattle.container_model.specs.Undone.{modify_or_undo_refusal}
 
@@ -31,22 +31,12 @@ put_allowed s e = by_tests (length s.entries == s.max) (s.writes == 2 ^ 64 - 1) 
     by_tests false true e = absurd (cc)
     by_tests false false e = refl
 
--- a record to be taken out: it is there
-pub live_allowed : {E R : Type 0} (s : State E R) (h : Handle) (index : Option ℕ) → erase_refusal s h index ≡ None → (is_live s h ≡ true) × ((s.writes == 2 ^ 64 - 1) ≡ false)
-live_allowed s h index e = by_tests (option_map_or (λ i. is_hashed_kind (kind_at s i)) index false) (is_live s h) (s.writes == 2 ^ 64 - 1) e
+-- an index in which the next record is asked for is not hashed
+pub not_hashed : {E R : Type 0} (s : State E R) (asked : Option ℕ) → option_map_or (λ i. is_hashed_kind (kind_at s i)) asked false ≡ false → IfSome asked (λ i. IsTrue (not (is_hashed_kind (kind_at s i))))
+not_hashed s None e = tt
+not_hashed s (Some i) e = by_test (is_hashed_kind (kind_at s i)) e
   where
-    by_tests : (hashed live last : Bool) → cond hashed (Some Kind) (cond live (cond last (Some Spent) None) (Some Stale)) ≡ None → (live ≡ true) × (last ≡ false)
-    by_tests true live last e = absurd (cc)
-    by_tests false false last e = absurd (cc)
-    by_tests false true true e = absurd (cc)
-    by_tests false true false e = (refl, refl)
-
--- and an index in which the next record is asked for is not hashed
-pub not_hashed : {E R : Type 0} (s : State E R) (h : Handle) (asked : Option ℕ) → erase_refusal s h asked ≡ None → IfSome asked (λ i. IsTrue (not (is_hashed_kind (kind_at s i))))
-not_hashed s h None e = tt
-not_hashed s h (Some i) e = by_test (is_hashed_kind (kind_at s i)) e
-  where
-    by_test : (hashed : Bool) → cond hashed (Some Kind) (cond (is_live s h) (spent s) (Some Stale)) ≡ None → IsTrue (not hashed)
+    by_test : (hashed : Bool) → hashed ≡ false → IsTrue (not hashed)
     by_test true e = absurd (cc)
     by_test false e = refl
 

@@ -5,6 +5,7 @@ ghost use Rattle.container_model.specs.Change.{cleared, spent};
 use crate::container::MultiIndex;
 use container_model::{Refused, Why};
 use key_extract::Extract;
+use linked_set::is_spent;
 
 impl<R: Drop, E: Extract<R> + Drop> MultiIndex<R, E> {
     /// Takes every record out. `Spent` alone refuses, and then nothing is changed. It takes no memory. O(records + slots).
@@ -27,7 +28,7 @@ impl<R: Drop, E: Extract<R> + Drop> MultiIndex<R, E> {
     pub(crate) fn spent(&self) -> Option<Why>
         ensures { result ≡ spent self.now }
     {
-        if self.writes == u64::MAX {
+        if is_spent(self.writes) {
             Some(Why::Spent)
         } else {
             None

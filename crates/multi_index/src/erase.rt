@@ -1,6 +1,8 @@
 //! Taking records out.
-ghost use Rattle.std.specs.Prelude.{◌≡◌, ◌+◌, option_and_then, None, Some, IfErr, IfOk, OnErr, OnOk};
-ghost use Rattle.container_model.specs.State.{row_of};
+ghost use Rattle.std.specs.Prelude.{◌≡◌, ◌+◌, option_and_then, None, Some, IfErr, IfOk, OnErr, OnOk, false};
+ghost use Rattle.std.specs.Option.{option_map_or};
+ghost use Rattle.container_model.specs.Find.{kind_at};
+ghost use Rattle.container_model.specs.State.{is_hashed_kind, row_of};
 ghost use Rattle.container_model.specs.Change.{erase_refusal, next_in, with_erased};
 
 use crate::container::MultiIndex;
@@ -31,36 +33,29 @@ impl<R: Drop, E: Extract<R> + Drop> MultiIndex<R, E> {
         ensures handed_back { IfErr result (λ refused. refused.row ≡ None) }
         ensures unchanged { OnErr result (self.new ≡ self.old) }
     {
-        if let Some(why) = self.erase_refusal(handle, index) {
-            return Err(Refused { why, row: None });
+        if self.names_hashed(index) {
+            return Err(Refused {
+                why: Why::Kind,
+                row: None,
+            });
         }
-        Ok(self.erase_live(handle, index))
-    }
-
-    // Why a record may not be taken out.
-    fn erase_refusal(&self, handle: Handle, index: Option<usize>) -> Option<Why>
-        ensures { result ≡ erase_refusal self.now handle index }
-    {
-        if let Some(index) = index {
-            if self.is_hashed(index) {
-                return Some(Why::Kind);
+        let limit = self.spent();
+        match self.set.take_out(handle, index, limit) {
+            Ok((row, next)) => {
+                self.writes += 1;
+                Ok(Erased { row, next })
             }
+            Err(why) => Err(Refused { why, row: None }),
         }
-        if self.get(handle).is_err() {
-            return Some(Why::Stale);
-        }
-        self.spent()
     }
 
-    // Takes out a record that nothing keeps in.
-    fn erase_live(&mut self, handle: Handle, index: Option<usize>) -> Erased<R>
-        requires { erase_refusal self.old handle index ≡ None }
-        ensures row { row_of self.old.entries handle ≡ Some result.row }
-        ensures next { result.next ≡ option_and_then (λ i. next_in self.old i handle) index }
-        ensures left { self.new ≡ with_erased self.old handle }
+    // Whether an index is named, and has no order in which a record could be the next.
+    fn names_hashed(&self, index: Option<usize>) -> bool
+        ensures { result ≡ option_map_or (λ i. is_hashed_kind (kind_at self.now i)) index false }
     {
-        self.writes += 1;
-        let (row, next) = self.set.take_out(handle, index);
-        Erased { row, next }
+        match index {
+            Some(index) => self.is_hashed(index),
+            None => false,
+        }
     }
 }

@@ -23,7 +23,7 @@ mod sort;
 pub use container::MultiIndex;
 pub use container_model::{Entry, Handle, Kind, Refused, Spec, Why};
 pub use erase::Erased;
-pub use key_extract::Extract;
+pub use key_extract::{Extract, RowOrder};
 pub use linked_set::{Iter, Modified};
 pub use modify_ops::{Edit, RowEdit};
 pub use restore::{Saved, Unrestorable};

@@ -1,4 +1,4 @@
-use Rattle.std.proofs.Common.{◌≡◌, ℕ, [], map, take}
+use Rattle.std.proofs.Common.{◌≡◌, [], map, take}
 use Rattle.node_store.specs.ByNode.{Columns}
 use Rattle.index_set.specs.Indices.{lists_in}
 use Rattle.index_set.proofs.Placing.{AreOwn}

@@ -22,7 +22,7 @@ loop-row-preserved g c = elim c.match-specs-row.branch [
       rw w.set-is
       (record {
         thinned = one_sunk g.E.Extract.probe_order_of c.args.index c.args.probe.now c.args.set.now c.loop-row.set w.sink.new.self c.args.slots.now.items c.loop-row.invariant.thinned c.requires.index
-            c.loop-row.row within (kind_said c.loop-row.set c.loop-row.row _ c.specs.result.now _ c.specs.ensures within w.in-Random.is) sunk.sound sunk.same sunk.lists sunk.sunk sunk.keyed sunk.contents;
+            c.loop-row.row within (kind_said c.loop-row.set c.loop-row.row _ c.specs.result.now _ c.specs.ensures within w.in-Random.is) sunk.kept.filed.sound sunk.same sunk.lists sunk.sunk sunk.kept.filed.keyed sunk.contents;
         contents = sunk.contents ∙ c.loop-row.invariant.contents;
       })
   | goal.in_default w ↦ rw w.set-is c.loop-row.invariant

@@ -2,9 +2,19 @@ use Rattle.std.proofs.Common.{ap, ◌∙◌, map}
 use Rattle.std.specs.Prelude.{filter}
 use Rattle.node_store.proofs.ByNode.{added_kept, len_kept}
 use Rattle.index_set.specs.Set.{store_of, record_of, lists_of}
-use Rattle.linked_set.specs.Linked.{handles_in}
+use Rattle.linked_set.specs.Linked.{entries_in, handles_in}
 use Rattle.linked_set.proofs.Sinking.{same_test}
 use Rattle.linked_set.proofs.erase_key.take_key.Goals as goal
+
+pub returns-clause-entries : goal.returns-clause-entries
+returns-clause-entries g c = elim c.if-count-gt-FEW.branch [
+  | goal.then-count-gt-FEW w ↦
+      let sunk = w.sink_key.ensures in
+      let test = same_test g.E.Extract.probe_order_of c.args.index c.args.probe.now c.args.set.now w.sink_key.new.set sunk.same sunk.contents in
+      let taken = rw w.set-is at c.take_each.ensures.entries in
+      taken ∙ (λ i. filter (λ e. test i e.handle) (entries_in (sunk.contents i)))
+  | goal.else-count-gt-FEW w ↦ rw w.set-is at c.take_each.ensures.entries
+]
 
 pub returns-clause-lists : goal.returns-clause-lists
 returns-clause-lists g c = elim c.if-count-gt-FEW.branch [

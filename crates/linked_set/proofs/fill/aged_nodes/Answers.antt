@@ -1,4 +1,4 @@
-use Rattle.std.proofs.Common.{◌≡◌, map, sym, ap, ◌∙◌, true, false}
+use Rattle.std.proofs.Common.{◌≡◌, map, sym, ◌∙◌}
 use Rattle.index_set.specs.Set.{store_of, contents}
 use Rattle.linked_set.specs.Linked.{entries_in}
 use Rattle.linked_set.proofs.Contents.{handles_by_age}

@@ -1,9 +1,7 @@
-use Rattle.any_index.specs.Keyed.{marks_of}
 use Rattle.std.proofs.Common.{◌≡◌, cond, [], map, sym, ap, subst, ◌∙◌}
 use Rattle.std.specs.Prelude.{slice_set, IsTrue}
 use Rattle.std.specs.List.{AllByRecursion}
 use Rattle.list_model.specs.Place.{stable_sorted}
-use Rattle.node_store.specs.Nodes.{IsDistinct}
 use Rattle.node_store.specs.Store.{IsNodeOf, age_of}
 use Rattle.container_model.specs.State.{compare_of, is_hashed_kind, is_sorted_kind}
 use Rattle.index_set.specs.Added.{entered_all}
@@ -20,8 +18,8 @@ use Rattle.linked_set.proofs.fill.filled.Goals as goal
 pub returns-in-Err-clause-cause : goal.returns-in-Err-clause-cause
 returns-in-Err-clause-cause g c = c.in-Err.ensures.cause (g.E.Extract.order_of (keys_of c.args.set).keys c.args.index)
 
-pub refilled-requires : goal.refilled-requires
-refilled-requires g c =
+pub filled-requires : goal.filled-requires
+filled-requires g c =
     let set = c.args.set in
     let s = store_of set in
     let linked = c.requires.linked in
@@ -34,14 +32,13 @@ refilled-requires g c =
     let is = ap (map (handle_of (record_of set))) value ∙ e.handles in
     let aged : IsTrue (is_hashed_kind spec.kind) → ns ≡ nodes_in (contents set) = λ hashed. value ∙ e.aged hashed in
     record {
-      filed = record { sound = linked.sound; keyed = linked.keyed; unique = linked.unique };
       within = c.requires.index;
       nodes = held;
       distinct = nodes_distinct s c.args.slots.now.items linked.sound.nodes linked.leads ns held c.args.order.now is e.members;
     }
 
-pub returns-in-Err-refilled-clause-cause : goal.returns-in-Err-refilled-clause-cause
-returns-in-Err-refilled-clause-cause g c =
+pub returns-in-Err-filled-clause-cause : goal.returns-in-Err-filled-clause-cause
+returns-in-Err-filled-clause-cause g c =
     let set = c.args.set in
     let s = store_of set in
     let linked = c.requires.linked in
@@ -54,7 +51,7 @@ returns-in-Err-refilled-clause-cause g c =
     let is = ap (map (handle_of (record_of set))) value ∙ e.handles in
     let aged : IsTrue (is_hashed_kind spec.kind) → ns ≡ nodes_in (contents set) = λ hashed. value ∙ e.aged hashed in
     subst (IsUnfit (entries_in (contents set)) order spec c.args.order.now) (sym c.told.ensures)
-    (refused s c.args.slots.now.items linked.sound.nodes linked.leads linked.apart order spec ns held c.args.order.now is e.members aged (unique_total (g.E.Extract.has_key (keys_of set).keys) (g.E.Extract.order_of (keys_of set).keys) (g.met.E.Extract.order_total (keys_of set).keys) (specs_of set) linked.sound.keys c.args.index c.requires.index) c.in-Err-refilled.why c.in-Err-refilled.ensures.cause)
+    (refused s c.args.slots.now.items linked.sound.nodes linked.leads linked.apart order spec ns held c.args.order.now is e.members aged (unique_total (g.E.Extract.has_key (keys_of set).keys) (g.E.Extract.order_of (keys_of set).keys) (g.met.E.Extract.order_total (keys_of set).keys) (specs_of set) linked.sound.keys c.args.index c.requires.index) c.in-Err-filled.why c.in-Err-filled.ensures.cause)
 
 pub returns-then-not-in_place-clause-cause : goal.returns-then-not-in_place-clause-cause
 returns-then-not-in_place-clause-cause g c fits =
@@ -69,8 +66,8 @@ returns-then-not-in_place-clause-cause g c fits =
     let held = subst (AllByRecursion (IsNodeOf s)) (sym value) e.nodes in
     let is = ap (map (handle_of (record_of set))) value ∙ e.handles in
     let aged : IsTrue (is_hashed_kind spec.kind) → ns ≡ nodes_in (contents set) = λ hashed. value ∙ e.aged hashed in
-    let made = c.in-Ok-refilled.made in
-    let m = c.in-Ok-refilled.ensures in
+    let made = c.in-Ok-filled.made in
+    let m = c.in-Ok-filled.ensures in
     let one = one_list_each set linked.sound in
     let kinds = ap (λ kind. entered_all (age_of (store_of set)) (by_rows (record_of set) (entries_in (contents set)) order) kind [] ns) (kind_is (specs_of set) c.args.index c.requires.index) in
     let lists = m.lists ∙ ap (λ xs. slice_set (lists_of set) c.args.index xs) kinds in
@@ -81,8 +78,8 @@ returns-then-not-in_place-clause-cause g c fits =
 
 pub returns-clause-linked : goal.returns-clause-linked
 returns-clause-linked g c =
-    let m = c.in-Ok-refilled.ensures in
-    IsLinked_reindexed c.args.set c.args.slots.now.items c.requires.linked c.in-Ok-refilled.made m.contents m.sound m.keyed m.unique
+    let m = c.in-Ok-filled.ensures in
+    IsLinked_reindexed c.args.set c.args.slots.now.items c.requires.linked c.in-Ok-filled.made m.contents m.filed.sound m.filed.keyed m.filed.unique
 
 pub returns-clause-lists : goal.returns-clause-lists
 returns-clause-lists g c =
@@ -97,8 +94,8 @@ returns-clause-lists g c =
     let held = subst (AllByRecursion (IsNodeOf s)) (sym value) e.nodes in
     let is = ap (map (handle_of (record_of set))) value ∙ e.handles in
     let aged : IsTrue (is_hashed_kind spec.kind) → ns ≡ nodes_in (contents set) = λ hashed. value ∙ e.aged hashed in
-    let made = c.in-Ok-refilled.made in
-    let m = c.in-Ok-refilled.ensures in
+    let made = c.in-Ok-filled.made in
+    let m = c.in-Ok-filled.ensures in
     let one = one_list_each set linked.sound in
     let kinds = ap (λ kind. entered_all (age_of (store_of set)) (by_rows (record_of set) (entries_in (contents set)) order) kind [] ns) (kind_is (specs_of set) c.args.index c.requires.index) in
     let lists = m.lists ∙ ap (λ xs. slice_set (lists_of set) c.args.index xs) kinds in
@@ -122,8 +119,8 @@ returns-clause-fits g c =
     let held = subst (AllByRecursion (IsNodeOf s)) (sym value) e.nodes in
     let is = ap (map (handle_of (record_of set))) value ∙ e.handles in
     let aged : IsTrue (is_hashed_kind spec.kind) → ns ≡ nodes_in (contents set) = λ hashed. value ∙ e.aged hashed in
-    let made = c.in-Ok-refilled.made in
-    let m = c.in-Ok-refilled.ensures in
+    let made = c.in-Ok-filled.made in
+    let m = c.in-Ok-filled.ensures in
     let one = one_list_each set linked.sound in
     let kinds = ap (λ kind. entered_all (age_of (store_of set)) (by_rows (record_of set) (entries_in (contents set)) order) kind [] ns) (kind_is (specs_of set) c.args.index c.requires.index) in
     let lists = m.lists ∙ ap (λ xs. slice_set (lists_of set) c.args.index xs) kinds in
@@ -135,4 +132,4 @@ returns-clause-fits g c =
     fitting s c.args.slots.now.items linked.sound.nodes linked.leads linked.apart order spec ns held c.args.order.now is e.members aged (sorted_total (g.E.Extract.has_key (keys_of set).keys) (g.E.Extract.order_of (keys_of set).keys) (g.met.E.Extract.order_total (keys_of set).keys) (specs_of set) linked.sound.keys c.args.index c.requires.index)
     (λ hashed. sym is ∙ (ap (map (handle_of (record_of set))) (aged hashed) ∙ sym (handles_by_age s linked.sound.nodes))) same
     (unique_total (g.E.Extract.has_key (keys_of set).keys) (g.E.Extract.order_of (keys_of set).keys) (g.met.E.Extract.order_total (keys_of set).keys) (specs_of set) linked.sound.keys c.args.index c.requires.index)
-    (once_filled set made c.args.index c.requires.index one m.same m.contents xs lists g.E.Extract.order_of m.unique)
+    (once_filled set made c.args.index c.requires.index one m.same m.contents xs lists g.E.Extract.order_of m.filed.unique)

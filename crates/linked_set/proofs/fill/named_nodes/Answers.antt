@@ -1,4 +1,4 @@
-use Rattle.std.proofs.Common.{sym, ◌∙◌, true, false, ◌≡◌, rules}
+use Rattle.std.proofs.Common.{sym, ◌∙◌}
 use Rattle.index_set.specs.Set.{contents}
 use Rattle.container_model.proofs.Moved.{each_once_is}
 use Rattle.linked_set.specs.Linked.{entries_in}

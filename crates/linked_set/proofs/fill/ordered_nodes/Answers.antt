@@ -1,7 +1,7 @@
-use Rattle.std.proofs.Common.{◌≡◌, map, sym, ap, subst, ◌∙◌}
+use Rattle.std.proofs.Common.{map, sym, ap, subst, ◌∙◌}
 use Rattle.std.specs.List.{AllByRecursion}
 use Rattle.node_store.specs.Store.{IsNodeOf}
-use Rattle.index_set.specs.Set.{store_of, contents, record_of}
+use Rattle.index_set.specs.Set.{store_of, record_of}
 use Rattle.linked_set.specs.Linked.{handle_of}
 use Rattle.linked_set.proofs.ByAge.{nodes_held}
 use Rattle.linked_set.proofs.Contents.{handles_by_age}

@@ -1,12 +1,12 @@
 use Rattle.std.proofs.Common.{ap, sym, subst, ◌∙◌}
 use Rattle.std.specs.List.{AllByRecursion}
-use Rattle.node_store.specs.Nodes.{IsDistinct}
+use Rattle.node_store.specs.Nodes.{Holds, IsDistinct}
 use Rattle.node_store.specs.Store.{IsNodeOf, age_of}
 use Rattle.node_store.proofs.ByNode.{added_kept}
 use Rattle.index_set.specs.Set.{store_of, contents}
 use Rattle.linked_set.specs.Linked.{nodes_in}
 use Rattle.linked_set.specs.Refusal.{IsRefusal}
-use Rattle.linked_set.proofs.ByAge.{nodes_rise, nodes_held, distinct_by_age}
+use Rattle.linked_set.proofs.ByAge.{nodes_rise, nodes_held, holds_each, distinct_by_age}
 use Rattle.linked_set.proofs.Reindexed.{IsLinked_reindexed, no_clash_seen, refusal_seen, refusal_nodes, seen_kept}
 use Rattle.linked_set.proofs.index_changes.check_index.Goals as goal
 
@@ -16,21 +16,21 @@ check_index-requires g c =
     let linked = c.requires.linked in
     let by_age = c.deref.ensures.value ∙ c.in-Ok.ensures in
     record {
-      filed = record { sound = linked.sound; keyed = linked.keyed; unique = linked.unique };
       keys = c.requires.keys;
       orders = λ k d lt has. ap (λ order a b. order a.row b.row) (c.requires.orders k d lt has);
       hashes = λ k d lt has. ap (λ marks a. marks a.row) (c.requires.hashes k d lt has);
       nodes = subst (AllByRecursion (IsNodeOf (store_of set))) (sym by_age) (nodes_held (store_of set) linked.sound.nodes);
       distinct = subst IsDistinct (sym by_age) (distinct_by_age (age_of (store_of set)) (nodes_in (contents set)) (nodes_rise (store_of set) linked.sound.nodes));
+      all = λ n is. subst (λ ns. Holds ns n) (sym by_age) (holds_each (store_of set) linked.sound.nodes n is);
     }
 
 pub returns-in-Ok-check_index-clause-linked : goal.returns-in-Ok-check_index-clause-linked
 returns-in-Ok-check_index-clause-linked g c =
     let e = c.check_index.ensures in
-    IsLinked_reindexed c.args.set.now c.args.slots.now.items c.requires.linked c.check_index.new.self e.contents e.sound e.keyed e.unique
+    IsLinked_reindexed c.args.set.now c.args.slots.now.items c.requires.linked c.check_index.new.self e.unchanged.contents e.kept.filed.sound e.kept.filed.keyed e.kept.filed.unique
 
 pub returns-in-Ok-check_index-clause-count : goal.returns-in-Ok-check_index-clause-count
-returns-in-Ok-check_index-clause-count g c = added_kept (store_of c.args.set.now) (store_of c.check_index.new.self) c.check_index.ensures.contents
+returns-in-Ok-check_index-clause-count g c = added_kept (store_of c.args.set.now) (store_of c.check_index.new.self) c.check_index.ensures.unchanged.contents
 
 pub returns-in-Ok-check_index-clause-no_clash : goal.returns-in-Ok-check_index-clause-no_clash
 returns-in-Ok-check_index-clause-no_clash g c =
@@ -38,27 +38,27 @@ returns-in-Ok-check_index-clause-no_clash g c =
 
 pub told-requires : goal.told-requires
 told-requires g c =
-    refusal_nodes c.args.set.now c.args.slots.now.items c.requires.linked c.args.spec c.args.keys.now.keys c.deref.result.now (c.deref.ensures.value ∙ c.in-Ok.ensures) c.check_index.new.self c.check_index.ensures.contents c.requires.room c.in-Err.why c.in-Err.ensures.cause
+    refusal_nodes c.args.set.now c.args.slots.now.items c.requires.linked c.args.spec c.args.keys.now.keys c.deref.result.now (c.deref.ensures.value ∙ c.in-Ok.ensures) c.check_index.new.self c.check_index.ensures.unchanged.contents c.requires.room c.in-Err.why c.in-Err.ensures.cause
 
 pub returns-clause-linked : goal.returns-clause-linked
 returns-clause-linked g c =
     let e = c.check_index.ensures in
-    IsLinked_reindexed c.args.set.now c.args.slots.now.items c.requires.linked c.check_index.new.self e.contents e.sound e.keyed e.unique
+    IsLinked_reindexed c.args.set.now c.args.slots.now.items c.requires.linked c.check_index.new.self e.unchanged.contents e.kept.filed.sound e.kept.filed.keyed e.kept.filed.unique
 
 pub returns-clause-count : goal.returns-clause-count
-returns-clause-count g c = added_kept (store_of c.args.set.now) (store_of c.check_index.new.self) c.check_index.ensures.contents
+returns-clause-count g c = added_kept (store_of c.args.set.now) (store_of c.check_index.new.self) c.check_index.ensures.unchanged.contents
 
 pub returns-clause-why : goal.returns-clause-why
 returns-clause-why g c =
     subst (IsRefusal _) (sym c.told.ensures)
-    (refusal_seen c.args.set.now c.args.slots.now.items c.requires.linked c.args.spec c.args.keys.now.keys c.deref.result.now (c.deref.ensures.value ∙ c.in-Ok.ensures) c.check_index.new.self c.check_index.ensures.contents c.requires.room c.in-Err.why c.in-Err.ensures.cause)
+    (refusal_seen c.args.set.now c.args.slots.now.items c.requires.linked c.args.spec c.args.keys.now.keys c.deref.result.now (c.deref.ensures.value ∙ c.in-Ok.ensures) c.check_index.new.self c.check_index.ensures.unchanged.contents c.requires.room c.in-Err.why c.in-Err.ensures.cause)
 
 pub returns-clause-same : goal.returns-clause-same
 returns-clause-same g c max writes =
     let e = c.in-Err.ensures in
-    seen_kept c.args.set.now c.args.slots.now.items c.requires.linked c.check_index.new.self max writes e.same c.check_index.ensures.contents e.same_lists
+    seen_kept c.args.set.now c.args.slots.now.items c.requires.linked c.check_index.new.self max writes c.check_index.ensures.unchanged.same c.check_index.ensures.unchanged.contents c.check_index.ensures.unchanged.lists
 
 pub returns-in-Ok-check_index-clause-same : goal.returns-in-Ok-check_index-clause-same
 returns-in-Ok-check_index-clause-same g c max writes =
     let e = c.check_index.ensures in
-    seen_kept c.args.set.now c.args.slots.now.items c.requires.linked c.check_index.new.self max writes e.same e.contents e.same_lists
+    seen_kept c.args.set.now c.args.slots.now.items c.requires.linked c.check_index.new.self max writes e.unchanged.same e.unchanged.contents e.unchanged.lists

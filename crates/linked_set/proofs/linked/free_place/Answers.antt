@@ -1,18 +1,12 @@
-use Rattle.any_index.specs.Keyed.{marks_of}
-use Rattle.std.proofs.Common.{◌≡◌, ◌∙◌, ap, sym, Some, None}
+use Rattle.std.proofs.Common.{◌∙◌, ap, sym, Some, None}
 use Rattle.std.specs.Prelude.{option_map}
 use Rattle.node_store.specs.Store.{IsNodeOf}
 use Rattle.index_set.specs.Set.{store_of, keys_of, specs_of, contents, record_of, lists_of}
 use Rattle.index_set.proofs.Members.{nodes_held}
-use Rattle.linked_set.specs.ByRow.{order_by_row, marks_by_row}
 use Rattle.linked_set.specs.Linked.{handle_of, entries_in}
 use Rattle.linked_set.proofs.Bans.{ban_known, ban_of, told_none}
-use Rattle.linked_set.proofs.Excepted.{keyed_except}
 use Rattle.linked_set.proofs.Reading.{known_all}
 use Rattle.linked_set.proofs.linked.free_place.Goals as goal
-
-pub free_place-requires-clause-keyed : goal.free_place-requires-clause-keyed
-free_place-requires-clause-keyed g c = keyed_except (order_by_row g.E.Extract.order_of) c.args.set.now (marks_by_row (marks_of g.E.Extract)) None c.requires.linked.keyed
 
 pub returns-in-Ok-clause-free : goal.returns-in-Ok-clause-free
 returns-in-Ok-clause-free g c =

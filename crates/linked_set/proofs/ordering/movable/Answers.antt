@@ -1,4 +1,4 @@
-use Rattle.std.proofs.Common.{◌≡◌, length, sym, ◌∙◌, arith, ne_eqb}
+use Rattle.std.proofs.Common.{◌≡◌, length, sym, ◌∙◌, arith}
 use Rattle.index_set.specs.Set.{store_of, contents}
 use Rattle.linked_set.specs.Linked.{entries_in}
 use Rattle.linked_set.specs.Seen.{seen}
@@ -23,15 +23,15 @@ returns-then-place-len-clause-why g c =
     sym (relocate_place (seen c.args.set.now 0 c.args.writes) c.args.index c.args.place c.args.handle (sym c.is_sequence.ensures ∙ c.if-not-is_sequence.false)
     (live_seen c.args.set.now c.args.slots.now.items linked c.args.handle c.in-Some.node found.0 found.1) (omega (arith, past, as_many)))
 
-pub returns-then-writes-eq18446744073709551615-clause-why : goal.returns-then-writes-eq18446744073709551615-clause-why
-returns-then-writes-eq18446744073709551615-clause-why g c =
+pub returns-then-is_spent-clause-why : goal.returns-then-is_spent-clause-why
+returns-then-is_spent-clause-why g c =
     let s = store_of c.args.set.now in
     let linked = c.requires in
     let found = c.node_at.ensures.found c.in-Some.node c.in-Some.is in
     let as_many : length (entries_in (contents c.args.set.now)) ≡ c.len.result = length-entries s linked.sound.nodes ∙ sym c.len.ensures in
     let within = c.if-place-len.false in
     sym (relocate_spent (seen c.args.set.now 0 c.args.writes) c.args.index c.args.place c.args.handle (sym c.is_sequence.ensures ∙ c.if-not-is_sequence.false)
-    (live_seen c.args.set.now c.args.slots.now.items linked c.args.handle c.in-Some.node found.0 found.1) (omega (arith, within, as_many)) c.if-writes-eq18446744073709551615.true)
+    (live_seen c.args.set.now c.args.slots.now.items linked c.args.handle c.in-Some.node found.0 found.1) (omega (arith, within, as_many)) (sym c.is_spent.ensures ∙ c.if-is_spent.true))
 
 pub returns-clause-allowed : goal.returns-clause-allowed
 returns-clause-allowed g c =
@@ -41,4 +41,4 @@ returns-clause-allowed g c =
     let as_many : length (entries_in (contents c.args.set.now)) ≡ c.len.result = length-entries s linked.sound.nodes ∙ sym c.len.ensures in
     let within = c.if-place-len.false in
     relocate_allowed (seen c.args.set.now 0 c.args.writes) c.args.index c.args.place c.args.handle (sym c.is_sequence.ensures ∙ c.if-not-is_sequence.false)
-    (live_seen c.args.set.now c.args.slots.now.items linked c.args.handle c.in-Some.node found.0 found.1) (omega (arith, within, as_many)) (ne_eqb c.args.writes 18446744073709551615 c.if-writes-eq18446744073709551615.false)
+    (live_seen c.args.set.now c.args.slots.now.items linked c.args.handle c.in-Some.node found.0 found.1) (omega (arith, within, as_many)) (sym c.is_spent.ensures ∙ c.if-is_spent.false)

@@ -1,10 +1,14 @@
-use Rattle.std.proofs.Common.{◌≡◌, ◌+◌, ◌++◌, ◌∷◌, [], ◌∙◌, length, ap, sym, arith}
+use Rattle.std.proofs.Common.{◌≡◌, ◌+◌, ◌++◌, ◌∷◌, [], ◌∙◌, length, ap, sym, subst, arith}
 use Rattle.std.specs.Range.Bound.{bound_map}
 use Rattle.std.proofs.lemmas.List.{length-append}
 use Rattle.std.proofs.lemmas.Option.{slice_get_within}
 use Rattle.list_model.proofs.Lists.{some_at}
+use Rattle.list_model.specs.Walk.{next}
+use Rattle.node_store.specs.ByNode.{same_node}
+use Rattle.node_store.specs.Nodes.{Holds}
 use Rattle.node_store.specs.Store.{IsNodeOf}
 use Rattle.any_index.proofs.Runs.{next_is}
+use Rattle.index_set.specs.At.{list_in}
 use Rattle.index_set.specs.Set.{store_of, record_of, list_of}
 use Rattle.index_set.proofs.Members.{nodes_held_at, distinct_at, Holds_at}
 use Rattle.linked_set.specs.Edges.{node_edge}
@@ -27,12 +31,13 @@ handle_at-requires g c =
 
 pub next-requires-clause-held : goal.next-requires-clause-held
 next-requires-clause-held g c =
-    Holds_at (list_of c.args.set.now c.args.index) (before (node_edge g.E.Extract.probe_order_of c.args.set.now c.args.index (bound_map (λ p. p.now) c.args.low)) (list_of c.args.set.now c.args.index) + length c.loop-next.handles.items) c.in-Some.node
-    (walk_at (handle_of (record_of c.args.set.now)) (node_edge g.E.Extract.probe_order_of c.args.set.now c.args.index (bound_map (λ p. p.now) c.args.low)) (node_edge g.E.Extract.probe_order_of c.args.set.now c.args.index (bound_map (λ p. p.now) c.args.high)) (list_of c.args.set.now c.args.index) c.loop-next.handles.items c.loop-next.next c.in-Some.node c.in-Some.is c.loop-next.invariant)
+    subst (λ a. Holds (list_in a) c.in-Some.node) (sym c.at-listed.ensures)
+    (Holds_at (list_of c.args.set.now c.args.index) (before (node_edge g.E.Extract.probe_order_of c.args.set.now c.args.index (bound_map (λ p. p.now) c.args.low)) (list_of c.args.set.now c.args.index) + length c.loop-next.handles.items) c.in-Some.node
+    (walk_at (handle_of (record_of c.args.set.now)) (node_edge g.E.Extract.probe_order_of c.args.set.now c.args.index (bound_map (λ p. p.now) c.args.low)) (node_edge g.E.Extract.probe_order_of c.args.set.now c.args.index (bound_map (λ p. p.now) c.args.high)) (list_of c.args.set.now c.args.index) c.loop-next.handles.items c.loop-next.next c.in-Some.node c.in-Some.is c.loop-next.invariant))
 
 pub up_to-next-requires-in-Some-clause-node : goal.up_to-next-requires-in-Some-clause-node
 up_to-next-requires-in-Some-clause-node g c m found =
-    some_at (IsNodeOf (store_of c.args.set.now)) (list_of c.args.set.now c.args.index) _ (nodes_held_at c.args.set.now c.requires.sound c.args.index c.requires.index) m (sym c.next.ensures ∙ found)
+    some_at (IsNodeOf (store_of c.args.set.now)) (list_of c.args.set.now c.args.index) _ (nodes_held_at c.args.set.now c.requires.sound c.args.index c.requires.index) m (sym (c.next.ensures ∙ ap (λ a. next (same_node c.in-Some.node) (list_in a)) c.at-listed.ensures) ∙ found)
 
 pub loop-next-smaller : goal.loop-next-smaller
 loop-next-smaller g c =
@@ -45,7 +50,7 @@ pub loop-next-preserved : goal.loop-next-preserved
 loop-next-preserved g c =
     walk_goes_on (handle_of (record_of c.args.set.now)) (node_edge g.E.Extract.probe_order_of c.args.set.now c.args.index (bound_map (λ p. p.now) c.args.low)) (node_edge g.E.Extract.probe_order_of c.args.set.now c.args.index (bound_map (λ p. p.now) c.args.high)) (list_of c.args.set.now c.args.index) c.loop-next.handles.items c.loop-next.next c.in-Some.node c.in-Some.is c.loop-next.invariant c.push.new.self.items c.up_to-next-in-Some.result c.next.result
     (c.in_ok-push.ensures.items ∙ ap (λ h. c.loop-next.handles.items ++ h ∷ []) c.handle_at.ensures)
-    (c.next.ensures ∙ next_is (list_of c.args.set.now c.args.index) (before (node_edge g.E.Extract.probe_order_of c.args.set.now c.args.index (bound_map (λ p. p.now) c.args.low)) (list_of c.args.set.now c.args.index) + length c.loop-next.handles.items) c.in-Some.node (distinct_at c.args.set.now c.requires.sound c.args.index c.requires.index)
+    (c.next.ensures ∙ ap (λ a. next (same_node c.in-Some.node) (list_in a)) c.at-listed.ensures ∙ next_is (list_of c.args.set.now c.args.index) (before (node_edge g.E.Extract.probe_order_of c.args.set.now c.args.index (bound_map (λ p. p.now) c.args.low)) (list_of c.args.set.now c.args.index) + length c.loop-next.handles.items) c.in-Some.node (distinct_at c.args.set.now c.requires.sound c.args.index c.requires.index)
     (walk_at (handle_of (record_of c.args.set.now)) (node_edge g.E.Extract.probe_order_of c.args.set.now c.args.index (bound_map (λ p. p.now) c.args.low)) (node_edge g.E.Extract.probe_order_of c.args.set.now c.args.index (bound_map (λ p. p.now) c.args.high)) (list_of c.args.set.now c.args.index) c.loop-next.handles.items c.loop-next.next c.in-Some.node c.in-Some.is c.loop-next.invariant))
     c.up_to-next-in-Some.ensures
 

@@ -5,4 +5,4 @@ use Rattle.linked_set.specs.Seen.{seen}
 use Rattle.linked_set.proofs.rearrange.all_live.Given as goal
 
 abbrev pub invariant-loop-handle : goal.invariant-loop-handle
-invariant-loop-handle g l = AllByRecursion (λ h. is_live (seen l.set 0 0) h ≡ true) (take l.handle-index l.handles)
+invariant-loop-handle g l = AllByRecursion (λ h. is_live (seen (g.S.Nodes.parts l.set) 0 0) h ≡ true) (take l.handle-index l.handles)

@@ -38,4 +38,4 @@ loop-entry-preserved g c =
     let so_far = subst (λ rest. AreAdded g.E.Extract.has_key g.E.Extract.order_of (marks_of g.E.Extract) c.args.set.now set c.args.entries.items rest slots) c.in-Some.ensures.steps.0 c.loop-entry.invariant in
     let a = c.in-Ok.ensures in
     subst (AreAdded g.E.Extract.has_key g.E.Extract.order_of (marks_of g.E.Extract) c.args.set.now c.add.new.self c.args.entries.items (into_iter_items c.next.new.self)) (sym c.in-Ok-put.ensures)
-    (added_one c.args.set.now set c.args.entries.items (into_iter_items c.next.new.self) entry slots so_far c.add.new.self c.in-Ok.node (sym lies ∙ none_there c.lying_in.result none) a.sound a.keyed a.same a.lists a.count a.added)
+    (added_one c.args.set.now set c.args.entries.items (into_iter_items c.next.new.self) entry slots so_far c.add.new.self c.in-Ok.node (sym lies ∙ none_there c.lying_in.result none) a.filed.sound a.filed.keyed a.same a.lists a.count a.added)

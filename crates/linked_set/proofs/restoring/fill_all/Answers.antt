@@ -1,7 +1,5 @@
-use Rattle.std.proofs.Common.{◌≡◌, length, map, [], sym, subst, ap, ◌∙◌, arith}
+use Rattle.std.proofs.Common.{length, map, [], sym, ap, ◌∙◌, arith}
 use Rattle.std.proofs.lemmas.List.{length-map, get_or-map}
-use Rattle.container_model.specs.declared.handle.Handle.{Handle}
-use Rattle.index_set.specs.Set.{specs_of}
 use Rattle.linked_set.proofs.Restored.{filled_one, filled_lists, filled_indices, misfit_next}
 use Rattle.linked_set.proofs.restoring.fill_all.Goals as goal
 

@@ -8,8 +8,8 @@ use Rattle.linked_set.proofs.walk.by_age.Goals as goal
 
 pub loop-next-init : goal.loop-next-init
 loop-next-init g c =
-    let s = store_of c.args.set.now in
-    let f = handle_of (record_of c.args.set.now) in
+    let s = store_of (g.S.Nodes.parts c.args.set.now) in
+    let f = handle_of (record_of (g.S.Nodes.parts c.args.set.now)) in
     let newest = last_below (aged s) s.added in
     record {
       nodes = λ m e. last_held s c.requires.nodes s.added m (sym c.newest-next.ensures ∙ e);
@@ -19,7 +19,7 @@ loop-next-init g c =
 
 pub loop-next-smaller : goal.loop-next-smaller
 loop-next-smaller g c =
-    let s = store_of c.args.set.now in
+    let s = store_of (g.S.Nodes.parts c.args.set.now) in
     let k = age_of s c.in-Some.node in
     let few = fewer_left s c.requires.nodes k in
     let now = ap (left s) c.older-next.ensures in
@@ -28,8 +28,8 @@ loop-next-smaller g c =
 
 pub loop-next-preserved : goal.loop-next-preserved
 loop-next-preserved g c =
-    let s = store_of c.args.set.now in
-    let f = handle_of (record_of c.args.set.now) in
+    let s = store_of (g.S.Nodes.parts c.args.set.now) in
+    let f = handle_of (record_of (g.S.Nodes.parts c.args.set.now)) in
     let n = c.in-Some.node in
     let met = c.loop-next.handles.items in
     let pushed : c.push.new.self.items ≡ met ++ f n ∷ [] = c.in_ok-push.ensures.items ∙ ap (λ h. met ++ h ∷ []) c.handle_at.ensures in
@@ -44,4 +44,4 @@ loop-next-preserved g c =
 pub returns : goal.returns
 returns g c =
     c.reverse.ensures.items
-    ∙ all_passed (store_of c.args.set.now) c.requires.nodes (handle_of (record_of c.args.set.now)) c.loop-next.next c.loop-next.handles.items c.in_default.is c.loop-next.invariant.passed
+    ∙ all_passed (store_of (g.S.Nodes.parts c.args.set.now)) c.requires.nodes (handle_of (record_of (g.S.Nodes.parts c.args.set.now))) c.loop-next.next c.loop-next.handles.items c.in_default.is c.loop-next.invariant.passed

@@ -6,9 +6,9 @@ use Rattle.linked_set.proofs.walk.by_age.Given as goal
 
 abbrev pub invariant-loop-next : goal.invariant-loop-next
 invariant-loop-next g l = record {
-  nodes : AreNodesOf (store_of l.set) l.next;
-  passed : HasPassed (handle_of (record_of l.set)) (store_of l.set) l.next l.handles.items;
+  nodes : AreNodesOf (store_of (g.S.Nodes.parts l.set)) l.next;
+  passed : HasPassed (handle_of (record_of (g.S.Nodes.parts l.set))) (store_of (g.S.Nodes.parts l.set)) l.next l.handles.items;
 }
 
 abbrev pub decreases-loop-next : goal.decreases-loop-next
-decreases-loop-next g l = left (store_of l.set) l.next
+decreases-loop-next g l = left (store_of (g.S.Nodes.parts l.set)) l.next

@@ -6,9 +6,9 @@ use Rattle.linked_set.proofs.walk.in_order.Given as goal
 
 abbrev pub invariant-loop-next : goal.invariant-loop-next
 invariant-loop-next g l = record {
-  place : l.next ≡ slice_get (list_of l.set l.index) (length l.handles.items);
-  met : HasMet (handle_of (record_of l.set)) (list_of l.set l.index) l.handles.items;
+  place : l.next ≡ slice_get (list_of (g.S.Nodes.parts l.set) l.index) (length l.handles.items);
+  met : HasMet (handle_of (record_of (g.S.Nodes.parts l.set))) (list_of (g.S.Nodes.parts l.set) l.index) l.handles.items;
 }
 
 abbrev pub decreases-loop-next : goal.decreases-loop-next
-decreases-loop-next g l = length (list_of l.set l.index) - length l.handles.items
+decreases-loop-next g l = length (list_of (g.S.Nodes.parts l.set) l.index) - length l.handles.items

@@ -10,7 +10,7 @@ use Rattle.linked_set.proofs.walk.nodes_by_age.Goals as goal
 
 pub loop-next-init : goal.loop-next-init
 loop-next-init g c =
-    let s = store_of c.args.set.now in
+    let s = store_of (g.S.Nodes.parts c.args.set.now) in
     let f : Node → Node = λ n. n in
     let newest = last_below (aged s) s.added in
     record {
@@ -21,7 +21,7 @@ loop-next-init g c =
 
 pub loop-next-smaller : goal.loop-next-smaller
 loop-next-smaller g c =
-    let s = store_of c.args.set.now in
+    let s = store_of (g.S.Nodes.parts c.args.set.now) in
     let k = age_of s c.in-Some.node in
     let few = fewer_left s c.requires.nodes k in
     let now = ap (left s) c.older-next.ensures in
@@ -30,7 +30,7 @@ loop-next-smaller g c =
 
 pub loop-next-preserved : goal.loop-next-preserved
 loop-next-preserved g c =
-    let s = store_of c.args.set.now in
+    let s = store_of (g.S.Nodes.parts c.args.set.now) in
     let f : Node → Node = λ n. n in
     let n = c.in-Some.node in
     let met = c.loop-next.nodes.items in
@@ -46,5 +46,5 @@ loop-next-preserved g c =
 pub returns : goal.returns
 returns g c =
     c.reverse.ensures.items
-    ∙ all_passed (store_of c.args.set.now) c.requires.nodes (λ n. n) c.loop-next.next c.loop-next.nodes.items c.in_default.is c.loop-next.invariant.passed
-    ∙ map-id (nodes_in (contents c.args.set.now))
+    ∙ all_passed (store_of (g.S.Nodes.parts c.args.set.now)) c.requires.nodes (λ n. n) c.loop-next.next c.loop-next.nodes.items c.in_default.is c.loop-next.invariant.passed
+    ∙ map-id (nodes_in (contents (g.S.Nodes.parts c.args.set.now)))

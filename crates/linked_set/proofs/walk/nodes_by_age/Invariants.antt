@@ -5,9 +5,9 @@ use Rattle.linked_set.proofs.walk.nodes_by_age.Given as goal
 
 abbrev pub invariant-loop-next : goal.invariant-loop-next
 invariant-loop-next g l = record {
-  nodes : AreNodesOf (store_of l.set) l.next;
-  passed : HasPassed (λ n. n) (store_of l.set) l.next l.nodes.items;
+  nodes : AreNodesOf (store_of (g.S.Nodes.parts l.set)) l.next;
+  passed : HasPassed (λ n. n) (store_of (g.S.Nodes.parts l.set)) l.next l.nodes.items;
 }
 
 abbrev pub decreases-loop-next : goal.decreases-loop-next
-decreases-loop-next g l = left (store_of l.set) l.next
+decreases-loop-next g l = left (store_of (g.S.Nodes.parts l.set)) l.next

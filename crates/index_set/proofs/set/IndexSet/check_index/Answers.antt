@@ -1,10 +1,17 @@
-use Rattle.index_set.proofs.StaysUnique.{unique_kept}
+use Rattle.index_set.proofs.Holding.{held_alike}
+use Rattle.index_set.specs.Added.{CanAdd}
+use Rattle.index_set.specs.declared.parts.Parts.{Parts}
+use Rattle.std.proofs.Common.{sym, subst}
 use Rattle.index_set.proofs.set.IndexSet.check_index.Goals as goal
 
-pub returns-clause-unique : goal.returns-clause-unique
-returns-clause-unique g c =
-    unique_kept g.E.Extract.order_of c.args.self.now c.made_index.new.self c.requires.filed.sound c.made_index.ensures.same c.made_index.ensures.lists c.made_index.ensures.contents c.requires.filed.unique
+pub check_index-requires-clause-can : goal.check_index-requires-clause-can
+check_index-requires-clause-can g c = subst (λ (p : Parts _ _). CanAdd g.E.Extract p c.args.spec c.args.keys.now c.args.nodes.now) (sym c.self.view_is) c.requires
 
-pub returns-in_err-made_index-clause-unique : goal.returns-in_err-made_index-clause-unique
-returns-in_err-made_index-clause-unique g c =
-    unique_kept g.E.Extract.order_of c.args.self.now c.made_index.new.self c.requires.filed.sound c.made_index.ensures.same c.made_index.ensures.lists c.made_index.ensures.contents c.requires.filed.unique
+pub invariant_of-self : goal.invariant_of-self
+invariant_of-self g c =
+    let old = c.self.inside.parts in
+    let made = c.check_index.ensures in
+    record { filed = record { sound = made.sound; keyed = made.keyed; unique = made.unique }; held = held_alike old c.check_index.new.self c.self.invariant.held made.same_lists made.contents }
+
+pub returns-clause-kept : goal.returns-clause-kept
+returns-clause-kept g c = invariant_of-self g c

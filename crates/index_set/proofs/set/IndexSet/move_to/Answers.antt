@@ -1,39 +1,32 @@
-use Rattle.any_index.specs.Keyed.{marks_of}
-use Rattle.std.proofs.Common.{◌∙◌, ap}
+use Rattle.index_set.proofs.Holding.{Holds_put}
+use Rattle.index_set.proofs.Reordered.{reordered_kept}
+use Rattle.index_set.specs.Asked.{IsSequence}
+use Rattle.index_set.specs.Set.{list_of}
+use Rattle.index_set.specs.declared.parts.Parts.{Parts}
 use Rattle.list_model.specs.Walk.{relocated}
 use Rattle.node_store.specs.ByNode.{same_node}
-use Rattle.index_set.proofs.Frame.{steps_of}
-use Rattle.index_set.proofs.Reading.{list_here}
-use Rattle.index_set.proofs.Moving.{placed_moved, within_moved, lists_moved, room_moved, keyed_moved}
-use Rattle.index_set.proofs.Stores.{IsStore_kept, columns_kept}
+use Rattle.node_store.specs.Nodes.{Holds}
+use Rattle.std.proofs.Common.{sym, subst}
+use Rattle.std.proofs.Common.{◌≤◌, length}
 use Rattle.index_set.proofs.set.IndexSet.move_to.Goals as goal
 
-pub returns-clause-sound : goal.returns-clause-sound
-returns-clause-sound g c =
-    let old = c.requires.at.sound in
-    record {
-      some = old.some;
-      few = old.few;
-      keys = old.keys;
-      placed = placed_moved c.args.self.now c.requires.at.sound c.args.index c.requires.at.index c.index_mut.result.now c.move_to.new.self c.index_mut.ensures.value c.move_to.new.store (steps_of c.move_to.ensures.sound c.move_to.ensures.rest.kind c.move_to.ensures.rest.col c.move_to.ensures.rest.index c.move_to.ensures.rest.others c.move_to.ensures.rest.contents);
-      nodes = IsStore_kept c.args.self.now.store c.move_to.new.store c.move_to.ensures.rest.contents old.nodes;
-      columns = old.columns;
-      most = old.most;
-      within = within_moved c.args.self.now c.requires.at.sound c.args.index c.requires.at.index c.index_mut.result.now c.move_to.new.self c.index_mut.ensures.value c.move_to.new.store (steps_of c.move_to.ensures.sound c.move_to.ensures.rest.kind c.move_to.ensures.rest.col c.move_to.ensures.rest.index c.move_to.ensures.rest.others c.move_to.ensures.rest.contents);
-      wide = columns_kept c.args.self.now.store c.move_to.new.store c.move_to.ensures.rest.contents old.wide;
-    }
+pub move_to-requires-clause-at : goal.move_to-requires-clause-at
+move_to-requires-clause-at g c = record { sound = c.self.invariant.filed.sound; index = (subst (λ (p : Parts _ _). IsSequence p c.args.index) (sym c.self.view_is) c.requires.at).index }
 
-pub returns-clause-lists : goal.returns-clause-lists
-returns-clause-lists g c =
-    lists_moved c.args.self.now c.requires.at.sound c.args.index c.requires.at.index c.index_mut.result.now c.move_to.new.self c.index_mut.ensures.value c.move_to.new.store (steps_of c.move_to.ensures.sound c.move_to.ensures.rest.kind c.move_to.ensures.rest.col c.move_to.ensures.rest.index c.move_to.ensures.rest.others c.move_to.ensures.rest.contents)
-    _ (c.move_to.ensures.list ∙ ap (relocated (same_node c.args.n) c.args.n c.args.place) (list_here c.args.self.now c.requires.at.sound c.args.index c.requires.at.index c.index_mut.result.now c.index_mut.ensures.value))
+pub move_to-requires-clause-kind : goal.move_to-requires-clause-kind
+move_to-requires-clause-kind g c = (subst (λ (p : Parts _ _). IsSequence p c.args.index) (sym c.self.view_is) c.requires.at).kind
 
-pub returns-clause-room : goal.returns-clause-room
-returns-clause-room g c =
-    room_moved c.args.self.now c.requires.at.sound c.args.index c.requires.at.index c.index_mut.result.now c.move_to.new.self c.index_mut.ensures.value c.move_to.new.store (steps_of c.move_to.ensures.sound c.move_to.ensures.rest.kind c.move_to.ensures.rest.col c.move_to.ensures.rest.index c.move_to.ensures.rest.others c.move_to.ensures.rest.contents)
-    c.move_to.ensures.room
+pub move_to-requires-clause-held : goal.move_to-requires-clause-held
+move_to-requires-clause-held g c = subst (λ (p : Parts _ _). Holds (list_of p c.args.index) c.args.n) (sym c.self.view_is) c.requires.held
 
-pub returns-clause-keyed : goal.returns-clause-keyed
-returns-clause-keyed g c =
-    keyed_moved c.args.self.now c.requires.at.sound c.args.index c.requires.at.index c.index_mut.result.now c.move_to.new.self c.index_mut.ensures.value c.move_to.new.store (steps_of c.move_to.ensures.sound c.move_to.ensures.rest.kind c.move_to.ensures.rest.col c.move_to.ensures.rest.index c.move_to.ensures.rest.others c.move_to.ensures.rest.contents)
-    c.requires.kind c.move_to.ensures.rest.contents (g.E.Extract.order_of c.args.self.now.keys) (marks_of g.E.Extract c.args.self.now.keys)
+pub move_to-requires-clause-place : goal.move_to-requires-clause-place
+move_to-requires-clause-place g c = subst (λ (p : Parts _ _). c.args.place ≤ length (list_of p c.args.index)) (sym c.self.view_is) c.requires.place
+
+pub invariant_of-self : goal.invariant_of-self
+invariant_of-self g c =
+    let old = c.self.inside.parts in
+    let made = c.move_to.ensures in
+    reordered_kept g.E.Extract old c.move_to.new.self c.self.invariant c.args.index (subst (λ (p : Parts _ _). IsSequence p c.args.index) (sym c.self.view_is) c.requires.at) (relocated (same_node c.args.n) c.args.n c.args.place (list_of old c.args.index)) made.same made.lists made.contents made.sound (made.keyed c.self.invariant.filed.keyed) (Holds_put (list_of old c.args.index) _ c.args.n)
+
+pub returns-clause-kept : goal.returns-clause-kept
+returns-clause-kept g c = invariant_of-self g c

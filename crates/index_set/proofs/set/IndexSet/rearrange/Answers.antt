@@ -1,35 +1,26 @@
-use Rattle.any_index.specs.Keyed.{marks_of}
-use Rattle.index_set.proofs.Frame.{steps_of}
-use Rattle.index_set.proofs.Moving.{placed_moved, within_moved, lists_moved, room_moved, keyed_moved}
-use Rattle.index_set.proofs.Stores.{IsStore_kept, columns_kept}
+use Rattle.any_index.proofs.ByAge.{Holds_moved}
+use Rattle.index_set.proofs.Reordered.{reordered_kept}
+use Rattle.index_set.specs.Asked.{IsSequence}
+use Rattle.index_set.specs.Set.{list_of}
+use Rattle.index_set.specs.declared.parts.Parts.{Parts}
+use Rattle.std.proofs.Common.{sym, subst}
+use Rattle.std.specs.Prelude.{IsPermutation}
 use Rattle.index_set.proofs.set.IndexSet.rearrange.Goals as goal
 
-pub returns-clause-sound : goal.returns-clause-sound
-returns-clause-sound g c =
-    let old = c.requires.at.sound in
-    record {
-      some = old.some;
-      few = old.few;
-      keys = old.keys;
-      placed = placed_moved c.args.self.now c.requires.at.sound c.args.index c.requires.at.index c.index_mut.result.now c.rearrange.new.self c.index_mut.ensures.value c.rearrange.new.store (steps_of c.rearrange.ensures.sound c.rearrange.ensures.rest.kind c.rearrange.ensures.rest.col c.rearrange.ensures.rest.index c.rearrange.ensures.rest.others c.rearrange.ensures.rest.contents);
-      nodes = IsStore_kept c.args.self.now.store c.rearrange.new.store c.rearrange.ensures.rest.contents old.nodes;
-      columns = old.columns;
-      most = old.most;
-      within = within_moved c.args.self.now c.requires.at.sound c.args.index c.requires.at.index c.index_mut.result.now c.rearrange.new.self c.index_mut.ensures.value c.rearrange.new.store (steps_of c.rearrange.ensures.sound c.rearrange.ensures.rest.kind c.rearrange.ensures.rest.col c.rearrange.ensures.rest.index c.rearrange.ensures.rest.others c.rearrange.ensures.rest.contents);
-      wide = columns_kept c.args.self.now.store c.rearrange.new.store c.rearrange.ensures.rest.contents old.wide;
-    }
+pub rearrange-requires-clause-at : goal.rearrange-requires-clause-at
+rearrange-requires-clause-at g c = record { sound = c.self.invariant.filed.sound; index = (subst (λ (p : Parts _ _). IsSequence p c.args.index) (sym c.self.view_is) c.requires.at).index }
 
-pub returns-clause-lists : goal.returns-clause-lists
-returns-clause-lists g c =
-    lists_moved c.args.self.now c.requires.at.sound c.args.index c.requires.at.index c.index_mut.result.now c.rearrange.new.self c.index_mut.ensures.value c.rearrange.new.store (steps_of c.rearrange.ensures.sound c.rearrange.ensures.rest.kind c.rearrange.ensures.rest.col c.rearrange.ensures.rest.index c.rearrange.ensures.rest.others c.rearrange.ensures.rest.contents)
-    c.args.order.now c.rearrange.ensures.list
+pub rearrange-requires-clause-kind : goal.rearrange-requires-clause-kind
+rearrange-requires-clause-kind g c = (subst (λ (p : Parts _ _). IsSequence p c.args.index) (sym c.self.view_is) c.requires.at).kind
 
-pub returns-clause-room : goal.returns-clause-room
-returns-clause-room g c =
-    room_moved c.args.self.now c.requires.at.sound c.args.index c.requires.at.index c.index_mut.result.now c.rearrange.new.self c.index_mut.ensures.value c.rearrange.new.store (steps_of c.rearrange.ensures.sound c.rearrange.ensures.rest.kind c.rearrange.ensures.rest.col c.rearrange.ensures.rest.index c.rearrange.ensures.rest.others c.rearrange.ensures.rest.contents)
-    c.rearrange.ensures.room
+pub rearrange-requires-clause-members : goal.rearrange-requires-clause-members
+rearrange-requires-clause-members g c = subst (λ (p : Parts _ _). IsPermutation (list_of p c.args.index) c.args.order.now) (sym c.self.view_is) c.requires.members
 
-pub returns-clause-keyed : goal.returns-clause-keyed
-returns-clause-keyed g c =
-    keyed_moved c.args.self.now c.requires.at.sound c.args.index c.requires.at.index c.index_mut.result.now c.rearrange.new.self c.index_mut.ensures.value c.rearrange.new.store (steps_of c.rearrange.ensures.sound c.rearrange.ensures.rest.kind c.rearrange.ensures.rest.col c.rearrange.ensures.rest.index c.rearrange.ensures.rest.others c.rearrange.ensures.rest.contents)
-    c.requires.kind c.rearrange.ensures.rest.contents (g.E.Extract.order_of c.args.self.now.keys) (marks_of g.E.Extract c.args.self.now.keys)
+pub invariant_of-self : goal.invariant_of-self
+invariant_of-self g c =
+    let old = c.self.inside.parts in
+    let made = c.rearrange.ensures in
+    reordered_kept g.E.Extract old c.rearrange.new.self c.self.invariant c.args.index (subst (λ (p : Parts _ _). IsSequence p c.args.index) (sym c.self.view_is) c.requires.at) c.args.order.now made.same made.lists made.contents made.sound (made.keyed c.self.invariant.filed.keyed) (λ m. Holds_moved (list_of old c.args.index) c.args.order.now m (subst (λ (p : Parts _ _). IsPermutation (list_of p c.args.index) c.args.order.now) (sym c.self.view_is) c.requires.members))
+
+pub returns-clause-kept : goal.returns-clause-kept
+returns-clause-kept g c = invariant_of-self g c

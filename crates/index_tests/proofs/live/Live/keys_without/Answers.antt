@@ -9,11 +9,11 @@ returns-then-index-keyed-clause-keys c =
     let s = c.args.self.now.set in
     let told = ap (λ (k : Tens). k.keyed) c.keys.ensures in
     let small = c.if-index-keyed.true in
-    match_left s.keys.keyed _ c.args.index (specs_of s) c.requires.index (inl (omega (arith, told, small), omega (arith, told, small))) c.requires.live.sound.keys
+    match_left s.keys.keyed _ c.args.index (specs_of s) c.requires.index (inl (omega (arith, told, small), omega (arith, told, small))) c.requires.live.keys
 
 pub returns-else-index-keyed-clause-keys : goal.returns-else-index-keyed-clause-keys
 returns-else-index-keyed-clause-keys c =
     let s = c.args.self.now.set in
     let told = ap (λ (k : Tens). k.keyed) c.keys.ensures in
     let large = c.if-index-keyed.false in
-    match_left s.keys.keyed _ c.args.index (specs_of s) c.requires.index (inr (omega (arith, told, large), told)) c.requires.live.sound.keys
+    match_left s.keys.keyed _ c.args.index (specs_of s) c.requires.index (inr (omega (arith, told, large), told)) c.requires.live.keys

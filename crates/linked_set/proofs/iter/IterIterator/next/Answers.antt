@@ -1,5 +1,9 @@
-use Rattle.std.proofs.Common.{◌≡◌, [], ◌∙◌, length, ap, sym, rules}
-use Rattle.linked_set.proofs.Rows.{over, within, held, there, ended, stepped}
+use Rattle.std.proofs.Common.{◌≡◌, [], ◌∙◌, length, ap, sym, subst, rules}
+use Rattle.list_model.specs.Walk.{next}
+use Rattle.node_store.specs.ByNode.{same_node}
+use Rattle.node_store.specs.Nodes.{Holds}
+use Rattle.index_set.specs.At.{list_in}
+use Rattle.linked_set.proofs.Rows.{over, held, there, ended, stepped}
 use Rattle.linked_set.proofs.iter.IterIterator.next.Goals as goal
 
 pub returns-in_default-clause-steps : goal.returns-in_default-clause-steps
@@ -15,7 +19,9 @@ returns-then-has_number_of-clause-steps g c =
     (none, none)
 
 pub next-self-inside-requires-clause-held : goal.next-self-inside-requires-clause-held
-next-self-inside-requires-clause-held g c = let w = c.self.inside in held w.set.now w.index w.next w.end c.self.invariant c.in-Some.node c.in-Some.is
+next-self-inside-requires-clause-held g c =
+    let w = c.self.inside in
+    subst (λ a. Holds (list_in a) c.in-Some.node) (sym c.at.ensures) (held w.set.now w.index w.next w.end c.self.invariant c.in-Some.node c.in-Some.is)
 
 pub get-entry-requires : goal.get-entry-requires
 get-entry-requires g c = let w = c.self.inside in there w.set.now w.index w.next w.end c.self.invariant c.in-Some.node c.in-Some.is
@@ -24,18 +30,13 @@ pub returns-clause-steps : goal.returns-clause-steps
 returns-clause-steps g c =
     let w = c.self.inside in
     sym c.self.view_is
-    ∙ stepped w.set.now w.index w.next w.end c.self.invariant c.in-Some.node c.in-Some.is c.get-entry.result.now c.next-self-inside.result (sym c.has_number_of.ensures ∙ c.if-has_number_of.false) c.get-entry.ensures c.next-self-inside.ensures
+    ∙ stepped w.set.now w.index w.next w.end c.self.invariant c.in-Some.node c.in-Some.is c.get-entry.result.now c.next-self-inside.result (sym c.has_number_of.ensures ∙ c.if-has_number_of.false) c.get-entry.ensures (c.next-self-inside.ensures ∙ ap (λ a. next (same_node c.in-Some.node) (list_in a)) c.at.ensures)
 
 pub returns-clause-goes : goal.returns-clause-goes
 returns-clause-goes g c =
     let w = c.self.inside in
     let step =
     sym c.self.view_is
-    ∙ stepped w.set.now w.index w.next w.end c.self.invariant c.in-Some.node c.in-Some.is c.get-entry.result.now c.next-self-inside.result (sym c.has_number_of.ensures ∙ c.if-has_number_of.false) c.get-entry.ensures c.next-self-inside.ensures in
+    ∙ stepped w.set.now w.index w.next w.end c.self.invariant c.in-Some.node c.in-Some.is c.get-entry.result.now c.next-self-inside.result (sym c.has_number_of.ensures ∙ c.if-has_number_of.false) c.get-entry.ensures (c.next-self-inside.ensures ∙ ap (λ a. next (same_node c.in-Some.node) (list_in a)) c.at.ensures) in
     let shorter = ap length step in
     search rules
-
-pub next-self-inside-requires-clause-at : goal.next-self-inside-requires-clause-at
-next-self-inside-requires-clause-at g c =
-    let w = c.self.inside in
-    record { sound = c.self.invariant.sound; index = within w.set.now w.index w.next w.end c.self.invariant c.in-Some.node c.in-Some.is }

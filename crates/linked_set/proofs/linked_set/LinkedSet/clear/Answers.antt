@@ -10,7 +10,7 @@ invariant_of-self g c =
     let made = c.clear.ensures in
     subst (λ slots. IsWhole g.E.Extract.has_key g.E.Extract.order_of (marks_of g.E.Extract) c.clear.new.self slots) (sym c.clear-2.ensures.items)
     (IsWhole-cleared c.self.inside.set c.clear.new.self made.same made.lists made.none
-    g.E.Extract.has_key g.E.Extract.order_of (marks_of g.E.Extract) made.sound made.keyed made.unique made.nodes)
+    g.E.Extract.has_key g.E.Extract.order_of (marks_of g.E.Extract) made.kept.filed.sound made.kept.filed.keyed made.kept.filed.unique made.nodes)
 
 pub returns-clause-left : goal.returns-clause-left
 returns-clause-left g c max writes =

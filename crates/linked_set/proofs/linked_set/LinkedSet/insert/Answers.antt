@@ -9,7 +9,7 @@ use Rattle.index_set.specs.Set.{store_of, keys_of, specs_of, contents, record_of
 use Rattle.index_set.specs.declared.places.FreePlace.{FreePlace}
 use Rattle.index_set.specs.Places.{place_from, IsPlaceOf}
 use Rattle.index_set.proofs.FreePlaces.{place_is_of}
-use Rattle.linked_set.specs.ByRow.{order_by_row}
+use Rattle.index_set.specs.ByRow.{order_by_row}
 use Rattle.linked_set.specs.Linked.{entries_in}
 use Rattle.linked_set.specs.Records.{kept_out, state_of}
 use Rattle.linked_set.specs.Seen.{seen}

@@ -30,7 +30,7 @@ invariant_of-self g c =
     IsWhole-listed inside.set c.rearrange.new.self c.args.index c.deref.result.now c.args.handles.now handles
     moved.same moved.lists moved.contents inside.slots.items c.self.invariant within may.sequence
     (IsPermutation-trans _ _ _ (IsPermutation-sym _ _ (members_here inside.set inside.slots.items c.self.invariant c.args.index within)) (each_once_is (entries_in (contents inside.set)) c.args.handles.now c.self.invariant.linked.apart may.once))
-    moved.sound (moved.keyed c.self.invariant.linked.keyed)
+    moved.kept.filed.sound moved.kept.filed.keyed
 
 pub returns-else-not-is_there-clause-ok : goal.returns-else-not-is_there-clause-ok
 returns-else-not-is_there-clause-ok g c max =

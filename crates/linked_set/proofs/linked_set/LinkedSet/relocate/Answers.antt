@@ -38,7 +38,7 @@ invariant_of-self g c =
     IsWhole-listed set c.move_to.new.self c.args.index (relocated (same_node c.in-Ok.node) c.in-Ok.node c.args.place (list_of set c.args.index)) _ handles
     moved.same moved.lists moved.contents inside.slots.items c.self.invariant within may.sequence
     (relocated_members (g.E.Extract.order_of (keys_of set).keys) (entries_in (contents set)) c.args.index (specs_of set) (handles_in (record_of set) (lists_of set)) within c.self.invariant.linked.apart c.self.invariant.listed c.args.handle c.args.place may.live)
-    moved.sound (moved.keyed c.self.invariant.linked.keyed)
+    moved.kept.filed.sound moved.kept.filed.keyed
 
 pub returns-else-not-is_there-clause-ok : goal.returns-else-not-is_there-clause-ok
 returns-else-not-is_there-clause-ok g c max =

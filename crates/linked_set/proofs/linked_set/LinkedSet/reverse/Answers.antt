@@ -20,7 +20,7 @@ invariant_of-self g c =
     let turned = c.reverse.ensures in
     let handles = map-reverse (handle_of (record_of set)) (list_of set c.args.index) ∙ ap reverse (list_seen set inside.slots.items c.self.invariant.linked c.args.index) in
     IsWhole-listed set c.reverse.new.self c.args.index (reverse (list_of set c.args.index)) _ handles turned.same turned.lists turned.contents inside.slots.items c.self.invariant within kind
-    (IsPermutation-reverse (list_at (handles_in (record_of set) (lists_of set)) c.args.index)) turned.sound (turned.keyed c.self.invariant.linked.keyed)
+    (IsPermutation-reverse (list_at (handles_in (record_of set) (lists_of set)) c.args.index)) turned.kept.filed.sound turned.kept.filed.keyed
 
 pub returns-clause-left : goal.returns-clause-left
 returns-clause-left g c max writes =

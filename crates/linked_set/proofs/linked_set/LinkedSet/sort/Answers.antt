@@ -29,7 +29,7 @@ invariant_of-self g c =
     let moved = c.rearrange.ensures in
     let handles = sorted_seen compare set inside.slots.items c.self.invariant.linked c.args.index c.deref.result.now (c.deref.ensures.value ∙ c.in_ok-nodes.ensures) in
     IsWhole-listed set c.rearrange.new.self c.args.index c.deref.result.now _ handles moved.same moved.lists moved.contents inside.slots.items c.self.invariant within kind
-    (IsPermutation-stable_sorted (compare_of compare (entries_in (contents set))) (list_at (handles_in (record_of set) (lists_of set)) c.args.index)) moved.sound (moved.keyed c.self.invariant.linked.keyed)
+    (IsPermutation-stable_sorted (compare_of compare (entries_in (contents set))) (list_at (handles_in (record_of set) (lists_of set)) c.args.index)) moved.kept.filed.sound moved.kept.filed.keyed
 
 pub returns-clause-left : goal.returns-clause-left
 returns-clause-left g c max writes =

@@ -1,0 +1,317 @@
+//! The parts of a set, and the steps that its calls are made of. Between two steps a node may stand in no index, and a
+//! record may have other keys than the indices go by.
+ghost use Rattle.any_index.specs.Keyed.{marks_of};
+ghost use Rattle.std.specs.Prelude.{◌≡◌, ◌+◌, ◌≤◌, ◌<◌, ◌^◌, ℕ, [], map, length, Some, None, IfOk, IfErr, IfSome, OnOk, OnErr};
+ghost use Rattle.std.specs.Borrow.{sem};
+ghost use Rattle.list_model.specs.Walk.{without};
+ghost use Rattle.node_store.specs.Store.{IsNodeOf, aged, age_of, len_of, width_of, empty_store};
+ghost use Rattle.node_store.specs.Age.{last_below};
+ghost use Rattle.node_store.specs.ByNode.{AddsNode, RemovesNode, same_node};
+ghost use Rattle.container_model.specs.State.{KeysMatch};
+ghost use Rattle.any_index.specs.Side.{AreNodesOf};
+ghost use Rattle.index_set.specs.Changed.{may_differ, differs};
+ghost use Rattle.index_set.specs.Each.{changed_from};
+ghost use Rattle.index_set.specs.Indices.{LackIt, HoldIt};
+ghost use Rattle.index_set.specs.Lists.{entered_at, settled_at, ban_from};
+ghost use Rattle.index_set.specs.Places.{place_from, IsPlaceAt};
+
+use crate::bans::{first_ban, free_place};
+use crate::changed::Changed;
+use crate::every::{empty_indices, enter_each, leave_each, reserve_each, settle_each};
+use crate::places::FreePlace;
+use any_index::AnyIndex;
+use container_model::Spec;
+use key_extract::Extract;
+use node_store::{NoRoom, Node, NodeStore};
+use std::alloc::{AllocError, Global};
+
+/// Records under one to eight indices, each of which may have any of its nodes. Each goes through a column of the store of
+/// its own, one of the first `columns`.
+#[derive(Drop)]
+pub struct Parts<R, E> {
+    pub(crate) alloc: Global,
+    pub(crate) store: NodeStore<R>,
+    pub(crate) columns: usize,
+    pub(crate) keys: E,
+    pub(crate) specs: Vec<Spec>,
+    pub(crate) indices: Vec<AnyIndex>,
+}
+
+impl<R: Drop, E: Extract<R> + Drop> Parts<R, E> {
+    ghost use Rattle.index_set.specs.Set.{store_of, keys_of, specs_of, columns_of, lists_of, IsSound, IsKeyed};
+
+    /// A set without records, in which there is room for `columns` indices. Index number j of `specs` is asked for by key
+    /// number j. O(indices).
+    pub(crate) fn new(
+        alloc: Global,
+        specs: Vec<Spec>,
+        keys: E,
+        columns: usize,
+    ) -> Result<Parts<R, E>, AllocError>
+        requires some { 1 ≤ length specs.items }
+        requires few { length specs.items ≤ columns }
+        requires most { columns ≤ 8 }
+        requires keys { KeysMatch (E.has_key keys) specs.items }
+        ensures sound { IfOk result (λ made. IsSound E.has_key made) }
+        ensures keyed { IfOk result (λ made. IsKeyed E.order_of (marks_of E.Extract) made) }
+        ensures lists { IfOk result (λ made. lists_of made ≡ map (λ _. []) specs.items) }
+        ensures empty { IfOk result (λ made.
+            store_of made ≡ empty_store (width_of (store_of made))) }
+        ensures keys { IfOk result (λ made. keys_of made ≡ keys) }
+        ensures specs { IfOk result (λ made. specs_of made ≡ specs.items) }
+        ensures columns { IfOk result (λ made. columns_of made ≡ columns) }
+    {
+        let indices = empty_indices(alloc, &specs)?;
+        Ok(Parts {
+            alloc,
+            store: NodeStore::new(alloc, columns),
+            columns,
+            keys,
+            specs,
+            indices,
+        })
+    }
+}
+
+impl<R: Drop, E: Extract<R>> Parts<R, E> {
+    ghost use Rattle.index_set.specs.Set.{store_of, record_of, lists_of, HasRoom, IsSound, IsKeyed, IsOfSame};
+
+    /// Adds a record, which is in no index yet. Where there is no memory for it, it is handed back. O(1).
+    pub(crate) fn add(&mut self, value: R) -> Result<Node, NoRoom<R>>
+        requires sound { IsSound E.has_key self.old }
+        requires count { (store_of self.old).added + 1 < 2 ^ 64 }
+        ensures sound { IsSound E.has_key self.new }
+        ensures same { IsOfSame self.old self.new }
+        ensures lists { lists_of self.new ≡ lists_of self.old }
+        ensures age { IfOk result (λ n. age_of (store_of self.new) n ≡ (store_of self.old).added) }
+        ensures count { OnOk result ((store_of self.new).added ≡ (store_of self.old).added + 1) }
+        ensures added { IfOk result (λ n. AddsNode (store_of self.old)
+            (store_of self.new) n value) }
+        ensures len { OnOk result (len_of (store_of self.new) ≡ len_of (store_of self.old) + 1) }
+        ensures loose { IfOk result (λ n. LackIt (lists_of self.new) n) }
+        ensures keyed { IsKeyed E.order_of (marks_of E.Extract) self.old →
+            IsKeyed E.order_of (marks_of E.Extract) self.new }
+        ensures room { HasRoom self.old → HasRoom self.new }
+        ensures unchanged { OnErr result (self.new ≡ self.old) }
+        ensures returned { IfErr result (λ e. e.value ≡ value) }
+    {
+        self.store.add(value)
+    }
+
+    /// Removes a node that is in no index, and returns its record. O(1).
+    pub(crate) fn remove(&mut self, n: Node) -> R
+        requires sound { IsSound E.has_key self.old }
+        requires node { IsNodeOf (store_of self.old) n }
+        requires loose { LackIt (lists_of self.old) n }
+        ensures sound { IsSound E.has_key self.new }
+        ensures same { IsOfSame self.old self.new }
+        ensures lists { lists_of self.new ≡ lists_of self.old }
+        ensures value { record_of self.old n ≡ Some result }
+        ensures removed { RemovesNode (store_of self.old) (store_of self.new) n }
+        ensures count { (store_of self.new).added ≡ (store_of self.old).added }
+        ensures len { len_of (store_of self.new) + 1 ≡ len_of (store_of self.old) }
+        ensures keyed { IsKeyed E.order_of (marks_of E.Extract) self.old →
+            IsKeyed E.order_of (marks_of E.Extract) self.new }
+        ensures room { HasRoom self.old → HasRoom self.new }
+    {
+        self.store.remove(n)
+    }
+}
+
+impl<R, E: Extract<R>> Parts<R, E> {
+    ghost use Rattle.index_set.specs.Asked.{IsFiledBut};
+    ghost use Rattle.index_set.specs.Lends.{lends_record};
+    ghost use Rattle.index_set.specs.Set.{store_of, keys_of, specs_of, columns_of, contents, record_of, lists_of, list_of, HasRoom, IsSound, IsKeyed, IsKeyedBut, IsKeyedExcept, IsUniqueExcept, HasKeysOf, IsRestored, IsKeyedBeside, IsFreeBeside, IsOfSame, with_record};
+
+    /// The node's record. O(1).
+    pub(crate) fn get(&self, n: Node) -> &R
+        requires { IsNodeOf (store_of self.now) n }
+        ensures { record_of self.now n ≡ Some result.now }
+    {
+        self.store.get(n)
+    }
+
+    /// The node's record for writing. Each index stays as it is, so `settle` has to follow where a key may have changed.
+    /// O(1).
+    pub(crate) fn get_mut(&mut self, n: Node) -> &mut R
+        requires { IsNodeOf (store_of self.old) n }
+        ensures* writes_back { sem 𝓛 (lends_record R.row E.row self.entry n result) }
+        ensures value { record_of self.old n ≡ Some result.now }
+    {
+        self.store.get_mut(n)
+    }
+
+    /// Makes room for one more node in each index. Where memory is refused, the lists are as before. O(indices) on
+    /// average over many insertions.
+    pub(crate) fn reserve_one(&mut self) -> Result<(), AllocError>
+        requires { IsSound E.has_key self.old }
+        ensures sound { IsSound E.has_key self.new }
+        ensures same { IsOfSame self.old self.new }
+        ensures lists { lists_of self.new ≡ lists_of self.old }
+        ensures contents { contents self.new ≡ contents self.old }
+        ensures room { OnOk result (HasRoom self.new) }
+        ensures full { OnErr result (¬ HasRoom self.old) }
+        ensures keyed { IsKeyed E.order_of (marks_of E.Extract) self.old →
+            IsKeyed E.order_of (marks_of E.Extract) self.new }
+    {
+        reserve_each(&mut self.store, &self.specs, &mut self.indices)
+    }
+
+    /// Puts a node that is in no index into each, in room that was reserved: by its key, or in a sequence last. With
+    /// `at` an index and a place in it: in that sequence before the node at the place. An index in which the place of its
+    /// record is `known` is not searched. O(log n) for each index.
+    pub(crate) fn enter(&mut self, n: Node, at: Option<(usize, u64)>, known: Option<FreePlace>)
+        requires sound { IsSound E.has_key self.old }
+        requires node { IsNodeOf (store_of self.old) n }
+        requires loose { LackIt (lists_of self.old) n }
+        requires room { HasRoom self.old }
+        requires place { (j p : ℕ) → at ≡ Some (j, p) → p ≤ length (list_of self.old j) }
+        requires known { IfSome known (IsPlaceAt (E.order_of (keys_of self.old))
+            (record_of self.old) (lists_of self.old) n) }
+        requires keyed { IsKeyed E.order_of (marks_of E.Extract) self.old }
+        ensures sound { IsSound E.has_key self.new }
+        ensures same { IsOfSame self.old self.new }
+        ensures lists { lists_of self.new ≡ changed_from
+            (entered_at (E.order_of (keys_of self.old)) (record_of self.old)
+            (age_of (store_of self.old)) at n) 0
+            (specs_of self.old) (lists_of self.old) }
+        ensures keyed { IsKeyed E.order_of (marks_of E.Extract) self.new }
+        ensures contents { contents self.new ≡ contents self.old }
+    {
+        enter_each(
+            &mut self.store,
+            &self.keys,
+            &self.specs,
+            &mut self.indices,
+            n,
+            at,
+            known,
+        );
+    }
+
+    /// Takes a node out of each index. It reads no record, so the node's may have changed. It takes no memory, and
+    /// leaves room for one node. O(log n) for each index, but O(the nodes behind it) in one with places.
+    pub(crate) fn leave(&mut self, n: Node)
+        requires sound { IsSound E.has_key self.old }
+        requires held { HoldIt (lists_of self.old) n }
+        ensures sound { IsSound E.has_key self.new }
+        ensures same { IsOfSame self.old self.new }
+        ensures lists { lists_of self.new ≡ map (without (same_node n)) (lists_of self.old) }
+        ensures room { HasRoom self.new }
+        ensures keyed { IsKeyedBut E.order_of (marks_of E.Extract) self.old n →
+            IsKeyed E.order_of (marks_of E.Extract) self.new }
+        ensures contents { contents self.new ≡ contents self.old }
+    {
+        leave_each(&mut self.store, &self.specs, &mut self.indices, n);
+    }
+
+    /// As `settle`, where the record has kept its key at all indices but the changed ones, which alone are settled. It takes
+    /// no memory. O(log n) for each of these.
+    pub(crate) fn settle_changed(&mut self, n: Node, changed: Changed)
+        requires sound { IsSound E.has_key self.old }
+        requires held { HoldIt (lists_of self.old) n }
+        requires keyed { IsKeyedBut E.order_of (marks_of E.Extract) self.old n }
+        requires beside { IsKeyedBeside E.order_of (marks_of E.Extract) self.old changed }
+        ensures sound { IsSound E.has_key self.new }
+        ensures same { IsOfSame self.old self.new }
+        ensures lists { lists_of self.new ≡ changed_from
+            (settled_at (E.order_of (keys_of self.old)) (record_of self.old) n) 0
+            (specs_of self.old) (lists_of self.old) }
+        ensures keyed { IsKeyed E.order_of (marks_of E.Extract) self.new }
+        ensures contents { contents self.new ≡ contents self.old }
+    {
+        settle_each(
+            &mut self.store,
+            &self.keys,
+            &self.specs,
+            &mut self.indices,
+            n,
+            changed,
+        );
+    }
+
+    /// Called in place of `settle` where the record of `n`, after writes through `get_mut`, has the keys again that it had
+    /// before them: as writing a record moves no node, each index has all its nodes where their keys put them, and a unique
+    /// one each key once, as before. It takes no memory. O(1).
+    pub(crate) fn put_back(&mut self, n: Node)
+        requires sound { IsSound E.has_key self.old }
+        requires node { IsNodeOf (store_of self.old) n }
+        requires restored { IsRestored E.order_of (marks_of E.Extract) self.old n }
+        ensures unchanged { self.new ≡ self.old }
+        ensures keyed { IsKeyed E.order_of (marks_of E.Extract) self.new }
+        ensures unique { (before : R) → HasKeysOf E.order_of self.old n before →
+            IsUniqueExcept E.order_of (with_record self.old n before) None →
+            IsUniqueExcept E.order_of self.new None }
+    {
+        // Each node stands where it stood.
+    }
+
+    /// The first unique index in which a node has the record's key, with that node, as an `Err`. Where none has it, where the
+    /// record goes in the first of the unique trees in which a node comes before it, for `enter`; `None` where there is no such
+    /// tree. It takes no memory. One search of each unique index: O(log n) for each tree, expected O(1) for buckets.
+    pub(crate) fn free_place(&self, r: &R) -> Result<Option<FreePlace>, (usize, Node)>
+        requires sound { IsSound E.has_key self.now }
+        requires keyed { IsKeyedExcept E.order_of (marks_of E.Extract) self.now None }
+        requires unique { IsUniqueExcept E.order_of self.now None }
+        ensures free { OnOk result (ban_from (E.order_of (keys_of self.now)) (record_of self.now)
+            (lists_of self.now) None r.now 0 (specs_of self.now) ≡ None) }
+        ensures place { IfOk result (λ place. place ≡ place_from (E.order_of (keys_of self.now))
+            (record_of self.now) (lists_of self.now) r.now 0 (specs_of self.now)) }
+        ensures taken { IfErr result (λ by. ban_from (E.order_of (keys_of self.now))
+            (record_of self.now) (lists_of self.now) None r.now 0 (specs_of self.now) ≡ Some by) }
+    {
+        free_place(&self.store, &self.keys, &self.specs, &self.indices, r)
+    }
+
+    /// The indices at which a record has another key than that of `n`. A comparison for each index that has a key.
+    pub(crate) fn changed_by(&self, n: Node, r: &R) -> Changed
+        requires sound { IsSound E.has_key self.now }
+        requires node { IsNodeOf (store_of self.now) n }
+        ensures { (before : R) (index : ℕ) → record_of self.now n ≡ Some before →
+            may_differ result index ≡
+            differs (E.order_of (keys_of self.now)) (specs_of self.now) r.now before index }
+    {
+        Changed::between(&self.keys, &self.specs, self.get(n), r)
+    }
+
+    /// As `bans`, where the record has the excepted node's key at all indices but the changed ones, which alone are asked. It
+    /// takes no memory. O(log n) for each of these.
+    pub(crate) fn bans_changed(
+        &self,
+        r: &R,
+        except: Option<Node>,
+        changed: Changed,
+    ) -> Option<(usize, Node)>
+        requires sound { IsSound E.has_key self.now }
+        requires except { AreNodesOf (store_of self.now) except }
+        requires keyed { IsKeyedExcept E.order_of (marks_of E.Extract) self.now except }
+        requires unique { IsUniqueExcept E.order_of self.now except }
+        requires free { IsFreeBeside E.order_of self.now changed except r.now }
+        ensures { result ≡ ban_from (E.order_of (keys_of self.now)) (record_of self.now)
+            (lists_of self.now) except r.now 0 (specs_of self.now) }
+    {
+        first_ban(
+            &self.store,
+            &self.keys,
+            &self.specs,
+            &self.indices,
+            r,
+            except,
+            changed,
+        )
+    }
+
+    // The first unique index in which another node has the key of the record of `n`, which may have changed at these indices
+    // alone, with that node.
+    pub(crate) fn written_bans(&self, n: Node, changed: Changed) -> Option<(usize, Node)>
+        requires filed { IsFiledBut E.Extract self.now n }
+        requires node { IsNodeOf (store_of self.now) n }
+        requires free { (r : R) → record_of self.now n ≡ Some r →
+            IsFreeBeside E.order_of self.now changed (Some n) r }
+        ensures { (r : R) → record_of self.now n ≡ Some r →
+            result ≡ ban_from (E.order_of (keys_of self.now)) (record_of self.now)
+            (lists_of self.now) (Some n) r 0 (specs_of self.now) }
+    {
+        self.bans_changed(self.get(n), Some(n), changed)
+    }
+}
