@@ -40,32 +40,12 @@ loading_line start seen b old new h is loads =
       few = omega (arith, one_more seen b, h.few, loads.number);
     }
 
-pub loads_none : (loader : Loader) → Loads loader [] loader
-loads_none loader start seen h = subst (λ xs. IsLoading start xs loader) (sym (append-nil seen)) h
-
-pub loads_both : (old mid new : Loader) (bytes more : List ℕ) → Loads old bytes mid → Loads mid more new → Loads old (bytes ++ more) new
-loads_both old mid new bytes more go on start seen h =
-    subst (λ xs. IsLoading start xs new) (append_assoc seen bytes more) (on start (seen ++ bytes) (go start seen h))
-
 pub loads_byte : (old new : Loader) (b : ℕ) → (b == 10) ≡ false
     → new.line.items ≡ old.line.items ++ b ∷ [] → new.table ≡ old.table → new.number ≡ old.number → Loads old (b ∷ []) new
 loads_byte old new b other line table number start seen h = loading_byte start seen b old new h other line table number
 
 pub loads_newline : (old new : Loader) (b : ℕ) → (b == 10) ≡ true → LoadsLine old new → Loads old (b ∷ []) new
 loads_newline old new b is loads start seen h = loading_line start seen b old new h is loads
-
-pub grows_newline : (old new : Loader) → LoadsLine old new → Grows old 1 new
-grows_newline old new loads =
-    let none : length new.line.items ≡ 0 = ap length loads.line in
-    record { number = omega (arith, loads.number); line = omega (arith, none) }
-
-pub grows_byte : (old new : Loader) (b : ℕ) → new.line.items ≡ old.line.items ++ b ∷ [] → new.number ≡ old.number → Grows old 1 new
-grows_byte old new b line number =
-    let more : length new.line.items ≡ length old.line.items + 1 = ap length line ∙ length-append old.line.items (b ∷ []) in
-    record { number = omega (arith, number); line = omega (arith, more) }
-
-pub grows_both : (old mid new : Loader) (n m : ℕ) → Grows old n mid → Grows mid m new → Grows old (n + m) new
-grows_both old mid new n m go on = record { number = omega (arith, go.number, on.number); line = omega (arith, go.line, on.line) }
 
 -- a line that is refused is so whatever follows
 pub refused_more : (start : TableState) (bytes later : List ℕ) (number : ℕ) → IsRefused start bytes number → IsRefused start (bytes ++ later) number
@@ -134,9 +114,6 @@ pub refuses_from : (contents : Option (List ℕ)) (piece : List ℕ) (at count :
     → ((known : List ℕ) → contents ≡ Some known → take count piece ≡ take count (drop at known)) → Refuses old (take count piece) why → RefusesFrom contents at old why
 refuses_from contents piece at count old why is go = refuses_by contents piece at count old why is go
 
-pub disk_unread : (contents : Option (List ℕ)) (at : ℕ) (old : Loader) → RefusesFrom contents at old whys.Disk
-disk_unread contents at old start bytes known h = tt
-
 -- ---- opening
 
 pub opened : (start : TableState) (bytes : List ℕ) (loader : Loader) (size torn : ℕ) (new : Option (List ℕ)) → IsLoading start bytes loader
@@ -159,16 +136,9 @@ take-none : (xs : List ℕ) → take 0 xs ≡ []
 take-none [] = refl
 take-none (x ∷ xs) = refl
 
-pub loads_here : (contents : Option (List ℕ)) (at : ℕ) (loader : Loader) → LoadsTo contents at loader at loader
-loads_here contents at loader start bytes known h = h
-
 pub loads_on : (contents : Option (List ℕ)) (at mid next : ℕ) (old between new : Loader) → LoadsTo contents at old mid between → LoadsTo contents mid between next new
     → LoadsTo contents at old next new
 loads_on contents at mid next old between new go on start bytes known h = on start bytes known (go start bytes known h)
-
-pub refuses_on : (contents : Option (List ℕ)) (at mid : ℕ) (old between : Loader) (why : OpenWhy) → LoadsTo contents at old mid between → RefusesFrom contents mid between why
-    → RefusesFrom contents at old why
-refuses_on contents at mid old between why go on start bytes known h = on start bytes known (go start bytes known h)
 
 from_start : (start : TableState) (bytes : List ℕ) (loader : Loader) → IsLoading start [] loader → IsLoading start (take 0 bytes) loader
 from_start start bytes loader h = subst (λ xs. IsLoading start xs loader) (sym (take-none bytes)) h
