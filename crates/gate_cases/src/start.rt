@@ -1,5 +1,4 @@
 //! What each case begins with.
-ghost use Rattle.std.specs.Prelude.{◌≤◌, IfOk};
 
 use crate::report::Report;
 use command_lines::read_command;
@@ -9,24 +8,13 @@ use std::alloc::{AllocError, Global};
 use std::io;
 use std::io::Read;
 use std::sync::Wait;
-use table_reply::{Out, READY_ROOM};
+use table_reply::Out;
 
 /// The text of the schema.
 #[derive(Drop)]
 pub struct Start {
     pub alloc: Global,
     schema: Vec<u8>,
-}
-
-// A buffer with room for an answer.
-fn ready_out(alloc: Global) -> Result<Out, AllocError>
-    ensures { IfOk result (λ out. READY_ROOM ≤ out.room) }
-{
-    let mut out = Out::new(alloc);
-    match out.ready() {
-        Ok(()) => Ok(out),
-        Err(_) => Err(AllocError),
-    }
 }
 
 /// What a call with a line is answered. (The command is read last, so that nothing has to let go of it.)
@@ -37,11 +25,12 @@ pub fn answer<G: Gate>(
     pass: &mut Pass,
     line: &str,
 ) -> Result<Vec<u8>, AllocError> {
-    let mut out = ready_out(alloc)?;
+    let mut out = Out::new(alloc).map_err(|_| AllocError)?;
     let Ok(command) = read_command(alloc, line.as_bytes()) else {
         return b"no command\n".to_vec(alloc);
     };
-    match shared.call(rt, pass, command, &mut out) {
+    let Ok(ready) = out.emptied();
+    match shared.call(rt, pass, command, ready).end() {
         Ok(()) => out.bytes().to_vec(alloc),
         Err(_) => b"refused\n".to_vec(alloc),
     }

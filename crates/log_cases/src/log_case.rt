@@ -34,7 +34,7 @@ pub fn tell_log(
         bytes: Vec::new(alloc),
         logged: None,
         mark: None,
-        out: Out::new(alloc),
+        out: Out::new(alloc).map_err(|_| AllocError)?,
     };
     for line in lines {
         report.texts(&[line, b"\n"])?;
@@ -46,6 +46,15 @@ pub fn tell_log(
 // Whether a line tells that memory was refused.
 fn is_memory(answer: &[u8]) -> bool {
     answer == b"{\"err\":\"memory\"}\n".as_slice()
+}
+
+// What a line that is no command is told.
+fn fault_of(fault: CommandFault) -> Fault {
+    match fault {
+        CommandFault::Json => Fault::Json,
+        CommandFault::Command => Fault::Command,
+        CommandFault::Memory => Fault::Memory,
+    }
 }
 
 impl LogCase<'_> {
@@ -100,8 +109,7 @@ impl LogCase<'_> {
     // Calls a command, and once more where memory was refused.
     fn call(&mut self, line: &[u8], report: &mut Report) -> Result<(), AllocError> {
         for _ in 0..2 {
-            self.out.clear();
-            if self.answer(line)?.is_err() {
+            if self.answer(line).is_err() {
                 return report.texts(&[b"  over\n"]);
             }
             report.text(b"  ")?;
@@ -113,23 +121,24 @@ impl LogCase<'_> {
         Ok(())
     }
 
-    fn answer(&mut self, line: &[u8]) -> Result<Result<(), Over>, AllocError> {
+    // Leaves in the buffer what a line is answered.
+    fn answer(&mut self, line: &[u8]) -> Result<(), Over> {
         let command = read_command(self.alloc, line);
-        self.out.ready().map_err(|_| AllocError)?;
+        let Ok(out) = self.out.emptied();
         match (command, &mut self.logged) {
-            (Ok(_), None) => return Ok(Err(Over)),
+            (Ok(_), None) => Err(Over),
             (Ok(command), Some(logged)) => {
-                return Ok(if is_change(&command) {
-                    logged.call(&command, &mut self.out)
+                if is_change(&command) {
+                    logged.call(&command, out).end()
                 } else {
-                    logged.read(&command, &mut self.out)
-                });
+                    logged.read(&command, out).end()
+                }
             }
-            (Err(CommandFault::Json), _) => refuse(Fault::Json, &mut self.out),
-            (Err(CommandFault::Command), _) => refuse(Fault::Command, &mut self.out),
-            (Err(CommandFault::Memory), _) => refuse(Fault::Memory, &mut self.out),
-        };
-        Ok(Ok(()))
+            (Err(fault), _) => {
+                refuse(fault_of(fault), out).end();
+                Ok(())
+            }
+        }
     }
 
     fn sync(&mut self, report: &mut Report) -> Result<(), AllocError> {

@@ -1,5 +1,5 @@
 -- What a call on a table tells.
-use Rattle.std.proofs.Common.{◌≡◌, inl, inr, ℕ, Bool, true, false, List, [], ◌++◌, not, refl, sym, ap, subst, ◌∙◌, Some}
+use Rattle.std.proofs.Common.{◌≡◌, inl, inr, ℕ, Bool, true, false, List, [], ◌++◌, not, refl, sym, ap, subst, ◌∙◌, Some, Result, Ok, Err, OnOk}
 use Rattle.std.proofs.lemmas.List.Quantifiers.{position-Some}
 use Rattle.std.proofs.lemmas.Option.{slice_get-get_or}
 use Rattle.std.proofs.lemmas.Slice.Eq.{bytes_eq-Decides}
@@ -9,7 +9,7 @@ use Rattle.table_cmd.specs.Command.{table_in}
 use Rattle.table_cmd.specs.declared.command.Command.{Command}
 use Rattle.table_reply.specs.Answer.{answer_text}
 use Rattle.table_step.specs.Step.{memory_line, step_of}
-use Rattle.table_log.specs.Logged.{IsKept, LogData, Tells, Told}
+use Rattle.table_log.specs.Logged.{AppendsAnswer, IsKept, LogData, Tells}
 use Rattle.logged_tables.specs.Hears.{HearsAt, HearsCommand, place_of}
 use Rattle.logged_tables.specs.Standing.{Carries}
 
@@ -23,8 +23,8 @@ placed names name place e =
     let k = position-Some (λ other. bytes_eq other name) names place [] e in
     slice_get-get_or names place [] k.0 ∙ ap (λ x. Some x) ((bytes_eq-Decides _ name).0 k.1)
 
-told_by : (b : Bool) (old new : LogData) (command : Command) (before told : List ℕ) → MatchBool b (Told old command before told new) ((new ≡ old) × Tells old command before told)
-    → (x : List ℕ) × (told ≡ before ++ x) × MatchBool b (Told old command [] x new) ((new ≡ old) × Tells old command [] x)
+told_by : (b : Bool) (old new : LogData) (command : Command) (before told : List ℕ) → MatchBool b (AppendsAnswer old command before told new) ((new ≡ old) × Tells old command before told)
+    → (x : List ℕ) × (told ≡ before ++ x) × MatchBool b (AppendsAnswer old command [] x new) ((new ≡ old) × Tells old command [] x)
 told_by true old new command before told h = (h.0, h.1, (h.0, refl, h.2))
 told_by false old new command before told (same, inl e) = (memory_line, e, (same, inl refl))
 told_by false old new command before told (same, inr e) = (answer_text (step_of old.table command).answer, e, (same, inr refl))
@@ -35,3 +35,8 @@ pub heard : (names : List (List ℕ)) (place : ℕ) (old new : LogData) (command
 heard names place old new command before told at kept named h =
     let k = told_by (is_change command) old new command before told h.1 in
     (k.0, k.1, inr (subst (λ p. HearsAt p command k.0) (sym at) (record { old = old; new = new; kept = kept; named = named; works = h.0; carried = k.2 })))
+
+-- what stands on success, where a call succeeded
+pub at_ok : {T E P : Type 0} (r : Result T E) (x : T) → r ≡ Ok x → OnOk r P → P
+at_ok (Ok y) x e p = p
+at_ok (Err why) x e p = cc

@@ -3,7 +3,7 @@ use Rattle.std.specs.Prelude.{◌≡◌, ◌⊎◌, ℕ, ◌≤◌, ◌<◌, Lis
 use Rattle.std.specs.Bool.{MatchBool}
 use Rattle.table_changes.specs.Change.{is_change}
 use Rattle.table_cmd.specs.declared.command.Command.{Command}
-use Rattle.table_log.specs.Logged.{LogData, Tells, Told, failed_log, synced_log}
+use Rattle.table_log.specs.Logged.{AppendsAnswer, LogData, Tells, failed_log, synced_log}
 use Rattle.table_log.specs.declared.logged.Mark.{Mark}
 use Rattle.logged_tables.specs.declared.syncing.Syncing.{Syncing}
 use Rattle.logged_tables.specs.declared.syncing.Syncing.TheVariants.{Each, Second, Never}
@@ -12,7 +12,7 @@ use Rattle.logged_tables.specs.declared.syncing.Syncing.TheVariants.{Each, Secon
 
 -- A change is carried out, and an accepted one is in the log. A read is answered, and changes nothing.
 abbrev pub Carries : LogData → Command → List ℕ → List ℕ → LogData → Type 0
-Carries old command told_before told new = MatchBool (is_change command) (Told old command told_before told new) ((new ≡ old) × Tells old command told_before told)
+Carries old command told_before told new = MatchBool (is_change command) (AppendsAnswer old command told_before told new) ((new ≡ old) × Tells old command told_before told)
 
 -- the mark of a log as long as it is
 abbrev pub mark_of : LogData → Mark

@@ -1,8 +1,8 @@
 //! The place of a session.
 
-ghost use Rattle.std.specs.Prelude.{◌≡◌, ◌≤◌, ◌<◌, ◌++◌, false, List, ℕ, None, Some, All, IfErr, IfOk, OnErr, OnOk, length, slice_get, slice_set};
+ghost use Rattle.std.specs.Prelude.{◌≡◌, ◌<◌, ◌++◌, false, List, ℕ, None, Some, All, IfErr, IfOk, OnErr, OnOk, length, slice_get, slice_set};
 ghost use Rattle.command_lines.specs.Fits.{CommandFits};
-ghost use Rattle.table_reply.specs.Buffer.{Keeps};
+ghost use Rattle.table_reply.specs.Ready.{IsBehind};
 ghost use Rattle.table_log.specs.Logged.{IsKept, Stops};
 ghost use Rattle.logged_tables.specs.Hears.{HearsCommand, IsOver};
 ghost use Rattle.logged_tables.specs.Standing.{Carries, marked};
@@ -16,7 +16,7 @@ use std::marker::Model;
 use std::sync::{Mutex, MutexGuard, Wait};
 use table_cmd::Command;
 use table_log::{Disk, LoggedTable, Over};
-use table_reply::{Fault, Out, READY_ROOM};
+use table_reply::{Fault, Ready, Told};
 use table_step::{refuse, refuse_memory};
 
 /// The place of a session, which serves one stream after another.
@@ -86,54 +86,53 @@ impl<'a, D: Disk, T: Wait> Seat<'a, D, T> {
 
     // Carries out a command under the lock of the table that it names, and appends the line of its answer, or else the memory
     // line. Where no table has the name, the line says so, and no lock is taken. Where the table's log is over nothing is appended.
-    pub(crate) fn call(&self, command: &Command, out: &mut Out) -> Result<(), OverAt>
-        requires ready { READY_ROOM ≤ out.old.room }
-        requires fits { CommandFits command.now }
-        ensures answered { OnOk result ((text : List ℕ) × (out.new.bytes ≡ out.old.bytes ++ text) × HearsCommand self.now.names command.now text) }
-        ensures refused { IfErr result (λ at. IsOver self.now.names command.now at) }
-        ensures unchanged { OnErr result (out.new ≡ out.old) }
-        ensures kept { Keeps out.old out.new }
+    pub(crate) fn call<'o>(&self, command: &Command, out: Ready<'o>) -> Told<'o, Result<(), OverAt>>
+        requires { CommandFits command.now }
+        ensures answered { OnOk result.what ((text : List ℕ) × (result.out.now.bytes ≡ out.entry.out.now.bytes ++ text) × HearsCommand self.now.names command.now text) }
+        ensures refused { IfErr result.what (λ at. IsOver self.now.names command.now at) }
+        ensures unchanged { OnErr result.what (result.out.now ≡ out.entry.out.now) }
+        ensures behind { IsBehind out.entry result }
     {
         let tables = self.tables;
         let Some(place) = tables.place_of(command.table()) else {
-            refuse(Fault::Table, out);
-            return Ok(());
+            return refuse(Fault::Table, out).with(Ok(()));
         };
         let mut standing = self.standing.lock(self.rt);
         let Some(lock) = tables.at(place) else {
-            refuse_memory(out);
-            return Ok(());
+            return refuse_memory(out).with(Ok(()));
         };
         let mut table = lock.lock(self.rt);
         // They always fit, but of what a lock holds only its type is known.
         if table.name() != command.table() || place >= standing.len() {
-            refuse_memory(out);
-            return Ok(());
+            return refuse_memory(out).with(Ok(()));
         }
-        match self.carry_out(&mut standing, &mut table, place, command, out) {
-            Ok(()) => Ok(()),
-            Err(Over) => Err(OverAt { table: place }),
+        let Told { what, out } = self.carry_out(&mut standing, &mut table, place, command, out);
+        match what {
+            Ok(()) => Told { what: Ok(()), out },
+            Err(Over) => Told {
+                what: Err(OverAt { table: place }),
+                out,
+            },
         }
     }
 
     // Carries out a command on the table of this number, which is lent.
-    fn carry_out(
+    fn carry_out<'o>(
         &self,
         standing: &mut Standing,
         table: &mut LoggedTable<D>,
         place: usize,
         command: &Command,
-        out: &mut Out,
-    ) -> Result<(), Over>
-        requires ready { READY_ROOM ≤ out.old.room }
+        out: Ready<'o>,
+    ) -> Told<'o, Result<(), Over>>
         requires fits { CommandFits command.now }
         requires place { place < length standing.old }
         requires named { slice_get self.now.names place ≡ Some table.old.table.shape.name }
-        ensures answered { OnOk result ((table.old.is_over ≡ false) × Carries table.old command.now out.old.bytes out.new.bytes table.new) }
-        ensures marked { OnOk result (standing.new ≡ marked self.now.syncing place table.new standing.old) }
-        ensures stopped { OnErr result ((out.new ≡ out.old) × (standing.new ≡ standing.old) × Stops table.old command.now table.new) }
+        ensures answered { OnOk result.what ((table.old.is_over ≡ false) × Carries table.old command.now out.entry.out.now.bytes result.out.now.bytes table.new) }
+        ensures marked { OnOk result.what (standing.new ≡ marked self.now.syncing place table.new standing.old) }
+        ensures stopped { OnErr result.what ((result.out.now ≡ out.entry.out.now) × (standing.new ≡ standing.old) × Stops table.old command.now table.new) }
         ensures stands { IsKept table.old }
-        ensures kept { Keeps out.old out.new }
+        ensures behind { IsBehind out.entry result }
     {
         standing.call(table, place, self.syncing, command, out)
     }

@@ -15,7 +15,7 @@ use std::marker::Model;
 use std::sync::Wait;
 use table_engine::{Answers, LineCutter, Sink, Source, Stopped, serve_lines};
 use table_log::Disk;
-use table_reply::{Fault, Out};
+use table_reply::{Fault, Ready, Told};
 use table_step::refuse;
 
 /// How a stream ended, and its writer, which is not flushed.
@@ -44,14 +44,18 @@ impl<'a, D: Disk, T: Wait> Answers<Seat<'a, D, T>> for Lines {
 
     ghost refuses = { λ seat. RefusesTold seat.names };
 
-    fn answer(&mut self, seat: &Seat<'a, D, T>, line: &[u8], out: &mut Out) -> Result<(), OverAt> {
+    fn answer<'o>(
+        &mut self,
+        seat: &Seat<'a, D, T>,
+        line: &[u8],
+        out: Ready<'o>,
+    ) -> Told<'o, Result<(), OverAt>> {
         match read_command(seat.alloc(), line) {
-            Ok(command) => return seat.call(&command, out),
-            Err(CommandFault::Json) => refuse(Fault::Json, out),
-            Err(CommandFault::Command) => refuse(Fault::Command, out),
-            Err(CommandFault::Memory) => refuse(Fault::Memory, out),
-        };
-        Ok(())
+            Ok(command) => seat.call(&command, out),
+            Err(CommandFault::Json) => refuse(Fault::Json, out).with(Ok(())),
+            Err(CommandFault::Command) => refuse(Fault::Command, out).with(Ok(())),
+            Err(CommandFault::Memory) => refuse(Fault::Memory, out).with(Ok(())),
+        }
     }
 }
 

@@ -1,9 +1,9 @@
 //! What stands until bytes go to a session's peer: how far the log of each table has to be synced before.
 
-ghost use Rattle.std.specs.Prelude.{◌≡◌, ◌⊎◌, ◌≤◌, ◌<◌, ◌++◌, false, Some, None, IfOk, IsFalse, OnErr, OnOk, length, slice_get, slice_set, replicate};
+ghost use Rattle.std.specs.Prelude.{◌≡◌, ◌⊎◌, ◌<◌, ◌++◌, false, Some, None, IfOk, IsFalse, OnErr, OnOk, length, slice_get, slice_set, replicate};
 ghost use Rattle.command_lines.specs.Fits.{CommandFits};
-ghost use Rattle.table_reply.specs.Buffer.{Keeps};
-ghost use Rattle.table_log.specs.Logged.{IsKept, Stops, Told};
+ghost use Rattle.table_reply.specs.Ready.{IsBehind};
+ghost use Rattle.table_log.specs.Logged.{AppendsAnswer, IsKept, Stops};
 ghost use Rattle.table_step.specs.Step.{memory_line};
 ghost use Rattle.table_log.specs.declared.logged.Mark.{Mark};
 ghost use Rattle.logged_tables.specs.Standing.{Carries, IsSettled, StopsSync, marked};
@@ -14,10 +14,10 @@ use std::alloc::{AllocError, Global};
 use std::marker::Model;
 use table_cmd::Command;
 use table_log::{Disk, LoggedTable, Mark, Over};
-use table_reply::{Out, READY_ROOM};
+use table_reply::{Out, READY_ROOM, Ready, Told};
 use table_step::{is_change, refuse_memory};
 
-/// For each table how far its log has to be synced before bytes go to the peer; and room for the answer to a change.
+/// For each table how far its log has to be synced before bytes go to the peer; and a buffer for the answer to a change.
 #[derive(Drop)]
 pub(crate) struct Standing {
     marks: Vec<Option<Mark>>,
@@ -25,14 +25,12 @@ pub(crate) struct Standing {
 }
 
 impl Model for Standing {
-    ghost use Rattle.std.specs.Prelude.{◌≤◌, ◌+◌, List, Option, length};
+    ghost use Rattle.std.specs.Prelude.{List, Option};
     ghost use Rattle.table_log.specs.declared.logged.Mark.{Mark};
 
     ghost Value = { List (Option Mark) };
 
     ghost view = { λ s. s.marks.items };
-
-    ghost invariant = { λ s. 512 ≤ s.reply.room + length s.reply.bytes };
 }
 
 impl Standing {
@@ -41,8 +39,7 @@ impl Standing {
         ensures { IfOk result (λ standing. standing ≡ replicate tables None) }
     {
         let marks = vec![in alloc; None; tables]?;
-        let mut reply = Out::new(alloc);
-        reply.ready().map_err(|_| AllocError)?;
+        let reply = Out::new(alloc).map_err(|_| AllocError)?;
         Ok(Standing { marks, reply })
     }
 
@@ -62,57 +59,53 @@ impl Standing {
     }
 
     // Carries out a command that may change a table.
-    fn change<D: Disk>(
+    fn change<'o, D: Disk>(
         &mut self,
         table: &mut LoggedTable<D>,
         command: &Command,
-        out: &mut Out,
-    ) -> Result<(), Over>
-        requires ready { READY_ROOM ≤ out.old.room }
-        requires fits { CommandFits command.now }
-        ensures answered { OnOk result ((table.old.is_over ≡ false) × Told table.old command.now out.old.bytes out.new.bytes table.new) }
-        ensures stopped { OnErr result ((out.new ≡ out.old) × Stops table.old command.now table.new) }
+        out: Ready<'o>,
+    ) -> Told<'o, Result<(), Over>>
+        requires { CommandFits command.now }
+        ensures answered { OnOk result.what ((table.old.is_over ≡ false) × AppendsAnswer table.old command.now out.entry.out.now.bytes result.out.now.bytes table.new) }
+        ensures stopped { OnErr result.what ((result.out.now ≡ out.entry.out.now) × Stops table.old command.now table.new) }
         ensures stands { IsKept table.old }
-        ensures kept { Keeps out.old out.new }
+        ensures behind { IsBehind out.entry result }
         ensures marks { self.new ≡ self.old }
     {
-        self.reply.clear();
-        match table.call(command, &mut self.reply) {
-            Ok(()) => {}
-            Err(over) => return Err(over),
+        let Ok(ready) = self.reply.emptied();
+        match table.call(command, ready).end() {
+            Ok(()) => hand_over(self.reply.bytes(), out).with(Ok(())),
+            Err(over) => out.give_back(Err(over)),
         }
-        hand_over(self.reply.bytes(), out);
-        Ok(())
     }
 
     /// Carries out a command on the table of this number, which is lent, and keeps how far its log has to be synced before the
     /// answer leaves, where it has to be. Where the log is over, nothing is answered.
-    pub(crate) fn call<D: Disk>(
+    pub(crate) fn call<'o, D: Disk>(
         &mut self,
         table: &mut LoggedTable<D>,
         place: usize,
         syncing: Syncing,
         command: &Command,
-        out: &mut Out,
-    ) -> Result<(), Over>
-        requires ready { READY_ROOM ≤ out.old.room }
+        out: Ready<'o>,
+    ) -> Told<'o, Result<(), Over>>
         requires fits { CommandFits command.now }
         requires place { place < length self.old }
-        ensures answered { OnOk result ((table.old.is_over ≡ false) × Carries table.old command.now out.old.bytes out.new.bytes table.new) }
-        ensures marked { OnOk result (self.new ≡ marked syncing place table.new self.old) }
-        ensures stopped { OnErr result ((out.new ≡ out.old) × (self.new ≡ self.old) × Stops table.old command.now table.new) }
+        ensures answered { OnOk result.what ((table.old.is_over ≡ false) × Carries table.old command.now out.entry.out.now.bytes result.out.now.bytes table.new) }
+        ensures marked { OnOk result.what (self.new ≡ marked syncing place table.new self.old) }
+        ensures stopped { OnErr result.what ((result.out.now ≡ out.entry.out.now) × (self.new ≡ self.old) × Stops table.old command.now table.new) }
         ensures stands { IsKept table.old }
-        ensures kept { Keeps out.old out.new }
+        ensures behind { IsBehind out.entry result }
     {
-        if is_change(command) {
-            self.change(table, command, out)?;
+        let told = if is_change(command) {
+            self.change(table, command, out)
         } else {
-            table.read(command, out)?;
-        }
-        if syncing == Syncing::Each {
+            table.read(command, out)
+        };
+        if told.what.is_ok() && syncing == Syncing::Each {
             self.marks[place] = Some(table.mark());
         }
-        Ok(())
+        told
     }
 
     /// Sees to it that the log of the table of this number, which is lent, is synced as far as its mark says, and takes the mark
@@ -147,12 +140,13 @@ impl Standing {
 }
 
 // Appends the line of an answer. One of more than 512 bytes may find no room: then it is the memory line.
-fn hand_over(line: &[u8], out: &mut Out)
-    requires { READY_ROOM ≤ out.old.room }
-    ensures told { (out.new.bytes ≡ out.old.bytes ++ line.now) ⊎ ((READY_ROOM < length line.now) × (out.new.bytes ≡ out.old.bytes ++ memory_line)) }
-    ensures kept { Keeps out.old out.new }
+fn hand_over<'o>(line: &[u8], out: Ready<'o>) -> Told<'o, ()>
+    ensures told { (result.out.now.bytes ≡ out.entry.out.now.bytes ++ line.now) ⊎ ((READY_ROOM < length line.now) × (result.out.now.bytes ≡ out.entry.out.now.bytes ++ memory_line)) }
+    ensures behind { IsBehind out.entry result }
 {
-    if out.try_push(line).is_err() {
-        refuse_memory(out);
+    let Ready { out } = out;
+    if out.try_push(line).is_ok() {
+        return Told { what: (), out };
     }
+    refuse_memory(Ready { out }).with(())
 }

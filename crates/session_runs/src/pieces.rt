@@ -40,14 +40,18 @@ fn session_of(digit: u8) -> Option<usize>
     }
 }
 
+fn new_out(alloc: Global) -> Result<Out, AllocError> {
+    Out::new(alloc).map_err(|_| AllocError)
+}
+
 // A buffer for each session.
-fn four_outs(alloc: Global) -> [Out; 4] {
-    [
-        Out::new(alloc),
-        Out::new(alloc),
-        Out::new(alloc),
-        Out::new(alloc),
-    ]
+fn four_outs(alloc: Global) -> Result<[Out; 4], AllocError> {
+    Ok([
+        new_out(alloc)?,
+        new_out(alloc)?,
+        new_out(alloc)?,
+        new_out(alloc)?,
+    ])
 }
 
 impl Sessions {
@@ -94,7 +98,7 @@ impl Sessions {
             self.piece.clear();
             return self.report.extend_from_slice(b"no piece\n");
         };
-        let mut outs = four_outs(self.alloc);
+        let mut outs = four_outs(self.alloc)?;
         let events = [Event::Piece {
             session,
             bytes: &self.piece,
@@ -109,7 +113,7 @@ impl Sessions {
         let Some(session) = session_of(digit) else {
             return self.report.extend_from_slice(b"no piece\n");
         };
-        let mut outs = four_outs(self.alloc);
+        let mut outs = four_outs(self.alloc)?;
         let events = [Event::End { session }];
         run_events(&mut self.engine, &events, &mut outs).map_err(|_| AllocError)?;
         self.tell(digit, &outs)

@@ -1,9 +1,9 @@
 //! Journals, run again on empty tables.
 
+use crate::buffers::new_out;
 use shared_tables::Journals;
 use std::alloc::{AllocError, Global};
 use table_engine::{Engine, Sink};
-use table_reply::Out;
 use table_schema::Schema;
 
 /// The text of the journals.
@@ -18,7 +18,7 @@ pub fn text_of(alloc: Global, journals: &Journals) -> Result<Vec<u8>, AllocError
 // What one session is answered that sends these lines to empty tables.
 fn answered(alloc: Global, schema: &Schema, lines: &[u8]) -> Result<Vec<u8>, AllocError> {
     let mut engine = Engine::new(alloc, schema, 1)?;
-    let mut out = Out::new(alloc);
+    let mut out = new_out(alloc)?;
     engine.feed(0, lines, &mut out).map_err(|_| AllocError)?;
     engine.finish(0, &mut out).map_err(|_| AllocError)?;
     out.bytes().to_vec(alloc)

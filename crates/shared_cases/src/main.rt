@@ -21,6 +21,7 @@
 #![tactic(auto)]
 
 mod again;
+mod buffers;
 mod hall;
 mod narrow;
 mod report;

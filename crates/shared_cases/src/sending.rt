@@ -1,6 +1,6 @@
 //! Lines that are sent, by threads too.
-ghost use Rattle.std.specs.Prelude.{◌≤◌, IfOk};
 
+use crate::buffers::new_out;
 use crate::report::Report;
 use crate::told::{tell_fault, tell_unread};
 use command_lines::read_command;
@@ -10,7 +10,7 @@ use std::sync::Wait;
 use std::thread;
 use std::thread::Threads;
 use table_cmd::Command;
-use table_reply::{Out, READY_ROOM};
+use table_reply::Out;
 use table_schema::Schema;
 use table_step::Table;
 
@@ -40,17 +40,6 @@ pub struct Sent {
     pub told: Report,
 }
 
-// A buffer with room for an answer.
-fn ready_out(alloc: Global) -> Result<Out, AllocError>
-    ensures { IfOk result (λ out. READY_ROOM ≤ out.room) }
-{
-    let mut out = Out::new(alloc);
-    match out.ready() {
-        Ok(()) => Ok(out),
-        Err(_) => Err(AllocError),
-    }
-}
-
 /// Calls the tables with the command of a line. (It is read last, so that nothing has to let go of it.)
 pub fn call_line(
     alloc: Global,
@@ -60,12 +49,13 @@ pub fn call_line(
     line: &[u8],
     report: &mut Report,
 ) -> Result<(), AllocError> {
-    let mut out = ready_out(alloc)?;
+    let mut out = new_out(alloc)?;
     let command = match read_command(alloc, line) {
         Ok(command) => command,
         Err(fault) => return tell_unread(fault, report),
     };
-    let called = shared.call(rt, pass, command, &mut out);
+    let Ok(ready) = out.emptied();
+    let called = shared.call(rt, pass, command, ready).end();
     tell_call(called, &out, report)
 }
 
@@ -163,10 +153,9 @@ pub fn in_four<R: Threads + Wait + Sync>(
     joined(front, back)
 }
 
-fn step(table: &mut Table, command: Command, out: &mut Out)
-    requires { READY_ROOM ≤ out.old.room }
-{
-    table.step(&command, out);
+fn step(table: &mut Table, command: Command, out: &mut Out) {
+    let Ok(ready) = out.emptied();
+    table.step(&command, ready).end();
     drop(command);
 }
 
@@ -176,7 +165,7 @@ fn step_line(
     line: &[u8],
     report: &mut Report,
 ) -> Result<(), AllocError> {
-    let mut out = ready_out(alloc)?;
+    let mut out = new_out(alloc)?;
     let command = match read_command(alloc, line) {
         Ok(command) => command,
         Err(fault) => return tell_unread(fault, report),

@@ -1,7 +1,7 @@
 //! Two threads on one table.
-ghost use Rattle.std.specs.Prelude.{◌≤◌, IfOk};
 
 use crate::again::answer_after;
+use crate::buffers::new_out;
 use crate::report::Report;
 use command_lines::read_command;
 use shared_tables::{Journals, OpenGate, Pass, Shared, gather};
@@ -10,7 +10,6 @@ use std::sync::Wait;
 use std::thread;
 use std::thread::Threads;
 use table_cmd::Command;
-use table_reply::Out;
 use table_schema::Schema;
 
 // How many records each thread inserts.
@@ -52,12 +51,11 @@ fn fill(
     let mut pass = pass;
     let mut answers = Vec::new(alloc);
     for id in (0..u64::MAX).skip(first as usize).take(EACH as usize) {
-        let mut out = Out::new(alloc);
-        if out.ready().is_err() {
-            return Err(AllocError);
-        }
+        let mut out = new_out(alloc)?;
         let command = insertion(alloc, id)?;
-        if shared.call(rt, &mut pass, command, &mut out).is_ok() {
+        let Ok(ready) = out.emptied();
+        let called = shared.call(rt, &mut pass, command, ready).end();
+        if called.is_ok() {
             answers.push(out.bytes().to_vec(alloc)?)?;
         }
     }

@@ -1,12 +1,12 @@
 //! What is told of calls and of journals.
 
 use crate::again::{answers_again, answers_of, text_of};
+use crate::buffers::new_out;
 use crate::report::Report;
 use command_lines::CommandFault;
 use shared_tables::{CallFault, Entry, GatherWhy, Journals, UncomparedJournals};
 use std::alloc::{AllocError, Global};
 use table_engine::{Sink, StreamFault};
-use table_reply::Out;
 use table_schema::TableSpec;
 
 /// Adds the answer to a line that is no command.
@@ -81,7 +81,7 @@ pub fn tell_uncompared(
         report.text("\n")?;
     }
     let mut text = Vec::new(alloc);
-    let mut line = Out::new(alloc);
+    let mut line = new_out(alloc)?;
     match journals.write_through(&mut line, &mut Sink::new(&mut text)) {
         Ok(()) => report.push(&text),
         Err(_) => Err(AllocError),

@@ -5,6 +5,7 @@ use Rattle.std.proofs.lemmas.List.{take_all, get_or_default}
 use Rattle.table_cmd.specs.declared.command.Command.{Command}
 use Rattle.table_schema.specs.Shape.{TableShape}
 use Rattle.table_step.specs.Step.{Step, Steps, TableState, Took, step_of}
+use Rattle.table_terms.specs.Step.{IsShort}
 use Rattle.table_terms.specs.declared.outcome.Outcome.{Outcome}
 use Rattle.table_terms.specs.declared.outcome.Outcome.TheVariants as outcomes
 use Rattle.shared_tables.specs.declared.tally.Tally.{Tally}
@@ -97,6 +98,14 @@ was_read outcomes.Memory told_before told old new step h m w = absurd (m refl)
 was_read outcomes.Write told_before told old new step h m w = absurd (w refl)
 was_read outcomes.Read told_before told old new step h m w = (ap is_write h.kind, h.line)
 was_read outcomes.Refusal told_before told old new step h m w = (ap is_write h.kind, h.line)
+
+-- a write took its step, and its line is short
+pub was_write : (o : Outcome) (told_before told : List ℕ) (old new : TableState) (step : Step) → Steps o told_before told old new step → IsShort o told_before told
+    → o ≡ outcomes.Write → Took outcomes.Write told_before told new step × (length told ≤ length told_before + 256)
+was_write outcomes.Write told_before told old new step h short w = (h, short)
+was_write outcomes.Memory told_before told old new step h short w = cc
+was_write outcomes.Read told_before told old new step h short w = cc
+was_write outcomes.Refusal told_before told old new step h short w = cc
 
 -- what is no refused growth was told
 pub was_told : (o : Outcome) (told_before told : List ℕ) (old new : TableState) (step : Step) → Steps o told_before told old new step

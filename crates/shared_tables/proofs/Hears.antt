@@ -5,7 +5,7 @@ use Rattle.table_cmd.specs.declared.command.Command.{Command}
 use Rattle.table_cmd.specs.Command.{table_in}
 use Rattle.shared_tables.specs.Journal.{last_number, own}
 use Rattle.shared_tables.specs.Pass.{PassData}
-use Rattle.shared_tables.specs.Call.{Answers, CellData, Told, fault_in, fault_of, is_known, regress_of, track_at}
+use Rattle.shared_tables.specs.Call.{Answers, CellData, PassTold, fault_in, fault_of, is_known, regress_of, track_at}
 use Rattle.shared_tables.specs.Hears.{Hears, HearsAt, HearsLine, HearsTable, IsFound, Refuses, SharedData, table_at}
 use Rattle.shared_tables.specs.declared.fault.CallFault.{CallFault}
 use Rattle.shared_tables.specs.declared.fault.CallFault.TheVariants.{Stranger, Regressed}
@@ -35,7 +35,7 @@ told_line shared place cell cell' pass pass' command text named found fits (inr 
 -- what the table under its lock tells is what the call tells
 pub hears : (shared : SharedData) (place : ℕ) (cell cell' : CellData) (pass pass' : PassData) (command : Command) (told_before told : List ℕ) (r : Result (Unit {0}) CallFault)
     → table_at shared.schema (table_in command) ≡ Some place → IsFound shared place cell → cell.shape.tables ≡ length shared.schema
-    → fault_in r ≡ fault_of cell pass → OnOk r (Told cell pass command told_before told cell' pass')
+    → fault_in r ≡ fault_of cell pass → OnOk r (PassTold cell pass command told_before told cell' pass')
     → OnOk r (Hears shared pass command told_before told pass')
 hears shared place cell cell' pass pass' command told_before told (Ok x) named found tables fault h =
     let known = known_of (is_known cell.shape.tables cell.workers pass) (regress_of cell.journal pass.session (track_at cell.shape.place pass)) fault in

@@ -1,14 +1,15 @@
 -- What a writer holds after some lines of several.
-use Rattle.std.proofs.Common.{◌≡◌, ℕ, ◌+◌, ◌<◌, ◌≤◌, List, [], ◌∷◌, ◌++◌, length, map, take, drop, get_or, refl, sym, ap, subst, ◌∙◌, append_assoc, append-nil, arith, take-append-drop}
-use Rattle.std.specs.Prelude.{Option}
-use Rattle.std.specs.List.{flat_map}
+use Rattle.std.proofs.Common.{◌≡◌, ℕ, ◌+◌, ◌<◌, ◌≤◌, ◌↔◌, ◌==◌, ◌&&◌, Bool, false, List, [], ◌∷◌, ◌++◌, length, map, take, drop, get_or, refl, sym, ap, subst, ◌∙◌, append_assoc, append-nil, arith, take-append-drop, true≢false}
+use Rattle.std.specs.Prelude.{IsTrue, Option}
+use Rattle.std.specs.List.{flat_map, list_all}
 use Rattle.std.specs.Io.KnownBytes.{Appends}
-use Rattle.std.proofs.KnownBytes.{Appends-trans}
+use Rattle.std.proofs.KnownBytes.{Appends-nil, Appends-trans}
 use Rattle.std.proofs.lemmas.Grind.{flat_map-append}
+use Rattle.std.proofs.lemmas.Bool.Decides.{nat_tests}
 use Rattle.std.proofs.lemmas.List.{drop_more, map-append, take_all, take_more}
 use Rattle.table_engine.specs.Devices.{AppendsFront}
 use Rattle.shared_tables.specs.Journal.{EntryData}
-use Rattle.shared_tables.specs.Text.{AppendsFitting, entries_in, entry_line, journal_text}
+use Rattle.shared_tables.specs.Text.{AppendsEntries, AppendsFitting, entries_in, entry_line, journal_text, journals_text}
 
 -- the first ones, one, and those after it
 split_at_one : {A : Type 0} (xs : List A) (k : ℕ) (x : A) → k < length xs → x ≡ get_or xs k x → take k xs ++ x ∷ drop (k + 1) xs ≡ xs
@@ -85,3 +86,30 @@ module _ {A : Type 0} (shown : A → List EntryData) where
             (Appends-trans old mid new (journal_text done) (journal_text one.0) (subst (λ t. Appends old mid t) (joined_lines (take k xs)) first) one.4),
         one.5,
       )
+
+-- ---- journals without an entry
+
+none_and : (n : ℕ) (entries later : List EntryData) (b : Bool) → n ≡ length entries → IsTrue b ↔ (later ≡ []) → IsTrue ((n == 0) && b) ↔ (entries ++ later ≡ [])
+none_and n [] later b e h = rw e h
+none_and n (x ∷ entries) later b e h =
+    let some : (n == 0) ≡ false = grind (arith, nat_tests) in (
+      λ t. absurd (true≢false (sym t ∙ ap (λ z. z && b) some)),
+      λ is. cc,
+    )
+
+-- whether each is empty
+pub none_in : {A : Type 0} (count : A → ℕ) (shown : A → List EntryData) → ((x : A) → count x ≡ length (shown x))
+    → (xs : List A) → IsTrue (list_all (λ x. count x == 0) xs) ↔ (entries_in (map shown xs) ≡ [])
+none_in count shown counts [] = (λ t. refl, λ is. refl)
+none_in count shown counts (x ∷ xs) = none_and (count x) (shown x) (entries_in (map shown xs)) (list_all (λ y. count y == 0) xs) (counts x) (none_in count shown counts xs)
+
+-- they have no text
+pub no_text : (journals : List (List EntryData)) → entries_in journals ≡ [] → journals_text journals ≡ []
+no_text [] h = refl
+no_text ([] ∷ journals) h = no_text journals h
+no_text ((e ∷ entries) ∷ journals) h = cc
+
+-- where there is an entry, nothing is written yet of the first one
+pub before_first : (known : Option (List ℕ)) (entries : List EntryData) → (entries ≡ [] → ⊥) → AppendsEntries known known entries
+before_first known [] some = absurd (some refl)
+before_first known (e ∷ entries) some = ([], e, entries, refl, Appends-nil known)

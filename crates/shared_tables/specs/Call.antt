@@ -71,8 +71,8 @@ Answers cell pass command text cell' pass' =
     × (pass' ≡ pass_after cell command pass))
 
 -- the same, appended to what was told before
-abbrev pub Told : CellData → PassData → Command → List ℕ → List ℕ → CellData → PassData → Type 0
-Told cell pass command told_before told cell' pass' = (text : List ℕ) × (told ≡ told_before ++ text) × Answers cell pass command text cell' pass'
+abbrev pub PassTold : CellData → PassData → Command → List ℕ → List ℕ → CellData → PassData → Type 0
+PassTold cell pass command told_before told cell' pass' = (text : List ℕ) × (told ≡ told_before ++ text) × Answers cell pass command text cell' pass'
 
 -- the same of one table's track
 abbrev pub TrackAnswers : CellData → ℕ → TrackData → Command → List ℕ → CellData → TrackData → Type 0

@@ -2,9 +2,9 @@
 
 ghost use Rattle.std.specs.Prelude.{◌≡◌, ◌+◌, ◌<◌, ◌≤◌, ◌↔◌, ◌∷◌, ◌++◌, [], ℕ, false, length, vec_len, vec_capacity, OnErr, OnOk, IfOk, IfSome, IsTrue};
 ghost use Rattle.table_changes.specs.Change.{is_change};
-ghost use Rattle.table_reply.specs.Buffer.{Keeps};
+ghost use Rattle.table_reply.specs.Ready.{IsBehind};
 ghost use Rattle.shared_tables.specs.Journal.{IsLegal, own};
-ghost use Rattle.shared_tables.specs.Call.{Told, TrackTold, fault_of, fault_in};
+ghost use Rattle.shared_tables.specs.Call.{PassTold, TrackTold, fault_of, fault_in};
 
 use crate::entry::Entry;
 use crate::fault::CallFault;
@@ -18,7 +18,7 @@ use std::alloc::{AllocError, Global};
 use std::marker::Model;
 use std::sync::Arc;
 use table_cmd::Command;
-use table_reply::{Out, READY_ROOM};
+use table_reply::{Ready, Told};
 use table_schema::TableSpec;
 use table_step::{Outcome, Table, is_change, refuse_memory};
 
@@ -166,64 +166,73 @@ impl TableCell {
     /// appended; a pass that does not fit changes and appends nothing.
     ///
     /// Apart from what the command costs, O(length of the command).
-    pub fn call(
+    pub fn call<'o>(
         &mut self,
         pass: &mut Pass,
         command: Command,
-        out: &mut Out,
-    ) -> Result<(), CallFault>
-        requires { READY_ROOM ≤ out.old.room }
-        ensures fault { fault_in result ≡ fault_of self.old pass.old }
-        ensures refused { OnErr result ((self.new ≡ self.old) × (pass.new ≡ pass.old) × (out.new ≡ out.old)) }
-        ensures answered { OnOk result (Told self.old pass.old command out.old.bytes out.new.bytes self.new pass.new) }
+        out: Ready<'o>,
+    ) -> Told<'o, Result<(), CallFault>>
+        ensures fault { fault_in result.what ≡ fault_of self.old pass.old }
+        ensures refused { OnErr result.what ((self.new ≡ self.old) × (pass.new ≡ pass.old) × (result.out.now ≡ out.entry.out.now)) }
+        ensures answered { OnOk result.what (PassTold self.old pass.old command out.entry.out.now.bytes result.out.now.bytes self.new pass.new) }
         ensures legal { IsLegal self.old.shape self.old.journal }
-        ensures kept { Keeps out.old out.new }
+        ensures behind { IsBehind out.entry result }
     {
         if let Some(fault) = self.fault(pass) {
-            return Err(fault);
+            return out.give_back(Err(fault));
         }
         let session = pass.session;
         let track = &mut pass.tracks[self.spec.place()];
-        self.answer(session, track, command, out);
-        Ok(())
+        self.answer(session, track, command, out).with(Ok(()))
     }
 
     // The same for a session of this table, at what it knows of the table.
-    fn answer(&mut self, session: u32, track: &mut Track, command: Command, out: &mut Out)
-        requires ready { READY_ROOM ≤ out.old.room }
-        requires session { session < self.old.workers }
-        ensures answered { TrackTold self.old session track.old command out.old.bytes out.new.bytes self.new track.new }
-        ensures kept { Keeps out.old out.new }
+    fn answer<'o>(
+        &mut self,
+        session: u32,
+        track: &mut Track,
+        command: Command,
+        out: Ready<'o>,
+    ) -> Told<'o, Outcome>
+        requires { session < self.old.workers }
+        ensures answered { TrackTold self.old session track.old command out.entry.out.now.bytes result.out.now.bytes self.new track.new }
+        ensures behind { IsBehind out.entry result }
     {
         if is_change(&command) {
-            self.change(session, track, command, out);
+            self.change(session, track, command, out)
         } else {
-            self.read(track, command, out);
+            self.read(track, command, out)
         }
     }
 
     // The same of a command that changes no table, of any session. It is not copied, and room is made for no entry.
-    fn read(&self, track: &mut Track, command: Command, out: &mut Out)
-        requires ready { READY_ROOM ≤ out.old.room }
-        requires reads { is_change command ≡ false }
-        ensures answered { (session : ℕ) → TrackTold self.now session track.old command out.old.bytes out.new.bytes self.now track.new }
-        ensures kept { Keeps out.old out.new }
+    fn read<'o>(&self, track: &mut Track, command: Command, out: Ready<'o>) -> Told<'o, Outcome>
+        requires { is_change command ≡ false }
+        ensures answered { (session : ℕ) → TrackTold self.now session track.old command out.entry.out.now.bytes result.out.now.bytes self.now track.new }
+        ensures behind { IsBehind out.entry result }
     {
-        let start = out.bytes().len();
-        if let Outcome::Memory = self.table.read(&command, out) {
+        let start = out.out.bytes().len();
+        let told = self.table.read(&command, out);
+        if let Outcome::Memory = told.what {
             drop(command);
-            return;
+            return told;
         }
-        let line = first_bytes(out, start);
+        let line = first_bytes(told.out, start);
         track.set_look(self.journal.len() as u64, Asked::Own(command), line);
+        told
     }
 
     // The same of a command that may change a table.
-    fn change(&mut self, session: u32, track: &mut Track, command: Command, out: &mut Out)
-        requires ready { READY_ROOM ≤ out.old.room }
-        requires session { session < self.old.workers }
-        ensures answered { TrackTold self.old session track.old command out.old.bytes out.new.bytes self.new track.new }
-        ensures kept { Keeps out.old out.new }
+    fn change<'o>(
+        &mut self,
+        session: u32,
+        track: &mut Track,
+        command: Command,
+        out: Ready<'o>,
+    ) -> Told<'o, Outcome>
+        requires { session < self.old.workers }
+        ensures answered { TrackTold self.old session track.old command out.entry.out.now.bytes result.out.now.bytes self.new track.new }
+        ensures behind { IsBehind out.entry result }
     {
         let Some(twins) = prepare(
             &mut self.journal,
@@ -231,20 +240,20 @@ impl TableCell {
             &mut track.writes,
             command,
         ) else {
-            refuse_memory(out);
-            return;
+            return refuse_memory(out);
         };
         let Twins {
             journal: command,
             pass: twin,
         } = twins;
-        let start = out.bytes().len();
-        let outcome = self.table.step(&command, out);
+        let start = out.out.bytes().len();
+        let told = self.table.step(&command, out);
+        let outcome = told.what;
         if let Outcome::Memory = outcome {
-            return;
+            return told;
         }
         let number = self.journal.len() as u64;
-        let line = first_bytes(out, start);
+        let line = first_bytes(told.out, start);
         if let Outcome::Write = outcome {
             let tally = &mut self.tallies[session as usize];
             append(
@@ -257,9 +266,10 @@ impl TableCell {
             );
             track.writes.push(number + 1, twin, line);
             track.seen = number + 1;
-            return;
+            return told;
         }
         track.set_look(number, Asked::Shared(twin), line);
+        told
     }
 
     /// How many entries a session has.

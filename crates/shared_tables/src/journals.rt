@@ -1,6 +1,6 @@
 //! The journals of all tables.
 
-ghost use Rattle.std.specs.Prelude.{◌≡◌, Err, OnErr, OnOk, map};
+ghost use Rattle.std.specs.Prelude.{◌≡◌, ◌↔◌, [], Err, IsTrue, OnErr, OnOk, map};
 ghost use Rattle.std.specs.Io.KnownBytes.{Appends};
 ghost use Rattle.table_engine.specs.Devices.{AppendsFront, failures_after_stream};
 ghost use Rattle.shared_tables.specs.Text.{AppendsEntries, AppendsFitting, entries_in, journals_text, whole_room};
@@ -29,6 +29,13 @@ impl Model for Journals {
     ghost view = { λ j. record { schema = j.schema; tables = map (λ entries. entries.items) j.tables.items } };
 }
 
+// Whether there is nothing to write.
+fn have_no_entry(journals: &[Vec<Entry>]) -> bool
+    ensures { IsTrue result ↔ (entries_in (map (λ entries. entries.items) journals.now) ≡ []) }
+{
+    journals.iter().all(|journal| journal.is_empty())
+}
+
 impl Journals {
     /// The tables' schema. O(1).
     pub fn schema(&self) -> &Schema
@@ -49,7 +56,7 @@ impl Journals {
     ///
     /// Each line is written by itself, and the writer is not flushed. `Write`: a write failed or took no byte, and a front of
     /// the text is written. `Memory`: there was no room for a line, and the lines before it are written. `Read` is never
-    /// answered. O(length of the text).
+    /// answered. O(tables + length of the text).
     pub fn write<W: Write>(&self, sink: &mut Sink<W>) -> Result<(), StreamFault>
         ensures written { OnOk result (Appends (W.contents sink.old.inner) (W.contents sink.new.inner) (journals_text self.now.tables)) }
         ensures front { OnErr result (AppendsFront (W.contents sink.old.inner) (W.contents sink.new.inner) (journals_text self.now.tables)) }
@@ -57,7 +64,10 @@ impl Journals {
         ensures write_cause { sink.new.failures ≡ failures_after_stream result sink.old.failures }
         ensures memory { result ≡ Err StreamFault.Memory → AppendsEntries (W.contents sink.old.inner) (W.contents sink.new.inner) (entries_in self.now.tables) }
     {
-        let mut line = Out::new(*self.tables.allocator());
+        if have_no_entry(&self.tables) {
+            return Ok(());
+        }
+        let mut line = Out::new(*self.tables.allocator()).map_err(|_| StreamFault::Memory)?;
         self.write_through(&mut line, sink)
     }
 

@@ -1,6 +1,6 @@
 //! The last looks of passes, beside a journal: all of them in one replay.
 
-ghost use Rattle.std.specs.Prelude.{◌≡◌, ◌↔◌, ◌<◌, ◌≤◌, Some, [], IfOk, IsTrue, OnOk, false, length, take};
+ghost use Rattle.std.specs.Prelude.{◌≡◌, ◌↔◌, ◌<◌, ◌≤◌, Some, IfOk, IsTrue, OnOk, false, length, take};
 ghost use Rattle.table_changes.specs.Change.{is_change};
 ghost use Rattle.shared_tables.specs.Journal.{replay};
 ghost use Rattle.shared_tables.specs.Gathered.{FirstFailure, LookFits};
@@ -11,7 +11,7 @@ use crate::line::first_bytes;
 use crate::pass::{Answered, Pass};
 use arrayvec::ArrayVec;
 use std::alloc::{AllocError, Global};
-use table_reply::{Out, READY_ROOM};
+use table_reply::Out;
 use table_step::{Outcome, Table, is_change};
 
 /// A table as the first entries of a journal leave it.
@@ -36,15 +36,6 @@ fn begins(out: &Out, answer: &ArrayVec<u8, 256>) -> bool
     ensures { IsTrue result ↔ (take 256 out.now.bytes ≡ answer.now.items) }
 {
     first_bytes(out, 0) == answer.as_slice()
-}
-
-// Empties a buffer, and makes it ready for an answer.
-fn make_ready(out: &mut Out) -> Result<(), AllocError>
-    ensures empty { OnOk result (out.new.bytes ≡ []) }
-    ensures ready { OnOk result (READY_ROOM ≤ out.new.room) }
-{
-    out.clear();
-    out.ready().map_err(|_| AllocError)
 }
 
 // Whether looks at this number of entries are met, where those at the last one are.
@@ -98,8 +89,9 @@ impl TableCell {
         ensures { OnOk result (table.new ≡ replay self.now.shape (take to self.now.journal)) }
     {
         for index in from..to {
-            make_ready(out)?;
-            if let Outcome::Memory = table.step(self.journal[index].command(), out) {
+            let command = self.journal[index].command();
+            let Ok(ready) = out.emptied();
+            if let Outcome::Memory = table.step(command, ready).end() {
                 return Err(AllocError);
             }
         }
@@ -132,8 +124,8 @@ impl TableCell {
         requires read { is_change look.now.command ≡ false }
         ensures { IfOk result (λ fits. IsTrue fits ↔ LookFits self.now.shape self.now.journal look.now) }
     {
-        make_ready(out)?;
-        if let Outcome::Memory = self.table.read(look.command(), out) {
+        let Ok(ready) = out.emptied();
+        if let Outcome::Memory = self.table.read(look.command(), ready).end() {
             return Err(AllocError);
         }
         Ok(begins(out, &look.answer))
@@ -154,8 +146,8 @@ impl TableCell {
     {
         let count = look.number as usize;
         let mut table = self.replay_to(alloc, replay.take(), count, out)?;
-        make_ready(out)?;
-        match table.step(look.command(), out) {
+        let Ok(ready) = out.emptied();
+        match table.step(look.command(), ready).end() {
             Outcome::Memory => return Err(AllocError),
             // The table has gone on: what comes next begins anew.
             Outcome::Write => {}

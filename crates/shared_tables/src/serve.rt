@@ -12,7 +12,7 @@ use command_lines::{CommandFault, read_command};
 use std::io::{Read, Write};
 use std::sync::Wait;
 use table_engine::{Answers, LineCutter, Sink, Source, Stopped, serve_lines};
-use table_reply::{Fault, Out};
+use table_reply::{Fault, Ready, Told};
 use table_step::refuse;
 
 /// The tables that a session calls, and leave to wait for them.
@@ -31,20 +31,19 @@ impl<'a, G: Gate, T: Wait> Answers<Called<'a, G, T>> for Pass {
 
     ghost refuses = { λ called. RefusesText called.shared.now };
 
-    fn answer(
+    fn answer<'o>(
         &mut self,
         called: &Called<'a, G, T>,
         line: &[u8],
-        out: &mut Out,
-    ) -> Result<(), CallFault> {
+        out: Ready<'o>,
+    ) -> Told<'o, Result<(), CallFault>> {
         let shared = called.shared;
         match read_command(shared.alloc, line) {
-            Ok(command) => return shared.call(called.rt, self, command, out),
-            Err(CommandFault::Json) => refuse(Fault::Json, out),
-            Err(CommandFault::Command) => refuse(Fault::Command, out),
-            Err(CommandFault::Memory) => refuse(Fault::Memory, out),
-        };
-        Ok(())
+            Ok(command) => shared.call(called.rt, self, command, out),
+            Err(CommandFault::Json) => refuse(Fault::Json, out).with(Ok(())),
+            Err(CommandFault::Command) => refuse(Fault::Command, out).with(Ok(())),
+            Err(CommandFault::Memory) => refuse(Fault::Memory, out).with(Ok(())),
+        }
     }
 }
 

@@ -1,7 +1,7 @@
 //! Tables behind locks of their own.
 
 ghost use Rattle.std.specs.Prelude.{◌≡◌, ◌≤◌, OnErr, OnOk, IfErr, IfOk, length};
-ghost use Rattle.table_reply.specs.Buffer.{Keeps};
+ghost use Rattle.table_reply.specs.Ready.{IsBehind};
 ghost use Rattle.shared_tables.specs.Hears.{Hears, Refuses, table_at};
 ghost use Rattle.shared_tables.specs.Journals.{fresh_cells};
 ghost use Rattle.shared_tables.specs.Pass.{fresh_passes};
@@ -15,7 +15,7 @@ use std::alloc::{AllocError, Global};
 use std::marker::Model;
 use std::sync::Wait;
 use table_cmd::Command;
-use table_reply::{Fault, Out, READY_ROOM};
+use table_reply::{Fault, Out, Ready, Told};
 use table_schema::{Schema, TableSpec};
 use table_step::{refuse, refuse_memory};
 
@@ -70,8 +70,7 @@ impl<G: Gate + Drop> Shared<G> {
     {
         let cells = fresh_cells(alloc, &schema, workers)?;
         let passes = new_passes(alloc, schema.tables().len(), workers)?;
-        let mut answer = Out::new(alloc);
-        answer.ready().map_err(|_| AllocError)?;
+        let answer = Out::new(alloc).map_err(|_| AllocError)?;
         let shared = Shared {
             alloc,
             journals: Vec::with_capacity(alloc, cells.len())?,
@@ -122,34 +121,31 @@ impl<G: Gate> Shared<G> {
     ///
     /// It waits while another session has the table. Apart from that and from what the command costs, O(tables + columns +
     /// indices + length of the command).
-    pub fn call(
+    pub fn call<'o>(
         &self,
         rt: &impl Wait,
         pass: &mut Pass,
         command: Command,
-        out: &mut Out,
-    ) -> Result<(), CallFault>
-        requires { READY_ROOM ≤ out.old.room }
-        ensures refused { IfErr result (λ fault. Refuses self.now pass.old command fault) }
-        ensures unchanged { OnErr result ((pass.new ≡ pass.old) × (out.new ≡ out.old)) }
-        ensures answered { OnOk result (Hears self.now pass.old command out.old.bytes out.new.bytes pass.new) }
-        ensures kept { Keeps out.old out.new }
+        out: Ready<'o>,
+    ) -> Told<'o, Result<(), CallFault>>
+        ensures refused { IfErr result.what (λ fault. Refuses self.now pass.old command fault) }
+        ensures unchanged { OnErr result.what ((pass.new ≡ pass.old) × (result.out.now ≡ out.entry.out.now)) }
+        ensures answered { OnOk result.what (Hears self.now pass.old command out.entry.out.now.bytes result.out.now.bytes pass.new) }
+        ensures behind { IsBehind out.entry result }
     {
         let tables = self.schema.tables();
         if !pass.is_known(tables.len(), self.workers as usize) {
-            return Err(CallFault::Stranger);
+            return out.give_back(Err(CallFault::Stranger));
         }
         let Some(place) = table_at(tables, command.table()) else {
-            refuse(Fault::Table, out);
             drop(command);
-            return Ok(());
+            return refuse(Fault::Table, out).with(Ok(()));
         };
         let mut cell = self.tables.at(place).lock(rt);
         // It always is, but of what a lock holds only its type is known.
         if !cell.is_of(&tables[place], self.workers) {
-            refuse_memory(out);
             drop(command);
-            return Ok(());
+            return refuse_memory(out).with(Ok(()));
         }
         self.gate.enter(place, pass.session);
         cell.call(pass, command, out)

@@ -9,6 +9,7 @@
 #![tactic(auto)]
 
 mod broken;
+mod buffers;
 mod device;
 mod fault;
 mod faulty;

@@ -1,6 +1,7 @@
 //! A stream of one session, sent in pieces.
 ghost use Rattle.std.specs.Prelude.{◌<◌};
 
+use crate::buffers::new_out;
 use std::alloc::{AllocError, Global};
 use table_engine::Engine;
 use table_reply::Out;
@@ -42,7 +43,7 @@ pub fn apart(places: usize) -> usize
 /// What the one session of a new engine is answered that sends whole lines in one piece.
 pub fn at_once(alloc: Global, schema: &Schema, lines: &[u8]) -> Result<Out, AllocError> {
     let mut engine = Engine::new(alloc, schema, 1)?;
-    let mut out = Out::new(alloc);
+    let mut out = new_out(alloc)?;
     engine.feed(0, lines, &mut out).map_err(|_| AllocError)?;
     Ok(out)
 }
@@ -52,7 +53,7 @@ pub fn at_once(alloc: Global, schema: &Schema, lines: &[u8]) -> Result<Out, Allo
 fn answered(sent: Sent, stream: &[u8], first: usize, then: usize) -> Result<Out, AllocError> {
     let alloc = sent.alloc;
     let mut engine = Engine::new(alloc, sent.schema, 1)?;
-    let mut out = Out::new(alloc);
+    let mut out = new_out(alloc)?;
     let (front, back) = stream.split_at(first.min(stream.len()));
     engine.feed(0, front, &mut out).map_err(|_| AllocError)?;
     for piece in back.chunks(then.max(1)) {
@@ -99,7 +100,7 @@ pub fn each_answer(
     let mut engine = Engine::new(alloc, schema, 1)?;
     let mut answers = Vec::new(alloc);
     for line in lines {
-        let mut out = Out::new(alloc);
+        let mut out = new_out(alloc)?;
         engine.feed(0, line, &mut out).map_err(|_| AllocError)?;
         engine.feed(0, b"\n", &mut out).map_err(|_| AllocError)?;
         answers.push(out.bytes().to_vec(alloc)?)?;

@@ -1,6 +1,7 @@
 //! A stream's lines, sent by two sessions.
 ghost use Rattle.std.specs.Prelude.{◌≡◌, ◌<◌, length};
 
+use crate::buffers::new_out;
 use crate::sent::Sent;
 use std::alloc::{AllocError, Global};
 use table_engine::{Engine, Event, run_events};
@@ -67,7 +68,7 @@ pub fn are_shared_alike(
 ) -> Result<Option<usize>, AllocError> {
     let alloc = sent.alloc;
     let mut engine = Engine::new(alloc, sent.schema, 2)?;
-    let mut outs = [Out::new(alloc), Out::new(alloc)];
+    let mut outs = [new_out(alloc)?, new_out(alloc)?];
     for pair in lines.chunks(2) {
         match pair {
             [first, second] => send_both(&mut engine, &mut outs, first, second)?,

@@ -1,10 +1,10 @@
 //! One change of a table.
 
-ghost use Rattle.std.specs.Prelude.{◌≡◌, ◌≤◌};
+ghost use Rattle.std.specs.Prelude.{◌≡◌};
 ghost use Rattle.table_changes.specs.Change.{change_step, is_change};
 ghost use Rattle.table_changes.specs.Changed.{Makes};
-ghost use Rattle.table_reply.specs.Buffer.{Keeps};
-ghost use Rattle.table_terms.specs.Step.{IsShort, Steps};
+ghost use Rattle.table_terms.specs.Step.{Steps};
+ghost use Rattle.table_terms.specs.Telling.{IsTold};
 
 use crate::changed::{Changed, Refusal};
 use crate::erase::{clear, erase, erase_key};
@@ -17,7 +17,7 @@ use crate::told::tell;
 use std::alloc::Global;
 use table_cmd::Command;
 use table_records::Records;
-use table_reply::{Fault, Out, READY_ROOM};
+use table_reply::{Fault, Ready, Told};
 use table_terms::Outcome;
 
 /// Whether a command changes the table, where it is not refused. O(1).
@@ -91,12 +91,15 @@ fn carry_out(alloc: Global, records: &mut Records, command: &Command) -> Result<
 /// the memory line is appended; an accepted write is always answered.
 ///
 /// An insertion, a replacement and a modification read their row in O(columns · fields), besides what the container's own call costs.
-pub fn change(alloc: Global, records: &mut Records, command: &Command, out: &mut Out) -> Outcome
-    requires { READY_ROOM ≤ out.old.room }
-    ensures answer { Steps result out.old.bytes out.new.bytes records.old records.new
+pub fn change<'o>(
+    alloc: Global,
+    records: &mut Records,
+    command: &Command,
+    out: Ready<'o>,
+) -> Told<'o, Outcome>
+    ensures answer { Steps result.what out.entry.out.now.bytes result.out.now.bytes records.old records.new
         (change_step records.old command.now) }
-    ensures short { IsShort result out.old.bytes out.new.bytes }
-    ensures kept { Keeps out.old out.new }
+    ensures told { IsTold out.entry result }
 {
     let changed = carry_out(alloc, records, command);
     tell(records, changed, out)

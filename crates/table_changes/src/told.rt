@@ -1,16 +1,16 @@
 //! What came of a change, told.
 
-ghost use Rattle.std.specs.Prelude.{◌≡◌, ◌≤◌, ◌++◌, Some};
+ghost use Rattle.std.specs.Prelude.{Some};
 ghost use Rattle.table_changes.specs.Changed.{Makes};
-ghost use Rattle.table_reply.specs.Answer.{answer_text, found};
-ghost use Rattle.table_reply.specs.Buffer.{Keeps};
-ghost use Rattle.table_terms.specs.Step.{IsShort, Step, Steps};
+ghost use Rattle.table_reply.specs.Answer.{found};
+ghost use Rattle.table_terms.specs.Step.{Step, Steps};
 ghost use Rattle.table_terms.specs.Table.{TableState};
+ghost use Rattle.table_terms.specs.Telling.{IsTold, Tells};
 
 use crate::changed::{Changed, Refusal};
 use container_model::Handle;
 use table_records::{Records, tell_refusal};
-use table_reply::{Out, READY_ROOM, Reply};
+use table_reply::{Ready, Reply, Told};
 use table_terms::{
     Outcome, refuse, refuse_memory, tell_done, tell_erased, tell_lost, tell_next, tell_short,
     tell_why,
@@ -18,28 +18,25 @@ use table_terms::{
 
 // Appends the line of an insertion. O(1).
 #[tactic(auto, using(table_reply::proofs::Short::found_is_short))]
-fn tell_inserted(at: u64, handle: Handle, out: &mut Out) -> Outcome
-    requires { READY_ROOM ≤ out.old.room }
-    ensures line { out.new.bytes ≡ out.old.bytes ++ answer_text (found at (Some handle)) }
-    ensures outcome { result ≡ Outcome.Write }
-    ensures short { IsShort result out.old.bytes out.new.bytes }
-    ensures kept { Keeps out.old out.new }
+fn tell_inserted<'o>(at: u64, handle: Handle, out: Ready<'o>) -> Told<'o, Outcome>
+    ensures { Tells out.entry result Outcome.Write (found at (Some handle)) }
 {
     let found = Reply::Found {
         at,
         handle: Some(handle),
     };
-    tell_short(&found, out);
-    Outcome::Write
+    tell_short(Outcome::Write, &found, out)
 }
 
 /// Appends the line of what came of a change that left these records. Takes no memory. O(1).
-pub(crate) fn tell(records: &Records, changed: Result<Changed, Refusal>, out: &mut Out) -> Outcome
-    requires { READY_ROOM ≤ out.old.room }
+pub(crate) fn tell<'o>(
+    records: &Records,
+    changed: Result<Changed, Refusal>,
+    out: Ready<'o>,
+) -> Told<'o, Outcome>
     ensures answer { (old : TableState) → (step : Step) → Makes changed old records.now step →
-        Steps result out.old.bytes out.new.bytes old records.now step }
-    ensures short { IsShort result out.old.bytes out.new.bytes }
-    ensures kept { Keeps out.old out.new }
+        Steps result.what out.entry.out.now.bytes result.out.now.bytes old records.now step }
+    ensures told { IsTold out.entry result }
 {
     let at = records.container().writes();
     match changed {

@@ -7,3 +7,4 @@ pub mod Events
 pub mod Whole
 pub mod Devices
 pub mod Outcomes
+pub mod Waiting

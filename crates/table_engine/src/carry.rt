@@ -1,7 +1,7 @@
 //! The tables of a schema, and lines that are carried out on them.
 
-ghost use Rattle.std.specs.Prelude.{◌≡◌, ◌≤◌, IfOk, map};
-ghost use Rattle.table_reply.specs.Buffer.{Keeps};
+ghost use Rattle.std.specs.Prelude.{◌≡◌, IfOk, map};
+ghost use Rattle.table_reply.specs.Ready.{IsBehind};
 ghost use Rattle.command_lines.specs.Meaning.{meaning};
 ghost use Rattle.table_step.specs.Step.{new_table};
 ghost use Rattle.table_engine.specs.Tables.{Replies, answer_to, carried, table_at};
@@ -12,9 +12,9 @@ use std::alloc::{AllocError, Global};
 use std::convert::Infallible;
 use std::marker::Model;
 use table_cmd::Command;
-use table_reply::{Fault, Out, READY_ROOM};
+use table_reply::{Fault, Ready, Told};
 use table_schema::Schema;
-use table_step::{Table, refuse};
+use table_step::{Outcome, Table, refuse};
 
 /// The tables of a schema.
 #[derive(Drop)]
@@ -55,45 +55,43 @@ impl Answers<()> for Tables {
 
     ghost refuses = { λ _ _ _ _. ⊥ };
 
-    fn answer(&mut self, _seat: &(), line: &[u8], out: &mut Out) -> Result<(), Infallible> {
-        answer_line(self.alloc, &mut self.tables, line, out);
-        Ok(())
+    fn answer<'o>(
+        &mut self,
+        _seat: &(),
+        line: &[u8],
+        out: Ready<'o>,
+    ) -> Told<'o, Result<(), Infallible>> {
+        let Told { what: _, out } = answer_line(self.alloc, &mut self.tables, line, out);
+        Told { what: Ok(()), out }
     }
 }
 
 // Answers a line that is neither blank nor too long.
-fn answer_line(alloc: Global, tables: &mut [Table], line: &[u8], out: &mut Out)
-    requires { READY_ROOM ≤ out.old.room }
-    ensures answer { Replies out.old.bytes out.new.bytes tables.old tables.new (answer_to tables.old (meaning line.now)) }
-    ensures kept { Keeps out.old out.new }
+fn answer_line<'o>(
+    alloc: Global,
+    tables: &mut [Table],
+    line: &[u8],
+    out: Ready<'o>,
+) -> Told<'o, Outcome>
+    ensures answer { Replies out.entry.out.now.bytes result.out.now.bytes tables.old tables.new (answer_to tables.old (meaning line.now)) }
+    ensures behind { IsBehind out.entry result }
 {
     match read_command(alloc, line) {
         Ok(command) => carry_out(tables, &command, out),
-        Err(CommandFault::Json) => {
-            refuse(Fault::Json, out);
-        }
-        Err(CommandFault::Command) => {
-            refuse(Fault::Command, out);
-        }
-        Err(CommandFault::Memory) => {
-            refuse(Fault::Memory, out);
-        }
+        Err(CommandFault::Json) => refuse(Fault::Json, out),
+        Err(CommandFault::Command) => refuse(Fault::Command, out),
+        Err(CommandFault::Memory) => refuse(Fault::Memory, out),
     }
 }
 
 // Carries out a command on the table that it names, and appends the answer.
-fn carry_out(tables: &mut [Table], command: &Command, out: &mut Out)
-    requires { READY_ROOM ≤ out.old.room }
-    ensures answer { Replies out.old.bytes out.new.bytes tables.old tables.new (carried tables.old command.now) }
-    ensures kept { Keeps out.old out.new }
+fn carry_out<'o>(tables: &mut [Table], command: &Command, out: Ready<'o>) -> Told<'o, Outcome>
+    ensures answer { Replies out.entry.out.now.bytes result.out.now.bytes tables.old tables.new (carried tables.old command.now) }
+    ensures behind { IsBehind out.entry result }
 {
     match table_at(tables, command.table()) {
-        Some(place) => {
-            tables[place].step(command, out);
-        }
-        None => {
-            refuse(Fault::Table, out);
-        }
+        Some(place) => tables[place].step(command, out),
+        None => refuse(Fault::Table, out),
     }
 }
 

@@ -1,6 +1,6 @@
 //! A stream of lines, over a reader and a writer.
 
-ghost use Rattle.std.specs.Prelude.{◌≡◌, ◌+◌, ◌≤◌, ◌++◌, [], ⊤, List, ℕ, length, Err, OnErr, OnOk};
+ghost use Rattle.std.specs.Prelude.{◌≡◌, ◌++◌, [], ⊤, List, ℕ, Err, OnErr, OnOk};
 ghost use Rattle.std.specs.Io.KnownBytes.{Appends};
 ghost use Rattle.table_engine.specs.Devices.{AppendsFront};
 ghost use Rattle.table_engine.specs.Lines.{short, added};
@@ -14,11 +14,11 @@ use crate::sink::Sink;
 use crate::source::Source;
 use crate::stopped::Stopped;
 use crate::stream::PIECE;
-use crate::waiting::{make_room, new_out, write_out};
+use crate::waiting::{make_room, write_out};
 use memchr::memchr;
 use std::alloc::Global;
 use std::io::{Read, Write};
-use table_reply::{Out, READY_ROOM};
+use table_reply::{Out, Told};
 
 /// Serves a stream to its end, to whatever answers its lines. Up to 4,096 bytes are read at a time, and what they are answered
 /// is written before more are read, in one write where it is at most 64 KiB and the writer takes it whole. The writer is not
@@ -45,7 +45,7 @@ pub fn serve_lines<S, T: Answers<S>, R: Read, W: Write>(
         (λ bytes text. Meets (T.tells seat.now) (T.refuses seat.now) answers.old cutter.old.unfinished bytes text answers.new why × (cutter.new.unfinished ≡ short [])) }
     ensures memory { result ≡ Err Stopped.Memory → (answers.new ≡ answers.old) × (cutter.new ≡ cutter.old) × IsUntouched source.old source.new sink.old sink.new }
 {
-    let Ok(mut out) = new_out(alloc) else {
+    let Ok(mut out) = Out::new(alloc) else {
         return Err(Stopped::Memory);
     };
     let served = serve_pieces(alloc, answers, seat, cutter, source, sink, &mut out);
@@ -63,8 +63,7 @@ fn serve_pieces<S, T: Answers<S>, R: Read, W: Write>(
     sink: &mut Sink<W>,
     out: &mut Out,
 ) -> Result<(), Stopped<T::Refusal>>
-    requires empty { out.old.bytes ≡ [] }
-    requires ready { READY_ROOM ≤ out.old.room }
+    requires { out.old.bytes ≡ [] }
     ensures served { OnOk result (IsServed R.remaining W.contents source.old source.new sink.old sink.new
         (λ bytes text. TellsAll (T.tells seat.now) answers.old cutter.old.unfinished bytes text answers.new)) }
     ensures read { result ≡ Err Stopped.Read → IsUnread R.remaining W.contents source.old source.new sink.old sink.new
@@ -92,7 +91,7 @@ fn serve_pieces<S, T: Answers<S>, R: Read, W: Write>(
     Err(Stopped::Read)
 }
 
-// Answers the last line of a stream, which no newline ends, and writes the answer out.
+// Answers the last line of a stream, which no newline ends, into the emptied buffer, and writes the answer out.
 fn serve_end<S, T: Answers<S>, W: Write>(
     answers: &mut T,
     seat: &S,
@@ -100,8 +99,6 @@ fn serve_end<S, T: Answers<S>, W: Write>(
     sink: &mut Sink<W>,
     out: &mut Out,
 ) -> Result<(), Stopped<T::Refusal>>
-    requires empty { out.old.bytes ≡ [] }
-    requires ready { READY_ROOM ≤ out.old.room }
     ensures served { OnOk result ((text : List ℕ) × TellsLine (T.tells seat.now) answers.old cutter.old.unfinished text answers.new
         × Appends (W.contents sink.old.inner) (W.contents sink.new.inner) text) }
     ensures stopped { Stops result
@@ -109,7 +106,9 @@ fn serve_end<S, T: Answers<S>, W: Write>(
         (λ why. (answers.new ≡ answers.old) × RefusesLine (T.refuses seat.now) answers.old cutter.old.unfinished why × (sink.new ≡ sink.old)) }
     ensures failures { sink.new.failures ≡ failures_after_stop result sink.old.failures }
 {
-    if let Err(why) = end_line(answers, seat, cutter, out) {
+    let Ok(ready) = out.emptied();
+    let Told { what, out } = end_line(answers, seat, cutter, ready);
+    if let Err(why) = what {
         return Err(Stopped::Refused(why));
     }
     sink.write_all(out.bytes())?;
@@ -126,12 +125,10 @@ fn serve_piece<S, T: Answers<S>, W: Write>(
     sink: &mut Sink<W>,
     out: &mut Out,
 ) -> Result<(), Stopped<T::Refusal>>
-    requires empty { out.old.bytes ≡ [] }
-    requires ready { READY_ROOM ≤ out.old.room }
+    requires { out.old.bytes ≡ [] }
     ensures served { OnOk result ((told : List ℕ) × Feeds (T.tells seat.now) answers.old cutter.old.unfinished piece.now told answers.new cutter.new.unfinished
         × Appends (W.contents sink.old.inner) (W.contents sink.new.inner) told) }
     ensures empty { OnOk result (out.new.bytes ≡ []) }
-    ensures ready { OnOk result (READY_ROOM ≤ out.new.room) }
     ensures stopped { Stops result
         ((told : List ℕ) × Breaks (T.tells seat.now) answers.old cutter.old.unfinished piece.now told answers.new × AppendsFront (W.contents sink.old.inner) (W.contents sink.new.inner) told)
         (λ why. (told : List ℕ) × Meets (T.tells seat.now) (T.refuses seat.now) answers.old cutter.old.unfinished piece.now told answers.new why × AppendsFront (W.contents sink.old.inner) (W.contents sink.new.inner) told) }
@@ -163,18 +160,16 @@ fn serve_line<S, T: Answers<S>, W: Write>(
     sink: &mut Sink<W>,
     out: &mut Out,
 ) -> Result<(), Stopped<T::Refusal>>
-    requires room { READY_ROOM ≤ out.old.room + length out.old.bytes }
     ensures told { OnOk result ((told : List ℕ) × TellsLine (T.tells seat.now) answers.old (added line.now cutter.old.unfinished) told answers.new
         × Passes (W.contents sink.old.inner) (W.contents sink.new.inner) out.old.bytes told out.new.bytes) }
     ensures ended { OnOk result (cutter.new.unfinished ≡ short []) }
-    ensures room { OnOk result (READY_ROOM ≤ out.new.room + length out.new.bytes) }
     ensures unchanged { OnErr result (answers.new ≡ answers.old) }
     ensures front { OnErr result (AppendsFront (W.contents sink.old.inner) (W.contents sink.new.inner) out.old.bytes) }
     ensures stopped { Stops result ⊤ (λ why. RefusesLine (T.refuses seat.now) answers.old (added line.now cutter.old.unfinished) why) }
     ensures failures { sink.new.failures ≡ failures_after_stop result sink.old.failures }
 {
-    make_room(alloc, sink, out)?;
-    if let Err(why) = take_line(answers, seat, cutter, line, out) {
+    let ready = make_room(out, alloc, sink)?;
+    if let Err(why) = take_line(answers, seat, cutter, line, ready).end() {
         return Err(Stopped::Refused(why));
     }
     Ok(())

@@ -29,11 +29,11 @@ fn take_line(
     ensures waits { OnErr result (IsTrue (has_answer (added line.now cutter.old.unfinished)) × (out.old.room < READY_ROOM)) }
     ensures kept { Keeps out.old out.new }
 {
-    if out.ready().is_err() {
+    let Ok(ready) = out.ready() else {
         cutter.extend(line);
         return take_end(tables, cutter, out);
-    }
-    match answers::take_line(tables, &(), cutter, line, out) {
+    };
+    match answers::take_line(tables, &(), cutter, line, ready).end() {
         Ok(()) => Ok(()),
     }
 }
@@ -54,8 +54,8 @@ pub(crate) fn take_end(
         cutter.forget();
         return Ok(());
     }
-    out.ready()?;
-    match end_line(tables, &(), cutter, out) {
+    let ready = out.ready()?;
+    match end_line(tables, &(), cutter, ready).end() {
         Ok(()) => Ok(()),
     }
 }

@@ -60,10 +60,7 @@ impl Folder {
     // Whether the table's declaration is there. Another one is refused.
     fn check_table(&self, rt: &HostRuntime, table: &TableSpec) -> Result<bool, Fault> {
         let name = self.declaration_of(rt.alloc(), table.name())?;
-        let mut wanted = Out::new(rt.alloc());
-        if write_table(rt.alloc(), table, &mut wanted).is_err() {
-            return Err(Fault::Memory);
-        }
+        let wanted = text_of(rt.alloc(), table)?;
         match fs::read(rt, name.as_str()) {
             Ok(found) if found.as_slice() == wanted.bytes() => Ok(true),
             Ok(_) => Err(Fault::Declared(name)),
@@ -93,16 +90,20 @@ impl Folder {
     // Writes a table's declaration.
     fn declare_table(&self, rt: &HostRuntime, table: &TableSpec) -> Result<(), Fault> {
         let name = self.declaration_of(rt.alloc(), table.name())?;
-        let mut text = Out::new(rt.alloc());
-        if write_table(rt.alloc(), table, &mut text).is_err() {
-            return Err(Fault::Memory);
-        }
+        let text = text_of(rt.alloc(), table)?;
         let part = format!(in rt.alloc(); "{name}.part")?;
         match put(rt, part.as_str(), name.as_str(), text.bytes()) {
             Ok(()) => Ok(()),
             Err(error) => Err(Fault::of_file(&error, name)),
         }
     }
+}
+
+// The text of a table's declaration.
+fn text_of(alloc: Global, table: &TableSpec) -> Result<Out, Fault> {
+    let mut text = Out::new(alloc).map_err(|_| Fault::Memory)?;
+    write_table(alloc, table, &mut text).map_err(|_| Fault::Memory)?;
+    Ok(text)
 }
 
 // Locks a file. A program that was killed has its lock for a moment longer, so it is tried again for a second.

@@ -9,7 +9,8 @@ use Rattle.command_text.specs.Text.{command_text}
 use Rattle.command_text.proofs.Law.{command_text_line, meaning-command_text}
 use Rattle.table_cmd.specs.declared.command.Command.{Command}
 use Rattle.table_engine.specs.Devices.{IsFront}
-use Rattle.table_step.specs.Step.{TableState, Took, step_of}
+use Rattle.table_step.specs.Step.{Steps, TableState, Took, step_of}
+use Rattle.table_terms.specs.declared.outcome.Outcome.{Outcome}
 use Rattle.table_terms.specs.declared.outcome.Outcome.TheVariants as outcomes
 use Rattle.table_log.specs.Log.{IsLoaded, IsLog, after_command, after_line, after_lines, after_meaning, begun, if_write, replayed, whole_lines}
 use Rattle.table_log.specs.Logged.{log_line}
@@ -117,9 +118,11 @@ crash start bytes synced left some h =
 
 -- ---- a call
 
-pub write_left : (told_before told : List ℕ) (t v : TableState) (command : Command) → Took outcomes.Write told_before told v (step_of t command) → after_command t command ≡ Some v
-write_left told_before told t v command took =
+pub write_left : (outcome : Outcome) (told_before told : List ℕ) (t v : TableState) (command : Command) → Steps outcome told_before told t v (step_of t command)
+    → outcome ≡ outcomes.Write → after_command t command ≡ Some v
+write_left outcome told_before told t v command steps is =
     let step = step_of t command in
+    let took : Took outcomes.Write told_before told v step = subst (λ o. Steps o told_before told t v step) is steps in
     ap (λ o. if_write o step.table) took.kind ∙ ap Some (sym took.table)
 
 -- the log after an accepted write whose line was appended

@@ -79,8 +79,8 @@ Answers old command text new =
     ((text ≡ memory_line) × (new ≡ old)) ⊎ ((text ≡ answer_text (step_of old.table command).answer) × (new ≡ log_after old command))
 
 -- the same, appended to what was told before
-abbrev pub Told : LogData → Command → List ℕ → List ℕ → LogData → Type 0
-Told old command told_before told new = (text : List ℕ) × (told ≡ told_before ++ text) × Answers old command text new
+abbrev pub AppendsAnswer : LogData → Command → List ℕ → List ℕ → LogData → Type 0
+AppendsAnswer old command told_before told new = (text : List ℕ) × (told ≡ told_before ++ text) × Answers old command text new
 
 -- the line of a read's answer, or the memory line, appended to what was told before
 abbrev pub Tells : LogData → Command → List ℕ → List ℕ → Type 0

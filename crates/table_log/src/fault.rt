@@ -4,6 +4,7 @@ ghost use Rattle.std.specs.Prelude.{◌≡◌};
 ghost use Rattle.table_log.specs.declared.fault.OpenWhy.TheVariants.{Disk as OfDisk, Memory};
 
 use std::alloc::{AllocError, AllocFailed};
+use table_reply::OutOfRoom;
 use thiserror::Error;
 
 /// A call of a disk failed.
@@ -49,6 +50,14 @@ impl<T: Drop> From<AllocFailed<T>> for OpenWhy {
     ghost from_gives = { λ _ why. why ≡ Memory };
 
     fn from(_error: AllocFailed<T>) -> OpenWhy {
+        OpenWhy::Memory
+    }
+}
+
+impl From<OutOfRoom> for OpenWhy {
+    ghost from_gives = { λ _ why. why ≡ Memory };
+
+    fn from(_error: OutOfRoom) -> OpenWhy {
         OpenWhy::Memory
     }
 }

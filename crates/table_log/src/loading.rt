@@ -7,7 +7,7 @@ use crate::disk::Disk;
 use crate::fault::OpenWhy;
 use command_lines::{CommandFault, read_command};
 use std::alloc::Global;
-use table_reply::Out;
+use table_reply::{Out, OutOfRoom};
 use table_step::{Outcome, Table};
 
 /// How many bytes are read at a time.
@@ -26,16 +26,17 @@ pub(crate) struct Loader {
 
 impl Loader {
     // Nothing is loaded yet.
-    fn new(alloc: Global, start: Table) -> Loader
-        ensures loading { IsLoading start [] result }
-        ensures none { (result.line.items ≡ []) × (result.number ≡ 0) }
+    fn new(alloc: Global, start: Table) -> Result<Loader, OutOfRoom>
+        ensures loading { IfOk result (λ loader. IsLoading start [] loader) }
+        ensures none { IfOk result (λ loader. (loader.line.items ≡ []) × (loader.number ≡ 0)) }
     {
-        Loader {
+        let out = Out::new(alloc)?;
+        Ok(Loader {
             table: start,
             line: Vec::new(alloc),
             number: 0,
-            out: Out::new(alloc),
-        }
+            out,
+        })
     }
 
     // Carries out the line that a newline ends now.
@@ -49,11 +50,8 @@ impl Loader {
             Err(CommandFault::Memory) => return Err(OpenWhy::Memory),
             Err(_) => return Err(OpenWhy::Line(self.number + 1)),
         };
-        self.out.clear();
-        if self.out.ready().is_err() {
-            return Err(OpenWhy::Memory);
-        }
-        match self.table.step(&command, &mut self.out) {
+        let Ok(ready) = self.out.emptied();
+        match self.table.step(&command, ready).end() {
             Outcome::Write => {}
             Outcome::Memory => return Err(OpenWhy::Memory),
             Outcome::Read | Outcome::Refusal => return Err(OpenWhy::Line(self.number + 1)),
@@ -168,7 +166,7 @@ pub(crate) fn load<D: Disk>(alloc: Global, start: Table, disk: &mut D) -> Result
     ensures failures { D.failures disk.new ≡ failures_after_load result (D.failures disk.old) }
 {
     let mut piece = vec![in alloc; 0u8; PIECE]?;
-    let mut loader = Loader::new(alloc, start);
+    let mut loader = Loader::new(alloc, start)?;
     match load_all(alloc, disk, &mut piece, &mut loader) {
         Ok(()) => Ok(loader),
         Err(why) => Err(why),

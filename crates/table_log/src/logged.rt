@@ -3,12 +3,12 @@
 ghost use Rattle.std.specs.Prelude.{◌≡◌, ◌+◌, ◌≤◌, ◌↔◌, false, true, if◌then◌else◌, ℕ, List, None, Some, IfErr, IfOk, IsSome, IsTrue, OnErr, OnOk, length};
 ghost use Rattle.command_lines.specs.Fits.{CommandFits};
 ghost use Rattle.table_changes.specs.Change.{is_change};
-ghost use Rattle.table_reply.specs.Buffer.{Keeps};
+ghost use Rattle.table_reply.specs.Ready.{IsBehind};
 ghost use Rattle.table_schema.specs.Shape.{TableShape};
 ghost use Rattle.table_step.specs.Step.{new_table};
 ghost use Rattle.table_log.specs.Loading.{failures_after_load};
 ghost use Rattle.table_log.specs.Log.{IsLog, after_command};
-ghost use Rattle.table_log.specs.Logged.{IsKept, IsOpened, IsSettled, IsUnopened, Stops, Tells, Told, failed_log, failures_after_open, log_line, synced_log};
+ghost use Rattle.table_log.specs.Logged.{AppendsAnswer, IsKept, IsOpened, IsSettled, IsUnopened, Stops, Tells, failed_log, failures_after_open, log_line, synced_log};
 
 use crate::disk::Disk;
 use crate::fault::{OpenFault, OpenWhy, Over};
@@ -17,7 +17,7 @@ use command_text::write_command;
 use std::alloc::Global;
 use std::marker::Model;
 use table_cmd::Command;
-use table_reply::{Out, OutOfRoom, READY_ROOM};
+use table_reply::{Out, OutOfRoom, Ready, Told};
 use table_schema::TableSpec;
 use table_step::{Outcome, Table, is_change, refuse_memory};
 
@@ -108,6 +108,12 @@ fn open_from<D: Disk>(
     ensures unopened { IfErr result (λ fault. (bytes : List ℕ) → D.contents disk ≡ Some bytes → IsUnopened start bytes fault.why (D.contents fault.disk)) }
     ensures failures { IfErr result (λ fault. D.failures fault.disk ≡ failures_after_open fault.why (D.failures disk)) }
 {
+    let Ok(line) = Out::new(alloc) else {
+        return Err(OpenFault {
+            disk,
+            why: OpenWhy::Memory,
+        });
+    };
     let mut disk = disk;
     match prepare(alloc, start, &mut disk) {
         Ok(prepared) => Ok(Opened {
@@ -115,7 +121,7 @@ fn open_from<D: Disk>(
                 declared,
                 table: prepared.table,
                 disk,
-                line: Out::new(alloc),
+                line,
                 is_over: false,
             },
             torn: prepared.torn,
@@ -183,47 +189,57 @@ impl<D: Disk> LoggedTable<D> {
     /// Where the disk fails, nothing is answered, and the log is over: from then on nothing is answered. What was answered
     /// before is in the log. The answer to an accepted write has at most 256 bytes. O(length of the command), and what the command
     /// costs.
-    pub fn call(&mut self, command: &Command, out: &mut Out) -> Result<(), Over>
-        requires ready { READY_ROOM ≤ out.old.room }
+    pub fn call<'o>(&mut self, command: &Command, out: Ready<'o>) -> Told<'o, Result<(), Over>>
         requires fits { CommandFits command.now }
-        ensures answered { OnOk result ((self.old.is_over ≡ false) × Told self.old command.now out.old.bytes out.new.bytes self.new) }
-        ensures short { OnOk result (IsSome (after_command self.old.table command.now) → length out.new.bytes ≤ length out.old.bytes + 256) }
-        ensures stopped { OnErr result ((out.new.bytes ≡ out.old.bytes) × Stops self.old command.now self.new) }
+        ensures answered { OnOk result.what ((self.old.is_over ≡ false) × AppendsAnswer self.old command.now out.entry.out.now.bytes result.out.now.bytes self.new) }
+        ensures short { OnOk result.what (IsSome (after_command self.old.table command.now) → length result.out.now.bytes ≤ length out.entry.out.now.bytes + 256) }
+        ensures stopped { OnErr result.what ((result.out.now.bytes ≡ out.entry.out.now.bytes) × Stops self.old command.now self.new) }
         ensures stands { IsKept self.old }
-        ensures kept { Keeps out.old out.new }
+        ensures behind { IsBehind out.entry result }
     {
         if self.is_over {
-            return Err(Over);
+            let Ready { out } = out;
+            return Told {
+                what: Err(Over),
+                out,
+            };
         }
         if set_line(command, &mut self.line).is_err() {
-            refuse_memory(out);
-            return Ok(());
+            let Told { what: _, out } = refuse_memory(out);
+            return Told { what: Ok(()), out };
         }
-        let start = out.bytes().len();
-        if let Outcome::Write = self.table.step(command, out) {
-            if self.disk.append(self.line.bytes()).is_err() {
-                self.is_over = true;
-                out.truncate(start);
-                return Err(Over);
-            }
+        let start = out.out.bytes().len();
+        let Told { what: outcome, out } = self.table.step(command, out);
+        if let Outcome::Write = outcome
+            && self.disk.append(self.line.bytes()).is_err()
+        {
+            self.is_over = true;
+            out.truncate(start);
+            return Told {
+                what: Err(Over),
+                out,
+            };
         }
-        Ok(())
+        Told { what: Ok(()), out }
     }
 
     /// Carries out a command that changes no table, as `call` does. O(what the read costs).
-    pub fn read(&self, command: &Command, out: &mut Out) -> Result<(), Over>
-        requires ready { READY_ROOM ≤ out.old.room }
+    pub fn read<'o>(&self, command: &Command, out: Ready<'o>) -> Told<'o, Result<(), Over>>
         requires reads { is_change command.now ≡ false }
-        ensures answered { OnOk result ((self.now.is_over ≡ false) × Tells self.now command.now out.old.bytes out.new.bytes) }
-        ensures over { OnErr result ((self.now.is_over ≡ true) × (out.new ≡ out.old)) }
+        ensures answered { OnOk result.what ((self.now.is_over ≡ false) × Tells self.now command.now out.entry.out.now.bytes result.out.now.bytes) }
+        ensures over { OnErr result.what ((self.now.is_over ≡ true) × (result.out.now ≡ out.entry.out.now)) }
         ensures stands { IsKept self.now }
-        ensures kept { Keeps out.old out.new }
+        ensures behind { IsBehind out.entry result }
     {
         if self.is_over {
-            return Err(Over);
+            let Ready { out } = out;
+            return Told {
+                what: Err(Over),
+                out,
+            };
         }
-        let _outcome = self.table.read(command, out);
-        Ok(())
+        let Told { what: _, out } = self.table.read(command, out);
+        Told { what: Ok(()), out }
     }
 
     /// Makes sure of all writes so far. Where the disk fails the log is over. O(what the disk takes).

@@ -16,7 +16,7 @@ use Rattle.table_records.specs.Headings.{headings_of}
 use Rattle.table_reply.specs.Answer.{listed, listed_of}
 use Rattle.table_reply.specs.declared.reply.Heading.{Heading}
 use Rattle.table_reply.specs.declared.reply.Record.{Record}
-use Rattle.table_terms.proofs.Told.{steps_told}
+use Rattle.table_terms.proofs.Steps.{steps_told}
 use Rattle.table_terms.specs.declared.outcome.Outcome.{Outcome}
 use Rattle.table_terms.specs.declared.outcome.Outcome.TheVariants as outcomes
 use Rattle.table_terms.specs.Step.{Answers, Step, Steps}

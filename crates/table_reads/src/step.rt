@@ -1,10 +1,9 @@
 //! One read of a table.
 
-ghost use Rattle.std.specs.Prelude.{◌≤◌};
 ghost use Rattle.table_reads.specs.Found.{Reads};
 ghost use Rattle.table_reads.specs.Read.{read_step};
-ghost use Rattle.table_reply.specs.Buffer.{Keeps};
-ghost use Rattle.table_terms.specs.Step.{IsShort, Steps};
+ghost use Rattle.table_terms.specs.Step.{Steps};
+ghost use Rattle.table_terms.specs.Telling.{IsTold};
 
 use crate::found::{Found, Refusal};
 use crate::list::list;
@@ -16,19 +15,22 @@ use crate::tell::tell;
 use std::alloc::Global;
 use table_cmd::Command;
 use table_records::Records;
-use table_reply::{Out, READY_ROOM};
+use table_reply::{Ready, Told};
 use table_terms::Outcome;
 
 /// Carries out a command that reads the table, and appends the line of its answer, or that of a refusal, or the memory line.
 /// A command that would change the table is refused as `command`.
 ///
 /// A record is shown in O(columns) and a listing in O(records · columns), besides what the container's own call costs.
-pub fn read(alloc: Global, records: &Records, command: &Command, out: &mut Out) -> Outcome
-    requires { READY_ROOM ≤ out.old.room }
-    ensures answer { Steps result out.old.bytes out.new.bytes records.now records.now
+pub fn read<'o>(
+    alloc: Global,
+    records: &Records,
+    command: &Command,
+    out: Ready<'o>,
+) -> Told<'o, Outcome>
+    ensures answer { Steps result.what out.entry.out.now.bytes result.out.now.bytes records.now records.now
         (read_step records.now command.now) }
-    ensures short { IsShort result out.old.bytes out.new.bytes }
-    ensures kept { Keeps out.old out.new }
+    ensures told { IsTold out.entry result }
 {
     tell(alloc, records, find(alloc, records, command), out)
 }

@@ -1,12 +1,12 @@
 //! What a read found, as it is told.
 
-ghost use Rattle.std.specs.Prelude.{◌≡◌, ◌≤◌, IfOk, true};
+ghost use Rattle.std.specs.Prelude.{◌≡◌, IfOk, true};
 ghost use Rattle.std.specs.List.{AllByRecursion};
 ghost use Rattle.container_model.specs.Find.{is_live};
 ghost use Rattle.table_reads.specs.Found.{IsIn, Reads};
 ghost use Rattle.table_reads.specs.Shown.{entries_of, shown_entries};
-ghost use Rattle.table_reply.specs.Buffer.{Keeps};
-ghost use Rattle.table_terms.specs.Step.{IsShort, Step, Steps};
+ghost use Rattle.table_terms.specs.Step.{Step, Steps};
+ghost use Rattle.table_terms.specs.Telling.{IsTold};
 
 use crate::found::{Found, Refusal};
 use container_model::Handle;
@@ -14,22 +14,20 @@ use key_extract::{Row, RowKeys};
 use multi_index::MultiIndex;
 use std::alloc::{AllocError, Global};
 use table_records::{Records, tell_refusal};
-use table_reply::{Out, READY_ROOM, Record, Reply};
+use table_reply::{Ready, Record, Reply, Told};
 use table_terms::{Outcome, refuse, refuse_memory, tell_read};
 
 /// Appends the line that tells what a read found, or why it found nothing, or the memory line.
-pub(crate) fn tell(
+pub(crate) fn tell<'o>(
     alloc: Global,
     records: &Records,
     read: Result<Found, Refusal>,
-    out: &mut Out,
-) -> Outcome
-    requires room { READY_ROOM ≤ out.old.room }
-    requires found { IfOk read (IsIn records.now) }
+    out: Ready<'o>,
+) -> Told<'o, Outcome>
+    requires { IfOk read (IsIn records.now) }
     ensures answer { (step : Step) → Reads records.now read.entry step →
-        Steps result out.old.bytes out.new.bytes records.now records.now step }
-    ensures short { IsShort result out.old.bytes out.new.bytes }
-    ensures kept { Keeps out.old out.new }
+        Steps result.what out.entry.out.now.bytes result.out.now.bytes records.now records.now step }
+    ensures told { IsTold out.entry result }
 {
     let container = records.container();
     let at = container.writes();

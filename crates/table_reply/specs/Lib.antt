@@ -1,3 +1,4 @@
 pub mod Spelling
 pub mod Buffer
 pub mod Answer
+pub mod Ready

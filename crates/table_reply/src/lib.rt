@@ -6,6 +6,7 @@ mod handle;
 mod out;
 mod print;
 mod quote;
+mod ready;
 mod reply;
 
 pub use container_model::Handle;
@@ -14,4 +15,5 @@ pub use handle::{SPELLING_LEN, spelling};
 pub use key_extract::{Cell, Row, Text};
 pub use out::{Out, OutOfRoom, READY_ROOM};
 pub use quote::push_quoted;
+pub use ready::{Ready, Told};
 pub use reply::{Heading, Record, Reply, write_reply};

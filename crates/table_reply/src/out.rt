@@ -1,9 +1,11 @@
 //! A buffer for answer lines.
 
-ghost use Rattle.std.specs.Prelude.{◌≡◌, ◌+◌, ◌≤◌, ◌++◌, [], length, take};
-ghost use Rattle.table_reply.specs.Buffer.{MakesRoom, AddsWhole, texts};
+ghost use Rattle.std.specs.Prelude.{◌≡◌, ◌+◌, ◌≤◌, ◌++◌, [], IfOk, length, take};
+ghost use Rattle.table_reply.specs.Buffer.{Keeps, MakesRoom, AddsWhole, texts};
 
+use crate::ready::Ready;
 use std::alloc::Global;
+use std::convert::Infallible;
 use std::marker::Model;
 use thiserror::Error;
 
@@ -15,7 +17,7 @@ pub const READY_ROOM: usize = 512;
 #[error("out of memory")]
 pub struct OutOfRoom;
 
-/// Answer lines that wait to be written out.
+/// Answer lines that wait to be written out. Once it is empty, it has room for an answer.
 #[derive(Debug, Drop)]
 pub struct Out {
     buffer: Vec<u8>,
@@ -23,26 +25,32 @@ pub struct Out {
 
 impl Model for Out {
     ghost use Rattle.table_reply.specs.Buffer.{Buffer};
-    ghost use Rattle.std.specs.Prelude.{◌-◌, vec_capacity, vec_len};
+    ghost use Rattle.table_reply.specs.declared.out.TheConstants.{READY_ROOM};
+    ghost use Rattle.std.specs.Prelude.{◌-◌, ◌≤◌, vec_capacity, vec_len};
 
     ghost Value = { Buffer };
 
     ghost view = { λ o. record { bytes = o.buffer.items; room = vec_capacity o.buffer - vec_len o.buffer } };
+
+    ghost invariant = { λ o. READY_ROOM ≤ vec_capacity o.buffer };
 }
 
 impl Out {
-    /// An empty buffer, which takes no memory yet. O(1).
-    pub fn new(alloc: Global) -> Out
-        ensures { result ≡ record { bytes = []; room = 0 } }
+    ghost use Rattle.std.specs.Borrow.{sem};
+    ghost use Rattle.table_reply.specs.Ready.{IsMadeReady, Rests, RestsUnlessReady};
+
+    /// An empty buffer with room for an answer. O(1).
+    pub fn new(alloc: Global) -> Result<Out, OutOfRoom>
+        ensures { IfOk result (λ out. (out.bytes ≡ []) × (READY_ROOM ≤ out.room)) }
     {
-        Out {
-            buffer: Vec::new(alloc),
-        }
+        let buffer = Vec::with_capacity(alloc, READY_ROOM).map_err(|_| OutOfRoom)?;
+        Ok(Out { buffer })
     }
 
     /// What waits to be written out. O(1).
     pub fn bytes(&self) -> &[u8]
-        ensures { result.now ≡ self.now.bytes }
+        ensures bytes { result.now ≡ self.now.bytes }
+        ensures wide { READY_ROOM ≤ self.now.room + length self.now.bytes }
     {
         &self.buffer
     }
@@ -51,16 +59,32 @@ impl Out {
     pub fn clear(&mut self)
         ensures bytes { self.new.bytes ≡ [] }
         ensures room { self.old.room + length self.old.bytes ≡ self.new.room }
+        ensures wide { READY_ROOM ≤ self.new.room }
     {
         self.buffer.clear();
     }
 
-    /// Sees to it that the next `READY_ROOM` bytes need no memory. O(length), and O(1) where there is room.
-    pub fn ready(&mut self) -> Result<(), OutOfRoom>
-        ensures bytes { self.new.bytes ≡ self.old.bytes }
-        ensures room { MakesRoom result self.old.room self.new.room READY_ROOM }
+    /// The buffer with room for an answer. Memory is refused only where something waits and there is less room: then all
+    /// is as before. O(length), and O(1) where there is room.
+    pub fn ready(&mut self) -> Result<Ready<'_>, OutOfRoom>
+        ensures* rests { sem 𝓛 (RestsUnlessReady self.entry result) }
+        ensures same { IfOk result (λ ready. ready.out.ghost_name ≡ self.entry.ghost_name) }
+        ensures ready { IfOk result (λ ready. IsMadeReady self.old ready.out.now) }
     {
-        self.reserve(READY_ROOM)
+        let _ = &self.buffer;
+        self.reserve(READY_ROOM)?;
+        Ok(Ready { out: self })
+    }
+
+    /// The buffer, empty, with room for an answer. It can't be refused. O(length).
+    pub fn emptied(&mut self) -> Result<Ready<'_>, Infallible>
+        ensures* rests { sem 𝓛 (Rests self.entry result) }
+        ensures same { IfOk result (λ ready. ready.out.ghost_name ≡ self.entry.ghost_name) }
+        ensures empty { IfOk result (λ ready. ready.out.now.bytes ≡ []) }
+        ensures kept { IfOk result (λ ready. Keeps self.old ready.out.now) }
+    {
+        self.clear();
+        Ok(Ready { out: self })
     }
 
     /// Sees to it that so many further bytes need no memory. O(length), and O(1) where there is room.

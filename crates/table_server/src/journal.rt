@@ -8,9 +8,10 @@ ghost use Rattle.table_server.specs.Serving.{IsWritten};
 use crate::fault::Fault;
 use crate::opens::Makes;
 use shared_tables::{Journals, UncomparedJournals};
+use std::alloc::Global;
 use std::io::Write;
 use table_engine::{MAX_LINE, Sink, StreamFault};
-use table_reply::Out;
+use table_reply::{Out, OutOfRoom};
 
 /// The journal's path, what was begun for it, and a buffer with room for a line.
 #[derive(Drop)]
@@ -18,6 +19,15 @@ pub(crate) struct Journal<'a, B> {
     pub(crate) path: &'a str,
     pub(crate) begun: B,
     pub(crate) line: Out,
+}
+
+// A buffer with room for a line.
+fn new_line(alloc: Global) -> Result<Out, OutOfRoom>
+    ensures { IfOk result (λ line. 65537 ≤ line.room) }
+{
+    let mut line = Out::new(alloc)?;
+    line.reserve(MAX_LINE + 1)?;
+    Ok(line)
 }
 
 /// Tries the journal's path, if there is one, which is not that of the schema, and takes what memory its writing needs.
@@ -35,11 +45,10 @@ pub(crate) fn begin<'a, R: AllocGlobal + Makes>(
         return Ok(None);
     };
     let begun = rt.begin(path, schema).map_err(Fault::of_write)?;
-    let mut line = Out::new(rt.alloc());
-    if line.reserve(MAX_LINE + 1).is_err() {
-        return Err(Fault::Memory);
+    match new_line(rt.alloc()) {
+        Ok(line) => Ok(Some(Journal { path, begun, line })),
+        Err(OutOfRoom) => Err(Fault::Memory),
     }
-    Ok(Some(Journal { path, begun, line }))
 }
 
 /// Writes a text to the file for a path, and puts it there.

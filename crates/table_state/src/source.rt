@@ -52,7 +52,7 @@ impl Source {
             size,
             line: Vec::new(alloc),
             number: 0,
-            text: Out::new(alloc),
+            text: Out::new(alloc).map_err(|_| AllocError)?,
         })
     }
 

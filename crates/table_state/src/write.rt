@@ -227,7 +227,7 @@ fn append_all<D: Disk>(alloc: Global, table: &Table, disk: &mut D) -> Result<(),
     ensures why { IfErr result IsInterruption }
     ensures failures { D.failures disk.new ≡ failures_of_state result (D.failures disk.old) }
 {
-    let mut lines = Out::new(alloc);
+    let mut lines = Out::new(alloc)?;
     put_all(alloc, table, disk, &mut lines)?;
     flush(disk, &mut lines)
 }

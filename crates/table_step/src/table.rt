@@ -1,12 +1,12 @@
 //! A table and one step of it.
 
-ghost use Rattle.std.specs.Prelude.{◌≡◌, ◌≤◌, IfErr, IfOk, false};
+ghost use Rattle.std.specs.Prelude.{◌≡◌, IfErr, IfOk, false};
 ghost use Rattle.multi_index.specs.Restored.{IsUnrestorable};
 ghost use Rattle.table_changes.specs.Change.{is_change};
-ghost use Rattle.table_reply.specs.Buffer.{Keeps};
 ghost use Rattle.table_records.specs.Restored.{restored_table};
-ghost use Rattle.table_step.specs.Step.{IsOfSameTable, IsShort, Steps, new_table, step_of};
+ghost use Rattle.table_step.specs.Step.{IsOfSameTable, Steps, new_table, step_of};
 ghost use Rattle.table_terms.specs.Table.{keys_of, row_order, specs_of};
+ghost use Rattle.table_terms.specs.Telling.{IsTold};
 
 use key_extract::Row;
 use std::alloc::{AllocError, Global};
@@ -15,7 +15,7 @@ use table_changes::{change, is_change};
 use table_cmd::Command;
 use table_reads::read;
 use table_records::{Records, Saved, Unrestorable};
-use table_reply::{Fault, Out, READY_ROOM};
+use table_reply::{Fault, Ready, Told};
 use table_schema::TableSpec;
 use table_terms::{Outcome, refuse};
 
@@ -73,19 +73,17 @@ impl Table {
 
     /// Carries a command out and appends the line of its answer, or that of a refusal. A refused command changes
     /// nothing. Where memory is refused nothing is changed and the memory line is appended; an accepted write is
-    /// always answered. `out` keeps its memory. The table keeps its name and its columns; its indices may be declared anew.
+    /// always answered. The buffer keeps its memory. The table keeps its name and its columns; its indices may be declared anew.
     ///
     /// An insertion and a replacement read their row in O(columns · fields), a record is shown in O(columns) and a listing
     /// in O(records · columns), besides what the container's own call costs.
     #[tactic(auto, unfolding(crate::specs::Step::step_of))]
-    pub fn step(&mut self, command: &Command, out: &mut Out) -> Outcome
-        requires { READY_ROOM ≤ out.old.room }
-        ensures answer { Steps result out.old.bytes out.new.bytes self.old self.new
+    pub fn step<'o>(&mut self, command: &Command, out: Ready<'o>) -> Told<'o, Outcome>
+        ensures answer { Steps result.what out.entry.out.now.bytes result.out.now.bytes self.old self.new
             (step_of self.old command.now) }
-        ensures short { IsShort result out.old.bytes out.new.bytes }
-        ensures kept { Keeps out.old out.new }
+        ensures told { IsTold out.entry result }
         ensures declared { IsOfSameTable self.new.shape self.old.shape }
-        ensures unchanged { (result ≡ Outcome.Write → ⊥) → self.new ≡ self.old }
+        ensures unchanged { (result.what ≡ Outcome.Write → ⊥) → self.new ≡ self.old }
     {
         if command.table() != self.records.spec().name() {
             return refuse(Fault::Table, out);
@@ -99,12 +97,10 @@ impl Table {
 
     /// Carries out a command that changes no table, as `step` does. O(what the read costs).
     #[tactic(auto, unfolding(crate::specs::Step::step_of))]
-    pub fn read(&self, command: &Command, out: &mut Out) -> Outcome
-        requires ready { READY_ROOM ≤ out.old.room }
-        requires reads { is_change command.now ≡ false }
-        ensures answer { Steps result out.old.bytes out.new.bytes self.now self.now (step_of self.now command.now) }
-        ensures short { IsShort result out.old.bytes out.new.bytes }
-        ensures kept { Keeps out.old out.new }
+    pub fn read<'o>(&self, command: &Command, out: Ready<'o>) -> Told<'o, Outcome>
+        requires { is_change command.now ≡ false }
+        ensures answer { Steps result.what out.entry.out.now.bytes result.out.now.bytes self.now self.now (step_of self.now command.now) }
+        ensures told { IsTold out.entry result }
     {
         if command.table() == self.name() {
             read(self.alloc, &self.records, command, out)

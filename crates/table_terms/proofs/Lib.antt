@@ -1,5 +1,5 @@
 pub mod Declared
 pub mod Keyed
 pub mod Rows
-pub mod Told
+pub mod Steps
 pub mod Sums

@@ -5,3 +5,4 @@ pub mod Step
 pub mod Words
 pub mod Edits
 pub mod Bounds
+pub mod Telling

@@ -1,116 +1,91 @@
 //! Answers that are appended, or the memory line in their place.
 
-ghost use Rattle.std.specs.Prelude.{◌≡◌, ◌≤◌, ◌+◌, ◌++◌, IsTrue, false, length};
+ghost use Rattle.std.specs.Prelude.{◌≡◌, ◌≤◌, ◌++◌, length};
 ghost use Rattle.table_reply.specs.Answer.{answer, answer_text, counted, done, fault, after};
-ghost use Rattle.table_reply.specs.Buffer.{Keeps};
-ghost use Rattle.table_terms.specs.Step.{Answers, IsShort, memory_line};
+ghost use Rattle.table_reply.specs.Ready.{IsBehind};
+ghost use Rattle.table_reply.specs.declared.fault.Fault.TheVariants as faults;
+ghost use Rattle.table_terms.specs.Step.{Answers};
+ghost use Rattle.table_terms.specs.Telling.{IsTold, Tells};
 
 use crate::outcome::Outcome;
-use table_reply::{Fault, Handle, Out, READY_ROOM, Reply, write_reply};
+use table_reply::{Fault, Handle, READY_ROOM, Ready, Reply, Told, write_reply};
 
 /// The answer where memory is refused.
 const MEMORY_LINE: &[u8] = b"{\"err\":\"memory\"}\n";
 
-// Appends the line of a reply, or else the memory line, and says which.
-fn tell(reply: &Reply, out: &mut Out) -> bool
-    requires { READY_ROOM ≤ out.old.room }
-    ensures written { IsTrue result → out.new.bytes ≡ out.old.bytes ++ answer_text (answer reply.now) }
-    ensures short { length (answer_text (answer reply.now)) ≤ READY_ROOM → IsTrue result }
-    ensures refused { result ≡ false → out.new.bytes ≡ out.old.bytes ++ memory_line }
-    ensures kept { Keeps out.old out.new }
+// Appends the line of a reply, or else the memory line.
+fn tell<'o>(outcome: Outcome, reply: &Reply, out: Ready<'o>) -> Told<'o, Outcome>
+    ensures line { Answers result.what out.entry.out.now.bytes result.out.now.bytes outcome (answer reply.now) }
+    ensures fits { length (answer_text (answer reply.now)) ≤ READY_ROOM → (result.what ≡ outcome) × (result.out.now.bytes ≡ out.entry.out.now.bytes ++ answer_text (answer reply.now)) }
+    ensures behind { IsBehind out.entry result }
 {
+    let Ready { out } = out;
     if write_reply(reply, out).is_ok() {
-        return true;
+        return Told { what: outcome, out };
     }
     out.push(MEMORY_LINE);
-    false
+    Told {
+        what: Outcome::Memory,
+        out,
+    }
 }
 
 /// Appends the line of a reply that has at most 256 bytes, which takes no memory. O(1).
-pub fn tell_short(reply: &Reply, out: &mut Out)
-    requires room { READY_ROOM ≤ out.old.room }
-    requires short { length (answer_text (answer reply.now)) ≤ 256 }
-    ensures line { out.new.bytes ≡ out.old.bytes ++ answer_text (answer reply.now) }
-    ensures short { length out.new.bytes ≤ length out.old.bytes + 256 }
-    ensures kept { Keeps out.old out.new }
+pub fn tell_short<'o>(outcome: Outcome, reply: &Reply, out: Ready<'o>) -> Told<'o, Outcome>
+    requires { length (answer_text (answer reply.now)) ≤ 256 }
+    ensures { Tells out.entry result outcome (answer reply.now) }
 {
-    let _ = tell(reply, out);
+    tell(outcome, reply, out)
 }
 
 /// Appends the line of a write that has nothing to tell but its number. O(1).
 #[tactic(auto, using(table_reply::proofs::Short::done_is_short))]
-pub fn tell_done(at: u64, out: &mut Out) -> Outcome
-    requires { READY_ROOM ≤ out.old.room }
-    ensures line { out.new.bytes ≡ out.old.bytes ++ answer_text (done at) }
-    ensures outcome { result ≡ Outcome.Write }
-    ensures short { IsShort result out.old.bytes out.new.bytes }
-    ensures kept { Keeps out.old out.new }
+pub fn tell_done<'o>(at: u64, out: Ready<'o>) -> Told<'o, Outcome>
+    ensures { Tells out.entry result Outcome.Write (done at) }
 {
-    tell_short(&Reply::Done { at }, out);
-    Outcome::Write
+    tell_short(Outcome::Write, &Reply::Done { at }, out)
 }
 
 /// Appends the line of an erasure that tells the next record, or the end. O(1).
 #[tactic(auto, using(table_reply::proofs::Short::after_is_short))]
-pub fn tell_next(at: u64, next: Option<Handle>, out: &mut Out) -> Outcome
-    requires { READY_ROOM ≤ out.old.room }
-    ensures line { out.new.bytes ≡ out.old.bytes ++ answer_text (after at next) }
-    ensures outcome { result ≡ Outcome.Write }
-    ensures short { IsShort result out.old.bytes out.new.bytes }
-    ensures kept { Keeps out.old out.new }
+pub fn tell_next<'o>(at: u64, next: Option<Handle>, out: Ready<'o>) -> Told<'o, Outcome>
+    ensures { Tells out.entry result Outcome.Write (after at next) }
 {
-    tell_short(&Reply::Next { at, next }, out);
-    Outcome::Write
+    tell_short(Outcome::Write, &Reply::Next { at, next }, out)
 }
 
 /// Appends the line of an erasure of so many records. O(1).
 #[tactic(auto, using(table_reply::proofs::Short::counted_is_short))]
-pub fn tell_erased(at: u64, number: u64, out: &mut Out) -> Outcome
-    requires { READY_ROOM ≤ out.old.room }
-    ensures line { out.new.bytes ≡ out.old.bytes ++ answer_text (counted at number) }
-    ensures outcome { result ≡ Outcome.Write }
-    ensures short { IsShort result out.old.bytes out.new.bytes }
-    ensures kept { Keeps out.old out.new }
+pub fn tell_erased<'o>(at: u64, number: u64, out: Ready<'o>) -> Told<'o, Outcome>
+    ensures { Tells out.entry result Outcome.Write (counted at number) }
 {
-    tell_short(&Reply::Counted { at, number }, out);
-    Outcome::Write
+    tell_short(Outcome::Write, &Reply::Counted { at, number }, out)
 }
 
 /// Appends the line that answers a read, or else the memory line. O(length of the line).
-pub fn tell_read(reply: &Reply, out: &mut Out) -> Outcome
-    requires { READY_ROOM ≤ out.old.room }
-    ensures line { Answers result out.old.bytes out.new.bytes Outcome.Read (answer reply.now) }
-    ensures short { IsShort result out.old.bytes out.new.bytes }
-    ensures kept { Keeps out.old out.new }
+pub fn tell_read<'o>(reply: &Reply, out: Ready<'o>) -> Told<'o, Outcome>
+    ensures line { Answers result.what out.entry.out.now.bytes result.out.now.bytes Outcome.Read (answer reply.now) }
+    ensures told { IsTold out.entry result }
 {
-    if tell(reply, out) {
-        Outcome::Read
-    } else {
-        Outcome::Memory
-    }
+    tell(Outcome::Read, reply, out)
 }
 
 /// Appends the line of a fault, which takes no memory. O(1).
 #[tactic(auto, using(table_reply::proofs::Short::fault_is_short))]
-pub fn refuse(why: Fault, out: &mut Out) -> Outcome
-    requires { READY_ROOM ≤ out.old.room }
-    ensures line { out.new.bytes ≡ out.old.bytes ++ answer_text (fault why) }
-    ensures outcome { result ≡ Outcome.Refusal }
-    ensures short { IsShort result out.old.bytes out.new.bytes }
-    ensures kept { Keeps out.old out.new }
+pub fn refuse<'o>(why: Fault, out: Ready<'o>) -> Told<'o, Outcome>
+    ensures { Tells out.entry result Outcome.Refusal (fault why) }
 {
-    tell_short(&Reply::Fault(why), out);
-    Outcome::Refusal
+    tell_short(Outcome::Refusal, &Reply::Fault(why), out)
 }
 
 /// Appends the memory line, which takes no memory. O(1).
-pub fn refuse_memory(out: &mut Out) -> Outcome
-    requires { READY_ROOM ≤ out.old.room }
-    ensures line { out.new.bytes ≡ out.old.bytes ++ memory_line }
-    ensures outcome { result ≡ Outcome.Memory }
-    ensures short { IsShort result out.old.bytes out.new.bytes }
-    ensures kept { Keeps out.old out.new }
+pub fn refuse_memory<'o>(out: Ready<'o>) -> Told<'o, Outcome>
+    ensures { Tells out.entry result Outcome.Memory (fault faults.Memory) }
 {
+    let Ready { out } = out;
     out.push(MEMORY_LINE);
-    Outcome::Memory
+    Told {
+        what: Outcome::Memory,
+        out,
+    }
 }

@@ -1,6 +1,7 @@
 //! The canonical text of the command on each line, or why the line is none. Where that text, read again, is written otherwise,
 //! it says so; and where a copy of the command is another command, or the last one before it is the same though its text is not.
 
+use crate::buffers::new_out;
 use command_lines::{CommandFault, read_command};
 use command_text::{Command, Out, write_command};
 use std::alloc::{AllocError, Global};
@@ -9,7 +10,7 @@ use std::io::Write;
 
 /// The canonical text of a command.
 pub(crate) fn written(alloc: Global, command: &Command) -> Result<Out, AllocError> {
-    let mut text = Out::new(alloc);
+    let mut text = new_out(alloc)?;
     match write_command(command, &mut text) {
         Ok(()) => Ok(text),
         Err(_) => Err(AllocError),

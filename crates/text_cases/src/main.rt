@@ -3,6 +3,7 @@
 //! `tables`.
 #![tactic(auto)]
 
+mod buffers;
 mod commands;
 mod keys;
 mod replies;

@@ -1,5 +1,6 @@
 //! Replies of each form at the ends of their ranges, all faults, rows under headings, and a buffer's states.
 
+use crate::buffers::new_out;
 use std::alloc::{AllocError, Global};
 use std::io;
 use std::io::Write;
@@ -267,9 +268,9 @@ fn push_state(alloc: Global, report: &mut Out, out: &Out) -> Result<(), AllocErr
 // A buffer's length and bytes as it takes texts and gives them back.
 fn push_states(alloc: Global, report: &mut Out) -> Result<(), AllocError> {
     push(report, "=== buffer\n")?;
-    let mut out = Out::new(alloc);
+    let mut out = new_out(alloc)?;
     push_state(alloc, report, &out)?;
-    out.ready().map_err(|_| AllocError)?;
+    out.ready().map_err(|_| AllocError)?.end();
     out.push(b"one ");
     out.push(b"two ");
     out.try_push(b"three ").map_err(|_| AllocError)?;
@@ -287,7 +288,7 @@ fn push_states(alloc: Global, report: &mut Out) -> Result<(), AllocError> {
 /// All of them. It takes no lines.
 pub(crate) fn tell(rt: &HostRuntime) -> io::Result<()> {
     let alloc = rt.alloc();
-    let mut out = Out::new(alloc);
+    let mut out = new_out(alloc)?;
     push_replies(&mut out)?;
     push_rows(alloc, &mut out)?;
     push_records(alloc, &mut out)?;

@@ -1,11 +1,11 @@
 //! What each line is to each table.
-ghost use Rattle.std.specs.Prelude.{◌≤◌, IfOk};
 
+use crate::buffers::new_out;
 use crate::commands::{name_of, written};
 use command_lines::{CommandFault, read_command};
 use std::alloc::{AllocError, Global};
 use table_cmd::Command;
-use table_reply::{Fault, Out, READY_ROOM};
+use table_reply::{Fault, Out};
 use table_schema::Schema;
 use table_step::{Outcome, Table, refuse, refuse_memory};
 
@@ -22,17 +22,6 @@ fn kind_of(outcome: Outcome) -> &'static str {
     }
 }
 
-// A buffer with room for an answer.
-fn ready_out(alloc: Global) -> Result<Out, AllocError>
-    ensures { IfOk result (λ out. READY_ROOM ≤ out.room) }
-{
-    let mut out = Out::new(alloc);
-    match out.ready() {
-        Ok(()) => Ok(out),
-        Err(_) => Err(AllocError),
-    }
-}
-
 // Adds what was told.
 fn tell(outcome: Outcome, out: &Out, report: &mut Vec<u8>) -> Result<(), AllocError> {
     report.extend_from_slice(kind_of(outcome).as_bytes())?;
@@ -42,14 +31,16 @@ fn tell(outcome: Outcome, out: &Out, report: &mut Vec<u8>) -> Result<(), AllocEr
 
 // Adds a fault as it is told without a table.
 fn tell_refused(alloc: Global, fault: Fault, report: &mut Vec<u8>) -> Result<(), AllocError> {
-    let mut out = ready_out(alloc)?;
-    let outcome = refuse(fault, &mut out);
+    let mut out = new_out(alloc)?;
+    let Ok(ready) = out.emptied();
+    let outcome = refuse(fault, ready).end();
     tell(outcome, &out, report)
 }
 
 fn tell_memory(alloc: Global, report: &mut Vec<u8>) -> Result<(), AllocError> {
-    let mut out = ready_out(alloc)?;
-    let outcome = refuse_memory(&mut out);
+    let mut out = new_out(alloc)?;
+    let Ok(ready) = out.emptied();
+    let outcome = refuse_memory(ready).end();
     tell(outcome, &out, report)
 }
 
@@ -67,8 +58,9 @@ fn tell_step(
     command: &Command,
     report: &mut Vec<u8>,
 ) -> Result<bool, AllocError> {
-    let mut out = ready_out(alloc)?;
-    let outcome = table.step(command, &mut out);
+    let mut out = new_out(alloc)?;
+    let Ok(ready) = out.emptied();
+    let outcome = table.step(command, ready).end();
     if outcome == Outcome::Refusal && out.bytes() == OTHER_TABLE {
         return Ok(false);
     }

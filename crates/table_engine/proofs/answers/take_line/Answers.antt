@@ -10,7 +10,7 @@ returns-then-is_blank-clause-told g c =
     let line = c.args.line.now in
     let empty : is_empty before ≡ true = cc in
     let blank : is_blank line ≡ true = cc in
-    ([], sym (append-nil c.args.out.now.bytes), tells_blank (g.T.Answers.tells c.args.seat.now) c.args.answers.now before line empty (omega arith) blank)
+    ([], sym (append-nil c.args.out.out.now.bytes), tells_blank (g.T.Answers.tells c.args.seat.now) c.args.answers.now before line empty (omega arith) blank)
 
 pub returns-then-is_blank-clause-ended : goal.returns-then-is_blank-clause-ended
 returns-then-is_blank-clause-ended g c =
@@ -23,7 +23,7 @@ returns-clause-told g c =
     let line = c.args.line.now in
     let empty : is_empty before ≡ true = cc in
     let some : is_blank line ≡ false = cc in
-    OnOk-map c.answer.result (λ told. (
+    OnOk-map c.answer.result.what (λ told. (
       told.0,
       told.1,
       tells_whole (g.T.Answers.tells c.args.seat.now) c.args.answers.now c.answer.new.self before line told.0 empty (omega arith) some told.2,
@@ -35,7 +35,7 @@ returns-clause-refused g c =
     let line = c.args.line.now in
     let empty : is_empty before ≡ true = cc in
     let some : is_blank line ≡ false = cc in
-    IfErr-map c.answer.result (λ why refused. refuses_whole (g.T.Answers.refuses c.args.seat.now) c.args.answers.now before line why empty (omega arith) some refused) c.answer.ensures.refused
+    IfErr-map c.answer.result.what (λ why refused. refuses_whole (g.T.Answers.refuses c.args.seat.now) c.args.answers.now before line why empty (omega arith) some refused) c.answer.ensures.refused
 
 pub returns-clause-ended : goal.returns-clause-ended
 returns-clause-ended g c =

@@ -13,5 +13,5 @@ returns-in-Some-clause-answer c =
     let old = get_or tables place c.index-tables-place.result in
     let is : old ≡ get_or tables place old = ap (get_or tables place) c.index-tables-place.is in
     let at : table_at tables (table_in command) ≡ Some place = ap (table_at tables) (sym c.table.ensures) ∙ sym c.in-Some.ensures in
-    let replies = Replies-from_Steps c.step.result c.args.out.now.bytes c.step.new.out.bytes tables place old c.step.new.self (step_of old command) is c.step.ensures.answer in
-    subst (λ (step : Carried). Replies c.args.out.now.bytes c.step.new.out.bytes tables (slice_set tables place c.step.new.self) step) (sym (carried-at tables command place old at is)) replies
+    let replies = Replies-from_Steps c.step.result.what c.args.out.out.now.bytes c.step.result.out.now.bytes tables place old c.step.new.self (step_of old command) is c.step.ensures.answer in
+    subst (λ (step : Carried). Replies c.args.out.out.now.bytes c.step.result.out.now.bytes tables (slice_set tables place c.step.new.self) step) (sym (carried-at tables command place old at is)) replies

@@ -1,4 +1,4 @@
-use Rattle.std.proofs.Common.{◌≡◌, inl, [], ◌∷◌, ◌++◌, Err, drop, List, ℕ, refl, sym, ap, subst, ◌∙◌, append-nil, append_assoc, arith}
+use Rattle.std.proofs.Common.{◌≡◌, inl, [], ◌∷◌, ◌++◌, Err, drop, List, ℕ, refl, sym, ap, subst, ◌∙◌, append-nil, append_assoc}
 use Rattle.std.specs.Prelude.{⊤}
 use Rattle.std.proofs.lemmas.Result.{err_from_is_err_and}
 use Rattle.table_engine.specs.Devices.{AppendsFront}
@@ -12,13 +12,12 @@ use Rattle.table_engine.proofs.serve.serve_piece.Goals as goal
 
 pub loop-length-init : goal.loop-length-init
 loop-length-init g c = record {
-  room = let r = c.requires.ready in omega arith;
   failures = refl;
   done = [];
   split = refl;
   told = [];
   fed = (refl, refl, refl);
-  passes = subst (λ w. Passes (g.W.Write.contents c.args.sink.now.inner) (g.W.Write.contents c.args.sink.now.inner) [] [] w) (sym c.requires.empty)
+  passes = subst (λ w. Passes (g.W.Write.contents c.args.sink.now.inner) (g.W.Write.contents c.args.sink.now.inner) [] [] w) (sym c.requires)
       (passes_nothing (g.W.Write.contents c.args.sink.now.inner) []);
 }
 
@@ -42,7 +41,6 @@ loop-length-preserved g c =
     ∙ line_of_rest n rest behind found.0.high (is_newline rest n found) (c.split_at-in-Some.ensures.back ∙ ap (drop 1) c.split_at.ensures.back) in
     let one = feeds_line tells loop.answers new.answers loop.cutter.unfinished new.cutter.unfinished line told.0 quiet told.1 c.in-Ok.ensures.ended in
     record {
-      room = c.in-Ok.ensures.room;
       failures = c.in-Ok.ensures.failures ∙ inv.failures;
       done = inv.done ++ (line ++ 10 ∷ []);
       split = append_assoc inv.done (line ++ 10 ∷ []) behind ∙ (ap (λ xs. inv.done ++ xs) (append_assoc line (10 ∷ []) behind ∙ whole) ∙ inv.split);

@@ -1,10 +1,9 @@
-use Rattle.std.proofs.Common.{◌≡◌, ◌≤◌, ◌+◌, ◌++◌, ℕ, [], List, length}
+use Rattle.std.proofs.Common.{◌≡◌, ◌++◌, ℕ, [], List, length}
 use Rattle.table_engine.specs.Stream.{Feeds, Passes}
 use Rattle.table_engine.proofs.serve.serve_piece.Given as goal
 
 abbrev pub invariant-loop-length : goal.invariant-loop-length
 invariant-loop-length g l = record {
-  room : 512 ≤ l.out.room + length l.out.bytes;
   failures : l.sink.failures ≡ l.fn.sink.failures;
   done : List ℕ;
   split : done ++ l.rest ≡ l.piece;

@@ -11,8 +11,7 @@ use Rattle.table_engine.proofs.serve.serve_pieces.Goals as goal
 pub loop-init : goal.loop-init
 loop-init g c = record {
   piece = refl;
-  empty = c.requires.empty;
-  ready = c.requires.ready;
+  empty = c.requires;
   unread = λ e. refl;
   reads = λ h. absurd (omega arith);
   failures = refl;
@@ -38,7 +37,6 @@ loop-preserved g c =
     record {
       piece = c.read.auto.buf ∙ inv.piece;
       empty = c.in-Ok-serve_piece.ensures.empty;
-      ready = c.in-Ok-serve_piece.ensures.ready;
       unread = λ e. absurd (omega arith);
       reads = λ h. read_more c.loop.counter c.args.source.now.reads c.loop.source.reads c.read.new.self.reads inv.unread inv.reads c.in-Ok.ensures.reads;
       failures = c.in-Ok.ensures.failures ∙ inv.failures;

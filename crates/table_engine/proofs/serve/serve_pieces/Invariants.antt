@@ -1,4 +1,4 @@
-use Rattle.std.proofs.Common.{◌≡◌, ◌≤◌, ◌<◌, ℕ, [], List, length}
+use Rattle.std.proofs.Common.{◌≡◌, ◌<◌, ℕ, [], List, length}
 use Rattle.std.specs.Io.KnownBytes.{Consumes, Appends}
 use Rattle.table_engine.specs.Devices.{raised_by}
 use Rattle.table_engine.specs.Stream.{Feeds}
@@ -8,7 +8,6 @@ abbrev pub invariant-loop : goal.invariant-loop
 invariant-loop g l = record {
   piece : length l.piece ≡ 4096;
   empty : l.out.bytes ≡ [];
-  ready : 512 ≤ l.out.room;
   unread : l.counter ≡ 0 → l.source.reads ≡ l.fn.source.reads;
   reads : 0 < l.counter → l.source.reads ≡ raised_by l.counter l.fn.source.reads;
   failures : l.source.failures ≡ l.fn.source.failures;

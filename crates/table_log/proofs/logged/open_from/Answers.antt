@@ -6,6 +6,6 @@ invariant_of-result g c =
     record {
       start = c.args.start;
       is_empty = λ shape is. c.requires shape is;
-      stands = λ bytes known over. c.in-Ok.ensures.log bytes known;
-      loads = λ bytes known. loads_log c.args.start c.in-Ok.prepared.table bytes (c.in-Ok.ensures.log bytes known);
+      stands = λ bytes known over. c.in-Ok-prepare.ensures.log bytes known;
+      loads = λ bytes known. loads_log c.args.start c.in-Ok-prepare.prepared.table bytes (c.in-Ok-prepare.ensures.log bytes known);
     }

@@ -10,8 +10,9 @@ loop-index-preserved c =
     let journal = c.args.self.now.journal in
     let index = c.loop-index.index in
     let e : EntryData = c.index.result.now in
-    let carried = was_carried c.step.result _ _ c.loop-index.table c.step.new.self (step_of c.loop-index.table c.command.result.now) c.step.ensures.answer c.in_default.not-Memory in
-    let command : c.command.result.now ≡ e.command = c.command.ensures in
+    let carried = was_carried c.step.result.what _ _ c.loop-index.table c.step.new.self (step_of c.loop-index.table c.command-command.result.now) c.step.ensures.answer
+    (λ is. c.in_default.not-Memory (c.end.ensures.what ∙ is)) in
+    let command : c.command-command.result.now ≡ e.command = c.command-command.ensures in
     let items : c.self.inside.journal.items ≡ journal = ap (λ (d : CellData). d.journal) c.self.view_is in
     let within : index < length journal = (let below = c.loop-index-test.true in let few = c.requires.within in omega arith) in
     carried.0

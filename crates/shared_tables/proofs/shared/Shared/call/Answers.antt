@@ -45,10 +45,10 @@ tables g c =
 
 pub returns-clause-refused : goal.returns-clause-refused
 returns-clause-refused g c =
-    refuses c.args.self.now c.in-Some.place c.deref_mut.result.now c.args.pass.now c.args.command c.call.result
+    refuses c.args.self.now c.in-Some.place c.deref_mut.result.now c.args.pass.now c.args.command c.call.result.what
     (named g c) (found g c) (tables g c) (knows g c) c.call.ensures.fault
 
 pub returns-clause-answered : goal.returns-clause-answered
 returns-clause-answered g c =
-    hears c.args.self.now c.in-Some.place c.deref_mut.result.now c.call.new.self c.args.pass.now c.call.new.pass c.args.command c.args.out.now.bytes c.call.new.out.bytes c.call.result
+    hears c.args.self.now c.in-Some.place c.deref_mut.result.now c.call.new.self c.args.pass.now c.call.new.pass c.args.command c.args.out.out.now.bytes c.call.result.out.now.bytes c.call.result.what
     (named g c) (found g c) (tables g c) c.call.ensures.fault c.call.ensures.answered

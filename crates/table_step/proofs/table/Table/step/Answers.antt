@@ -9,10 +9,10 @@ returns-then-is_change-clause-declared c =
     let t = c.self.inside.records in
     let step = change_step t c.args.command.now in
     subst (λ s. IsOfSameTable c.change.new.records.shape s.shape) c.self.view_is
-    (steps_declared c.args.out.now.bytes c.change.new.out.bytes t c.change.new.records step (change_keeps t c.args.command.now) c.change.result c.change.ensures.answer)
+    (steps_declared c.args.out.out.now.bytes c.change.result.out.now.bytes t c.change.new.records step (change_keeps t c.args.command.now) c.change.result.what c.change.ensures.answer)
 
 pub returns-then-is_change-clause-unchanged : goal.returns-then-is_change-clause-unchanged
 returns-then-is_change-clause-unchanged c = λ unwritten.
     let t = c.self.inside.records in
     let step = change_step t c.args.command.now in
-    steps_unwritten c.args.out.now.bytes c.change.new.out.bytes t c.change.new.records step (change_keeps t c.args.command.now) c.change.result c.change.ensures.answer unwritten ∙ c.self.view_is
+    steps_unwritten c.args.out.out.now.bytes c.change.result.out.now.bytes t c.change.new.records step (change_keeps t c.args.command.now) c.change.result.what c.change.ensures.answer unwritten ∙ c.self.view_is

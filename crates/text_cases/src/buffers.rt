@@ -1,0 +1,9 @@
+//! Buffers for texts and answers.
+
+use std::alloc::{AllocError, Global};
+use table_reply::Out;
+
+/// An empty buffer with room for an answer.
+pub(crate) fn new_out(alloc: Global) -> Result<Out, AllocError> {
+    Out::new(alloc).map_err(|_| AllocError)
+}
