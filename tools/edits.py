@@ -4,7 +4,7 @@ import re
 import threading
 
 from crate_checks import read
-from rattle_source import bare, changed_bodies
+from rattle_source import bare, changed_bodies, functions_of
 from twin_functions import has_twins, name_of
 
 SAYING = threading.Lock()
@@ -17,6 +17,16 @@ def say(text):
 
 class Fault(Exception):
     """Why an edit cannot be tried."""
+
+
+def place_of(within, file, text):
+    """Where the body of the function of this name begins and ends, or the whole text where none is named."""
+    if not within:
+        return 0, len(text)
+    places = [it.body for it in functions_of(file, text) if it.name == within]
+    if len(places) != 1:
+        raise Fault(f"{file} has {len(places)} functions {within}, and not one")
+    return places[0]
 
 
 class Edit:
@@ -37,8 +47,8 @@ class Edit:
         say(f"{self.name}: {verdict}: {words[:300]}")
 
     def pairs(self):
-        """The pairs of texts, each with its file."""
-        file = old = ""
+        """The pairs of texts, each with its file, and the function in whose body the text stands, if it has to be named."""
+        file = within = old = ""
         for line in read(self.path).split("\n"):
             word, _, text = line.partition(":")
             text = text.removeprefix(" ")
@@ -46,23 +56,28 @@ class Edit:
                 file = text.strip()
                 if not re.fullmatch(r"(src|specs|proofs)/[\w/.+-]+", file) or not os.path.isfile(f"{self.crate.folder}/{file}"):
                     raise Fault(f"there is no file {file}")
+                within = ""
+            elif word == "within":
+                within = text.strip()
             elif word == "old":
                 old = text
             elif word == "new":
                 if not file or not old:
                     raise Fault("a 'new:' line stands before any 'file:' or 'old:' line")
-                yield file, old, text
+                yield file, within, old, text
                 old = ""
 
     def apply(self):
         """Makes the edited texts, and finds the bodies in which they differ from the crate's."""
         before = {}
-        for file, old, new in self.pairs():
+        for file, within, old, new in self.pairs():
             before.setdefault(file, read(f"{self.crate.folder}/{file}"))
             text = self.texts.get(file, before[file])
-            if text.count(old) != 1:
-                raise Fault(f"an 'old:' text is in {file} {text.count(old)} times, and not once")
-            self.texts[file] = text.replace(old, new)
+            start, end = place_of(within, file, text)
+            part = text[start:end]
+            if part.count(old) != 1:
+                raise Fault(f"an 'old:' text is in {file} {part.count(old)} times, and not once")
+            self.texts[file] = text[:start] + part.replace(old, new) + text[end:]
         if all(bare(text) == bare(before[file]) for file, text in self.texts.items()):
             raise Fault("it changes nothing")
         found = [changed_bodies(file, before[file], text) if file.startswith("src/") else {} for file, text in self.texts.items()]

@@ -76,15 +76,15 @@ OF_REFUSALS = {
     "gathers_no_memory": (SHARED, [(GATHER, GATHERED, not_gathered("Memory"))]),
     "tables_behind_locks_find_no_memory": (SHARED, gives_up(CALLS, "        let cells = fresh_cells(alloc, &schema, workers)?;\n", "Err(AllocError)")),
     "services_find_no_memory": (SENT, gives_up("crates/shared_tables/src/serve.rt", "        let called = Called { shared: self, rt };\n", "Err(ServeFault::Memory)")),
-    "journals_find_no_memory": (SHARED, gives_up("crates/shared_tables/src/journals.rt", "        let mut line = Out::new(*self.tables.allocator());\n", "Err(StreamFault::Memory)")),
+    "journals_find_no_memory": (SHARED, gives_up("crates/shared_tables/src/journals.rt", "        let mut line = Out::new(*self.tables.allocator()).map_err(|_| StreamFault::Memory)?;\n", "Err(StreamFault::Memory)")),
     "engines_find_no_memory": (SENT, gives_up("crates/table_engine/src/engine.rt", "        let tables = Tables::new(alloc, schema)?;\n", "Err(AllocError)")),
     "streams_find_no_memory": (SENT, gives_up("crates/table_engine/src/stream.rt", "    let cutter = &mut engine.cutters[session];\n", "Err(StreamFault::Memory)")),
     "words_find_no_memory": (SENT, gives_up("crates/program_words/src/read.rt", "    if words.is_empty() {\n", "Err(WordsFault::Memory)")),
     "steps_find_no_memory": (TEXTS, gives_up("crates/table_step/src/table.rt", "        if command.table() != self.records.spec().name() {\n", "table_terms::refuse_memory(out)")),
     "schemas_find_no_memory": (TEXTS, gives_up("crates/schema_file/src/read.rt", "    let Some(document) = read_document(alloc, bytes)? else {\n", "Err(SchemaFault::Memory)")),
     "commands_find_no_memory": (TEXTS, gives_up("crates/command_lines/src/read.rt", "    match Json::from_slice(alloc, line) {\n", "Err(CommandFault::Memory)")),
-    "insertions_find_no_memory": (RUNS, gives_up("crates/multi_index/src/container.rt", "        let entry = self.entry(row);\n        if let Some(why) = self.insert_refusal(&entry) {\n", "Err(Refused {\n                why: Why::Memory,\n                row: Some(row),\n            })")),
-    "nodes_find_no_memory": (INDICES, gives_up("crates/node_store/src/lib.rt", "        on_shelf!(&mut self.shelves, shelf => shelf.add(value))\n", "Err(NoRoom { value })")),
+    "insertions_find_no_memory": (RUNS, gives_up("crates/multi_index/src/container.rt", "        self.put(None, row)\n", "Err(Refused {\n                why: Why::Memory,\n                row: Some(row),\n            })")),
+    "nodes_find_no_memory": (INDICES, gives_up("crates/node_store/src/lib.rt", "        let place = self.kept.vacant_key();\n", "Err(NoRoom { value })")),
 }
 
 PLANTS = {**{name: (GATES, changes) for name, changes in {**OF_GATES, **OF_SERVICES}.items()}, **OF_REFUSALS}
