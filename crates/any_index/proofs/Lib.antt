@@ -13,3 +13,4 @@ pub mod InOrder
 pub mod Staying
 pub mod InTrees
 pub mod Buckets
+pub mod Borrowed

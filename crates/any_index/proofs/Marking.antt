@@ -1,6 +1,6 @@
 -- The nodes of a key, and marks on them.
 use Rattle.std.proofs.Common.{◌≡◌, ◌≢◌, ℕ, suc, ◌+◌, ◌-◌, ◌<◌, ◌≤◌, Bool, true, false, cond, List, [], ◌∷◌, ◌++◌, length, Option, Some, None, refl, sym, ap, ◌∙◌, subst, arith, slice_get}
-use Rattle.std.specs.Prelude.{filter, IsTrue, IsPermutation, ◌&&◌, ◌||◌}
+use Rattle.std.specs.Prelude.{filter, not, IsTrue, IsPermutation, ◌&&◌, ◌||◌}
 use Rattle.std.specs.List.{AllByRecursion, list_any}
 use Rattle.std.proofs.lemmas.List.Sorted.{IsPermutation-refl, IsPermutation-sym, list_any-IsPermutation}
 use Rattle.std.specs.Option.{option_map_or}
@@ -11,7 +11,7 @@ use Rattle.std.proofs.lemmas.List.{append-nil, append_assoc, length-append}
 use Rattle.std.proofs.lemmas.List.Elements.{filter-append}
 use Rattle.container_model.specs.declared.handle.Kind.{Kind}
 use Rattle.container_model.specs.declared.handle.Kind.TheVariants as kinds
-use Rattle.container_model.specs.State.{is_sorted_kind}
+use Rattle.container_model.specs.State.{is_hashed_kind, is_sorted_kind}
 use Rattle.row_index.specs.Spelled.{spelled}
 use Rattle.key_extract.specs.declared.extract.Extract.{Ghosts}
 use Rattle.list_model.specs.Order.{EachPair, CutsInThreeRuns}
@@ -40,7 +40,7 @@ use Rattle.any_index.specs.Keyed.{marks_of}
 use Rattle.any_index.specs.Marks.{walk_of, matches_in, is_marked, is_match}
 use Rattle.any_index.specs.Side.{side_of}
 use Rattle.any_index.specs.Spelled.{IsSound, list_of, col_of, kind_of, index_of}
-use Rattle.any_index.specs.Stored.{has_walk_kind, side_in, CanFind}
+use Rattle.any_index.specs.Stored.{side_in, CanFind}
 use Rattle.any_index.proofs.ByAge.{Holds_moved, moved_by_age}
 use Rattle.any_index.proofs.Laws.{list_distinct, IsSound_kept, IsKeyed_restored}
 
@@ -188,7 +188,7 @@ module _ {E R P : Type 0} (X : Ghosts E R P) (i : AnyIndex) (s : Store R) (keys 
   match_listed n h = list_held (columns_in s) i n (passed_held (λ m. is_eq (side_in X i s keys probe m)) (walk_of (columns_in s) i) n h).0
 
 -- a tree can be walked
-pub sorted_walks : (kind : Kind) → IsTrue (is_sorted_kind kind) → IsTrue (has_walk_kind kind)
+pub sorted_walks : (kind : Kind) → IsTrue (is_sorted_kind kind) → IsTrue (not (is_hashed_kind kind))
 sorted_walks kinds.Sequenced h = refl
 sorted_walks kinds.Random h = refl
 sorted_walks kinds.Ordered h = refl

@@ -5,3 +5,4 @@ pub mod Side
 pub mod Keyed
 pub mod Stored
 pub mod Marks
+pub mod At

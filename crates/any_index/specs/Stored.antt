@@ -1,10 +1,10 @@
 -- An index in a store: what its calls ask for, read and keep.
-use Rattle.std.specs.Prelude.{◌≡◌, ◌≢◌, ◌≤◌, ℕ, Bool, not, length, List, Option, Some, IsTrue}
+use Rattle.std.specs.Prelude.{◌≡◌, ◌≢◌, ◌≤◌, ℕ, Bool, length, List, Option, Some, IsTrue}
 use Rattle.std.specs.Ordering.{is_le}
 use Rattle.std.specs.declared.cmp.Ordering.{Ordering}
 use Rattle.container_model.specs.declared.handle.Kind.{Kind}
 use Rattle.container_model.specs.declared.handle.Kind.TheVariants.{Random}
-use Rattle.container_model.specs.State.{has_key_kind, is_hashed_kind}
+use Rattle.container_model.specs.State.{has_key_kind}
 use Rattle.node_store.specs.declared.Node.{Node}
 use Rattle.node_store.specs.Column.{IsNode}
 use Rattle.node_store.specs.Nodes.{Lacks}
@@ -16,10 +16,6 @@ use Rattle.any_index.specs.Side.{side_of, order_at, AreNodesOf}
 use Rattle.any_index.specs.declared.index.AnyIndex.{AnyIndex}
 use Rattle.any_index.specs.Spelled.{IsSound, HasRoom, Holds, KeepsOthers, list_of, kind_of, col_of, index_of}
 use Rattle.any_index.specs.Keyed.{marks_of, HasItsKey, Accepts, IsKeyed, IsKeyedBut, IsKeyedExcept, HasOneOfEachKey}
-
--- its nodes can be walked in their order
-abbrev pub has_walk_kind : Kind → Bool
-has_walk_kind kind = not (is_hashed_kind kind)
 
 module _ {R : Type 0} where
   -- the nodes of the index, in its order
@@ -111,15 +107,3 @@ module _ {E R P : Type 0} (X : Ghosts E R P) where
     pub key : HasItsKey (X.has_key keys) i
     pub fits : Accepts (λ j. X.does_fit keys j probe) (λ j. X.is_whole keys j probe) i
     pub keyed : IsKeyed (X.order_of keys) (marks_of X keys) s i
-
-  -- the same where the probe may be a leading part of a key
-  pub record CanSearch (i : AnyIndex) (s : Store R) (keys : E) (probe : P) : Type 0 where
-    pub sound : IsIn i s
-    pub key : HasItsKey (X.has_key keys) i
-    pub fits : IsTrue (X.does_fit keys (index_of i) probe)
-    pub keyed : IsKeyed (X.order_of keys) (marks_of X keys) s i
-
-  -- and the index is of a kind that has the call
-  pub record CanSearchKind (has : Kind → Bool) (i : AnyIndex) (s : Store R) (keys : E) (probe : P) : Type 0 where
-    pub kind : IsTrue (has (kind_of i))
-    pub search : CanSearch i s keys probe

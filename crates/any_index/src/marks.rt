@@ -9,7 +9,8 @@ ghost use Rattle.any_index.specs.Marks.{HasMarks, is_marked, lowest_mark, is_mat
 ghost use Rattle.any_index.specs.Spelled.{KeepsOthers, Holds, kind_of, col_of, index_of};
 ghost use Rattle.any_index.specs.Stored.{nodes_of, side_in, IsRowBeside, CanFind};
 
-use crate::AnyIndex;
+use crate::at::IndexRef;
+use crate::index::AnyIndex;
 use key_extract::Extract;
 use node_store::{Node, NodeStore};
 use row_index::RowIndex;
@@ -93,7 +94,7 @@ fn first_match<R, E: Extract<R>>(
 {
     match by {
         AnyIndex::Hashed(buckets) => buckets.first_of(store, keys, probe),
-        _ => by.find(store, keys, probe),
+        _ => IndexRef::new(by, store, keys).find(probe),
     }
 }
 
@@ -134,7 +135,7 @@ fn next_in_order<R, E: Extract<R>>(
     ensures { result ≡ the_next (same_node n)
         (matches_in E.Extract by.now store.now keys.now probe.now) }
 {
-    match by.next(store, n) {
+    match IndexRef::new(by, store, keys).next(n) {
         Some(next) => {
             if keys.order_probe(index, store.get(next), probe) == Ordering::Equal {
                 Some(next)

@@ -7,7 +7,7 @@ ghost use Rattle.any_index.specs.Lists.{IsSunk};
 ghost use Rattle.any_index.specs.Marks.{HasMarks, is_marked};
 ghost use Rattle.any_index.specs.Spelled.{HasRoom, col_of};
 
-use crate::AnyIndex;
+use crate::index::AnyIndex;
 use node_store::{Node, NodeStore};
 
 impl AnyIndex {

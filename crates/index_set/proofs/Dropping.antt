@@ -3,26 +3,37 @@ use Rattle.key_extract.specs.Digests.{Marks}
 use Rattle.std.proofs.Common.{◌≡◌, ℕ, ◌+◌, ◌<◌, ◌≤◌, false, List, [], ◌∷◌, length, map, get_or, None, Option, refl, sym, ap, ◌∙◌, subst, arith, zero, suc, inl, inr, ⊎_elim}
 use Rattle.std.specs.Prelude.{IsTrue, remove, ◌⊎◌}
 use Rattle.std.specs.Ordering.{is_eq}
+use Rattle.std.specs.declared.alloc.Global.{Global}
 use Rattle.std.specs.declared.cmp.Ordering.{Ordering}
+use Rattle.std.specs.declared.vec.Vec.{Vec}
 use Rattle.std.proofs.lemmas.Bool.{cases_lt}
 use Rattle.std.proofs.lemmas.List.{length-map, get_or-map}
 use Rattle.std.proofs.lemmas.List.Edits.{length-remove, get_or-remove_below, get_or-remove_above}
 use Rattle.list_model.specs.Order.{EachPair}
-use Rattle.node_store.specs.ByNode.{columns_in}
+use Rattle.node_store.specs.ByNode.{columns_in, record_of}
 use Rattle.node_store.specs.declared.Node.{Node}
 use Rattle.node_store.specs.Store.{Store}
 use Rattle.container_model.specs.declared.handle.Kind.TheVariants.{Sequenced}
 use Rattle.container_model.specs.declared.handle.Spec.{Spec}
 use Rattle.container_model.specs.Indices.{KeepsRest}
-use Rattle.container_model.specs.State.{has_key_kind}
+use Rattle.container_model.specs.State.{KeysMatch, has_key_kind}
+use Rattle.key_extract.specs.declared.extract.Extract.{Ghosts}
 use Rattle.any_index.specs.declared.index.AnyIndex.{AnyIndex}
 use Rattle.any_index.specs.Keyed as any
+use Rattle.any_index.specs.Keyed.{marks_of}
 use Rattle.any_index.specs.Side.{order_at}
-use Rattle.any_index.specs.Spelled.{IsSound, HasRoom, list_of, kind_of, col_of, index_of}
-use Rattle.index_set.specs.Dropped.{AreSound, AreRenumbered}
-use Rattle.index_set.specs.Indices.{ArePlaced, AreWithin, HaveRoom, lists_in, AreKeyed}
+use Rattle.any_index.specs.Spelled as spelled
+use Rattle.any_index.specs.Spelled.{list_of, kind_of, col_of, index_of}
+use Rattle.index_set.specs.declared.parts.Parts.{Parts}
+use Rattle.index_set.specs.Asked.{IsKept}
+use Rattle.index_set.specs.Dropped.{CanDrop, AreSound, AreRenumbered}
+use Rattle.index_set.specs.Indices.{ArePlaced, AreWithin, lists_in, AreKeyed}
 use Rattle.index_set.specs.Lists.{AreUniqueFrom}
+use Rattle.index_set.specs.Set.{lists_of, specs_of, IsSound, IsUniqueExcept}
 use Rattle.index_set.proofs.Each.{same_lists}
+use Rattle.index_set.proofs.Holding.{held_changed, held_removed}
+use Rattle.index_set.proofs.MarksKept.{marks_rest}
+use Rattle.index_set.proofs.Members.{one_list_each}
 use Rattle.index_set.proofs.Placing.{keyed_number}
 use Rattle.index_set.proofs.Uniques.{OneOfEach, unique_at, unique_from}
 
@@ -66,7 +77,7 @@ pub sound_left : {R : Type 0} (s : Store R) (specs : List Spec) (is : List AnyIn
 sound_left s specs is gone lt p j d below =
     let there : gone < length is = omega (arith, lt, p.one_each) in
     let w = was gone j (length specs) (length (remove is gone)) (length-remove is gone there ∙ p.one_each) below in
-    subst (IsSound (columns_in s)) (sym (read is d gone j (length specs) w there)) (p.each w.number (record { kind = Sequenced; unique = false }) d w.below).sound
+    subst (spelled.IsSound (columns_in s)) (sym (read is d gone j (length specs) w there)) (p.each w.number (record { kind = Sequenced; unique = false }) d w.below).sound
 
 module _ {R : Type 0} (s : Store R) (specs : List Spec) (is fin : List AnyIndex) (gone : ℕ) (lt : gone < length specs) (p : ArePlaced (columns_in s) specs is)
     (count : length fin ≡ length (remove is gone)) (each : AreRenumbered s (remove is gone) fin) where
@@ -116,9 +127,6 @@ module _ {R : Type 0} (s : Store R) (specs : List Spec) (is fin : List AnyIndex)
   pub dropped_within : (columns : ℕ) → AreWithin columns specs is → AreWithin columns (remove specs gone) fin
   dropped_within columns h = record { each = λ j d e below. subst (λ c. c < columns) (sym (col_was j e below)) (h.each (before j below).number d e (before j below).below) }
 
-  pub dropped_room : HaveRoom specs is → HaveRoom (remove specs gone) fin
-  dropped_room h = record { each = λ j d e below. (each j e (here j below)).room (subst HasRoom (sym (index_was j e below)) (h.each (before j below).number d e (before j below).below)) }
-
   pub dropped_lists : AnyIndex → lists_in (columns_in s) fin ≡ remove (lists_in (columns_in s) is) gone
   dropped_lists i =
       same_lists (lists_in (columns_in s) fin) (lists_in (columns_in s) (remove is gone)) (length-map fin (list_of (columns_in s)) ∙ count ∙ sym (length-map (remove is gone) (list_of (columns_in s))))
@@ -156,3 +164,65 @@ module _ {R : Type 0} (s : Store R) (specs : List Spec) (is fin : List AnyIndex)
         subst (OneOfEach after records None j) (sym (read lists [] gone j (length specs) w (omega (arith, lt, same))))
         (subst (λ (f : R → R → Ordering). EachPair (λ a b. is_eq (order_at records f a b) ≡ false) (get_or lists w.number [])) (sym (same_key order after specs gone j d w orders (keyed w.number d w.below one_key)))
         (unique_at order records None specs lists same h w.number d w.below one_key)))
+
+-- a set loses an index, and goes by keys for the others
+module _ {R E P : Type 0} (X : Ghosts E R P) {s now : Parts R E} (kept : IsKept X s) (view : s ≡ now) (gone : ℕ) (given : E) (asked : CanDrop X now gone given) (rest : List AnyIndex) (dropped : rest ≡ remove s.indices.items gone) where
+  can : CanDrop X s gone given
+  can = subst (λ (p : Parts R E). CanDrop X p gone given) (sym view) asked
+
+  pub rest_sound : AreSound s.store rest
+  rest_sound = subst (AreSound s.store) (sym dropped) (sound_left s.store (specs_of s) s.indices.items gone can.index kept.filed.sound.placed)
+
+  module _ (specs : Vec Spec Global) (removed : specs.items ≡ remove (specs_of s) gone) (indices : Vec AnyIndex Global) (count : length indices.items ≡ length rest) (each : AreRenumbered s.store rest indices.items) (some : AnyIndex) where
+    abbrev shrunk : Parts R E
+    shrunk = record s { keys = given; specs = specs; indices = indices }
+
+    same_count : length indices.items ≡ length (remove s.indices.items gone)
+    same_count = count ∙ ap length dropped
+
+    renumbered : AreRenumbered s.store (remove s.indices.items gone) indices.items
+    renumbered = subst (λ is. AreRenumbered s.store is indices.items) dropped each
+
+    its_lists : lists_of shrunk ≡ remove (lists_of s) gone
+    its_lists = dropped_lists s.store (specs_of s) s.indices.items indices.items gone can.index kept.filed.sound.placed same_count renumbered some
+
+    shrunk_sound : IsSound X.has_key shrunk
+    shrunk_sound =
+        let old = kept.filed.sound in
+        let all = left s.store (specs_of s) s.indices.items indices.items gone can.index old.placed same_count renumbered in
+        let fewer = ap length removed in
+        record {
+          some = omega (arith, all, fewer, can.several);
+          few = omega (arith, all, fewer, old.few);
+          keys = subst (λ ds. KeysMatch (X.has_key given) ds) (sym removed) can.keys;
+          placed = subst (λ ds. ArePlaced (columns_in s.store) ds indices.items) (sym removed) (dropped_placed s.store (specs_of s) s.indices.items indices.items gone can.index old.placed same_count renumbered);
+          nodes = old.nodes;
+          columns = omega (arith, all, fewer, old.columns);
+          most = old.most;
+          within = subst (λ ds. AreWithin s.columns ds indices.items) (sym removed) (dropped_within s.store (specs_of s) s.indices.items indices.items gone can.index old.placed same_count renumbered s.columns old.within);
+          wide = old.wide;
+        }
+
+    shrunk_unique : IsUniqueExcept X.order_of shrunk None
+    shrunk_unique =
+        let old = kept.filed.sound in
+        subst (λ ds. AreUniqueFrom (X.order_of given) (record_of s.store) None 0 ds (lists_of shrunk)) (sym removed)
+        (subst (λ ls. AreUniqueFrom (X.order_of given) (record_of s.store) None 0 (remove (specs_of s) gone) ls) (sym its_lists)
+        (dropped_unique s.store (specs_of s) s.indices.items indices.items gone can.index old.placed same_count renumbered (X.order_of s.keys) (X.order_of given) can.orders (record_of s.store) (lists_of s) (one_list_each s old) old.keys.unique kept.filed.unique))
+
+    pub shrunk_lists : lists_of shrunk ≡ remove (lists_of now) gone
+    shrunk_lists = its_lists ∙ ap (λ (p : Parts R E). remove (lists_of p) gone) view
+
+    pub shrunk_kept : ((keys other : E) (index at : ℕ) → X.order_of other at ≡ X.order_of keys index → X.digest_of other at ≡ X.digest_of keys index) → IsKept X shrunk
+    shrunk_kept one_digest =
+        let marks = marks_of X in
+        record {
+          filed = record {
+            sound = shrunk_sound;
+            keyed = subst (λ ds. AreKeyed (X.order_of given) (marks given) s.store ds indices.items) (sym removed)
+                (dropped_keyed s.store (specs_of s) s.indices.items indices.items gone can.index kept.filed.sound.placed same_count renumbered (X.order_of s.keys) (X.order_of given) can.orders (marks s.keys) (marks given)
+                (marks_rest X.order_of X.hash_of X.digest_of one_digest s.keys given (specs_of s) gone can.orders can.hashes) kept.filed.keyed);
+            unique = shrunk_unique;
+          };
+          held = held_changed s shrunk kept.held (remove (lists_of s) gone) its_lists refl (λ m is h. held_removed m (lists_of s) gone h);
+        }

@@ -16,6 +16,7 @@ use Rattle.any_index.specs.declared.index.AnyIndex.{AnyIndex}
 use Rattle.any_index.specs.declared.index.AnyIndex.TheVariants.{Sequenced, Random, Ordered, Ranked, Hashed}
 use Rattle.any_index.specs.Spelled.{IsSound, list_of, kind_of, col_of, index_of}
 use Rattle.any_index.specs.Keyed.{HasItsKey, AreKeyed}
+use Rattle.any_index.specs.Stored.{KeepsRest}
 use Rattle.any_index.proofs.Laws.{IsSound_kept, list_of_kept, AreKeyed_kept}
 use Rattle.index_set.specs.Each.{EachOf}
 use Rattle.index_set.specs.Indices.{IsPlaced, ArePlaced, AreApart, AreWithin}
@@ -30,8 +31,8 @@ pub record Steps {R : Type 0} (s t : Store R) (old new : AnyIndex) : Type 0 wher
   pub others : KeepsOthers (column_of s) (column_of t) (col_of old)
   pub contents : contents t ≡ contents s
 
-pub steps_of : {R : Type 0} {s t : Store R} {old new : AnyIndex} → IsSound (columns_in t) new → kind_of new ≡ kind_of old → col_of new ≡ col_of old → index_of new ≡ index_of old → KeepsOthers (column_of s) (column_of t) (col_of old) → contents t ≡ contents s → Steps s t old new
-steps_of sound kind col number others same = record { sound = sound; kind = kind; col = col; number = number; others = others; contents = same }
+pub steps_of : {R : Type 0} {s t : Store R} {old new : AnyIndex} → IsSound (columns_in t) new → KeepsRest old new s t → Steps s t old new
+steps_of sound rest = record { sound = sound; kind = rest.kind; col = rest.col; number = rest.index; others = rest.others; contents = rest.contents }
 
 -- the one at this number, which was placed, stays so
 pub placed_here : {R : Type 0} (s t : Store R) (k : ℕ) (spec : Spec) (old new : AnyIndex) → IsPlaced (columns_in s) k spec old → Steps s t old new → IsPlaced (columns_in t) k spec new

@@ -1,28 +1,49 @@
 -- An index is made beside those of a set, and joins them.
 use Rattle.key_extract.specs.Digests.{Marks}
+use Rattle.key_extract.specs.declared.extract.Extract.{Ghosts}
 use Rattle.std.proofs.Common.{◌≡◌, ◌≢◌, ℕ, ◌+◌, ◌<◌, ◌≤◌, ◌==◌, Bool, true, false, List, [], ◌∷◌, ◌++◌, length, get_or, None, Option, refl, sym, ap, ◌∙◌, subst, arith, ⊎_elim}
 use Rattle.std.specs.Prelude.{IsTrue}
 use Rattle.std.specs.List.{list_any}
+use Rattle.std.specs.Ordering.{is_eq}
+use Rattle.std.specs.declared.alloc.Global.{Global}
 use Rattle.std.specs.declared.cmp.Ordering.{Ordering}
+use Rattle.std.specs.declared.vec.Vec.{Vec}
 use Rattle.std.proofs.lemmas.Bool.{cases_lt}
 use Rattle.std.proofs.lemmas.Bool.Decides.{nat_tests}
-use Rattle.std.proofs.lemmas.List.{length_push, get_or_append_left, get_or_push}
+use Rattle.std.proofs.lemmas.List.{length_push, get_or_append_left, get_or_push, map_push}
 use Rattle.std.proofs.lemmas.List.Folds.{list_any_at}
+use Rattle.list_model.specs.Order.{EachPair}
 use Rattle.node_store.specs.declared.Node.{Node}
 use Rattle.node_store.specs.Column.{KeepsOthers}
-use Rattle.node_store.specs.Store.{Store}
-use Rattle.node_store.specs.ByNode.{column_of, contents, columns_in, Columns}
+use Rattle.node_store.specs.Store.{Store, age_of}
+use Rattle.node_store.specs.ByNode.{column_of, record_of, contents, columns_in, Columns}
+use Rattle.node_store.proofs.ByNode.{records_kept}
 use Rattle.container_model.specs.declared.handle.Spec.{Spec}
+use Rattle.container_model.specs.Indices.{KeepsEach}
 use Rattle.container_model.specs.State.{KeysMatch, has_key_kind}
 use Rattle.any_index.specs.declared.index.AnyIndex.{AnyIndex}
 use Rattle.any_index.specs.Keyed as any
-use Rattle.any_index.specs.Spelled.{col_of}
+use Rattle.any_index.specs.Keyed.{marks_of}
+use Rattle.any_index.specs.Side.{order_at}
+use Rattle.any_index.specs.Spelled.{col_of, list_of}
+use Rattle.any_index.proofs.ByAge.{Holds_moved}
+use Rattle.index_set.specs.declared.parts.Parts.{Parts}
+use Rattle.index_set.specs.Added.{CanAdd, HasColumn, HasEachKeyOnce, IsNext, new_list, new_order}
+use Rattle.index_set.specs.Asked.{IsKept}
 use Rattle.index_set.specs.Indices.{IsPlaced, ArePlaced, AreWithin, lists_in, AreKeyed}
 use Rattle.index_set.specs.Lists.{AreUniqueFrom}
+use Rattle.index_set.specs.Set.{lists_of, specs_of, IsKeyed, IsOfSame, IsSound, IsUniqueExcept}
+use Rattle.index_set.specs.Set as set
+use Rattle.index_set.proofs.Building.{members_all}
 use Rattle.index_set.proofs.Coming.{lists_kept}
 use Rattle.index_set.proofs.Each.{each_push}
 use Rattle.index_set.proofs.Frame.{placed_kept, list_kept, keyed_kept}
-use Rattle.index_set.proofs.Uniques.{OneOfEach, unique_from}
+use Rattle.index_set.proofs.Holding.{held_changed, held_push}
+use Rattle.index_set.proofs.Keys.{unique_kept}
+use Rattle.index_set.proofs.MarksKept.{marks_each}
+use Rattle.index_set.proofs.Members.{one_list_each}
+use Rattle.index_set.proofs.Rekeyed.{rekeyed}
+use Rattle.index_set.proofs.Uniques.{OneOfEach, unique_at, unique_from}
 
 -- the index that a column is free of has another
 pub unused : (is : List AnyIndex) (column : ℕ) → list_any (λ i. col_of i == column) is ≡ false → (j : ℕ) (d : AnyIndex) → j < length is → col_of (get_or is j d) ≢ column
@@ -119,3 +140,71 @@ module _ {R : Type 0} (order : ℕ → R → R → Ordering) (records : Node →
       subst (OneOfEach order records None k) (sym (get_or_push lists list [] k (one ∙ last)))
       (subst (λ j. OneOfEach order records None j list) last (new (subst (λ (z : Spec). IsTrue z.unique) (get_or_push specs spec d k last) unique))))
       (cases_lt k (length specs)))
+
+-- a set goes by keys for one index more, which joins it
+module _ {R E P : Type 0} (X : Ghosts E R P) {s now : Parts R E} (kept : IsKept X s) (view : s ≡ now) (spec : Spec) (given : E) (ns : List Node) (asked : CanAdd X now spec given ns)
+    (m : Parts R E) (sound : IsSound X.has_key m) (same : IsOfSame s m) (lists : lists_of m ≡ lists_of s) (keyed : IsKeyed X.order_of (marks_of X) m) (stays : set.contents m ≡ set.contents s) (fits : HasColumn s)
+    (made : AnyIndex) (next : IsNext X s spec given ns m made) (specs : Vec Spec Global) (pushed : specs.items ≡ specs_of m ++ spec ∷ []) (indices : Vec AnyIndex Global) (joined : indices.items ≡ m.indices.items ++ made ∷ []) where
+  abbrev grown : Parts R E
+  grown = record m { keys = given; specs = specs; indices = indices }
+
+  can : CanAdd X s spec given ns
+  can = subst (λ (p : Parts R E). CanAdd X p spec given ns) (sym view) asked
+
+  orders : KeepsEach (X.order_of m.keys) (X.order_of given) (specs_of m)
+  orders = subst (λ ds. KeepsEach (X.order_of m.keys) (X.order_of given) ds) (sym same.specs) (subst (λ keys. KeepsEach (X.order_of keys) (X.order_of given) (specs_of s)) (sym same.keys) can.orders)
+
+  grown_sound : IsSound X.has_key grown
+  grown_sound =
+      let one = sound.placed.one_each in
+      let count = ap length pushed ∙ length_push (specs_of m) spec in
+      let before = ap length same.specs in
+      record {
+        some = omega (arith, count);
+        few = omega (arith, count, before, fits, same.columns, sound.most);
+        keys = subst (λ ds. KeysMatch (X.has_key given) ds) (sym (pushed ∙ ap (λ ds. ds ++ spec ∷ []) same.specs)) can.keys;
+        placed = subst (λ ds. ArePlaced (columns_in m.store) ds indices.items) (sym pushed)
+            (subst (λ is. ArePlaced (columns_in m.store) (specs_of m ++ spec ∷ []) is) (sym joined) (placed_next (specs_of m) m.indices.items spec made one (columns_in m.store) sound.placed next.placed next.apart));
+        nodes = sound.nodes;
+        columns = omega (arith, count, before, fits, same.columns);
+        most = sound.most;
+        within = subst (λ ds. AreWithin m.columns ds indices.items) (sym pushed)
+            (subst (λ is. AreWithin m.columns (specs_of m ++ spec ∷ []) is) (sym joined) (within_next (specs_of m) m.indices.items spec made one m.columns next.within sound.within));
+        wide = sound.wide;
+      }
+
+  grown_unique : IsUniqueExcept X.order_of grown None
+  grown_unique =
+      let records = record_of m.store in
+      let list = list_of (columns_in m.store) made in
+      let one = one_list_each m sound in
+      let was = unique_kept X.order_of s m None same lists stays kept.filed.unique in
+      subst (λ ds. AreUniqueFrom (X.order_of given) records None 0 ds (lists_of grown)) (sym pushed)
+      (subst (λ ls. AreUniqueFrom (X.order_of given) records None 0 (specs_of m ++ spec ∷ []) ls) (sym (ap (lists_in (columns_in m.store)) joined ∙ map_push (list_of (columns_in m.store)) m.indices.items made))
+      (unique_next (X.order_of given) records (specs_of m) (lists_of m) spec list one
+      (λ k d lt unique.
+      subst (λ (f : R → R → Ordering). EachPair (λ a b. is_eq (order_at records f a b) ≡ false) (get_or (lists_of m) k [])) (sym (orders k d lt (sound.keys.unique k d lt unique)))
+      (unique_at (X.order_of m.keys) records None (specs_of m) (lists_of m) one was k d lt unique))
+      (λ unique. subst (λ (h : Node → Node → Ordering). HasEachKeyOnce h list) (λ i. order_at (sym (records_kept s.store m.store stays) i) (X.order_of given (length (sym same.specs i)))) (next.unique unique))))
+
+  grown_lists : lists_of grown ≡ lists_of s ++ new_list X s spec given ns ∷ []
+  grown_lists = ap (lists_in (columns_in m.store)) joined ∙ map_push (list_of (columns_in m.store)) m.indices.items made ∙ (λ i. lists i ++ next.list i ∷ [])
+
+  pub grown_kept : ((keys other : E) (index at : ℕ) → X.order_of other at ≡ X.order_of keys index → X.digest_of other at ≡ X.digest_of keys index) → IsKept X grown
+  grown_kept one_digest =
+      let marks = marks_of X in
+      let each = marks_each X.order_of X.hash_of X.digest_of one_digest s.keys given (specs_of s) can.orders can.hashes in
+      let marked = subst (λ ds. KeepsEach (marks m.keys) (marks given) ds) (sym same.specs) (subst (λ keys. KeepsEach (marks keys) (marks given) (specs_of s)) (sym same.keys) each) in
+      let list = new_list X s spec given ns in
+      record {
+        filed = record {
+          sound = grown_sound;
+          keyed = subst (λ ds. AreKeyed (X.order_of given) (marks given) m.store ds indices.items) (sym pushed)
+              (subst (λ is. AreKeyed (X.order_of given) (marks given) m.store (specs_of m ++ spec ∷ []) is) (sym joined)
+              (keyed_next (specs_of m) m.indices.items spec made sound.placed.one_each (X.order_of given) (marks given) m.store next.keyed
+              (rekeyed (X.order_of m.keys) (X.order_of given) (marks m.keys) (marks given) m.store (specs_of m) m.indices.items sound.placed orders marked keyed)));
+          unique = grown_unique;
+        };
+        held = held_changed s grown kept.held (lists_of s ++ list ∷ []) grown_lists stays
+            (λ n is h. held_push n (lists_of s) list (Holds_moved ns list n (members_all (age_of s.store) (new_order X s spec given ns) spec.kind ns) (can.all n is)) h);
+      }

@@ -34,7 +34,7 @@ pub mod Others
 pub mod Undone
 pub mod Held
 pub mod Changing
-mod AtIndex
+pub mod AtIndex
 mod KnownPlaces
 mod Putting
 mod Reordered

@@ -7,7 +7,6 @@ use Rattle.std.specs.Option.{option_map_or}
 use Rattle.std.specs.declared.cmp.Ordering.{Ordering}
 use Rattle.list_model.proofs.Lists.{slice_get_at}
 use Rattle.node_store.specs.declared.Node.{Node}
-use Rattle.node_store.specs.Nodes.{Holds}
 use Rattle.node_store.specs.ByNode.{record_of, columns_in}
 use Rattle.container_model.specs.declared.handle.Spec.{Spec}
 use Rattle.container_model.specs.declared.handle.Kind.{Kind}
@@ -17,7 +16,7 @@ use Rattle.any_index.specs.declared.index.AnyIndex.{AnyIndex}
 use Rattle.any_index.specs.Spelled as any
 use Rattle.any_index.specs.Side.{side_of}
 use Rattle.any_index.specs.Keyed as keyed
-use Rattle.any_index.specs.Stored.{CanFind, CanSearchKind, IsOfKind, HasNodeOfKind}
+use Rattle.any_index.specs.Stored.{CanFind}
 use Rattle.key_extract.specs.declared.extract.Extract.{Ghosts}
 use Rattle.index_set.specs.declared.parts.Parts.{Parts}
 use Rattle.index_set.specs.Set.{IsSound, IsKeyed, list_of, kind_at, probe_side}
@@ -70,14 +69,6 @@ module _ {R E : Type 0} {has_key : E → ℕ → Bool} (s : Parts R E) (sound : 
   pub is_kind : (p : _ → Bool) → IsTrue (p (kind_at s k)) → IsTrue (p (any.kind_of i))
   is_kind p h = subst (λ z. IsTrue (p z)) (sym kind_here) h
 
-  -- it is of a kind that has a call
-  pub of_kind : (has : Kind → Bool) → IsTrue (has (kind_at s k)) → IsOfKind has i s.store
-  of_kind has kind = record { kind = is_kind has kind; sound = sound_here }
-
-  -- and the node is one of its
-  pub node_of_kind : (has : Kind → Bool) → IsTrue (has (kind_at s k)) → (n : Node) → Holds (list_of s k) n → HasNodeOfKind has i s.store n
-  node_of_kind has kind n held = record { kind = is_kind has kind; node = record { sound = sound_here; held = subst (λ z. Holds z n) (sym list_here) held } }
-
   pub its_key : keyed.HasItsKey (has_key s.keys) i
   its_key = subst (λ (z : AnyIndex). keyed.HasItsKey (has_key s.keys) z) (sym e) (key_here (has_key s.keys) (columns_in s.store) s.specs.items s.indices.items k some_spec i lt sound.keys sound.placed)
 
@@ -93,19 +84,11 @@ module _ {R E : Type 0} {has_key : E → ℕ → Bool} (s : Parts R E) (sound : 
       (λ h. fits_here key does_fit (fits (subst (λ z. IsTrue (is_sorted_kind z)) kind_here h)))
       (λ h. fits_here key is_whole (whole (subst (λ z. IsTrue (is_hashed_kind z)) kind_here h)))
 
-  -- what the index answers, in the words of the set
-  pub read_here : {A : Type 0} (f : List Node → A) (answer : A) → answer ≡ f (any.list_of (columns_in s.store) i) → answer ≡ f (list_of s k)
-  read_here f answer h = h ∙ ap f list_here
-
+  -- what the index answers of how its nodes stand to a key, in the words of the set
   pub sought_here : {A P : Type 0} → IsTrue (has_key_kind (kind_at s k)) → (f : (Node → Ordering) → List Node → A) (order : E → ℕ → R → P → Ordering) (probe : P) (answer : A) →
       answer ≡ f (side_of (record_of s.store) (λ a. order s.keys (any.index_of i) a probe)) (any.list_of (columns_in s.store) i) → answer ≡ f (probe_side order s k probe) (list_of s k)
   sought_here has f order probe answer h =
       h ∙ (λ z. f (side_of (record_of s.store) (λ a. order s.keys (number_here has z) a probe)) (list_here z))
-
-  -- the same of what the index says of its answer
-  pub told_here : {P : Type 0} → IsTrue (has_key_kind (kind_at s k)) → (says : (Node → Ordering) → List Node → Type 0) (order : E → ℕ → R → P → Ordering) (probe : P) →
-      says (side_of (record_of s.store) (λ a. order s.keys (any.index_of i) a probe)) (any.list_of (columns_in s.store) i) → says (probe_side order s k probe) (list_of s k)
-  told_here has says order probe h = subst (λ z. says (probe_side order s k probe) z) list_here (subst (λ z. says (side_of (record_of s.store) (λ a. order s.keys z a probe)) (any.list_of (columns_in s.store) i)) (number_here has) h)
 
 module _ {R E P : Type 0} (X : Ghosts E R P) (s : Parts R E) (sound : IsSound X.has_key s) (k : ℕ) (lt : k < length s.specs.items) (i : AnyIndex) (e : i ≡ get_or s.indices.items k i) where
   -- so nodes can be looked for there by a probe of the index's key
@@ -115,15 +98,4 @@ module _ {R E P : Type 0} (X : Ghosts E R P) (s : Parts R E) (sound : IsSound X.
     key = its_key s sound k lt i e;
     fits = accepts_here s sound k lt i e (λ j. X.does_fit s.keys j probe) (λ j. X.is_whole s.keys j probe) kind fits whole;
     keyed = keyed_here s sound k lt i e X.order_of (marks_of X) keyed;
-  }
-
-  pub can_search : (has : Kind → Bool) → IsTrue (has (kind_at s k)) → (probe : P) → IsTrue (has_key_kind (kind_at s k)) → IsTrue (X.does_fit s.keys k probe) → IsKeyed X.order_of (marks_of X) s → CanSearchKind X has i s.store s.keys probe
-  can_search has kind probe key fits keyed = record {
-    kind = is_kind s sound k lt i e has kind;
-    search = record {
-      sound = sound_here s sound k lt i e;
-      key = its_key s sound k lt i e;
-      fits = fits_here s sound k lt i e key (λ j. X.does_fit s.keys j probe) fits;
-      keyed = keyed_here s sound k lt i e X.order_of (marks_of X) keyed;
-    };
   }

@@ -84,10 +84,6 @@ module _ {R E : Type 0} {has_key : E → ℕ → Bool} (order : E → ℕ → R 
         from_lists order s t (record_of t.store) (lists_of s) None same refl listed
         (unique_loose (order s.keys) s.specs.items (lists_of s) (one_list_each s sound) (record_of s.store) (record_of t.store) n removes.records.others lacks (to_lists s None sound h))
 
-    -- neither records nor lists changed
-    pub unique_kept : lists_of t ≡ lists_of s → contents t.store ≡ contents s.store → IsUniqueExcept order s None → IsUniqueExcept order t None
-    unique_kept listed kept h = from_lists order s t (record_of s.store) (lists_of s) None same (records_kept s.store t.store kept) listed (to_lists s None sound h)
-
     -- a node left all indices, whatever became of its record
     pub unique_after_leave : (n : Node) → lists_of t ≡ map (without (same_node n)) (lists_of s) → contents t.store ≡ contents s.store → IsUniqueExcept order s (Some n) → IsUniqueExcept order t None
     unique_after_leave n listed kept h =

@@ -2,33 +2,10 @@
 use Rattle.any_index.specs.Keyed.{marks_of}
 use Rattle.std.specs.Prelude.{ℕ, ◌<◌, length, Some, None, IsTrue}
 use Rattle.node_store.specs.declared.Node.{Node}
-use Rattle.container_model.specs.State.{has_key_kind, is_hashed_kind, is_sequence_kind, is_sorted_kind}
+use Rattle.container_model.specs.State.{is_sequence_kind}
 use Rattle.key_extract.specs.declared.extract.Extract.{Ghosts}
 use Rattle.index_set.specs.declared.parts.Parts.{Parts}
-use Rattle.index_set.specs.Set.{keys_of, specs_of, kind_at, IsSound, IsKeyed, IsKeyedBut, IsUniqueExcept, AreHeld}
-
-module _ {R E P : Type 0} (X : Ghosts E R P) where
-  -- there is an index of this number
-  pub record HasIndex (s : Parts R E) (k : ℕ) : Type 0 where
-    pub sound : IsSound X.has_key s
-    pub index : k < length (specs_of s)
-
-  -- nodes can be looked for by the probe: it is a key of the index, a whole one where the index is hashed, and the
-  -- nodes are where their keys put them
-  pub record CanFind (s : Parts R E) (k : ℕ) (probe : P) : Type 0 where
-    pub sound : IsSound X.has_key s
-    pub index : k < length (specs_of s)
-    pub kind : IsTrue (has_key_kind (kind_at s k))
-    pub fits : IsTrue (is_sorted_kind (kind_at s k)) → IsTrue (X.does_fit (keys_of s) k probe)
-    pub whole : IsTrue (is_hashed_kind (kind_at s k)) → IsTrue (X.is_whole (keys_of s) k probe)
-    pub keyed : IsKeyed X.order_of (marks_of X) s
-
-  -- the same where the probe may be a leading part of a key
-  pub record CanSearch (s : Parts R E) (k : ℕ) (probe : P) : Type 0 where
-    pub sound : IsSound X.has_key s
-    pub index : k < length (specs_of s)
-    pub fits : IsTrue (X.does_fit (keys_of s) k probe)
-    pub keyed : IsKeyed X.order_of (marks_of X) s
+use Rattle.index_set.specs.Set.{specs_of, kind_at, IsSound, IsKeyed, IsKeyedBut, IsUniqueExcept, AreHeld}
 
 module _ {R E P : Type 0} (X : Ghosts E R P) where
   -- each index has its nodes where their keys put them, and a unique one has each key once

@@ -1,12 +1,12 @@
 -- How the logic stores the parts of a set.
-use Rattle.std.specs.Prelude.{ℕ, refl}
+use Rattle.std.specs.Prelude.{refl}
 use Rattle.std.specs.Coded.{Coded, code_by, coded×, coded_ℕ}
 use Rattle.std.specs.contracts.alloc.Global as heap
 use Rattle.std.specs.contracts.impls.GlobalAllocator.TheImpl.{ghosts}
 use Rattle.std.specs.contracts.vec.Vec as vec
 use Rattle.container_model.specs.contracts.handle.Spec as spec
 use Rattle.any_index.specs.contracts.index.AnyIndex as any
-use Rattle.node_store.specs.Store.{Store, store_code}
+use Rattle.node_store.specs.Store.{store_code}
 use Rattle.index_set.specs.declared.parts.Parts.{Parts}
 
 abbrev pub parts_code : {R E : Type 0} → Coded R → Coded E → Coded (Parts R E)

@@ -4,7 +4,6 @@ pub mod Lists
 pub mod Places
 pub mod Changed
 pub mod Set
-pub mod Lends
 pub mod Asked
 pub mod Added
 pub mod Refilled

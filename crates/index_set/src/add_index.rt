@@ -2,11 +2,12 @@
 ghost use Rattle.any_index.specs.Keyed.{marks_of};
 ghost use Rattle.std.specs.Prelude.{◌≡◌, ◌<◌, ◌++◌, ◌∷◌, [], None, IfOk, IfErr, OnOk, OnErr, vec_len, vec_capacity};
 ghost use Rattle.index_set.specs.Added.{CanAdd, HasColumn, IsNext, IsCause, clash, new_order, new_list};
-ghost use Rattle.index_set.specs.Asked.{IsFiled};
-ghost use Rattle.index_set.specs.Set.{store_of, keys_of, specs_of, columns_of, contents, lists_of, HasRoom, IsSound, IsKeyed, IsUniqueExcept, IsOfSame};
+ghost use Rattle.index_set.specs.Asked.{IsFiled, IsKept};
+ghost use Rattle.index_set.specs.Set.{store_of, keys_of, specs_of, columns_of, contents, lists_of, IsAlike, IsKeyed, IsOfSame, IsSound};
 
 use crate::build::{NoIndex, build, free_column};
 use crate::parts::Parts;
+use crate::set::IndexSet;
 use any_index::AnyIndex;
 use container_model::Spec;
 use key_extract::Extract;
@@ -82,23 +83,15 @@ impl<R, E: Extract<R>> Parts<R, E> {
     }
 }
 
-impl<R, E: Extract<R> + Drop> Parts<R, E> {
-    /// Adds an index, the last, with these nodes, put in one after the other: so they stand in their order in a sequence,
-    /// and so do equal ones in the order of a key. From now on the set goes by the given keys, which order and hash
+impl<R, E: Extract<R> + Drop> IndexSet<R, E> {
+    /// Adds an index, the last, with the nodes in this order, put in one after the other: so they stand in their order in a
+    /// sequence, and so do equal ones in the order of a key. From now on the set goes by the given keys, which order and hash
     /// records as its own did at each index that is there. The index goes through the least column that none uses;
     /// where there is none, where it is unique and two of the nodes have one key, or where memory is refused, the keys are
     /// handed back and all is as before. O(n log n) in a tree, O(n) in a sequence and expected O(n) in buckets, for n nodes.
-    pub(crate) fn add_index(
-        &mut self,
-        spec: Spec,
-        keys: E,
-        nodes: &[Node],
-    ) -> Result<(), NotAdded<E>>
-        requires filed { IsFiled E.Extract self.old }
-        requires can { CanAdd E.Extract self.old spec keys nodes.now }
-        ensures sound { IsSound E.has_key self.new }
-        ensures keyed { IsKeyed E.order_of (marks_of E.Extract) self.new }
-        ensures unique { IsUniqueExcept E.order_of self.new None }
+    pub fn add_index(&mut self, spec: Spec, keys: E, nodes: &[Node]) -> Result<(), NotAdded<E>>
+        requires { CanAdd E.Extract self.old spec keys nodes.now }
+        ensures kept { IsKept E.Extract self.new }
         ensures contents { contents self.new ≡ contents self.old }
         ensures columns { columns_of self.new ≡ columns_of self.old }
         ensures fits { OnOk result (HasColumn self.old) }
@@ -111,15 +104,13 @@ impl<R, E: Extract<R> + Drop> Parts<R, E> {
         ensures cause { IfErr result (λ e. IsCause (HasColumn self.old)
             (clash (new_order E.Extract self.old spec keys nodes.now) spec.unique nodes.now) e.why) }
         ensures returned { IfErr result (λ e. e.keys ≡ keys) }
-        ensures same { OnErr result (IsOfSame self.old self.new) }
-        ensures same_lists { OnErr result (lists_of self.new ≡ lists_of self.old) }
-        ensures room { OnErr result (HasRoom self.old → HasRoom self.new) }
+        ensures unchanged { OnErr result (IsAlike self.old self.new) }
     {
-        match self.made_index(spec, &keys, nodes) {
+        match self.parts.made_index(spec, &keys, nodes) {
             Ok(made) => {
-                self.keys = keys;
-                self.specs.push_reserved(spec);
-                self.indices.push_reserved(made);
+                self.parts.keys = keys;
+                self.parts.specs.push_reserved(spec);
+                self.parts.indices.push_reserved(made);
                 Ok(())
             }
             Err(why) => Err(NotAdded { why, keys }),
@@ -128,27 +119,17 @@ impl<R, E: Extract<R> + Drop> Parts<R, E> {
 
     /// Why such an index may not be added, as `add_index` tells it; nothing changes. It takes the memory and the time that
     /// adding it takes.
-    pub(crate) fn check_index(
-        &mut self,
-        spec: Spec,
-        keys: &E,
-        nodes: &[Node],
-    ) -> Result<(), NoIndex>
-        requires filed { IsFiled E.Extract self.old }
-        requires can { CanAdd E.Extract self.old spec keys.now nodes.now }
-        ensures sound { IsSound E.has_key self.new }
-        ensures keyed { IsKeyed E.order_of (marks_of E.Extract) self.new }
-        ensures unique { IsUniqueExcept E.order_of self.new None }
-        ensures contents { contents self.new ≡ contents self.old }
-        ensures same { IsOfSame self.old self.new }
-        ensures same_lists { lists_of self.new ≡ lists_of self.old }
+    pub fn check_index(&mut self, spec: Spec, keys: &E, nodes: &[Node]) -> Result<(), NoIndex>
+        requires { CanAdd E.Extract self.old spec keys.now nodes.now }
+        ensures kept { IsKept E.Extract self.new }
+        ensures unchanged { IsAlike self.old self.new }
         ensures fits { OnOk result (HasColumn self.old) }
         ensures no_clash { OnOk result (clash (new_order E.Extract self.old spec keys.now nodes.now)
             spec.unique nodes.now ≡ None) }
         ensures cause { IfErr result (IsCause (HasColumn self.old)
             (clash (new_order E.Extract self.old spec keys.now nodes.now) spec.unique nodes.now)) }
     {
-        self.made_index(spec, keys, nodes)?;
+        self.parts.made_index(spec, keys, nodes)?;
         Ok(())
     }
 }

@@ -43,7 +43,7 @@ fn changed_rows<R, E: Extract<R>>(
 {
     match before {
         Some(old) => {
-            let row = &parts.get(node).row;
+            let row = &parts.store.get(node).row;
             Changed::between(&parts.keys.keys, &parts.specs, old, row)
         }
         None => Changed::all(),
@@ -65,7 +65,7 @@ fn edited<R, E: Extract<R>, T: Edit<R>>(
     ensures edit { (e : Entry R) → record_of parts.old node ≡ Some e →
         edit.new ≡ T.after_apply edit.old e.row }
 {
-    edit.apply(&mut parts.get_mut(node).row);
+    edit.apply(&mut parts.store.get_mut(node).row);
     changed_rows(parts, node, edit.replaced())
 }
 
@@ -130,7 +130,7 @@ impl<R, E: Extract<R>> IndexSet<Entry<R>, ByRow<E>> {
         if is_kept(stays, ban) {
             self.parts.settle_changed(node, changed);
         } else {
-            edit.undo(&mut self.parts.get_mut(node).row);
+            edit.undo(&mut self.parts.store.get_mut(node).row);
             self.parts.put_back(node);
         }
         ban

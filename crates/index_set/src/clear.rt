@@ -1,13 +1,13 @@
 //! A set without records again.
-ghost use Rattle.any_index.specs.Keyed.{marks_of};
-ghost use Rattle.std.specs.Prelude.{◌≡◌, None, [], map};
+ghost use Rattle.std.specs.Prelude.{◌≡◌, [], map};
 ghost use Rattle.node_store.specs.declared.Node.{Node};
 ghost use Rattle.node_store.specs.Store.{IsStore, IsNodeOf, len_of, width_of};
 ghost use Rattle.node_store.specs.Age.{nodes_of};
-ghost use Rattle.index_set.specs.Set.{store_of, specs_of, lists_of, IsSound, IsKeyed, IsUniqueExcept, IsOfSame};
+ghost use Rattle.index_set.specs.Asked.{IsKept};
+ghost use Rattle.index_set.specs.Set.{store_of, specs_of, lists_of, IsOfSame};
 
 use crate::every::empty_each;
-use crate::parts::Parts;
+use crate::set::IndexSet;
 use key_extract::Extract;
 use node_store::NodeStore;
 
@@ -24,23 +24,20 @@ fn remove_all<R: Drop>(store: &mut NodeStore<R>)
     }
 }
 
-impl<R: Drop, E: Extract<R>> Parts<R, E> {
+impl<R: Drop, E: Extract<R>> IndexSet<R, E> {
     /// Takes every record out of each index, and removes it. The indices, their keys and the count of adds stay, so a new
     /// node has an age that none had before. It takes no memory, and leaves no room that was reserved.
     /// O(records + indices).
-    pub(crate) fn clear(&mut self)
-        requires { IsSound E.has_key self.old }
-        ensures sound { IsSound E.has_key self.new }
+    pub fn clear(&mut self)
+        ensures kept { IsKept E.Extract self.new }
         ensures same { IsOfSame self.old self.new }
         ensures lists { lists_of self.new ≡ map (λ _. []) (specs_of self.old) }
         ensures nodes { (n : Node) → ¬ IsNodeOf (store_of self.new) n }
         ensures none { nodes_of (store_of self.new) ≡ [] }
         ensures len { len_of (store_of self.new) ≡ 0 }
         ensures count { (store_of self.new).added ≡ (store_of self.old).added }
-        ensures keyed { IsKeyed E.order_of (marks_of E.Extract) self.new }
-        ensures unique { IsUniqueExcept E.order_of self.new None }
     {
-        empty_each(self.alloc, &self.specs, &mut self.indices);
-        remove_all(&mut self.store);
+        empty_each(self.parts.alloc, &self.parts.specs, &mut self.parts.indices);
+        remove_all(&mut self.parts.store);
     }
 }

@@ -1,11 +1,10 @@
 //! One index less in a set.
-ghost use Rattle.any_index.specs.Keyed.{marks_of};
-ghost use Rattle.std.specs.Prelude.{◌≡◌, None, length, remove};
+ghost use Rattle.std.specs.Prelude.{◌≡◌, length, remove};
 ghost use Rattle.index_set.specs.Dropped.{CanDrop, AreSound, AreRenumbered};
-ghost use Rattle.index_set.specs.Asked.{IsFiled};
-ghost use Rattle.index_set.specs.Set.{keys_of, specs_of, columns_of, contents, lists_of, HasRoom, IsSound, IsKeyed, IsUniqueExcept};
+ghost use Rattle.index_set.specs.Asked.{IsKept};
+ghost use Rattle.index_set.specs.Set.{keys_of, specs_of, columns_of, contents, lists_of};
 
-use crate::parts::Parts;
+use crate::set::IndexSet;
 use any_index::AnyIndex;
 use key_extract::Extract;
 use node_store::NodeStore;
@@ -21,26 +20,22 @@ fn renumber_each<R>(store: &NodeStore<R>, indices: &mut Vec<AnyIndex>)
     }
 }
 
-impl<R, E: Extract<R> + Drop> Parts<R, E> {
+impl<R, E: Extract<R> + Drop> IndexSet<R, E> {
     /// Drops one of several indices; those after it move up by one. From now on the set goes by the given keys, which at
     /// each index that stays order and hash records as its own did, at its new number. The index's column is free
     /// then. It takes no memory. O(nodes) for one with places or buckets, and O(indices) otherwise.
-    pub(crate) fn drop_index(&mut self, index: usize, keys: E)
-        requires filed { IsFiled E.Extract self.old }
-        requires can { CanDrop E.Extract self.old index keys }
-        ensures sound { IsSound E.has_key self.new }
-        ensures keyed { IsKeyed E.order_of (marks_of E.Extract) self.new }
-        ensures unique { IsUniqueExcept E.order_of self.new None }
+    pub fn drop_index(&mut self, index: usize, keys: E)
+        requires { CanDrop E.Extract self.old index keys }
+        ensures kept { IsKept E.Extract self.new }
         ensures contents { contents self.new ≡ contents self.old }
         ensures columns { columns_of self.new ≡ columns_of self.old }
         ensures keys { keys_of self.new ≡ keys }
         ensures specs { specs_of self.new ≡ remove (specs_of self.old) index }
         ensures lists { lists_of self.new ≡ remove (lists_of self.old) index }
-        ensures room { HasRoom self.old → HasRoom self.new }
     {
-        self.specs.remove(index);
-        self.indices.remove(index);
-        self.keys = keys;
-        renumber_each(&self.store, &mut self.indices);
+        self.parts.specs.remove(index);
+        self.parts.indices.remove(index);
+        self.parts.keys = keys;
+        renumber_each(&self.parts.store, &mut self.parts.indices);
     }
 }

@@ -1,19 +1,17 @@
 //! A set whose indices are filled one by one.
 ghost use Rattle.std.specs.Prelude.{◌≡◌, ◌+◌, ◌<◌, ◌^◌, IfOk, IfErr, OnOk, OnErr, slice_set};
-ghost use Rattle.std.specs.List.{AllByRecursion};
-ghost use Rattle.node_store.specs.Nodes.{IsDistinct};
-ghost use Rattle.node_store.specs.Store.{IsNodeOf, age_of, len_of};
+ghost use Rattle.node_store.specs.Store.{age_of, len_of};
 ghost use Rattle.node_store.specs.ByNode.{AddsNode};
 ghost use Rattle.index_set.specs.Added.{IsCause};
 
-use crate::at::IndexRef;
-use crate::build::NoIndex;
+use crate::build::{NoIndex, build};
 use crate::nodes::Nodes;
 use crate::parts::Parts;
 use crate::set::IndexSet;
+use any_index::IndexRef;
 use container_model::Spec;
 use key_extract::Extract;
-use node_store::{NoRoom, Node};
+use node_store::{NoRoom, Node, NodeStore};
 use std::marker::Model;
 
 /// A set of which an index may have some of the nodes alone, each where its record's key puts it.
@@ -51,20 +49,8 @@ impl<R, E: Extract<R>> IndexSet<R, E> {
 impl<R, E: Extract<R>> Nodes<R, E> for Filling<R, E> {
     ghost parts = { λ s. s };
 
-    fn len(&self) -> usize {
-        self.parts.store.len()
-    }
-
-    fn newest(&self) -> Option<Node> {
-        self.parts.store.newest()
-    }
-
-    fn older(&self, n: Node) -> Option<Node> {
-        self.parts.store.older(n)
-    }
-
-    fn get(&self, n: Node) -> &R {
-        self.parts.store.get(n)
+    fn store(&self) -> &NodeStore<R> {
+        &self.parts.store
     }
 
     fn specs(&self) -> &[Spec] {
@@ -72,10 +58,8 @@ impl<R, E: Extract<R>> Nodes<R, E> for Filling<R, E> {
     }
 
     fn at(&self, index: usize) -> IndexRef<'_, R, E> {
-        IndexRef {
-            parts: &self.parts,
-            index,
-        }
+        let parts = &self.parts;
+        IndexRef::new(&parts.indices[index], &parts.store, &parts.keys)
     }
 }
 
@@ -133,7 +117,19 @@ impl<R: Drop, E: Extract<R> + Drop> Filling<R, E> {
         ensures cause { IfErr result (IsCause (Unit {0})
             (clash_here E.Extract self index nodes.now)) }
     {
-        let parts = self.parts.refilled(index, nodes)?;
+        let Filling { mut parts } = self;
+        let spec = parts.specs[index];
+        let column = parts.indices[index].col();
+        let made = build(
+            parts.alloc,
+            &mut parts.store,
+            &parts.keys,
+            spec,
+            column,
+            index,
+            nodes,
+        )?;
+        parts.indices[index] = made;
         Ok(Filling { parts })
     }
 }

@@ -6,7 +6,6 @@
 #![tactic(auto)]
 
 mod add_index;
-mod at;
 mod bans;
 mod build;
 mod by_row;
@@ -17,16 +16,13 @@ mod drop_index;
 mod edit;
 mod every;
 mod filling;
-mod indices;
 mod nodes;
 mod order;
 mod parts;
 mod places;
-mod refill;
 mod set;
 
 pub use add_index::NotAdded;
-pub use at::IndexRef;
 pub use build::NoIndex;
 pub use by_row::ByRow;
 pub use change::Lost;

@@ -1,23 +1,20 @@
 //! The parts of a set, and the steps that its calls are made of. Between two steps a node may stand in no index, and a
 //! record may have other keys than the indices go by.
 ghost use Rattle.any_index.specs.Keyed.{marks_of};
-ghost use Rattle.std.specs.Prelude.{◌≡◌, ◌+◌, ◌≤◌, ◌<◌, ◌^◌, ℕ, [], map, length, Some, None, IfOk, IfErr, IfSome, OnOk, OnErr};
-ghost use Rattle.std.specs.Borrow.{sem};
+ghost use Rattle.std.specs.Prelude.{◌≡◌, ◌+◌, ◌≤◌, ◌<◌, ◌^◌, ℕ, map, length, Some, None, IfOk, IfErr, IfSome, OnOk, OnErr};
 ghost use Rattle.list_model.specs.Walk.{without};
-ghost use Rattle.node_store.specs.Store.{IsNodeOf, aged, age_of, len_of, width_of, empty_store};
-ghost use Rattle.node_store.specs.Age.{last_below};
+ghost use Rattle.node_store.specs.Store.{IsNodeOf, age_of, len_of};
 ghost use Rattle.node_store.specs.ByNode.{AddsNode, RemovesNode, same_node};
-ghost use Rattle.container_model.specs.State.{KeysMatch};
 ghost use Rattle.any_index.specs.Side.{AreNodesOf};
 ghost use Rattle.index_set.specs.Changed.{may_differ, differs};
 ghost use Rattle.index_set.specs.Each.{changed_from};
 ghost use Rattle.index_set.specs.Indices.{LackIt, HoldIt};
 ghost use Rattle.index_set.specs.Lists.{entered_at, settled_at, ban_from};
-ghost use Rattle.index_set.specs.Places.{place_from, IsPlaceAt};
+ghost use Rattle.index_set.specs.Places.{IsPlaceAt};
 
-use crate::bans::{first_ban, free_place};
+use crate::bans::first_ban;
 use crate::changed::Changed;
-use crate::every::{empty_indices, enter_each, leave_each, reserve_each, settle_each};
+use crate::every::{enter_each, leave_each, reserve_each, settle_each};
 use crate::places::FreePlace;
 use any_index::AnyIndex;
 use container_model::Spec;
@@ -35,42 +32,6 @@ pub struct Parts<R, E> {
     pub(crate) keys: E,
     pub(crate) specs: Vec<Spec>,
     pub(crate) indices: Vec<AnyIndex>,
-}
-
-impl<R: Drop, E: Extract<R> + Drop> Parts<R, E> {
-    ghost use Rattle.index_set.specs.Set.{store_of, keys_of, specs_of, columns_of, lists_of, IsSound, IsKeyed};
-
-    /// A set without records, in which there is room for `columns` indices. Index number j of `specs` is asked for by key
-    /// number j. O(indices).
-    pub(crate) fn new(
-        alloc: Global,
-        specs: Vec<Spec>,
-        keys: E,
-        columns: usize,
-    ) -> Result<Parts<R, E>, AllocError>
-        requires some { 1 ≤ length specs.items }
-        requires few { length specs.items ≤ columns }
-        requires most { columns ≤ 8 }
-        requires keys { KeysMatch (E.has_key keys) specs.items }
-        ensures sound { IfOk result (λ made. IsSound E.has_key made) }
-        ensures keyed { IfOk result (λ made. IsKeyed E.order_of (marks_of E.Extract) made) }
-        ensures lists { IfOk result (λ made. lists_of made ≡ map (λ _. []) specs.items) }
-        ensures empty { IfOk result (λ made.
-            store_of made ≡ empty_store (width_of (store_of made))) }
-        ensures keys { IfOk result (λ made. keys_of made ≡ keys) }
-        ensures specs { IfOk result (λ made. specs_of made ≡ specs.items) }
-        ensures columns { IfOk result (λ made. columns_of made ≡ columns) }
-    {
-        let indices = empty_indices(alloc, &specs)?;
-        Ok(Parts {
-            alloc,
-            store: NodeStore::new(alloc, columns),
-            columns,
-            keys,
-            specs,
-            indices,
-        })
-    }
 }
 
 impl<R: Drop, E: Extract<R>> Parts<R, E> {
@@ -120,26 +81,7 @@ impl<R: Drop, E: Extract<R>> Parts<R, E> {
 
 impl<R, E: Extract<R>> Parts<R, E> {
     ghost use Rattle.index_set.specs.Asked.{IsFiledBut};
-    ghost use Rattle.index_set.specs.Lends.{lends_record};
-    ghost use Rattle.index_set.specs.Set.{store_of, keys_of, specs_of, columns_of, contents, record_of, lists_of, list_of, HasRoom, IsSound, IsKeyed, IsKeyedBut, IsKeyedExcept, IsUniqueExcept, HasKeysOf, IsRestored, IsKeyedBeside, IsFreeBeside, IsOfSame, with_record};
-
-    /// The node's record. O(1).
-    pub(crate) fn get(&self, n: Node) -> &R
-        requires { IsNodeOf (store_of self.now) n }
-        ensures { record_of self.now n ≡ Some result.now }
-    {
-        self.store.get(n)
-    }
-
-    /// The node's record for writing. Each index stays as it is, so `settle` has to follow where a key may have changed.
-    /// O(1).
-    pub(crate) fn get_mut(&mut self, n: Node) -> &mut R
-        requires { IsNodeOf (store_of self.old) n }
-        ensures* writes_back { sem 𝓛 (lends_record R.row E.row self.entry n result) }
-        ensures value { record_of self.old n ≡ Some result.now }
-    {
-        self.store.get_mut(n)
-    }
+    ghost use Rattle.index_set.specs.Set.{store_of, keys_of, specs_of, contents, record_of, lists_of, list_of, HasRoom, IsSound, IsKeyed, IsKeyedBut, IsKeyedExcept, IsUniqueExcept, HasKeysOf, IsRestored, IsKeyedBeside, IsFreeBeside, IsOfSame, with_record};
 
     /// Makes room for one more node in each index. Where memory is refused, the lists are as before. O(indices) on
     /// average over many insertions.
@@ -246,23 +188,6 @@ impl<R, E: Extract<R>> Parts<R, E> {
         // Each node stands where it stood.
     }
 
-    /// The first unique index in which a node has the record's key, with that node, as an `Err`. Where none has it, where the
-    /// record goes in the first of the unique trees in which a node comes before it, for `enter`; `None` where there is no such
-    /// tree. It takes no memory. One search of each unique index: O(log n) for each tree, expected O(1) for buckets.
-    pub(crate) fn free_place(&self, r: &R) -> Result<Option<FreePlace>, (usize, Node)>
-        requires sound { IsSound E.has_key self.now }
-        requires keyed { IsKeyedExcept E.order_of (marks_of E.Extract) self.now None }
-        requires unique { IsUniqueExcept E.order_of self.now None }
-        ensures free { OnOk result (ban_from (E.order_of (keys_of self.now)) (record_of self.now)
-            (lists_of self.now) None r.now 0 (specs_of self.now) ≡ None) }
-        ensures place { IfOk result (λ place. place ≡ place_from (E.order_of (keys_of self.now))
-            (record_of self.now) (lists_of self.now) r.now 0 (specs_of self.now)) }
-        ensures taken { IfErr result (λ by. ban_from (E.order_of (keys_of self.now))
-            (record_of self.now) (lists_of self.now) None r.now 0 (specs_of self.now) ≡ Some by) }
-    {
-        free_place(&self.store, &self.keys, &self.specs, &self.indices, r)
-    }
-
     /// The indices at which a record has another key than that of `n`. A comparison for each index that has a key.
     pub(crate) fn changed_by(&self, n: Node, r: &R) -> Changed
         requires sound { IsSound E.has_key self.now }
@@ -271,7 +196,7 @@ impl<R, E: Extract<R>> Parts<R, E> {
             may_differ result index ≡
             differs (E.order_of (keys_of self.now)) (specs_of self.now) r.now before index }
     {
-        Changed::between(&self.keys, &self.specs, self.get(n), r)
+        Changed::between(&self.keys, &self.specs, self.store.get(n), r)
     }
 
     /// As `bans`, where the record has the excepted node's key at all indices but the changed ones, which alone are asked. It
@@ -312,6 +237,6 @@ impl<R, E: Extract<R>> Parts<R, E> {
             result ≡ ban_from (E.order_of (keys_of self.now)) (record_of self.now)
             (lists_of self.now) (Some n) r 0 (specs_of self.now) }
     {
-        self.bans_changed(self.get(n), Some(n), changed)
+        self.bans_changed(self.store.get(n), Some(n), changed)
     }
 }

@@ -1,17 +1,19 @@
 //! The set, its reads, and changes of its records.
-ghost use Rattle.std.specs.Prelude.{◌≡◌, ◌+◌, ◌≤◌, ◌<◌, ◌^◌, ℕ, [], map, length, Some, None, IfOk, IfErr, IfSome, OnOk, OnErr};
+ghost use Rattle.std.specs.Prelude.{◌≡◌, ◌+◌, ◌≤◌, ◌<◌, [], map, length, Some, None, IfOk, IfErr, OnOk, OnErr};
 ghost use Rattle.node_store.specs.Store.{IsNodeOf, width_of, empty_store};
 ghost use Rattle.container_model.specs.State.{KeysMatch};
 ghost use Rattle.index_set.specs.Lists.{ban_from};
 ghost use Rattle.index_set.specs.Places.{place_from};
 
-use crate::at::IndexRef;
+use crate::bans::free_place;
+use crate::every::empty_indices;
 use crate::nodes::Nodes;
 use crate::parts::Parts;
 use crate::places::FreePlace;
+use any_index::IndexRef;
 use container_model::Spec;
 use key_extract::Extract;
-use node_store::{NoRoom, Node};
+use node_store::{NoRoom, Node, NodeStore};
 use std::alloc::{AllocError, Global};
 use std::marker::Model;
 use std::mem::replace;
@@ -62,7 +64,15 @@ impl<R: Drop, E: Extract<R> + Drop> IndexSet<R, E> {
         ensures specs { IfOk result (λ made. specs_of made ≡ specs.items) }
         ensures columns { IfOk result (λ made. columns_of made ≡ columns) }
     {
-        let parts = Parts::new(alloc, specs, keys, columns)?;
+        let indices = empty_indices(alloc, &specs)?;
+        let parts = Parts {
+            alloc,
+            store: NodeStore::new(alloc, columns),
+            columns,
+            keys,
+            specs,
+            indices,
+        };
         Ok(IndexSet { parts })
     }
 }
@@ -70,20 +80,8 @@ impl<R: Drop, E: Extract<R> + Drop> IndexSet<R, E> {
 impl<R, E: Extract<R>> Nodes<R, E> for IndexSet<R, E> {
     ghost parts = { λ s. s };
 
-    fn len(&self) -> usize {
-        self.parts.store.len()
-    }
-
-    fn newest(&self) -> Option<Node> {
-        self.parts.store.newest()
-    }
-
-    fn older(&self, n: Node) -> Option<Node> {
-        self.parts.store.older(n)
-    }
-
-    fn get(&self, n: Node) -> &R {
-        self.parts.store.get(n)
+    fn store(&self) -> &NodeStore<R> {
+        &self.parts.store
     }
 
     fn specs(&self) -> &[Spec] {
@@ -91,10 +89,8 @@ impl<R, E: Extract<R>> Nodes<R, E> for IndexSet<R, E> {
     }
 
     fn at(&self, index: usize) -> IndexRef<'_, R, E> {
-        IndexRef {
-            parts: &self.parts,
-            index,
-        }
+        let parts = &self.parts;
+        IndexRef::new(&parts.indices[index], &parts.store, &parts.keys)
     }
 }
 
@@ -102,13 +98,6 @@ impl<R, E: Extract<R>> IndexSet<R, E> {
     ghost use Rattle.index_set.specs.Asked.{IsKept};
     ghost use Rattle.index_set.specs.Set.{store_of, keys_of, specs_of, columns_of, record_of, lists_of};
     ghost use Rattle.index_set.specs.Writes.{IsRewritten};
-
-    /// How many records were put in so far, whether or not they were taken out since. O(1).
-    pub fn added(&self) -> u64
-        ensures { result ≡ (store_of self.now).added }
-    {
-        self.parts.store.added()
-    }
 
     /// How many indices there may be. O(1).
     pub fn columns(&self) -> usize
@@ -135,7 +124,8 @@ impl<R, E: Extract<R>> IndexSet<R, E> {
         ensures taken { IfErr result (λ by. ban_from (E.order_of (keys_of self.now))
             (record_of self.now) (lists_of self.now) None r.now 0 (specs_of self.now) ≡ Some by) }
     {
-        self.parts.free_place(r)
+        let parts = &self.parts;
+        free_place(&parts.store, &parts.keys, &parts.specs, &parts.indices, r)
     }
 
     /// The first unique index in which a node other than `n` has the record's key, with that node. Only the indices at which
@@ -160,7 +150,7 @@ impl<R, E: Extract<R>> IndexSet<R, E> {
         ensures written { IsRewritten E.order_of self.old self.new n value }
     {
         let changed = self.parts.changed_by(n, &value);
-        let old = replace(self.parts.get_mut(n), value);
+        let old = replace(self.parts.store.get_mut(n), value);
         self.parts.settle_changed(n, changed);
         old
     }

@@ -3,7 +3,7 @@ ghost use Rattle.std.specs.Prelude.{◌≡◌, ◌<◌, IsTrue, Some};
 ghost use Rattle.node_store.specs.declared.Node.{Node};
 ghost use Rattle.container_model.specs.State.{has_key_kind};
 ghost use Rattle.any_index.specs.Spelled.{HasRoom, Holds, index_of};
-ghost use Rattle.any_index.specs.Stored.{IsIn, CanSearch, nodes_of};
+ghost use Rattle.any_index.specs.Stored.{IsFiled, IsIn, nodes_of};
 ghost use Rattle.index_tests.specs.Lone.{IsLone};
 
 use any_index::AnyIndex;
@@ -116,7 +116,8 @@ fn searched<R, E: Extract<R>>(
     keys: &E,
     probe: &E::Probe,
 ) -> Option<(Option<Node>, u64)>
-    requires { CanSearch E.Extract index.now store.now keys.now probe.now }
+    requires filed { IsFiled E.Extract index.now store.now keys.now }
+    requires fits { IsTrue (E.does_fit keys.now (index_of index.now) probe.now) }
 {
     match index {
         AnyIndex::Ordered(tree) => Some(match search {

@@ -175,11 +175,11 @@ pub(crate) fn script(alloc: Global) -> Option<bool> {
     let n = insert(&mut set, entry(7))?;
     let found = set.at(0).find(&()) == Some(n) && set.at(1).find(&()) == Some(n);
     let changes = rewrite(&mut set, n, entry(8)) && rewrite_and_undo(&mut set, n, 9);
-    let is_changed = changes && set.get(n).row == 8;
+    let is_changed = changes && set.store().get(n).row == 8;
     let found_again = set.at(0).find_any(&()) == Some(n) && set.at(1).find_any(&()) == Some(n);
-    let one = set.specs().len() == 2 && set.len() == 1;
+    let one = set.specs().len() == 2 && set.store().len() == 1;
     set.clear();
     let none = set.at(0).find_any(&()).is_none() && set.at(1).find_any(&()).is_none();
-    let empty = none && set.len() == 0 && set.added() == 1;
+    let empty = none && set.store().len() == 0 && set.store().added() == 1;
     Some(found && is_changed && found_again && one && empty)
 }

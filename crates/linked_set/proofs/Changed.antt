@@ -87,10 +87,6 @@ module _ {E R : Type 0} {has_key : E → ℕ → Bool} {order : E → ℕ → R 
   pub handle_changed : (m : Node) → handle_of (set.record_of mid) m ≡ handle_of (set.record_of old) m
   handle_changed m = handle_kept (store_of old) (store_of mid) n h row slots w.linked.sound.nodes w.linked.leads w.linked.apart w.is w.own w.after m
 
-  -- its record is the new one
-  pub record_changed : set.record_of mid n ≡ Some entry
-  record_changed = its_record (store_of old) (store_of mid) n h row slots w.linked.sound.nodes w.linked.leads w.linked.apart w.is w.own w.after
-
   -- each node is still there
   pub there_mid : (m : Node) → IsNodeOf (store_of old) m → IsNodeOf (store_of mid) m
   there_mid m there = ap (λ (f : ℕ → Option Node). f (number_of m)) (same_nodes (store_of old) (store_of mid) n h row slots w.linked.sound.nodes w.linked.leads w.linked.apart w.is w.own w.after) ∙ there

@@ -15,16 +15,8 @@ use Rattle.container_model.specs.Indices as handles
 use Rattle.index_set.specs.Added as nodes
 use Rattle.linked_set.specs.Linked.{handle_of, IsKnown}
 use Rattle.linked_set.proofs.NewList.{by_rows}
+use Rattle.linked_set.proofs.Bans.{find_of}
 use Rattle.linked_set.proofs.Sides.{handle_known}
-
--- what is found is a member
-found_member : {X : Type 0} (P : X → Type 0) (p : X → Bool) (xs : List X) → AllByRecursion P xs → (x : X) → find p xs ≡ Some x → P x
-found_member P p [] all x e = absurd (cc)
-found_member P p (y ∷ ys) all x e = by_test (p y) (found_member P p ys all.1 x) e
-  where
-    by_test : (b : Bool) → (find p ys ≡ Some x → P x) → cond b (Some y) (find p ys) ≡ Some x → P x
-    by_test true rest e = subst P (same_Some y x e) all.0
-    by_test false rest e = rest e
 
 -- both nodes of a clash are of the list
 module _ (P : Node → Type 0) (compare : Node → Node → Ordering) where
@@ -37,7 +29,7 @@ module _ (P : Node → Type 0) (compare : Node → Node → Ordering) where
       by_found None here rest e = rest e
       by_found (Some d) here rest e =
           let pair = same_Some (d, x) (m, n) e in
-          (subst P (ap (λ p. p.0) pair) (found_member P (λ d. is_eq (compare d x)) before all d here), subst P (ap (λ p. p.1) pair) more.0)
+          (subst P (ap (λ p. p.0) pair) (find_of P (λ d. is_eq (compare d x)) before d all here), subst P (ap (λ p. p.1) pair) more.0)
 
   pub clash_members : (unique : Bool) (ns : List Node) → AllByRecursion P ns → (m n : Node) → nodes.clash compare unique ns ≡ Some (m, n) → P m × P n
   clash_members true ns all m n e = both_members [] ns tt all m n e
@@ -70,7 +62,7 @@ module _ {R : Type 0} (records : Node → Option (Entry R)) (entries : List (Ent
         by_found : (o : Option Node) → find p before ≡ o → option_map_or (λ d. Some (d.handle, e.handle)) (option_and_then records o) (option_map pair_of rest) ≡ option_map pair_of (option_map_or (λ m. Some (m, n)) o rest)
         by_found None here = refl
         by_found (Some m) here =
-            let k = found_member (IsKnown records entries) p before known m here in
+            let k = find_of (IsKnown records entries) p before m known here in
             ap (λ o. option_map_or (λ (d : Entry R). Some (d.handle, e.handle)) o (option_map pair_of rest)) k.is
             ∙ (λ i. Some (sym (handle_known records entries m k.entry k.is) i, sym (handle_known records entries n e is) i))
 

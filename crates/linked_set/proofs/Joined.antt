@@ -1,7 +1,7 @@
 -- What becomes of a container's nodes, lists and slots when a node joins the store and then each list.
 use Rattle.key_extract.specs.Digests.{Marks}
-use Rattle.std.proofs.Common.{◌≡◌, ℕ, ◌+◌, ◌<◌, ◌==◌, Bool, false, List, [], ◌∷◌, ◌++◌, Option, Some, None, refl, sym, ap, ◌∙◌, subst, arith}
-use Rattle.std.specs.Prelude.{IsTrue, option_map}
+use Rattle.std.proofs.Common.{◌≡◌, ℕ, ◌+◌, ◌==◌, Bool, false, List, [], ◌∷◌, ◌++◌, Option, Some, None, refl, sym, ap, ◌∙◌, subst, arith}
+use Rattle.std.specs.Prelude.{option_map}
 use Rattle.std.specs.List.{AllByRecursion}
 use Rattle.std.specs.declared.cmp.Ordering.{Ordering}
 use Rattle.list_model.specs.Order.{EachPair}
@@ -47,9 +47,6 @@ module _ {R : Type 0} (order : ℕ → R → R → Ordering) (specs : List Spec)
     (adds : AddsNode s t n e) (age : age_of t n ≡ s.added) (count : t.added ≡ s.added + 1) (after : contents u ≡ contents t) (slot : e.handle.slot ≡ first_free slots) where
   abbrev by_rows : ℕ → Entry R → Entry R → Ordering
   by_rows index a b = order index a.row b.row
-
-  known_before : AllByRecursion (AllByRecursion (IsKnown (record_of s) (entries_in (contents s)))) lists
-  known_before = All-map _ _ (λ xs are. All-map _ _ (λ m is. known s m store apart is) xs are) lists nodes
 
   known_now : AllByRecursion (AllByRecursion (IsKnown (record_of t) (entries_in (contents s)))) lists
   known_now = All-map _ _ (λ xs are. All-map _ _ (λ m is. known_added s t n e adds (entries_in (contents s)) m is (known s m store apart is)) xs are) lists nodes

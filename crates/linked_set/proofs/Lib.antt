@@ -41,6 +41,7 @@ pub mod Settling
 pub mod Sides
 pub mod Sinking
 pub mod Sorted
+pub mod Sought
 pub mod StableSort
 pub mod There
 pub mod Thinned

@@ -1,9 +1,8 @@
 -- What an index more or less makes of records under their indices.
-use Rattle.std.proofs.Common.{◌≡◌, ℕ, ◌+◌, ◌<◌, ◌++◌, ◌∷◌, [], Bool, List, length, None, Result, Ok, Err, sym}
-use Rattle.std.specs.Prelude.{IsTrue, OnOk, OnErr, remove}
+use Rattle.std.proofs.Common.{◌≡◌, ℕ, ◌<◌, ◌++◌, ◌∷◌, [], Bool, length, None, Result, Ok, Err}
+use Rattle.std.specs.Prelude.{IsTrue, OnOk, OnErr}
 use Rattle.std.specs.Cmp.{IsTotalOrder}
 use Rattle.std.specs.declared.cmp.Ordering.{Ordering}
-use Rattle.container_model.specs.declared.handle.Handle.{Handle}
 use Rattle.container_model.specs.declared.handle.Entry.{Entry}
 use Rattle.container_model.specs.declared.handle.Spec.{Spec}
 use Rattle.container_model.specs.State.{State, KeysMatch}
@@ -14,7 +13,7 @@ use Rattle.index_set.specs.Set.{store_of, keys_of, specs_of}
 use Rattle.index_set.specs.declared.by_row.ByRow.{ByRow}
 use Rattle.linked_set.specs.Records.{Records, AreListed, records_in}
 use Rattle.linked_set.specs.Seen.{seen}
-use Rattle.linked_set.proofs.Written.{AreListedIn, listed_by}
+use Rattle.linked_set.proofs.Written.{listed_by}
 
 -- what follows from a success and from a refusal
 pub by_outcome : {A B P Q X : Type 0} (r : Result A B) → OnOk r P → OnErr r Q → (P → X) → (Q → X) → X

@@ -45,9 +45,6 @@ module _ {E R : Type 0} (set : Parts (Entry R) (ByRow E)) (most : ℕ) (keys : E
   pub seen_made : (max writes : ℕ) → seen set max writes ≡ empty_with_most most keys specs max writes
   seen_made max writes = λ i. state_with (same_most i) max writes (same_keys i) (same_specs i) (no_entries i) (no_lists i)
 
-  pub none_added : (store_of set).added ≡ 0
-  none_added = ap (λ (s : Store (Entry R)). s.added) none
-
   pub IsWhole-made : (has_key : E → ℕ → Bool) (order : E → ℕ → R → R → Ordering) (marks : E → ℕ → R → Marks) → IsSound (has_by_row has_key) set → IsKeyed (order_by_row order) (marks_by_row marks) set → IsWhole has_key order marks set []
   IsWhole-made has_key order marks sound keyed = record {
     linked = record {

@@ -1,21 +1,19 @@
 -- The members between two bounds, where the sides rise: those from the first within the low bound to the last within the high one.
-use Rattle.std.proofs.Common.{◌≡◌, ℕ, zero, suc, ◌+◌, ◌≤◌, Bool, true, false, cond, ◌&&◌, not, List, [], ◌∷◌, ◌++◌, length, map, take, drop, slice_get, Option, Some, None, refl, sym, ap, ◌∙◌, subst, arith}
+use Rattle.std.proofs.Common.{◌≡◌, ℕ, zero, suc, ◌+◌, ◌≤◌, Bool, true, false, cond, ◌&&◌, not, List, [], ◌∷◌, drop, slice_get, Option, Some, None, refl, sym, ap, ◌∙◌, arith}
 use Rattle.std.specs.Prelude.{count_by, filter, option_and_then}
 use Rattle.std.specs.List.{AllByRecursion}
 use Rattle.std.specs.Ordering.{is_gt, is_ge, ordering_index}
 use Rattle.std.specs.declared.cmp.Ordering.{Ordering}
-use Rattle.std.proofs.lemmas.List.{length-append}
 use Rattle.std.specs.declared.cmp.Ordering.TheVariants.{Less, Equal, Greater}
 use Rattle.std.specs.declared.ops.Bound.{Bound}
 use Rattle.std.specs.declared.ops.Bound.TheVariants.{Unbounded}
 use Rattle.list_model.specs.Order.{EachPair}
-use Rattle.list_model.specs.Place.{Edge, Inclusive, Exclusive, Open, is_from, is_to, range}
+use Rattle.list_model.specs.Place.{Edge, Inclusive, Exclusive, Open, is_from, is_to}
 use Rattle.list_model.proofs.Counts.{count_by-cons, count_by_none}
 use Rattle.list_model.proofs.InOrder.{All-map}
 use Rattle.list_model.proofs.Kept.{EachPair-map, filter_none}
 use Rattle.list_model.proofs.Orders.{lt_falls, le_falls}
 use Rattle.linked_set.specs.Edges.{edge_of, Rises}
-use Rattle.linked_set.proofs.Walks.{HasMet, one_met}
 
 -- ---- lists
 
@@ -28,12 +26,6 @@ pub slice_get-drop : {X : Type 0} (i k : ℕ) (xs : List X) → slice_get (drop 
 slice_get-drop zero k xs = let n : k ≡ 0 + k = omega arith in ap (slice_get xs) n
 slice_get-drop (suc i) k [] = refl
 slice_get-drop (suc i) k (x ∷ xs) = let n : suc (i + k) ≡ suc i + k = omega arith in slice_get-drop i k xs ∙ ap (slice_get (x ∷ xs)) n
-
--- what holds of the first members holds of one more
-pub All-take_more : {X : Type 0} (P : X → Type 0) (xs : List X) (i : ℕ) (x : X) → slice_get xs i ≡ Some x → P x → AllByRecursion P (take i xs) → AllByRecursion P (take (suc i) xs)
-All-take_more P [] i x e p all = cc
-All-take_more P (y ∷ ys) zero x e p all = let same : x ≡ y = cc in (subst P same p, tt)
-All-take_more P (y ∷ ys) (suc i) x e p all = (all.0, All-take_more P ys i x e p all.1)
 
 -- a member that is taken where it passes
 pub passed_is : {X : Type 0} (p : X → Bool) (o : Option X) (x : X) → option_and_then (λ y. cond (p y) (Some y) None) o ≡ Some x → (o ≡ Some x) × (p x ≡ true)
@@ -66,16 +58,12 @@ not_passed : {X : Type 0} (to : X → Bool) (x : X) (b : Bool) → to x ≡ b �
 not_passed to x false t e = t
 not_passed to x true t e = cc
 
--- and up to a place, where it lets through none after the first that it does not
-pub kept : {X : Type 0} (to : X → Bool) (xs : List X) (k : ℕ) → EachPair (λ x y. to x ≡ false → to y ≡ false) xs → AllByRecursion (λ x. to x ≡ true) (take k xs) →
-    option_and_then (λ x. cond (to x) (Some x) None) (slice_get xs k) ≡ None → filter to xs ≡ take k xs
-kept to [] zero each all end = refl
-kept to [] (suc k) each all end = refl
-kept to (x ∷ xs) zero each all end =
+-- none, where it does not let through the first and none after one that it does not
+pub none_kept : {X : Type 0} (to : X → Bool) (xs : List X) → EachPair (λ x y. to x ≡ false → to y ≡ false) xs → option_and_then (λ x. cond (to x) (Some x) None) (slice_get xs 0) ≡ None → filter to xs ≡ []
+none_kept to [] each end = refl
+none_kept to (x ∷ xs) each end =
     let no = not_passed to x (to x) refl end in
     filter_none to (x ∷ xs) (no, All-map _ _ (λ y f. f no) xs each.0)
-kept to (x ∷ xs) (suc k) each all end =
-    ap (λ b. cond b (x ∷ filter to xs) (filter to xs)) all.0 ∙ ap (λ l. x ∷ l) (kept to xs k each.1 all.1 end)
 
 -- ---- sides that rise
 
@@ -128,51 +116,3 @@ before_open xs = count_by_none (λ x. false) xs (all_no xs)
 
 pub before_unbounded : {P X : Type 0} (side : P → X → Ordering) (bound : Bound P) (xs : List X) → bound ≡ Unbounded → before (edge_of side bound) xs ≡ 0
 before_unbounded side bound xs e = ap (λ b. before (edge_of side b) xs) e ∙ before_open xs
-
--- ---- a walk from the low bound to the high one
-
--- what it has met, and the member that it comes to next
-pub record HasWalked {X Y : Type 0} (f : X → Y) (low high : Edge X) (xs : List X) (met : List Y) (next : Option X) : Type 0 where
-  pub place : next ≡ option_and_then (λ x. cond (is_to high x) (Some x) None) (slice_get xs (before low xs + length met))
-  pub passed : HasMet f (drop (before low xs) xs) met
-  pub within : AllByRecursion (λ x. is_to high x ≡ true) (take (length met) (drop (before low xs) xs))
-
-module _ {X Y : Type 0} (f : X → Y) (low high : Edge X) (xs : List X) where
-  pub walk_begun : (met : List Y) (next first : Option X) → met ≡ [] → first ≡ slice_get xs (before low xs) → next ≡ option_and_then (λ x. cond (is_to high x) (Some x) None) first → HasWalked f low high xs met next
-  walk_begun met next first none start is =
-      let n : before low xs ≡ before low xs + 0 = omega arith in
-      subst (λ l. HasWalked f low high xs l next) (sym none) (record {
-        place = is ∙ ap (option_and_then (λ x. cond (is_to high x) (Some x) None)) (start ∙ ap (slice_get xs) n);
-        passed = refl;
-        within = tt;
-      })
-
-  module _ (met : List Y) (now : Option X) (x : X) (is : now ≡ Some x) (walked : HasWalked f low high xs met now) where
-    come : option_and_then (λ y. cond (is_to high y) (Some y) None) (slice_get xs (before low xs + length met)) ≡ Some x
-    come = sym walked.place ∙ is
-
-    -- the member that it came to
-    pub walk_at : slice_get xs (before low xs + length met) ≡ Some x
-    walk_at = (passed_is (is_to high) (slice_get xs (before low xs + length met)) x come).0
-
-    pub walk_goes_on : (more : List Y) (next after : Option X) → more ≡ met ++ f x ∷ [] → after ≡ slice_get xs ((before low xs + length met) + 1) → next ≡ option_and_then (λ y. cond (is_to high y) (Some y) None) after → HasWalked f low high xs more next
-    walk_goes_on more next after pushed here comes =
-        let ys = drop (before low xs) xs in
-        let p = passed_is (is_to high) (slice_get xs (before low xs + length met)) x come in
-        let longer : length (met ++ f x ∷ []) ≡ length met + 1 = length-append met (f x ∷ []) in
-        let next_place : (before low xs + length met) + 1 ≡ before low xs + length (met ++ f x ∷ []) = omega (arith, longer) in
-        let one_more : suc (length met) ≡ length (met ++ f x ∷ []) = omega (arith, longer) in
-        let there : slice_get ys (length met) ≡ Some x = slice_get-drop (before low xs) (length met) xs ∙ p.0 in
-        subst (λ l. HasWalked f low high xs l next) (sym pushed) (record {
-          place = comes ∙ ap (option_and_then (λ y. cond (is_to high y) (Some y) None)) (here ∙ ap (slice_get xs) next_place);
-          passed = one_met f ys met x there walked.passed;
-          within = subst (λ k. AllByRecursion (λ y. is_to high y ≡ true) (take k ys)) one_more (All-take_more (λ y. is_to high y ≡ true) ys (length met) x there p.1 walked.within);
-        })
-
-  -- at its end all between the bounds have been met
-  pub walk_ended : (met : List Y) (now : Option X) → Rises low xs → Rises high xs → now ≡ None → HasWalked f low high xs met now → met ≡ map f (range low high xs)
-  walk_ended met now rises falls over walked =
-      let ys = drop (before low xs) xs in
-      let past = ap (option_and_then (λ x. cond (is_to high x) (Some x) None)) (slice_get-drop (before low xs) (length met) xs) ∙ (sym walked.place ∙ over) in
-      walked.passed ∙ ap (map f) (sym (skipped (is_from low) (is_to high) xs (from_rises low xs rises)
-      ∙ kept (is_to high) ys (length met) (EachPair-drop _ (before low xs) xs (to_falls high xs falls)) walked.within past))

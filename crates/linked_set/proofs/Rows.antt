@@ -1,16 +1,17 @@
 -- The records of nodes with their handles: those of the handles, and what a walk has left of them.
 use Rattle.key_extract.specs.Digests.{Marks}
-use Rattle.std.proofs.Common.{◌≡◌, ◌⊎◌, inl, inr, ◌+◌, ◌<◌, ◌≤◌, ℕ, ◌==◌, Bool, true, false, List, [], ◌∷◌, length, map, slice_get, Option, Some, None, refl, sym, ap, ◌∙◌, eq-eqb}
-use Rattle.std.specs.Prelude.{IsTrue, not, option_map}
+use Rattle.std.proofs.Common.{◌≡◌, ◌⊎◌, inl, inr, ◌+◌, ◌<◌, ◌≤◌, ℕ, ◌==◌, Bool, true, false, List, [], ◌∷◌, length, map, slice_get, Option, Some, None, refl, sym, ap, ◌∙◌, subst, eq-eqb}
+use Rattle.std.specs.Prelude.{IsTrue, not, is_some, option_map}
 use Rattle.std.specs.List.{AllByRecursion, filter_map, cons_option}
 use Rattle.std.proofs.lemmas.Bool.{cases_lt, eqb-true}
 use Rattle.std.proofs.lemmas.Option.{same_Some}
 use Rattle.list_model.specs.Walk.{next as node_after}
 use Rattle.std.specs.declared.cmp.Ordering.{Ordering}
 use Rattle.std.specs.declared.ops.Bound.{Bound}
-use Rattle.list_model.specs.Place.{range}
+use Rattle.list_model.specs.Place.{Edge, range}
+use Rattle.list_model.proofs.InOrder.{All-map}
 use Rattle.list_model.proofs.Kept.{All-filter}
-use Rattle.list_model.proofs.Lists.{some_at}
+use Rattle.list_model.proofs.Lists.{All-of_map, some_at}
 use Rattle.container_model.specs.declared.handle.Entry.{Entry}
 use Rattle.container_model.specs.declared.handle.Handle.{Handle}
 use Rattle.container_model.specs.declared.handle.Kind.{Kind}
@@ -29,6 +30,7 @@ use Rattle.index_set.proofs.Members.{distinct_at, nodes_held_at, Holds_at}
 use Rattle.index_set.specs.declared.by_row.ByRow.{ByRow}
 use Rattle.linked_set.specs.Edges.{edge_of, node_edge}
 use Rattle.linked_set.specs.Linked.{handle_of, entries_in, handles_in, IsKnown}
+use Rattle.linked_set.specs.Records.{Records, alone, records_in}
 use Rattle.linked_set.specs.Seen.{seen, IsLinked}
 use Rattle.linked_set.proofs.Reading.{known_at, list_seen}
 use Rattle.linked_set.proofs.Sides.{handle_known, row_known}
@@ -156,6 +158,28 @@ module _ {E R : Type 0} {has_key : E → ℕ → Bool} {order : E → ℕ → R 
       by_place (inr past) =
           ap (λ list. rows_of_nodes (record_of set) (nodes_left (slice_get list 0) None list)) (no_nodes set linked.sound index past)
           ∙ ap (with_rows (seen set max writes)) (sym (list_past (order (keys_of set).keys) (entries_in (contents set)) 0 (specs_of set) (handles_in (record_of set) (lists_of set)) index indices past))
+
+-- ---- their handles
+
+firsts : {R : Type 0} (entries : List (Entry R)) (hs : List Handle) → AllByRecursion (λ h. is_some (row_of entries h) ≡ true) hs → map (λ (row : Handle × R). row.0) (filter_map (λ h. option_map (λ r. (h, r)) (row_of entries h)) hs) ≡ hs
+firsts entries [] live = refl
+firsts {R} entries (h ∷ hs) live = by_row (row_of entries h) live.0 ∙ ap (λ l. h ∷ l) (firsts entries hs live.1)
+  where
+    by_row : (o : Option R) → is_some o ≡ true → map (λ (row : Handle × R). row.0) (cons_option (option_map (λ r. (h, r)) o) (filter_map (λ k. option_map (λ r. (k, r)) (row_of entries k)) hs)) ≡ h ∷ map (λ (row : Handle × R). row.0) (filter_map (λ k. option_map (λ r. (k, r)) (row_of entries k)) hs)
+    by_row None e = cc
+    by_row (Some r) e = refl
+
+module _ {E R : Type 0} {has_key : E → ℕ → Bool} {order : E → ℕ → R → R → Ordering} {marks : E → ℕ → R → Marks} (set : Parts (Entry R) (ByRow E)) (slots : List (Option Node)) (linked : IsLinked has_key order marks set slots)
+    {r : Records E R} (view : records_in set ≡ r) (index : ℕ) where
+  live_here : AllByRecursion (λ h. is_some (row_of r.entries h) ≡ true) (list_at r.lists index)
+  live_here =
+      let entries = entries_in (contents set) in
+      subst (λ s. AllByRecursion (λ h. is_some (row_of s.entries h) ≡ true) (list_at s.lists index)) view
+      (subst (AllByRecursion (λ h. is_some (row_of entries h) ≡ true)) (list_seen set slots linked index)
+      (All-of_map (handle_of (record_of set)) _ (list_of set index) (All-map (IsKnown (record_of set) entries) _ (λ n k. ap is_some (row_known (record_of set) entries n k)) (list_of set index) (known_at set slots linked index))))
+
+  pub handles_between : (low high : Edge Handle) → map (λ (row : Handle × R). row.0) (with_rows (alone r) (range low high (list_at r.lists index))) ≡ range low high (list_at r.lists index)
+  handles_between low high = firsts r.entries (range low high (list_at r.lists index)) (All-filter (λ h. is_some (row_of r.entries h) ≡ true) _ (list_at r.lists index) live_here)
 
 -- an index in order is not hashed
 pub sorted_walks : (kind : Kind) → is_sorted_kind kind ≡ true → IsTrue (not (is_hashed_kind kind))

@@ -1,7 +1,7 @@
 -- What a container is once the records of a key have gone behind all others in one index.
 use Rattle.key_extract.specs.Digests.{Marks}
 use Rattle.std.proofs.Common.{◌≡◌, ℕ, ◌+◌, ◌<◌, Bool, true, false, cond, not, List, [], ◌∷◌, ◌++◌, length, map, zero, suc, get_or, set, Option, Some, None, refl, sym, ap, ◌∙◌, subst, arith}
-use Rattle.std.specs.Prelude.{count_by, filter, IfSome, IsTrue}
+use Rattle.std.specs.Prelude.{count_by, filter, IsTrue}
 use Rattle.std.specs.List.{AllByRecursion}
 use Rattle.std.specs.Option.{option_map_or}
 use Rattle.std.specs.Ordering.{is_eq}
@@ -10,10 +10,9 @@ use Rattle.std.specs.declared.cmp.Ordering.TheVariants.{Less}
 use Rattle.std.proofs.lemmas.List.{append-nil}
 use Rattle.std.proofs.lemmas.List.Elements.{filter-append}
 use Rattle.list_model.specs.Order.{EachPair}
-use Rattle.list_model.specs.Walk.{last}
 use Rattle.list_model.proofs.Counts.{count_by-cons}
 use Rattle.list_model.proofs.InOrder.{All-map}
-use Rattle.list_model.proofs.Kept.{All-passed, All-split, filter_none, map-filter}
+use Rattle.list_model.proofs.Kept.{All-passed, filter_none, map-filter}
 use Rattle.list_model.proofs.Lists.{All-at, slice_get_at}
 use Rattle.list_model.proofs.Permuted.{count_by-append, count_by-permutation, none_passes}
 use Rattle.node_store.specs.declared.Node.{Node}
@@ -28,7 +27,6 @@ use Rattle.container_model.specs.declared.handle.Spec.{Spec}
 use Rattle.container_model.specs.State.{is_sequence_kind, side_of as handle_side}
 use Rattle.any_index.specs.Side.{side_of}
 use Rattle.any_index.proofs.ByAge.{Holds_moved}
-use Rattle.any_index.proofs.Laws.{Holds_last}
 use Rattle.any_index.proofs.Marking.{held_passes, match_held}
 use Rattle.index_set.specs.declared.parts.Parts.{Parts}
 use Rattle.index_set.specs.Indices.{HoldIt}
@@ -156,22 +154,9 @@ module _ {E R P : Type 0} {has_key : E → ℕ → Bool} {order : E → ℕ → 
       fewer = let before = was.fewer in omega (arith, before, len_kept (store_of now) (store_of new) kept);
     }
 
--- ---- the last node of an index
-
-module _ {E R : Type 0} {has_key : E → ℕ → Bool} (s : Parts R E) (sound : IsSound has_key s) where
-  -- it is one of the store
-  pub last_of_store : (k : ℕ) → k < length (specs_of s) → (n : Node) → last (list_of s k) ≡ Some n → IsNodeOf (store_of s) n
-  last_of_store k lt n is =
-      let held = Holds_last (list_of s k) n is in
-      (All-split (IsNodeOf (store_of s)) held.before (n ∷ held.after) (subst (AllByRecursion (IsNodeOf (store_of s))) held.is (nodes_held_at s sound k lt))).1.0
-
 -- its record stands to the key as it does
 pub side_said : {R : Type 0} (records : Node → Option R) (side : R → Ordering) (n : Node) (r : R) (o : Ordering) → records n ≡ Some r → o ≡ side r → side_of records side n ≡ o
 side_said records side n r o is stands = ap (λ found. option_map_or side found Less) is ∙ sym stands
-
-pub if_some : {X : Type 0} {P Q : X → Type 0} (o : Option X) → ((x : X) → P x → Q x) → IfSome o P → IfSome o Q
-if_some None f h = tt
-if_some (Some x) f h = f x h
 
 -- the records that have a key are the same ones where the keys and the entries are
 pub same_test : {E R P : Type 0} (probe_order : E → ℕ → R → P → Ordering) (index : ℕ) (probe : P) (old new : Parts (Entry R) (ByRow E)) → IsOfSame old new → contents new ≡ contents old → has_other_key probe_order new index probe ≡ has_other_key probe_order old index probe

@@ -1,9 +1,8 @@
 -- What is left of a container while the records that have a key are taken out one by one.
 use Rattle.key_extract.specs.Digests.{Marks}
 use Rattle.std.proofs.Common.{◌≡◌, ℕ, ◌+◌, ◌<◌, ◌≤◌, Bool, true, false, cond, not, List, [], ◌∷◌, length, map, Option, Some, None, refl, sym, ap, ◌∙◌, subst, arith}
-use Rattle.std.specs.Prelude.{count_by, filter, slice_get}
+use Rattle.std.specs.Prelude.{count_by, filter}
 use Rattle.std.specs.List.{AllByRecursion}
-use Rattle.std.specs.Option.{option_map_or}
 use Rattle.std.specs.Ordering.{is_eq}
 use Rattle.std.specs.declared.cmp.Ordering.{Ordering}
 use Rattle.std.specs.declared.cmp.Ordering.TheVariants.{Equal}
@@ -101,10 +100,6 @@ module _ {E R P : Type 0} (order : ℕ → R → R → Ordering) (probe_order : 
       ap (λ n. length (filter (λ e. not (has_key_here e.handle)) s.entries) + n) (sym same) ∙ left_and_counted (λ e. has_key_here e.handle) s.entries
 
 -- ---- while records are taken out
-
--- the indices are of the same kinds
-pub kind_kept : {R E : Type 0} (old now : Parts R E) (index : ℕ) → IsOfSame old now → set.kind_at now index ≡ set.kind_at old index
-kind_kept old now index same = ap (λ (specs : List Spec). option_map_or (λ (spec : Spec). spec.kind) (slice_get specs index) Sequenced) same.specs
 
 -- records whose handles do not pass were taken out, and the others stand as they stood
 pub record Thinned {E R : Type 0} (has_key : E → ℕ → Bool) (order : E → ℕ → R → R → Ordering) (marks : E → ℕ → R → Marks) (keep : Handle → Bool) (old now : Parts (Entry R) (ByRow E)) (slots : List (Option Node)) : Type 0 where

@@ -1,11 +1,9 @@
 -- Walks along the list of an index, from one node up to another.
-use Rattle.std.proofs.Common.{◌≡◌, ℕ, zero, suc, ◌+◌, Bool, true, false, cond, not, ◌&&◌, List, [], ◌∷◌, length, map, take, drop, slice_get, Option, Some, None, refl, sym, ap, ◌∙◌, arith}
+use Rattle.std.proofs.Common.{◌≡◌, ℕ, zero, suc, ◌+◌, Bool, true, false, cond, not, List, [], ◌∷◌, length, take, drop, slice_get, Option, Some, None, refl, sym, ap, ◌∙◌, arith}
 use Rattle.std.specs.Prelude.{count_by, filter, option_and_then}
 use Rattle.std.specs.List.{AllByRecursion}
 use Rattle.std.proofs.lemmas.Bool.{true_from_ne_false}
-use Rattle.std.specs.Ordering.{is_ge, is_le, is_eq}
 use Rattle.std.specs.declared.cmp.Ordering.{Ordering}
-use Rattle.std.specs.declared.cmp.Ordering.TheVariants.{Less, Equal, Greater}
 use Rattle.std.specs.declared.ops.Bound.{Bound}
 use Rattle.std.specs.declared.ops.Bound.TheVariants.{Unbounded}
 use Rattle.list_model.specs.Order.{EachPair}
@@ -19,7 +17,7 @@ use Rattle.node_store.specs.declared.Node.{Node}
 use Rattle.node_store.specs.Nodes.{IsDistinct}
 use Rattle.any_index.proofs.Runs.{place_is}
 use Rattle.linked_set.specs.Edges.{Rises, edge_of}
-use Rattle.linked_set.proofs.Ranges.{EachPair-drop, from_rises, to_falls, slice_get-drop, passed_is, skipped, before, walk_ended}
+use Rattle.linked_set.proofs.Ranges.{EachPair-drop, from_rises, to_falls, slice_get-drop, passed_is, skipped, before, none_kept}
 use Rattle.linked_set.proofs.Walks.{taken_all}
 use Rattle.linked_set.specs.Iteration.{is_one, nodes_left, StandsIn}
 
@@ -73,12 +71,6 @@ at_all xs = ap (slice_get xs) (count_all xs) ∙ at_length xs
 -- no bound lets through all
 pub past_unbounded : {P X : Type 0} (side : P → X → Ordering) (bound : Bound P) (xs : List X) → bound ≡ Unbounded → None ≡ slice_get xs (count_by (is_to (edge_of side bound)) xs)
 past_unbounded side bound xs e = sym (ap (λ b. slice_get xs (count_by (is_to (edge_of side b)) xs)) e ∙ at_all xs)
-
--- the members that stand from a key on and up to it have it
-pub have_key : (o : Ordering) → (is_ge o && is_le o) ≡ is_eq o
-have_key Less = refl
-have_key Equal = refl
-have_key Greater = refl
 
 -- ---- a walk
 
@@ -160,16 +152,10 @@ module _ (low high : Edge Node) (xs : List Node) (distinct : IsDistinct xs) (ris
 
   none_between : first ≡ None → range low high xs ≡ []
   none_between none =
-      let n : before low xs ≡ before low xs + 0 = omega arith in
-      sym (map_same (range low high xs)) ∙ sym (walk_ended (λ x. x) low high xs [] None rises falls refl (record {
-        place = sym none ∙ ap (λ k. option_and_then (λ x. cond (is_to high x) (Some x) None) (slice_get xs k)) n;
-        passed = refl;
-        within = tt;
-      }))
-    where
-      map_same : (ys : List Node) → map (λ x. x) ys ≡ ys
-      map_same [] = refl
-      map_same (y ∷ ys) = ap (λ l. y ∷ l) (map_same ys)
+      let b = before low xs in
+      let n : b + 0 ≡ b = omega arith in
+      skipped (is_from low) (is_to high) xs (from_rises low xs rises)
+      ∙ none_kept (is_to high) (drop b xs) (EachPair-drop _ b xs (to_falls high xs falls)) (ap (option_and_then (λ n. cond (is_to high n) (Some n) None)) (slice_get-drop b 0 xs ∙ ap (slice_get xs) n) ∙ none)
 
   some_between : (n : Node) → first ≡ Some n → nodes_left first (slice_get xs (count_by (is_to high) xs)) xs ≡ range low high xs
   some_between n found =

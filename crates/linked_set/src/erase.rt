@@ -1,41 +1,18 @@
 //! Taking records out.
 ghost use Rattle.any_index.specs.Keyed.{marks_of};
-ghost use Rattle.std.specs.Prelude.{◌≡◌, ◌+◌, filter, map, not, option_and_then, option_map, Some, IsTrue, IfSome};
-ghost use Rattle.list_model.specs.Walk.{next as the_next};
+ghost use Rattle.std.specs.Prelude.{◌≡◌, ◌+◌, filter, map, not, Some};
 ghost use Rattle.node_store.specs.Store.{IsNodeOf, len_of};
-ghost use Rattle.node_store.specs.ByNode.{same_node};
-ghost use Rattle.container_model.specs.State.{is_handle, is_hashed_kind};
-ghost use Rattle.index_set.specs.Indices.{HoldIt};
-ghost use Rattle.index_set.specs.Set.{store_of, contents, record_of, lists_of, list_of, kind_at, IsSound, IsOfSame};
-ghost use Rattle.index_set.specs.ByRow.{has_by_row};
+ghost use Rattle.container_model.specs.State.{is_handle};
+ghost use Rattle.index_set.specs.Set.{store_of, contents, record_of, lists_of, IsOfSame};
 ghost use Rattle.linked_set.specs.Linked.{handle_of, entries_in, handles_in};
 ghost use Rattle.linked_set.specs.Seen.{IsLinked};
 ghost use Rattle.index_set.specs.Set.{AreHeld};
 
-use crate::beside::node_after;
-use crate::linked::handle_at;
-use container_model::{Entry, Handle};
+use container_model::Entry;
 use index_set::{ByRow, IndexSet};
 use key_extract::Extract;
 use node_store::Node;
 use slot_table::SlotTable;
-
-/// The handle of the record after a node in an index, where an index is named and the node is not its last. O(1) in a
-/// sequence, O(log n) in an index in order.
-pub(crate) fn next_at<R, E: Extract<R>>(
-    set: &IndexSet<Entry<R>, ByRow<E>>,
-    index: Option<usize>,
-    node: Node,
-) -> Option<Handle>
-    requires sound { IsSound (has_by_row E.has_key) set.now }
-    requires kind { IfSome index (λ i. IsTrue (not (is_hashed_kind (kind_at set.now i)))) }
-    requires held { HoldIt (lists_of set.now) node }
-    ensures { result ≡ option_and_then (λ i. option_map (handle_of (record_of set.now))
-        (the_next (same_node node) (list_of set.now i))) index }
-{
-    let next = node_after(set, index?, node)?;
-    Some(handle_at(set, next))
-}
 
 /// Takes a node out of each index, its record out of the set, and frees its slot. It takes no memory. O(log n) for each
 /// index, but O(the records behind it) in one whose places can be counted.

@@ -13,7 +13,6 @@ ghost use Rattle.linked_set.specs.Held.{has_other_key};
 ghost use Rattle.linked_set.specs.Linked.{entries_in, handles_in};
 ghost use Rattle.linked_set.specs.Seen.{IsLinked};
 
-use crate::beside::last_of;
 use crate::erase::take_out;
 use container_model::{Entry, Kind};
 use index_set::{ByRow, IndexSet, Nodes};
@@ -72,11 +71,11 @@ fn take_each<R: Drop, E: Extract<R>>(
     ensures added { (store_of set.new).added ≡ (store_of set.old).added }
     ensures count { result + len_of (store_of set.new) ≡ len_of (store_of set.old) }
 {
-    let before = set.len();
+    let before = set.store().len();
     while let Some(node) = last_or_any(set, slots, index, probe) {
         take_out(set, slots, node);
     }
-    (before - set.len()) as u64
+    (before - set.store().len()) as u64
 }
 
 // Puts the records that have the key behind all others in each index whose places can be counted.
@@ -118,33 +117,14 @@ fn last_or_any<R, E: Extract<R>>(
         find_equal (probe_side (probe_by_row E.probe_order_of) set.now index probe.now)
         (list_of set.now index) ≡ None }
 {
-    let last = last_of_key(set, index, probe);
-    if last.is_some() {
-        return last;
-    }
-    set.at(index).find_any(probe)
-}
-
-// The last node of the first index whose places can be counted and whose last record has the key.
-fn last_of_key<R, E: Extract<R>>(
-    set: &IndexSet<Entry<R>, ByRow<E>>,
-    index: usize,
-    probe: &E::Probe,
-) -> Option<Node>
-    requires sound { IsSound (has_by_row E.has_key) set.now }
-    requires has { IsTrue (E.has_key (keys_of set.now).keys index) }
-    requires fits { IsTrue (E.does_fit (keys_of set.now).keys index probe.now) }
-    ensures { IfSome result (λ n. IsNodeOf (store_of set.now) n ×
-        (probe_side (probe_by_row E.probe_order_of) set.now index probe.now n ≡ Equal)) }
-{
     for row in 0..set.specs().len() {
         if let Kind::Random = set.specs()[row].kind {
-            if let Some(node) = last_of(set, row) {
-                if set.keys().order_probe(index, set.get(node), probe) == Ordering::Equal {
+            if let Some(node) = set.at(row).last() {
+                if set.keys().order_probe(index, set.store().get(node), probe) == Ordering::Equal {
                     return Some(node);
                 }
             }
         }
     }
-    None
+    set.at(index).find_any(probe)
 }

@@ -68,7 +68,7 @@ fn named_nodes<R, E: Extract<R>>(
     if !all_live(set, slots, order) {
         return Err(Unfit::Members);
     }
-    let Ok(each_once) = has_each_once(alloc, set, order) else {
+    let Ok(each_once) = has_each_once(alloc, set, slots, order) else {
         return Err(Unfit::Memory);
     };
     if !each_once {

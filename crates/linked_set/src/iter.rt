@@ -51,7 +51,7 @@ impl<'a, R: Drop, E: Extract<R> + Drop> Iterator for Iter<'a, R, E> {
         }
         let set = self.set;
         self.next = set.at(self.index).next(node);
-        let entry = set.get(node);
+        let entry = set.store().get(node);
         Some((entry.handle, &entry.row))
     }
 

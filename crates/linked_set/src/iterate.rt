@@ -1,5 +1,4 @@
 //! The records of an index one after the other.
-ghost use Rattle.any_index.specs.Keyed.{marks_of};
 ghost use Rattle.std.specs.Prelude.{◌≡◌, ◌<◌, IsTrue, None, count_by, filter, length, not, slice_get};
 ghost use Rattle.std.specs.Ordering.{is_eq};
 ghost use Rattle.std.specs.Range.Bound.{bound_map};
@@ -7,14 +6,13 @@ ghost use Rattle.list_model.specs.Place.{is_to, range};
 ghost use Rattle.container_model.specs.State.{is_hashed_kind, is_sorted_kind, list_at};
 ghost use Rattle.container_model.specs.Find.{kind_at, probe_side};
 ghost use Rattle.index_set.specs.Set as nodes;
-ghost use Rattle.index_set.specs.Set.{keys_of, specs_of, list_of, IsSound, IsKeyed};
+ghost use Rattle.index_set.specs.Set.{keys_of, specs_of, list_of};
 ghost use Rattle.linked_set.specs.Asked.{AreBoundsOf, FitsAt};
-ghost use Rattle.index_set.specs.ByRow.{has_by_row, order_by_row, marks_by_row};
 ghost use Rattle.linked_set.specs.Edges.{edge_of, node_edge, KeyFits};
 ghost use Rattle.linked_set.specs.Iteration.{with_rows};
 ghost use Rattle.linked_set.specs.Records.{alone};
 
-use crate::beside::first_of;
+use crate::beside::index_at;
 use crate::iter::Iter;
 use crate::linked_set::LinkedSet;
 use crate::range::{first_from, up_to};
@@ -31,10 +29,14 @@ impl<R: Drop, E: Extract<R> + Drop> LinkedSet<R, E> {
         requires { IsTrue (not (is_hashed_kind (kind_at (alone self.now) index))) }
         ensures { result ≡ with_rows (alone self.now) (list_at self.now.lists index) }
     {
+        let next = match index_at(&self.set, index) {
+            Some(listed) => listed.first(),
+            None => None,
+        };
         Iter {
             set: &self.set,
             index,
-            next: first_of(&self.set, index),
+            next,
             end: None,
         }
     }
@@ -81,12 +83,10 @@ fn first_past<R, E: Extract<R>>(
     index: usize,
     high: Bound<&E::Probe>,
 ) -> Option<Node>
-    requires sound { IsSound (has_by_row E.has_key) set.now }
     requires index { index < length (specs_of set.now) }
     requires kind { IsTrue (is_sorted_kind (nodes.kind_at set.now index)) }
     requires fits { KeyFits (E.does_fit (keys_of set.now).keys index)
         (bound_map (λ p. p.now) high) }
-    requires keyed { IsKeyed (order_by_row E.order_of) (marks_by_row (marks_of E.Extract)) set.now }
     ensures { result ≡ slice_get (list_of set.now index)
         (count_by
         (is_to (node_edge E.probe_order_of set.now index (bound_map (λ p. p.now) high.entry)))

@@ -6,7 +6,7 @@ ghost use Rattle.container_model.specs.Change.{cleared, erased_count, next_in, w
 ghost use Rattle.linked_set.specs.Asked.{CanFindBy};
 ghost use Rattle.linked_set.specs.Records.{alone, state_of};
 
-use crate::erase::{next_at, take_out};
+use crate::erase::take_out;
 use crate::erase_key::take_key;
 use crate::linked::node_at;
 use crate::linked_set::LinkedSet;
@@ -42,7 +42,7 @@ impl<R: Drop, E: Extract<R> + Drop> LinkedSet<R, E> {
         if let Some(why) = limit {
             return Err(why);
         }
-        let next = next_at(&self.set, index, node);
+        let next = self.next_of(index, handle);
         let entry = take_out(&mut self.set, &mut self.slots, node);
         Ok((entry.row, next))
     }
@@ -68,5 +68,14 @@ impl<R: Drop, E: Extract<R> + Drop> LinkedSet<R, E> {
     {
         self.set.clear();
         self.slots.clear();
+    }
+
+    // The record after one that is there, in the index that is named.
+    fn next_of(&self, index: Option<usize>, handle: Handle) -> Option<Handle>
+        requires kind { IfSome index (λ i. IsTrue (not (is_hashed_kind (kind_at (alone self.now) i)))) }
+        requires live { IsTrue (is_live (alone self.now) handle) }
+        ensures { result ≡ option_and_then (λ i. next_in (alone self.now) i handle) index }
+    {
+        self.next(index?, handle).unwrap_or(None)
     }
 }

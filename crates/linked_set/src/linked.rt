@@ -27,7 +27,7 @@ pub(crate) fn handle_at<R, E: Extract<R>, S: Nodes<Entry<R>, ByRow<E>>>(
     requires { IsNodeOf (store_of (S.parts set.now)) node }
     ensures { result ≡ handle_of (record_of (S.parts set.now)) node }
 {
-    set.get(node).handle
+    set.store().get(node).handle
 }
 
 /// The position of a node's record, or the end. O(1).

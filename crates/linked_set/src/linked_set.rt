@@ -54,7 +54,7 @@ impl<R: Drop, E: Extract<R> + Drop> LinkedSet<R, E> {
     pub fn len(&self) -> usize
         ensures { result ≡ length self.now.entries }
     {
-        self.set.len()
+        self.set.store().len()
     }
 
     /// What each index is, in the order of their numbers. O(1).
@@ -84,7 +84,7 @@ impl<R: Drop, E: Extract<R> + Drop> LinkedSet<R, E> {
         ensures none { result ≡ None → row_of self.now.entries handle ≡ None }
     {
         match node_at(&self.set, &self.slots, handle) {
-            Some(node) => Some(&self.set.get(node).row),
+            Some(node) => Some(&self.set.store().get(node).row),
             None => None,
         }
     }

@@ -154,7 +154,7 @@ fn movable<R, E: Extract<R>>(
     let Some(node) = node_at(set, slots, handle) else {
         return Err(Why::Stale);
     };
-    if place > set.len() as u64 {
+    if place > set.store().len() as u64 {
         return Err(Why::Place);
     }
     if is_spent(writes) {
@@ -190,7 +190,7 @@ fn arrangement<R, E: Extract<R>>(
     if !all_live(set, slots, handles) {
         return Err(Why::Stale);
     }
-    let Ok(each_once) = has_each_once(alloc, set, handles) else {
+    let Ok(each_once) = has_each_once(alloc, set, slots, handles) else {
         return Err(Why::Memory);
     };
     if !each_once {

@@ -1,61 +1,20 @@
-//! The records of an index in order that stand between two bounds.
-ghost use Rattle.any_index.specs.Keyed.{marks_of};
+//! Where the bounds of a range stand in an index in order.
 ghost use Rattle.std.specs.Prelude.{◌≡◌, ◌<◌, IfOk, IsTrue, Ok, Some, None, cond, count_by, length, map, not, option_and_then, slice_get};
 ghost use Rattle.std.specs.Range.Bound.{bound_map};
-ghost use Rattle.list_model.specs.Place.{is_from, is_to, range as members_between};
+ghost use Rattle.list_model.specs.Place.{is_from, is_to};
 ghost use Rattle.node_store.specs.Store.{IsNodeOf};
 ghost use Rattle.any_index.specs.Side.{AreNodesOf};
 ghost use Rattle.container_model.specs.State.{is_sorted_kind};
 ghost use Rattle.container_model.specs.Find.{kind_at};
 ghost use Rattle.index_set.specs.Set as nodes;
-ghost use Rattle.index_set.specs.Set.{store_of, keys_of, specs_of, record_of, list_of, IsSound, IsKeyed};
-ghost use Rattle.index_set.specs.ByRow.{has_by_row, order_by_row, marks_by_row};
-ghost use Rattle.linked_set.specs.Edges.{node_edge, KeyFits, Rises};
-ghost use Rattle.linked_set.specs.Linked.{handle_of};
+ghost use Rattle.index_set.specs.Set.{store_of, keys_of, specs_of, list_of};
+ghost use Rattle.linked_set.specs.Edges.{node_edge, KeyFits};
 
-use crate::linked::handle_at;
-use container_model::{Entry, Handle};
+use container_model::Entry;
 use index_set::{ByRow, IndexSet, Nodes};
 use key_extract::Extract;
 use node_store::Node;
-use std::alloc::{AllocError, Global};
 use std::ops::Bound;
-
-/// The handles of the nodes of an index in order that stand between two bounds, in its order. O(log n + the handles
-/// answered).
-pub(crate) fn between<R, E: Extract<R>>(
-    alloc: Global,
-    set: &IndexSet<Entry<R>, ByRow<E>>,
-    index: usize,
-    low: Bound<&E::Probe>,
-    high: Bound<&E::Probe>,
-) -> Result<Vec<Handle>, AllocError>
-    requires sound { IsSound (has_by_row E.has_key) set.now }
-    requires index { index < length (specs_of set.now) }
-    requires kind { IsTrue (is_sorted_kind (nodes.kind_at set.now index)) }
-    requires low_fits { KeyFits (E.does_fit (keys_of set.now).keys index)
-        (bound_map (λ p. p.now) low) }
-    requires high_fits { KeyFits (E.does_fit (keys_of set.now).keys index)
-        (bound_map (λ p. p.now) high) }
-    requires keyed { IsKeyed (order_by_row E.order_of) (marks_by_row (marks_of E.Extract)) set.now }
-    requires low_rises { Rises (node_edge E.probe_order_of set.now index
-        (bound_map (λ p. p.now) low)) (list_of set.now index) }
-    requires high_rises { Rises (node_edge E.probe_order_of set.now index
-        (bound_map (λ p. p.now) high)) (list_of set.now index) }
-    ensures { IfOk result (λ handles. handles.items ≡ map (handle_of (record_of set.now))
-        (members_between (node_edge E.probe_order_of set.now index
-        (bound_map (λ p. p.now) low.entry)) (node_edge E.probe_order_of set.now index
-        (bound_map (λ p. p.now) high.entry)) (list_of set.now index))) }
-{
-    let mut handles = Vec::new(alloc);
-    let listed = set.at(index);
-    let mut next = up_to(set, index, first_from(set, index, low), high);
-    while let Some(node) = next {
-        handles.push(handle_at(set, node))?;
-        next = up_to(set, index, listed.next(node), high);
-    }
-    Ok(handles)
-}
 
 /// The first node of an index in order that stands within the low bound. O(log n).
 pub(crate) fn first_from<R, E: Extract<R>>(
@@ -63,11 +22,9 @@ pub(crate) fn first_from<R, E: Extract<R>>(
     index: usize,
     low: Bound<&E::Probe>,
 ) -> Option<Node>
-    requires sound { IsSound (has_by_row E.has_key) set.now }
     requires index { index < length (specs_of set.now) }
     requires kind { IsTrue (is_sorted_kind (nodes.kind_at set.now index)) }
     requires fits { KeyFits (E.does_fit (keys_of set.now).keys index) (bound_map (λ p. p.now) low) }
-    requires keyed { IsKeyed (order_by_row E.order_of) (marks_by_row (marks_of E.Extract)) set.now }
     ensures { result ≡ slice_get (list_of set.now index)
         (count_by
         (λ n. not
@@ -89,9 +46,7 @@ pub(crate) fn up_to<R, E: Extract<R>>(
     high: Bound<&E::Probe>,
 ) -> Option<Node>
     requires node { AreNodesOf (store_of set.now) node }
-    requires sound { IsSound (has_by_row E.has_key) set.now }
-    requires index { index < length (specs_of set.now) }
-    requires kind { IsTrue (is_sorted_kind (nodes.kind_at set.now index)) }
+    requires has { IsTrue (E.has_key (keys_of set.now).keys index) }
     requires fits { KeyFits (E.does_fit (keys_of set.now).keys index)
         (bound_map (λ p. p.now) high) }
     ensures { result ≡ option_and_then
@@ -115,17 +70,21 @@ fn is_up_to<R, E: Extract<R>>(
     high: Bound<&E::Probe>,
 ) -> bool
     requires node { IsNodeOf (store_of set.now) node }
-    requires sound { IsSound (has_by_row E.has_key) set.now }
-    requires index { index < length (specs_of set.now) }
-    requires kind { IsTrue (is_sorted_kind (nodes.kind_at set.now index)) }
+    requires has { IsTrue (E.has_key (keys_of set.now).keys index) }
     requires fits { KeyFits (E.does_fit (keys_of set.now).keys index)
         (bound_map (λ p. p.now) high) }
     ensures { result ≡ is_to (node_edge E.probe_order_of set.now index
         (bound_map (λ p. p.now) high.entry)) node }
 {
     match high {
-        Bound::Included(probe) => set.keys().order_probe(index, set.get(node), probe).is_le(),
-        Bound::Excluded(probe) => set.keys().order_probe(index, set.get(node), probe).is_lt(),
+        Bound::Included(probe) => set
+            .keys()
+            .order_probe(index, set.store().get(node), probe)
+            .is_le(),
+        Bound::Excluded(probe) => set
+            .keys()
+            .order_probe(index, set.store().get(node), probe)
+            .is_lt(),
         Bound::Unbounded => true,
     }
 }

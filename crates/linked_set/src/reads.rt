@@ -5,7 +5,7 @@ ghost use Rattle.container_model.specs.State.{has_places_kind, is_hashed_kind, i
 ghost use Rattle.container_model.specs.Find.{is_live, kind_at};
 ghost use Rattle.linked_set.specs.Records.{alone};
 
-use crate::beside::{last_of, node_after, node_before};
+use crate::beside::index_at;
 use crate::linked::{node_at, position_at};
 use crate::linked_set::LinkedSet;
 use container_model::{Handle, Why};
@@ -29,7 +29,10 @@ impl<R: Drop, E: Extract<R> + Drop> LinkedSet<R, E> {
         requires { IsTrue (not (is_hashed_kind (kind_at (alone self.now) index))) }
         ensures { result ≡ walk.last (list_at self.now.lists index) }
     {
-        position_at(&self.set, last_of(&self.set, index))
+        match index_at(&self.set, index) {
+            Some(listed) => position_at(&self.set, listed.last()),
+            None => None,
+        }
     }
 
     /// The place of a record, counted from 0, in an index whose places can be counted; a handle that names no record is
@@ -54,9 +57,12 @@ impl<R: Drop, E: Extract<R> + Drop> LinkedSet<R, E> {
         ensures { result ≡ cond (is_live (alone self.now) handle)
             (Ok (walk.next (is_handle handle) (list_at self.now.lists index))) (Err Why.Stale) }
     {
-        match node_at(&self.set, &self.slots, handle) {
-            Some(node) => Ok(position_at(&self.set, node_after(&self.set, index, node))),
-            None => Err(Why::Stale),
+        let Some(node) = node_at(&self.set, &self.slots, handle) else {
+            return Err(Why::Stale);
+        };
+        match index_at(&self.set, index) {
+            Some(listed) => Ok(position_at(&self.set, listed.next(node))),
+            None => Ok(None),
         }
     }
 
@@ -68,9 +74,12 @@ impl<R: Drop, E: Extract<R> + Drop> LinkedSet<R, E> {
         ensures { result ≡ cond (is_live (alone self.now) handle)
             (Ok (walk.prev (is_handle handle) (list_at self.now.lists index))) (Err Why.Stale) }
     {
-        match node_at(&self.set, &self.slots, handle) {
-            Some(node) => Ok(position_at(&self.set, node_before(&self.set, index, node))),
-            None => Err(Why::Stale),
+        let Some(node) = node_at(&self.set, &self.slots, handle) else {
+            return Err(Why::Stale);
+        };
+        match index_at(&self.set, index) {
+            Some(listed) => Ok(position_at(&self.set, listed.prev(node))),
+            None => Ok(None),
         }
     }
 }

@@ -1,13 +1,11 @@
 //! Handles that stand for each record once, and their nodes.
 ghost use Rattle.any_index.specs.Keyed.{marks_of};
-ghost use Rattle.std.specs.Prelude.{◌≡◌, ◌==◌, IsTrue, None, Some, IfOk, false, map, nat_eq};
+ghost use Rattle.std.specs.Prelude.{◌≡◌, IsTrue, None, Some, IfOk, false, map, nat_eq};
 ghost use Rattle.std.specs.List.{AllByRecursion, IsDistinct, list_all};
-ghost use Rattle.list_model.specs.Order.{EachPair};
 ghost use Rattle.container_model.specs.Find.{is_live};
 ghost use Rattle.container_model.specs.Sequence.{has_each_once};
 ghost use Rattle.node_store.specs.Store.{IsNodeOf};
-ghost use Rattle.index_set.specs.Set.{store_of, contents, record_of, IsSound};
-ghost use Rattle.index_set.specs.ByRow.{has_by_row};
+ghost use Rattle.index_set.specs.Set.{store_of, contents, record_of};
 ghost use Rattle.linked_set.specs.Linked.{handle_of, entries_in};
 ghost use Rattle.linked_set.specs.Seen.{seen, IsLinked};
 
@@ -57,16 +55,15 @@ pub(crate) fn all_live<R, E: Extract<R>, S: Nodes<Entry<R>, ByRow<E>>>(
 pub(crate) fn has_each_once<R, E: Extract<R>, S: Nodes<Entry<R>, ByRow<E>>>(
     alloc: Global,
     set: &S,
+    slots: &SlotTable<Node>,
     handles: &[Handle],
 ) -> Result<bool, AllocError>
-    requires sound { IsSound (has_by_row E.has_key) (S.parts set.now) }
-    requires apart { EachPair (λ a b. (b.handle.slot == a.handle.slot) ≡ false)
-        (entries_in (contents (S.parts set.now))) }
+    requires linked { IsLinked E.has_key E.order_of (marks_of E.Extract) (S.parts set.now) slots.now.items }
     requires live { IsTrue (list_all (λ h. is_live (seen (S.parts set.now) 0 0) h) handles.now) }
     ensures { IfOk result (λ once. once ≡ has_each_once (entries_in (contents (S.parts set.now)))
         handles.now) }
 {
-    if handles.len() != set.len() {
+    if handles.len() != set.store().len() {
         return Ok(false);
     }
     are_apart(alloc, handles)

@@ -1,25 +1,19 @@
 //! Where a key stands in an index.
-ghost use Rattle.any_index.specs.Keyed.{marks_of};
-ghost use Rattle.std.specs.Prelude.{◌≡◌, ◌<◌, IfOk, IsTrue, None, length};
+ghost use Rattle.std.specs.Prelude.{◌≡◌, IfOk};
 ghost use Rattle.std.specs.Range.Bound.{bound_map};
 ghost use Rattle.list_model.specs.Place as place;
 ghost use Rattle.list_model.specs.Place.{count_equal, find_equal};
-ghost use Rattle.container_model.specs.State.{has_key_kind, is_hashed_kind, is_ranked_kind, is_sorted_kind, list_at};
+ghost use Rattle.container_model.specs.State.{is_ranked_kind, is_sorted_kind, list_at};
 ghost use Rattle.container_model.specs.Find.{probe_side};
-ghost use Rattle.index_set.specs.Set as nodes;
-ghost use Rattle.index_set.specs.Set.{keys_of, specs_of, list_of, IsSound, IsKeyed, IsUniqueExcept};
 ghost use Rattle.linked_set.specs.Asked.{AreBoundsOf, CanFindBy, FitsAt};
-ghost use Rattle.index_set.specs.ByRow.{has_by_row, order_by_row, marks_by_row, probe_by_row};
 ghost use Rattle.linked_set.specs.Edges.{edge_of};
 ghost use Rattle.linked_set.specs.Records.{alone};
 
 use crate::linked::position_at;
 use crate::linked_set::LinkedSet;
-use crate::range::between;
-use container_model::{Entry, Handle, Kind};
-use index_set::{ByRow, IndexSet, Nodes};
+use container_model::{Handle, Kind};
+use index_set::Nodes;
 use key_extract::Extract;
-use node_store::Node;
 use std::alloc::AllocError;
 use std::ops::Bound;
 
@@ -32,7 +26,13 @@ impl<R: Drop, E: Extract<R> + Drop> LinkedSet<R, E> {
         ensures { result ≡ find_equal (probe_side E.probe_order_of (alone self.now) index probe.now)
             (list_at self.now.lists index) }
     {
-        position_at(&self.set, first_with(&self.set, index, probe))
+        let spec = &self.set.specs()[index];
+        let listed = self.set.at(index);
+        match (spec.kind, spec.unique) {
+            // No other record has the key, so the search need not go on.
+            (Kind::Hashed, true) => position_at(&self.set, listed.find_any(probe)),
+            _ => position_at(&self.set, listed.find(probe)),
+        }
     }
 
     /// How many records of an index with a key have this one. In O(log n) comparisons and that many steps in an ordered
@@ -107,33 +107,11 @@ impl<R: Drop, E: Extract<R> + Drop> LinkedSet<R, E> {
             (edge_of (probe_side E.probe_order_of (alone self.now) index)
             (bound_map (λ p. p.now) high.entry)) (list_at self.now.lists index)) }
     {
-        between(self.alloc, &self.set, index, low, high)
-    }
-}
-
-// The first node of the index that has the key. In a hashed index that is unique no other node has it, so that the search
-// need not go on behind it.
-fn first_with<R, E: Extract<R>>(
-    set: &IndexSet<Entry<R>, ByRow<E>>,
-    index: usize,
-    probe: &E::Probe,
-) -> Option<Node>
-    requires sound { IsSound (has_by_row E.has_key) set.now }
-    requires keyed { IsKeyed (order_by_row E.order_of) (marks_by_row (marks_of E.Extract)) set.now }
-    requires unique { IsUniqueExcept (order_by_row E.order_of) set.now None }
-    requires in_range { index < length (specs_of set.now) }
-    requires has { IsTrue (has_key_kind (nodes.kind_at set.now index)) }
-    requires fits { IsTrue (is_sorted_kind (nodes.kind_at set.now index)) →
-        IsTrue (E.does_fit (keys_of set.now).keys index probe.now) }
-    requires whole { IsTrue (is_hashed_kind (nodes.kind_at set.now index)) →
-        IsTrue (E.is_whole (keys_of set.now).keys index probe.now) }
-    ensures { result ≡ find_equal
-        (nodes.probe_side (probe_by_row E.probe_order_of) set.now index probe.now)
-        (list_of set.now index) }
-{
-    let spec = &set.specs()[index];
-    match (spec.kind, spec.unique) {
-        (Kind::Hashed, true) => set.at(index).find_any(probe),
-        _ => set.at(index).find(probe),
+        let mut handles = Vec::new(self.alloc);
+        let mut left = self.iter_range(index, low, high);
+        while let Some((handle, _)) = left.next() {
+            handles.push(handle)?;
+        }
+        Ok(handles)
     }
 }

@@ -24,7 +24,7 @@ pub(crate) fn in_order<R, E: Extract<R>, S: Nodes<Entry<R>, ByRow<E>>>(
     ensures { IfOk result (λ handles. handles.items ≡ map (handle_of (record_of (S.parts set.now)))
         (list_of (S.parts set.now) index)) }
 {
-    let mut handles = Vec::with_capacity(alloc, set.len())?;
+    let mut handles = Vec::with_capacity(alloc, set.store().len())?;
     let listed = set.at(index);
     let mut next = listed.first();
     while let Some(node) = next {
@@ -43,11 +43,12 @@ pub(crate) fn by_age<R, E: Extract<R>, S: Nodes<Entry<R>, ByRow<E>>>(
     ensures { IfOk result (λ handles. handles.items ≡ map (handle_of (record_of (S.parts set.now)))
         (nodes_in (contents (S.parts set.now)))) }
 {
-    let mut handles = Vec::with_capacity(alloc, set.len())?;
-    let mut next = set.newest();
+    let store = set.store();
+    let mut handles = Vec::with_capacity(alloc, store.len())?;
+    let mut next = store.newest();
     while let Some(node) = next {
         handles.push(handle_at(set, node))?;
-        next = set.older(node);
+        next = store.older(node);
     }
     handles.reverse();
     Ok(handles)
@@ -61,11 +62,12 @@ pub(crate) fn nodes_by_age<R, E: Extract<R>, S: Nodes<Entry<R>, ByRow<E>>>(
     requires { IsSound (has_by_row E.has_key) (S.parts set.now) }
     ensures { IfOk result (λ nodes. nodes.items ≡ nodes_in (contents (S.parts set.now))) }
 {
-    let mut nodes = Vec::with_capacity(alloc, set.len())?;
-    let mut next = set.newest();
+    let store = set.store();
+    let mut nodes = Vec::with_capacity(alloc, store.len())?;
+    let mut next = store.newest();
     while let Some(node) = next {
         nodes.push(node)?;
-        next = set.older(node);
+        next = store.older(node);
     }
     nodes.reverse();
     Ok(nodes)

@@ -19,4 +19,4 @@ pub returns-in_default : goal.returns-in_default
 returns-in_default g c =
     let has = λ (m : Node). is_eq (side_in g.E.Extract c.args.by.now c.args.store.now c.args.keys.now c.args.probe.now m) in
     let columns = columns_in c.args.store.now in
-    c.find.ensures ∙ (find_first has (list_of columns c.args.by.now) ∙ ap (λ l. slice_get (filter has l) 0) (sym (walk_listed columns c.args.by.now c.in_default.not-Hashed)))
+    (rw c.new.ensures at c.find.ensures) ∙ (find_first has (list_of columns c.args.by.now) ∙ ap (λ l. slice_get (filter has l) 0) (sym (walk_listed columns c.args.by.now c.in_default.not-Hashed)))

@@ -48,7 +48,7 @@ enter-requires-clause-goes g c = record {
 pub loop-index-preserved : goal.loop-index-preserved
 loop-index-preserved g c =
     let new = c.enter.ensures in
-    let step = steps_of new.sound new.rest.kind new.rest.col new.rest.index new.rest.others new.rest.contents in
+    let step = steps_of new.sound new.rest in
     let walk = c.loop-index.invariant.walk in
     let lt = c.loop-index-test.true in
     record {

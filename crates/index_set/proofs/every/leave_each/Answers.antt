@@ -28,7 +28,7 @@ leave-requires g c = record {
 pub loop-index-preserved : goal.loop-index-preserved
 loop-index-preserved g c =
     let new = c.leave.ensures in
-    let step = steps_of new.sound new.rest.kind new.rest.col new.rest.index new.rest.others new.rest.contents in
+    let step = steps_of new.sound new.rest in
     let walk = c.loop-index.invariant.walk in
     let lt = c.loop-index-test.true in
     record {

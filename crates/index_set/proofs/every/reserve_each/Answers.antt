@@ -19,7 +19,7 @@ reserve_one-requires g c = (c.loop-index.invariant.walk.placed.each c.loop-index
 pub loop-index-preserved : goal.loop-index-preserved
 loop-index-preserved g c =
     let new = c.reserve_one.ensures in
-    let step = steps_of new.sound new.rest.kind new.rest.col new.rest.index new.rest.others new.rest.contents in
+    let step = steps_of new.sound new.rest in
     let walk = c.loop-index.invariant.walk in
     let lt = c.loop-index-test.true in
     record {
@@ -45,18 +45,18 @@ returns-clause-keyed g c order marks h =
 pub returns-in_err-reserve_one-clause-placed : goal.returns-in_err-reserve_one-clause-placed
 returns-in_err-reserve_one-clause-placed g c =
     (walk_step _ c.args.store.now c.args.specs.now c.args.indices.now c.loop-index.index c.loop-index.store c.reserve_one.new.store c.loop-index.indices _ c.reserve_one.new.self c.loop-index-test.true c.loop-index.invariant.walk
-    (steps_of c.reserve_one.ensures.sound c.reserve_one.ensures.rest.kind c.reserve_one.ensures.rest.col c.reserve_one.ensures.rest.index c.reserve_one.ensures.rest.others c.reserve_one.ensures.rest.contents) c.reserve_one.ensures.rest.contents (λ e. c.reserve_one.ensures.list)).placed
+    (steps_of c.reserve_one.ensures.sound c.reserve_one.ensures.rest) c.reserve_one.ensures.rest.contents (λ e. c.reserve_one.ensures.list)).placed
 
 pub returns-in_err-reserve_one-clause-within : goal.returns-in_err-reserve_one-clause-within
 returns-in_err-reserve_one-clause-within g c =
     (walk_step _ c.args.store.now c.args.specs.now c.args.indices.now c.loop-index.index c.loop-index.store c.reserve_one.new.store c.loop-index.indices _ c.reserve_one.new.self c.loop-index-test.true c.loop-index.invariant.walk
-    (steps_of c.reserve_one.ensures.sound c.reserve_one.ensures.rest.kind c.reserve_one.ensures.rest.col c.reserve_one.ensures.rest.index c.reserve_one.ensures.rest.others c.reserve_one.ensures.rest.contents) c.reserve_one.ensures.rest.contents (λ e. c.reserve_one.ensures.list)).within
+    (steps_of c.reserve_one.ensures.sound c.reserve_one.ensures.rest) c.reserve_one.ensures.rest.contents (λ e. c.reserve_one.ensures.list)).within
 
 pub returns-in_err-reserve_one-clause-lists : goal.returns-in_err-reserve_one-clause-lists
 returns-in_err-reserve_one-clause-lists g c =
     same_walk c.args.store.now c.reserve_one.new.store c.args.specs.now c.args.indices.now _ (c.loop-index.index + 1) c.requires.one_each
     (walk_step _ c.args.store.now c.args.specs.now c.args.indices.now c.loop-index.index c.loop-index.store c.reserve_one.new.store c.loop-index.indices _ c.reserve_one.new.self c.loop-index-test.true c.loop-index.invariant.walk
-    (steps_of c.reserve_one.ensures.sound c.reserve_one.ensures.rest.kind c.reserve_one.ensures.rest.col c.reserve_one.ensures.rest.index c.reserve_one.ensures.rest.others c.reserve_one.ensures.rest.contents) c.reserve_one.ensures.rest.contents (λ e. c.reserve_one.ensures.list))
+    (steps_of c.reserve_one.ensures.sound c.reserve_one.ensures.rest) c.reserve_one.ensures.rest.contents (λ e. c.reserve_one.ensures.list))
 
 pub returns-in_err-reserve_one-clause-full : goal.returns-in_err-reserve_one-clause-full
 returns-in_err-reserve_one-clause-full g c =
@@ -70,5 +70,5 @@ returns-in_err-reserve_one-clause-keyed g c order marks h =
     record {
       each = all_keyed c.args.store.now c.reserve_one.new.store c.args.specs.now c.args.indices.now _ (c.loop-index.index + 1) order marks
           (keyed_step order marks (λ xs. xs) c.args.specs.now c.loop-index.index c.loop-index.store c.reserve_one.new.store c.loop-index.indices _ c.reserve_one.new.self c.loop-index-test.true c.loop-index.invariant.walk.placed
-          (steps_of new.sound new.rest.kind new.rest.col new.rest.index new.rest.others new.rest.contents) new.rest.contents here far);
+          (steps_of new.sound new.rest) new.rest.contents here far);
     }

@@ -38,7 +38,7 @@ settle_where-requires-clause-kept g c kept = c.loop-index.invariant.beside c.loo
 pub loop-index-preserved : goal.loop-index-preserved
 loop-index-preserved g c =
     let new = c.settle_where.ensures in
-    let step = steps_of new.sound new.rest.kind new.rest.col new.rest.index new.rest.others new.rest.contents in
+    let step = steps_of new.sound new.rest in
     let walk = c.loop-index.invariant.walk in
     let lt = c.loop-index-test.true in
     let order = g.E.Extract.order_of c.args.keys.now in

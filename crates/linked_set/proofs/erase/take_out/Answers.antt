@@ -1,13 +1,8 @@
 use Rattle.any_index.specs.Keyed.{marks_of}
 use Rattle.std.proofs.Common.{sym, subst}
 use Rattle.linked_set.specs.Seen.{IsLinked}
-use Rattle.linked_set.proofs.Left.{slot_taken, entries_shrunk, lists_shrunk, IsLinked_shrunk}
+use Rattle.linked_set.proofs.Left.{entries_shrunk, lists_shrunk, IsLinked_shrunk}
 use Rattle.linked_set.proofs.erase.take_out.Goals as goal
-
-pub release-requires : goal.release-requires
-release-requires g c =
-    let out = c.take-entry.ensures in
-    slot_taken g.E.Extract.has_key g.E.Extract.order_of (marks_of g.E.Extract) c.args.set.now c.take-entry.new.self c.args.slots.now.items c.requires.linked c.args.node c.requires.node c.take-entry.result out.value out.taken
 
 pub returns-clause-linked : goal.returns-clause-linked
 returns-clause-linked g c =

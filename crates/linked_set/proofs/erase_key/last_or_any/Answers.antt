@@ -1,17 +1,34 @@
-use Rattle.index_set.specs.Set.{kind_at}
+use Rattle.std.proofs.Common.{◌≡◌, ap, ◌∙◌, sym, rules}
+use Rattle.std.specs.declared.cmp.Ordering.TheVariants.{Equal}
+use Rattle.node_store.specs.Store.{IsNodeOf}
+use Rattle.any_index.specs.At.{list_in}
+use Rattle.index_set.specs.Set.{store_of, keys_of, record_of, kind_at}
 use Rattle.index_set.proofs.Reading.{has_its_key}
 use Rattle.index_set.proofs.Sinking.{by_key_kind}
-use Rattle.linked_set.proofs.Sinking.{each_held, if_some}
+use Rattle.linked_set.proofs.Places.{some_last}
+use Rattle.linked_set.proofs.Sinking.{each_held, side_said}
+use Rattle.linked_set.proofs.Sought.{all_told}
 use Rattle.linked_set.proofs.erase_key.last_or_any.Goals as goal
 
-pub last_of_key-last-requires-clause-has : goal.last_of_key-last-requires-clause-has
-last_of_key-last-requires-clause-has g c = has_its_key c.args.set.now c.requires.linked.sound c.args.index c.requires.index c.requires.kind
+pub get-requires : goal.get-requires
+get-requires g c = rw c.store.ensures (some_last (IsNodeOf (store_of c.args.set.now)) (list_in c.at.result) (all_told c.at.ensures c.requires.linked.sound) c.in-Some.node (sym c.last.ensures ∙ c.in-Some.is))
 
-pub last_of_key-last-requires-clause-fits : goal.last_of_key-last-requires-clause-fits
-last_of_key-last-requires-clause-fits g c =
-    by_key_kind (kind_at c.args.set.now c.args.index) c.requires.kind c.requires.fits
-    (λ hashed. g.met.E.Extract.whole_fits c.args.set.now.keys.keys c.args.index c.args.probe.now (has_its_key c.args.set.now c.requires.linked.sound c.args.index c.requires.index c.requires.kind) (c.requires.whole hashed))
+pub order_probe-requires-clause-has : goal.order_probe-requires-clause-has
+order_probe-requires-clause-has g c = rw c.keys.ensures (has_its_key c.args.set.now c.requires.linked.sound c.args.index c.requires.index c.requires.kind)
 
-pub returns-then-is_some-clause-found : goal.returns-then-is_some-clause-found
-returns-then-is_some-clause-found g c =
-    if_some c.last_of_key-last.result (λ n found. (each_held c.args.set.now c.requires.linked.sound c.requires.held n found.0 c.args.index c.requires.index, found.1)) c.last_of_key-last.ensures
+pub order_probe-requires-clause-fits : goal.order_probe-requires-clause-fits
+order_probe-requires-clause-fits g c =
+    let set = c.args.set.now in
+    let has = has_its_key set c.requires.linked.sound c.args.index c.requires.index c.requires.kind in
+    rw c.keys.ensures (by_key_kind (kind_at set c.args.index) c.requires.kind c.requires.fits (λ hashed. g.met.E.Extract.whole_fits (keys_of set).keys c.args.index c.args.probe.now has (c.requires.whole hashed)))
+
+pub returns-then-eq-clause-found : goal.returns-then-eq-clause-found
+returns-then-eq-clause-found g c =
+    let set = c.args.set.now in
+    let sound = c.requires.linked.sound in
+    let node = some_last (IsNodeOf (store_of set)) (list_in c.at.result) (all_told c.at.ensures sound) c.in-Some.node (sym c.last.ensures ∙ c.in-Some.is) in
+    let equal : c.order_probe.result ≡ Equal = search rules in (
+      each_held set sound c.requires.held c.in-Some.node node c.args.index c.requires.index,
+      side_said (record_of set) (λ a. g.E.Extract.probe_order_of (keys_of set).keys c.args.index a.row c.args.probe.now) c.in-Some.node c.get.result.now c.order_probe.result (rw c.store.ensures at c.get.ensures)
+          (c.order_probe.ensures ∙ ap (λ by. g.E.Extract.probe_order_of by.keys c.args.index c.get.result.now.row c.args.probe.now) c.keys.ensures) ∙ equal,
+    )

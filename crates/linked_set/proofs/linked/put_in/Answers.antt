@@ -3,7 +3,7 @@ use Rattle.std.proofs.Common.{◌∙◌, Result, Ok, Err, sym, ap, subst}
 use Rattle.std.specs.Prelude.{OnErr}
 use Rattle.node_store.proofs.ByNode.{added_kept}
 use Rattle.slot_table.specs.Slots.{first_free}
-use Rattle.index_set.specs.Set.{store_of, keys_of, specs_of, contents, record_of, lists_of}
+use Rattle.index_set.specs.Set.{store_of, keys_of, specs_of, record_of, lists_of}
 use Rattle.index_set.proofs.Members.{nodes_held}
 use Rattle.linked_set.specs.Linked.{handles_in}
 use Rattle.linked_set.specs.Seen.{IsLinked}
@@ -39,9 +39,6 @@ returns-clause-entries g c =
 pub returns-clause-lists : goal.returns-clause-lists
 returns-clause-lists g c =
     lists_grown g.E.Extract.has_key g.E.Extract.order_of (marks_of g.E.Extract) c.args.set.now c.put.new.self c.args.slots.now.items c.args.at c.in_ok-node.node c.args.entry c.requires.linked c.in_ok-node.ensures.put c.requires.slot
-
-pub returns-clause-count : goal.returns-clause-count
-returns-clause-count g c = c.in_ok-node.ensures.put.count
 
 pub returns-in_err-node-clause-linked : goal.returns-in_err-node-clause-linked
 returns-in_err-node-clause-linked g c =

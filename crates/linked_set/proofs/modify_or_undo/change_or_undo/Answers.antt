@@ -1,7 +1,5 @@
 use Rattle.any_index.specs.Keyed.{marks_of}
 use Rattle.std.proofs.Common.{◌≡◌, ◌∙◌, not, cond, None, Some, sym, ap}
-use Rattle.std.specs.Prelude.{option_map}
-use Rattle.container_model.specs.declared.handle.Entry.{Entry}
 use Rattle.container_model.specs.declared.refusal.Why.TheVariants.{Banned, Spent}
 use Rattle.index_set.specs.Set.{record_of}
 use Rattle.index_set.proofs.Held.{node_of_all}
@@ -34,9 +32,6 @@ told_banned g c =
 
 pub modify_or_undo_node-requires-clause-node : goal.modify_or_undo_node-requires-clause-node
 modify_or_undo_node-requires-clause-node g c = node_of_all c.args.set.now c.args.node c.requires.linked.sound c.requires.held
-
-pub modify_or_undo_node-requires-clause-undone : goal.modify_or_undo_node-requires-clause-undone
-modify_or_undo_node-requires-clause-undone g c index e lt key has = c.requires.undone index e.row lt key (ap (option_map (λ (x : Entry _). x.row)) has)
 
 pub returns-in_default-clause-linked : goal.returns-in_default-clause-linked
 returns-in_default-clause-linked g c = linked_tried (now g (goal.at.returns-in_default-clause-linked g c).After-modify_or_undo_node)

@@ -18,7 +18,7 @@ returns-then-place-len-clause-why g c =
     let s = store_of c.args.set.now in
     let linked = c.requires in
     let found = c.node_at.ensures.found c.in-Some.node c.in-Some.is in
-    let as_many : length (entries_in (contents c.args.set.now)) ≡ c.len.result = length-entries s linked.sound.nodes ∙ sym c.len.ensures in
+    let as_many : length (entries_in (contents c.args.set.now)) ≡ c.len.result = length-entries s linked.sound.nodes ∙ sym (rw c.store.ensures at c.len.ensures.len) in
     let past = c.if-place-len.true in
     sym (relocate_place (seen c.args.set.now 0 c.args.writes) c.args.index c.args.place c.args.handle (sym c.is_sequence.ensures ∙ c.if-not-is_sequence.false)
     (live_seen c.args.set.now c.args.slots.now.items linked c.args.handle c.in-Some.node found.0 found.1) (omega (arith, past, as_many)))
@@ -28,7 +28,7 @@ returns-then-is_spent-clause-why g c =
     let s = store_of c.args.set.now in
     let linked = c.requires in
     let found = c.node_at.ensures.found c.in-Some.node c.in-Some.is in
-    let as_many : length (entries_in (contents c.args.set.now)) ≡ c.len.result = length-entries s linked.sound.nodes ∙ sym c.len.ensures in
+    let as_many : length (entries_in (contents c.args.set.now)) ≡ c.len.result = length-entries s linked.sound.nodes ∙ sym (rw c.store.ensures at c.len.ensures.len) in
     let within = c.if-place-len.false in
     sym (relocate_spent (seen c.args.set.now 0 c.args.writes) c.args.index c.args.place c.args.handle (sym c.is_sequence.ensures ∙ c.if-not-is_sequence.false)
     (live_seen c.args.set.now c.args.slots.now.items linked c.args.handle c.in-Some.node found.0 found.1) (omega (arith, within, as_many)) (sym c.is_spent.ensures ∙ c.if-is_spent.true))
@@ -38,7 +38,7 @@ returns-clause-allowed g c =
     let s = store_of c.args.set.now in
     let linked = c.requires in
     let found = c.node_at.ensures.found c.in-Some.node c.in-Some.is in
-    let as_many : length (entries_in (contents c.args.set.now)) ≡ c.len.result = length-entries s linked.sound.nodes ∙ sym c.len.ensures in
+    let as_many : length (entries_in (contents c.args.set.now)) ≡ c.len.result = length-entries s linked.sound.nodes ∙ sym (rw c.store.ensures at c.len.ensures.len) in
     let within = c.if-place-len.false in
     relocate_allowed (seen c.args.set.now 0 c.args.writes) c.args.index c.args.place c.args.handle (sym c.is_sequence.ensures ∙ c.if-not-is_sequence.false)
     (live_seen c.args.set.now c.args.slots.now.items linked c.args.handle c.in-Some.node found.0 found.1) (omega (arith, within, as_many)) (sym c.is_spent.ensures ∙ c.if-is_spent.false)

@@ -11,13 +11,13 @@ use Rattle.list_model.proofs.Lists.{each_passes}
 
 pub returns-then-handles-len : goal.returns-then-handles-len
 returns-then-handles-len g c =
-    let as_many : length (entries_in (contents (g.S.Nodes.parts c.args.set.now))) ≡ c.len.result = length-entries (store_of (g.S.Nodes.parts c.args.set.now)) c.requires.sound.nodes ∙ sym c.len.ensures in
+    let as_many : length (entries_in (contents (g.S.Nodes.parts c.args.set.now))) ≡ c.len.result = length-entries (store_of (g.S.Nodes.parts c.args.set.now)) c.requires.linked.sound.nodes ∙ sym (rw c.store.ensures at c.len.ensures.len) in
     sym (not_as_many (entries_in (contents (g.S.Nodes.parts c.args.set.now))) c.args.handles.now (ne_eqb _ _ (λ same. c.if-handles-len.true (same ∙ as_many))))
 
 pub returns : goal.returns
 returns g c =
     let entries = entries_in (contents (g.S.Nodes.parts c.args.set.now)) in
-    let as_many : length entries ≡ c.len.result = length-entries (store_of (g.S.Nodes.parts c.args.set.now)) c.requires.sound.nodes ∙ sym c.len.ensures in
+    let as_many : length entries ≡ c.len.result = length-entries (store_of (g.S.Nodes.parts c.args.set.now)) c.requires.linked.sound.nodes ∙ sym (rw c.store.ensures at c.len.ensures.len) in
     once_if (has_each_once entries c.args.handles.now) c.are_apart.result c.are_apart.ensures.apart c.are_apart.ensures.twice
-    (each_once entries c.args.handles.now c.requires.apart (each_passes (λ h. is_live (seen (g.S.Nodes.parts c.args.set.now) 0 0) h) c.args.handles.now c.requires.live) (c.if-handles-len.false ∙ sym as_many))
-    (not_apart entries c.args.handles.now c.requires.apart)
+    (each_once entries c.args.handles.now c.requires.linked.apart (each_passes (λ h. is_live (seen (g.S.Nodes.parts c.args.set.now) 0 0) h) c.args.handles.now c.requires.live) (c.if-handles-len.false ∙ sym as_many))
+    (not_apart entries c.args.handles.now c.requires.linked.apart)

@@ -1,13 +1,7 @@
-use Rattle.std.proofs.Common.{length, map, [], sym, ap, ◌∙◌, arith}
+use Rattle.std.proofs.Common.{map, [], sym, ap, ◌∙◌, arith}
 use Rattle.std.proofs.lemmas.List.{length-map, get_or-map}
 use Rattle.linked_set.proofs.Restored.{filled_one, filled_lists, filled_indices, misfit_next}
 use Rattle.linked_set.proofs.restoring.fill_all.Goals as goal
-
-pub filled-requires-clause-linked : goal.filled-requires-clause-linked
-filled-requires-clause-linked g c = c.loop-index.invariant.linked
-
-pub filled-requires-clause-index : goal.filled-requires-clause-index
-filled-requires-clause-index g c = omega (arith, c.loop-index-test.true, c.requires.one_each, ap length c.loop-index.invariant.same.specs)
 
 pub loop-index-preserved : goal.loop-index-preserved
 loop-index-preserved g c =

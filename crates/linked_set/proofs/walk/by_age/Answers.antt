@@ -12,8 +12,8 @@ loop-next-init g c =
     let f = handle_of (record_of (g.S.Nodes.parts c.args.set.now)) in
     let newest = last_below (aged s) s.added in
     record {
-      nodes = λ m e. last_held s c.requires.nodes s.added m (sym c.newest-next.ensures ∙ e);
-      passed = subst (λ o. HasPassed f s o c.in_ok-handles.handles.items) (sym c.newest-next.ensures)
+      nodes = λ m e. last_held s c.requires.nodes s.added m (sym (rw c.store-store.ensures at c.newest-next.ensures) ∙ e);
+      passed = subst (λ o. HasPassed f s o c.in_ok-handles.handles.items) (sym (rw c.store-store.ensures at c.newest-next.ensures))
           (subst (HasPassed f s newest) (sym c.in_ok-handles.ensures.items) (none_passed s c.requires.nodes f));
     }
 
@@ -22,7 +22,7 @@ loop-next-smaller g c =
     let s = store_of (g.S.Nodes.parts c.args.set.now) in
     let k = age_of s c.in-Some.node in
     let few = fewer_left s c.requires.nodes k in
-    let now = ap (left s) c.older-next.ensures in
+    let now = ap (left s) (rw c.store-store.ensures at c.older-next.ensures) in
     let was = ap (left s) c.in-Some.is in
     omega (arith, few, now, was)
 
@@ -35,8 +35,8 @@ loop-next-preserved g c =
     let pushed : c.push.new.self.items ≡ met ++ f n ∷ [] = c.in_ok-push.ensures.items ∙ ap (λ h. met ++ h ∷ []) c.handle_at.ensures in
     let older = last_below (aged s) (age_of s n) in
     record {
-      nodes = λ m e. last_held s c.requires.nodes (age_of s n) m (sym c.older-next.ensures ∙ e);
-      passed = subst (λ o. HasPassed f s o c.push.new.self.items) (sym c.older-next.ensures)
+      nodes = λ m e. last_held s c.requires.nodes (age_of s n) m (sym (rw c.store-store.ensures at c.older-next.ensures) ∙ e);
+      passed = subst (λ o. HasPassed f s o c.push.new.self.items) (sym (rw c.store-store.ensures at c.older-next.ensures))
           (subst (HasPassed f s older) (sym pushed)
           (one_passed s c.requires.nodes f c.loop-next.next met n (c.loop-next.invariant.nodes n c.in-Some.is) c.in-Some.is c.loop-next.invariant.passed));
     }

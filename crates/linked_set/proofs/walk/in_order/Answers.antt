@@ -6,7 +6,6 @@ use Rattle.node_store.specs.ByNode.{same_node}
 use Rattle.node_store.specs.Nodes.{Holds}
 use Rattle.node_store.specs.Store.{IsNodeOf}
 use Rattle.any_index.proofs.Runs.{next_is}
-use Rattle.index_set.specs.At.{list_in}
 use Rattle.index_set.specs.Set.{store_of, record_of, list_of}
 use Rattle.index_set.proofs.Members.{nodes_held_at, distinct_at, Holds_at}
 use Rattle.linked_set.specs.Linked.{handle_of}
@@ -20,7 +19,7 @@ handle_at-requires g c =
 
 pub next-next-requires-clause-held : goal.next-next-requires-clause-held
 next-next-requires-clause-held g c =
-    subst (λ a. Holds (list_in a) c.in-Some.node) (sym c.at-listed.ensures)
+    subst (λ l. Holds l c.in-Some.node) (sym c.at-listed.ensures.list)
     (Holds_at (list_of (g.S.Nodes.parts c.args.set.now) c.args.index) (length c.loop-next.handles.items) c.in-Some.node (sym c.loop-next.invariant.place ∙ c.in-Some.is))
 
 pub loop-next-smaller : goal.loop-next-smaller
@@ -38,7 +37,7 @@ loop-next-preserved g c =
     let pushed : c.push.new.self.items ≡ met ++ f c.in-Some.node ∷ [] = c.in_ok-push.ensures.items ∙ ap (λ h. met ++ h ∷ []) c.handle_at.ensures in
     let more : length met + 1 ≡ length c.push.new.self.items = sym (ap length pushed ∙ length-append met (f c.in-Some.node ∷ [])) in
     record {
-      place = c.next-next.ensures ∙ ap (λ a. next (same_node c.in-Some.node) (list_in a)) c.at-listed.ensures ∙ next_is xs (length met) c.in-Some.node (distinct_at (g.S.Nodes.parts c.args.set.now) c.requires.sound c.args.index c.requires.index) here ∙ ap (slice_get xs) more;
+      place = c.next-next.ensures ∙ ap (next (same_node c.in-Some.node)) c.at-listed.ensures.list ∙ next_is xs (length met) c.in-Some.node (distinct_at (g.S.Nodes.parts c.args.set.now) c.requires.sound c.args.index c.requires.index) here ∙ ap (slice_get xs) more;
       met = subst (HasMet f xs) (sym pushed) (one_met f xs met c.in-Some.node here c.loop-next.invariant.met);
     }
 

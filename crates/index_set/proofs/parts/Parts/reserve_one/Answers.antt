@@ -1,39 +1,15 @@
-use Rattle.node_store.specs.ByNode.{columns_in}
 use Rattle.any_index.specs.Keyed.{marks_of}
-use Rattle.std.proofs.Common.{rules, ◌≡◌, ◌∙◌, ap, sym, subst, length}
-use Rattle.index_set.specs.Indices.{ArePlaced, AreWithin, AreKeyed}
-use Rattle.index_set.proofs.Refilled.{refilled}
-use Rattle.index_set.proofs.Stores.{IsStore_kept, columns_kept}
+use Rattle.std.proofs.Common.{rules}
+use Rattle.index_set.specs.Indices.{AreKeyed}
+use Rattle.index_set.proofs.Refilled.{sound_refilled, keyed_refilled}
 use Rattle.index_set.proofs.parts.Parts.reserve_one.Goals as goal
 
 pub returns-clause-sound : goal.returns-clause-sound
-returns-clause-sound g c =
-    let old = c.requires in
-    let placed = subst (λ ds. ArePlaced (columns_in c.reserve_each.new.store) ds c.reserve_each.new.indices) c.deref.ensures.value c.reserve_each.ensures.placed in
-    let was : AreWithin c.args.self.now.columns c.deref.result.now c.deref_mut.result.now = search rules in
-    let within = subst (λ ds. AreWithin c.args.self.now.columns ds c.reserve_each.new.indices) c.deref.ensures.value (c.reserve_each.ensures.within c.args.self.now.columns was) in
-    let same : length c.reserve_each.new.indices ≡ length c.args.self.now.indices.items =
-    c.reserve_each.ensures.placed.one_each ∙ (ap length c.deref.ensures.value ∙ sym c.requires.placed.one_each) in
-    let held : c.args.self.now.indices.len ≡ length c.args.self.now.indices.items = search rules in
-    record {
-      some = old.some;
-      few = old.few;
-      keys = old.keys;
-      placed = subst (λ z. ArePlaced (columns_in c.reserve_each.new.store) c.args.self.now.specs.items z) (sym (refilled c.args.self.now.indices.len c.args.self.now.indices.items c.reserve_each.new.indices held same)) placed;
-      nodes = IsStore_kept c.args.self.now.store c.reserve_each.new.store c.reserve_each.ensures.contents old.nodes;
-      columns = old.columns;
-      most = old.most;
-      within = subst (λ z. AreWithin c.args.self.now.columns c.args.self.now.specs.items z) (sym (refilled c.args.self.now.indices.len c.args.self.now.indices.items c.reserve_each.new.indices held same)) within;
-      wide = columns_kept c.args.self.now.store c.reserve_each.new.store c.reserve_each.ensures.contents old.wide;
-    }
+returns-clause-sound g c = sound_refilled c.args.self.now c.requires c.deref.result.now c.deref.ensures.value c.deref_mut.result.now c.deref_mut.ensures.value c.reserve_each.new.indices c.reserve_each.new.store c.reserve_each.ensures.placed c.reserve_each.ensures.within c.reserve_each.ensures.contents
 
 pub returns-clause-keyed : goal.returns-clause-keyed
 returns-clause-keyed g c h =
     let order = g.E.Extract.order_of c.args.self.now.keys in
     let marks = marks_of g.E.Extract c.args.self.now.keys in
     let was : AreKeyed order marks c.args.self.now.store c.deref.result.now c.deref_mut.result.now = search rules in
-    let now = subst (λ ds. AreKeyed order marks c.reserve_each.new.store ds c.reserve_each.new.indices) c.deref.ensures.value (c.reserve_each.ensures.keyed order marks was) in
-    let same : length c.reserve_each.new.indices ≡ length c.args.self.now.indices.items =
-    c.reserve_each.ensures.placed.one_each ∙ (ap length c.deref.ensures.value ∙ sym c.requires.placed.one_each) in
-    let held : c.args.self.now.indices.len ≡ length c.args.self.now.indices.items = search rules in
-    subst (λ z. AreKeyed order marks c.reserve_each.new.store c.args.self.now.specs.items z) (sym (refilled c.args.self.now.indices.len c.args.self.now.indices.items c.reserve_each.new.indices held same)) now
+    keyed_refilled c.args.self.now c.requires c.deref.result.now c.deref.ensures.value c.deref_mut.result.now c.deref_mut.ensures.value c.reserve_each.new.indices c.reserve_each.new.store c.reserve_each.ensures.placed order marks (c.reserve_each.ensures.keyed order marks was)

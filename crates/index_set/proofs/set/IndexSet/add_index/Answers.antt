@@ -1,24 +1,20 @@
-use Rattle.index_set.proofs.Reordered.{held_added, alike_refused}
-use Rattle.index_set.specs.Set.{IsAlike}
-use Rattle.std.specs.Prelude.{OnErr}
-use Rattle.index_set.specs.Added.{CanAdd}
-use Rattle.index_set.specs.declared.parts.Parts.{Parts}
-use Rattle.std.proofs.Common.{sym, subst}
+use Rattle.index_set.proofs.Joining.{grown_kept}
+use Rattle.index_set.proofs.Putting.{alike_kept}
 use Rattle.index_set.proofs.set.IndexSet.add_index.Goals as goal
-
-pub add_index-requires-clause-can : goal.add_index-requires-clause-can
-add_index-requires-clause-can g c = subst (λ (p : Parts _ _). CanAdd g.E.Extract p c.args.spec c.args.keys c.args.nodes.now) (sym c.self.view_is) c.requires
 
 pub invariant_of-self : goal.invariant_of-self
 invariant_of-self g c =
-    let old = c.self.inside.parts in
-    let made = c.add_index.ensures in
-    record { filed = record { sound = made.sound; keyed = made.keyed; unique = made.unique }; held = held_added g.E.Extract old c.add_index.new.self c.args.spec c.args.keys c.args.nodes.now (subst (λ (p : Parts _ _). CanAdd g.E.Extract p c.args.spec c.args.keys c.args.nodes.now) (sym c.self.view_is) c.requires).all made.contents c.self.invariant.held c.add_index.result made.lists made.same_lists }
+    let e = c.in-Ok.ensures in
+    grown_kept g.E.Extract c.self.invariant c.self.view_is c.args.spec c.args.keys c.args.nodes.now c.requires c.made_index.new.self e.sound e.same e.lists e.keyed e.contents e.fits c.in-Ok.made e.next
+    c.push_reserved.new.self c.push_reserved.ensures.items c.push_reserved-in-Ok.new.self c.push_reserved-in-Ok.ensures.items g.met.E.Extract.one_digest
 
-pub returns-clause-kept : goal.returns-clause-kept
-returns-clause-kept g c = invariant_of-self g c
+pub invariant_of-self-in-Err : goal.invariant_of-self-in-Err
+invariant_of-self-in-Err g c =
+    let e = c.in-Err.ensures in
+    alike_kept g.E.Extract c.self.inside.parts c.made_index.new.self c.self.invariant (record { same = e.same; contents = e.contents; lists = e.lists }) e.sound e.keyed
 
-pub returns-clause-unchanged : goal.returns-clause-unchanged
-returns-clause-unchanged g c =
-    let made = c.add_index.ensures in
-    subst (λ (p : Parts _ _). OnErr c.add_index.result (IsAlike p c.add_index.new.self)) c.self.view_is (alike_refused c.self.inside.parts c.add_index.new.self c.add_index.result made.contents made.same made.same_lists)
+pub returns-in-Ok-clause-kept : goal.returns-in-Ok-clause-kept
+returns-in-Ok-clause-kept g c = invariant_of-self g c
+
+pub returns-in-Err-clause-kept : goal.returns-in-Err-clause-kept
+returns-in-Err-clause-kept g c = invariant_of-self-in-Err g c

@@ -1,22 +1,18 @@
-use Rattle.index_set.proofs.Holding.{held_changed, held_removed}
-use Rattle.index_set.specs.Dropped.{CanDrop}
-use Rattle.index_set.specs.Set.{lists_of}
-use Rattle.index_set.specs.declared.parts.Parts.{Parts}
-use Rattle.std.proofs.Common.{sym, subst}
-use Rattle.std.specs.Prelude.{remove}
+use Rattle.index_set.proofs.Dropping.{rest_sound, shrunk_kept, shrunk_lists}
 use Rattle.index_set.proofs.set.IndexSet.drop_index.Goals as goal
 
-pub drop_index-requires-clause-can : goal.drop_index-requires-clause-can
-drop_index-requires-clause-can g c = subst (λ (p : Parts _ _). CanDrop g.E.Extract p c.args.index c.args.keys) (sym c.self.view_is) c.requires
+pub renumber_each-requires : goal.renumber_each-requires
+renumber_each-requires g c = rest_sound g.E.Extract c.self.invariant c.self.view_is c.args.index c.args.keys c.requires c.remove-2.new.self.items c.remove-2.ensures.items
 
 pub invariant_of-self : goal.invariant_of-self
 invariant_of-self g c =
-    let old = c.self.inside.parts in
-    let made = c.drop_index.ensures in
-    record {
-      filed = record { sound = made.sound; keyed = made.keyed; unique = made.unique };
-      held = held_changed old c.drop_index.new.self c.self.invariant.held (remove (lists_of old) c.args.index) made.lists made.contents (λ m is h. held_removed m (lists_of old) c.args.index h);
-    }
+    shrunk_kept g.E.Extract c.self.invariant c.self.view_is c.args.index c.args.keys c.requires c.remove-2.new.self.items c.remove-2.ensures.items
+    c.remove.new.self c.remove.ensures.items c.renumber_each.new.indices c.renumber_each.ensures.count c.renumber_each.ensures.each c.remove-2.result g.met.E.Extract.one_digest
 
 pub returns-clause-kept : goal.returns-clause-kept
 returns-clause-kept g c = invariant_of-self g c
+
+pub returns-clause-lists : goal.returns-clause-lists
+returns-clause-lists g c =
+    shrunk_lists g.E.Extract c.self.invariant c.self.view_is c.args.index c.args.keys c.requires c.remove-2.new.self.items c.remove-2.ensures.items
+    c.remove.new.self c.remove.ensures.items c.renumber_each.new.indices c.renumber_each.ensures.count c.renumber_each.ensures.each c.remove-2.result

@@ -1,20 +1,9 @@
-use Rattle.std.proofs.Common.{◌<◌, length, ◌∙◌, ap, sym, subst}
+use Rattle.std.proofs.Common.{◌∙◌, ap, sym, subst}
 use Rattle.container_model.specs.Indices.{with_index}
 use Rattle.linked_set.specs.Asked.{HasKeysWith}
 use Rattle.linked_set.specs.Records.{alone, state_of}
 use Rattle.linked_set.proofs.Listed.{by_outcome, both_ok, on_refusal, on_success, listed_same, listed_indexed, same_records}
 use Rattle.linked_set.proofs.linked_set.LinkedSet.add_index.Goals as goal
-
-pub add_index-requires : goal.add_index-requires
-add_index-requires g c =
-    let asked = subst (λ t. HasKeysWith g.E.Extract.has_key g.E.Extract.order_of g.E.Extract.hash_of (alone t) c.args.spec c.args.keys) (sym c.self.view_is) c.requires.keys in
-    record {
-      linked = c.self.invariant.linked;
-      room = subst (λ t. length t.specs < t.most) (sym c.self.view_is) c.requires.room;
-      keys = asked.keys;
-      orders = asked.orders;
-      hashes = asked.hashes;
-    }
 
 pub invariant_of-self : goal.invariant_of-self
 invariant_of-self g c =

@@ -1,19 +1,6 @@
-use Rattle.std.proofs.Common.{◌<◌, length, ◌∙◌, sym, subst}
-use Rattle.linked_set.specs.Asked.{HasKeysWith}
-use Rattle.linked_set.specs.Records.{alone}
+use Rattle.std.proofs.Common.{◌∙◌}
 use Rattle.linked_set.proofs.Listed.{listed_same, same_records}
 use Rattle.linked_set.proofs.linked_set.LinkedSet.check_index.Goals as goal
-
-pub check_index-why-requires : goal.check_index-why-requires
-check_index-why-requires g c =
-    let asked = subst (λ t. HasKeysWith g.E.Extract.has_key g.E.Extract.order_of g.E.Extract.hash_of (alone t) c.args.spec c.args.keys) (sym c.self.view_is) c.requires.keys in
-    record {
-      linked = c.self.invariant.linked;
-      room = subst (λ t. length t.specs < t.most) (sym c.self.view_is) c.requires.room;
-      keys = asked.keys;
-      orders = asked.orders;
-      hashes = asked.hashes;
-    }
 
 pub invariant_of-self : goal.invariant_of-self
 invariant_of-self g c =

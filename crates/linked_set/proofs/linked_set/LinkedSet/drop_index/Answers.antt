@@ -1,21 +1,9 @@
-use Rattle.std.proofs.Common.{◌<◌, ◌∙◌, length, ap, sym, subst}
+use Rattle.std.proofs.Common.{◌∙◌, ap, sym, subst}
 use Rattle.container_model.specs.Indices.{without_index}
 use Rattle.linked_set.specs.Asked.{HasKeysWithout}
 use Rattle.linked_set.specs.Records.{alone, state_of}
 use Rattle.linked_set.proofs.Listed.{listed_unindexed}
 use Rattle.linked_set.proofs.linked_set.LinkedSet.drop_index.Goals as goal
-
-pub drop_index-requires : goal.drop_index-requires
-drop_index-requires g c =
-    let asked = subst (λ t. HasKeysWithout g.E.Extract.has_key g.E.Extract.order_of g.E.Extract.hash_of (alone t) c.args.index c.args.keys) (sym c.self.view_is) c.requires.keys in
-    record {
-      linked = c.self.invariant.linked;
-      index = asked.index;
-      several = subst (λ t. 1 < length t.specs) (sym c.self.view_is) c.requires.several;
-      keys = asked.keys;
-      orders = asked.orders;
-      hashes = asked.hashes;
-    }
 
 pub invariant_of-self : goal.invariant_of-self
 invariant_of-self g c =

@@ -1,28 +1,16 @@
-use Rattle.std.proofs.Common.{◌∙◌, ap, refl, sym, subst}
+use Rattle.container_model.specs.State.{is_ranked_kind}
+use Rattle.std.proofs.Common.{refl}
 use Rattle.list_model.specs.Place.{find_rank}
-use Rattle.container_model.specs.State.{is_ranked_kind, list_at}
-use Rattle.container_model.specs.Find.{probe_side}
-use Rattle.index_set.specs.At.{list_in, side_in, IsLead}
-use Rattle.index_set.specs.ByRow.{by_row, probe_by_row}
-use Rattle.linked_set.specs.Asked.{FitsAt}
-use Rattle.linked_set.specs.Records.{alone, records_in}
 use Rattle.linked_set.proofs.Places.{find_rank_seen}
-use Rattle.linked_set.proofs.There.{index_there}
+use Rattle.index_set.proofs.Reading.{ranked_key}
+use Rattle.linked_set.proofs.Sought.{lead_ranked, sought}
 use Rattle.linked_set.proofs.linked_set.LinkedSet.find_rank.Goals as goal
 
-pub at-requires : goal.at-requires
-at-requires g c =
-    let asked = subst (λ r. FitsAt is_ranked_kind g.E.Extract.does_fit (alone r) c.args.index c.args.probe.now) (sym c.self.view_is) c.requires in
-    index_there is_ranked_kind (alone (records_in c.self.inside.set)) c.args.index refl asked.kind
-
 pub find_rank-requires : goal.find_rank-requires
-find_rank-requires g c =
-    let asked = subst (λ r. FitsAt is_ranked_kind g.E.Extract.does_fit (alone r) c.args.index c.args.probe.now) (sym c.self.view_is) c.requires in
-    subst (λ a. IsLead (by_row g.E.Extract) a is_ranked_kind c.args.probe.now) (sym c.at.ensures) (record { kind = asked.kind; fits = asked.fits })
+find_rank-requires g c = lead_ranked c.self.view_is c.at.ensures g.E.Extract c.args.probe.now c.requires
 
 pub returns : goal.returns
 returns g c =
     let order = g.E.Extract.probe_order_of in
-    (c.find_rank.ensures ∙ ap (λ a. find_rank (side_in (probe_by_row g.E.Extract.probe_order_of) a c.args.probe.now) (list_in a)) c.at.ensures)
-    ∙ (find_rank_seen c.self.inside.set c.self.inside.slots.items c.self.invariant.linked c.args.index order c.args.probe.now
-    ∙ ap (λ r. find_rank (probe_side order (alone r) c.args.index c.args.probe.now) (list_at r.lists c.args.index)) c.self.view_is)
+    let seen = find_rank_seen c.self.inside.set c.self.inside.slots.items c.self.invariant.linked c.args.index order c.args.probe.now in
+    sought c.self.view_is c.at.ensures order c.args.probe.now (λ n. n) find_rank find_rank seen is_ranked_kind ranked_key c.requires.kind c.find_rank.ensures refl

@@ -10,7 +10,7 @@ returns-in-Some-clause-row g c =
     let linked = c.self.invariant.linked in
     let found = c.node_at.ensures.found c.in-Some.node c.in-Some.is in
     ap (λ s. row_of s.entries c.args.handle) (sym c.self.view_is)
-    ∙ row_of_live (store_of c.self.inside.set) c.self.inside.slots.items linked.sound.nodes linked.leads linked.apart c.args.handle c.in-Some.node c.get.result.now found.0 found.1 c.get.ensures
+    ∙ row_of_live (store_of c.self.inside.set) c.self.inside.slots.items linked.sound.nodes linked.leads linked.apart c.args.handle c.in-Some.node c.get.result.now found.0 found.1 (rw c.store.ensures at c.get.ensures)
 
 pub returns-in-None-clause-none : goal.returns-in-None-clause-none
 returns-in-None-clause-none g c none =

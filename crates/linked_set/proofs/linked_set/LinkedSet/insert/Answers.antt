@@ -1,4 +1,4 @@
-use Rattle.std.proofs.Common.{◌≡◌, ℕ, ◌+◌, ◌<◌, ◌≤◌, ◌^◌, ◌∙◌, List, Option, None, Some, length, ap, sym, subst, arith}
+use Rattle.std.proofs.Common.{◌≡◌, ℕ, ◌<◌, ◌≤◌, ◌∙◌, List, Option, None, Some, length, ap, sym, subst, arith}
 use Rattle.std.specs.Prelude.{IfSome, unwrap_or}
 use Rattle.std.specs.declared.cmp.Ordering.{Ordering}
 use Rattle.node_store.specs.declared.Node.{Node}
@@ -16,7 +16,7 @@ use Rattle.linked_set.specs.Seen.{seen}
 use Rattle.linked_set.proofs.Entered.{inserted_there}
 use Rattle.linked_set.proofs.LeadsTo.{free_slot-is_first_free}
 use Rattle.linked_set.proofs.Whole.{as_many}
-use Rattle.linked_set.proofs.Written.{not_banned, listed_entered, listed_after, records_kept, seen_inserted}
+use Rattle.linked_set.proofs.Written.{not_banned, listed_entered, listed_after, seen_inserted}
 use Rattle.linked_set.proofs.linked_set.LinkedSet.insert.Goals as goal
 
 -- what is known of where a row goes is so
@@ -29,18 +29,11 @@ returns-in-Err-clause-why g c =
     let order = g.E.Extract.order_of in
     sym (ap (λ o. unwrap_or o Memory) ((λ i. kept_out order (sym c.self.view_is i) None (sym (ap (λ e. e.row) c.entry-entry.ensures) i) c.args.limit) ∙ c.in-Err.ensures.why))
 
-pub put_in-requires-clause-count : goal.put_in-requires-clause-count
-put_in-requires-clause-count g c =
-    subst (λ r. r.added + 1 < 2 ^ 64) (sym c.self.view_is) (c.requires.room.count (not_banned _ _ c.in-Ok.ensures.allowed).1)
-
 pub put_in-requires-clause-slot : goal.put_in-requires-clause-slot
 put_in-requires-clause-slot g c =
     let linked = c.self.invariant.linked in
     ap (λ e. e.handle.slot) c.entry-entry.ensures
     ∙ (ap (λ r. free_slot r.entries) (sym c.self.view_is) ∙ free_slot-is_first_free (store_of c.self.inside.set) c.self.inside.slots.items linked.sound.nodes linked.leads)
-
-pub put_in-requires-clause-allowed : goal.put_in-requires-clause-allowed
-put_in-requires-clause-allowed g c = (not_banned _ _ c.in-Ok.ensures.allowed).0
 
 pub put_in-requires-clause-place : goal.put_in-requires-clause-place
 put_in-requires-clause-place g c j p e =
@@ -105,12 +98,6 @@ returns-clause-ok g c max writes is =
       | goal.in-Err-put_in w ↦ rw w.result-is tt
     ]
 
-pub returns-clause-count : goal.returns-clause-count
-returns-clause-count g c = elim c.match-put_in.branch [
-  | goal.in-Ok-put_in w ↦ rw w.result-is (w.in-Ok-put_in.ensures.count ∙ ap (λ r. r.added + 1) c.self.view_is)
-  | goal.in-Err-put_in w ↦ rw w.result-is tt
-]
-
 pub returns-clause-why : goal.returns-clause-why
 returns-clause-why g c =
     let row = ap (λ e. e.row) c.entry-entry.ensures in
@@ -119,17 +106,3 @@ returns-clause-why g c =
       | goal.in-Ok-put_in w ↦ rw w.result-is tt
       | goal.in-Err-put_in w ↦ rw w.result-is (sym (ap (λ o. unwrap_or o Memory) allowed))
     ]
-
-pub returns-clause-handed_back : goal.returns-clause-handed_back
-returns-clause-handed_back g c = elim c.match-put_in.branch [
-  | goal.in-Ok-put_in w ↦ rw w.result-is tt
-  | goal.in-Err-put_in w ↦ rw w.result-is (ap (λ e. Some e.row) (w.in-Err-put_in.ensures.returned ∙ c.entry-entry.ensures))
-]
-
-pub returns-clause-unchanged : goal.returns-clause-unchanged
-returns-clause-unchanged g c = elim c.match-put_in.branch [
-  | goal.in-Ok-put_in w ↦ rw w.result-is tt
-  | goal.in-Err-put_in w ↦
-      let put = w.in-Err-put_in.ensures in
-      rw w.result-is (records_kept c.self.inside.set c.put_in.new.set put.same put.same_entries put.same_lists put.same_count ∙ c.self.view_is)
-]

@@ -1,7 +1,7 @@
 use Rattle.any_index.specs.Keyed.{marks_of}
 use Rattle.std.proofs.Common.{ap, sym, subst}
 use Rattle.linked_set.specs.Records.{IsWhole}
-use Rattle.linked_set.proofs.Made.{IsWhole-made, seen_made, none_added}
+use Rattle.linked_set.proofs.Made.{IsWhole-made, seen_made}
 use Rattle.linked_set.proofs.linked_set.LinkedSet.new.Goals as goal
 
 pub invariant_of-result : goal.invariant_of-result
@@ -15,8 +15,3 @@ pub returns-clause-made : goal.returns-clause-made
 returns-clause-made g c =
     let made = c.in_ok-new.ensures in
     seen_made c.in_ok-new.field-0 c.args.most c.args.keys c.args.specs.items made.lists made.empty (ap (λ by. by.keys) made.keys) made.specs made.columns 0 0
-
-pub returns-clause-none : goal.returns-clause-none
-returns-clause-none g c =
-    let made = c.in_ok-new.ensures in
-    none_added c.in_ok-new.field-0 c.args.most c.args.keys c.args.specs.items made.lists made.empty (ap (λ by. by.keys) made.keys) made.specs made.columns

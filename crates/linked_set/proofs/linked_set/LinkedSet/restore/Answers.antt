@@ -5,6 +5,3 @@ pub invariant_of-result : goal.invariant_of-result
 invariant_of-result g c =
     let e = c.in-Ok.ensures in
     record { linked = e.linked; listed = listed_by g.E.Extract.order_of c.in-Ok.set 0 0 _ (e.seen 0 0) e.fits }
-
-pub returns-in-Ok-clause-made : goal.returns-in-Ok-clause-made
-returns-in-Ok-clause-made g c = c.in-Ok.ensures.seen

@@ -22,10 +22,6 @@ keeps_out-requires-clause-held g c =
     let name = named_at c.self.inside.set c.self.inside.slots.items c.self.invariant.linked c.args.handle c.in-Some.node (c.node_at.ensures.found c.in-Some.node c.in-Some.is) in
     (all_held c.self.inside.set c.self.inside.slots.items c.self.invariant).each c.in-Some.node name.node
 
-pub keeps_out-requires-clause-handle : goal.keeps_out-requires-clause-handle
-keeps_out-requires-clause-handle g c =
-    (named_at c.self.inside.set c.self.inside.slots.items c.self.invariant.linked c.args.handle c.in-Some.node (c.node_at.ensures.found c.in-Some.node c.in-Some.is)).own
-
 pub returns-in-Some-keeps_out-clause-why : goal.returns-in-Some-keeps_out-clause-why
 returns-in-Some-keeps_out-clause-why g c =
     let order = g.E.Extract.order_of in
@@ -38,13 +34,6 @@ pub rewrite-requires-clause-held : goal.rewrite-requires-clause-held
 rewrite-requires-clause-held g c =
     let name = named_at c.self.inside.set c.self.inside.slots.items c.self.invariant.linked c.args.handle c.in-Some.node (c.node_at.ensures.found c.in-Some.node c.in-Some.is) in
     (all_held c.self.inside.set c.self.inside.slots.items c.self.invariant).each c.in-Some.node name.node
-
-pub rewrite-requires-clause-handle : goal.rewrite-requires-clause-handle
-rewrite-requires-clause-handle g c =
-    (named_at c.self.inside.set c.self.inside.slots.items c.self.invariant.linked c.args.handle c.in-Some.node (c.node_at.ensures.found c.in-Some.node c.in-Some.is)).own
-
-pub rewrite-requires-clause-allowed : goal.rewrite-requires-clause-allowed
-rewrite-requires-clause-allowed g c = (not_banned _ _ (sym c.keeps_out.ensures ∙ c.in_default-keeps_out.is)).0
 
 pub invariant_of-self : goal.invariant_of-self
 invariant_of-self g c =

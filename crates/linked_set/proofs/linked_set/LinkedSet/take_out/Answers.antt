@@ -1,9 +1,9 @@
-use Rattle.std.proofs.Common.{◌≡◌, ◌∙◌, cond, Some, ap, sym, subst}
-use Rattle.std.specs.Prelude.{IfSome, IsTrue, not, option_and_then}
+use Rattle.std.proofs.Common.{◌≡◌, ◌∙◌, true, cond, Some, ap, sym, subst}
+use Rattle.std.specs.Prelude.{not}
 use Rattle.container_model.specs.declared.refusal.Why.TheVariants.{Stale}
-use Rattle.container_model.specs.State.{is_handle, is_hashed_kind, row_of}
-use Rattle.container_model.specs.Find.{is_live, kind_at}
-use Rattle.container_model.specs.Change.{next_in, with_erased}
+use Rattle.container_model.specs.State.{is_handle, row_of}
+use Rattle.container_model.specs.Find.{is_live}
+use Rattle.container_model.specs.Change.{with_erased}
 use Rattle.container_model.proofs.Erased.{AreIndices-only}
 use Rattle.container_model.proofs.Found.{is_handle_same}
 use Rattle.index_set.specs.Set.{store_of, keys_of, specs_of, contents, record_of, lists_of}
@@ -11,8 +11,8 @@ use Rattle.linked_set.specs.Linked.{entries_in, handles_in}
 use Rattle.linked_set.specs.Records.{alone, state_of}
 use Rattle.linked_set.proofs.Contents.{handle_of-is}
 use Rattle.linked_set.proofs.LeadsTo.{row_of_live}
-use Rattle.linked_set.proofs.Live.{stale_seen}
-use Rattle.linked_set.proofs.Named.{named_at, next_named}
+use Rattle.linked_set.proofs.Live.{live_seen, stale_seen}
+use Rattle.linked_set.proofs.Named.{named_at}
 use Rattle.linked_set.proofs.Seen.{seen_only}
 use Rattle.linked_set.proofs.Whole.{all_held, is_there}
 use Rattle.linked_set.proofs.Written.{listed_after}
@@ -28,14 +28,10 @@ returns-in-Some-limit-clause-why g c =
     let name = named_at c.self.inside.set c.self.inside.slots.items c.self.invariant.linked c.args.handle c.in-Some.node (c.node_at.ensures.found c.in-Some.node c.in-Some.is) in
     sym (ap (λ r. cond (is_live (alone r) c.args.handle) c.args.limit (Some Stale)) (sym c.self.view_is) ∙ (ap (λ b. cond b c.args.limit (Some Stale)) (is_there name.row) ∙ c.in-Some-limit.is))
 
-pub next_at-next-requires-clause-kind : goal.next_at-next-requires-clause-kind
-next_at-next-requires-clause-kind g c =
-    subst (λ r. IfSome c.args.index (λ i. IsTrue (not (is_hashed_kind (kind_at (alone r) i))))) (sym c.self.view_is) c.requires
-
-pub next_at-next-requires-clause-held : goal.next_at-next-requires-clause-held
-next_at-next-requires-clause-held g c =
+pub next_of-next-requires-clause-live : goal.next_of-next-requires-clause-live
+next_of-next-requires-clause-live g c =
     let found = c.node_at.ensures.found c.in-Some.node c.in-Some.is in
-    (all_held c.self.inside.set c.self.inside.slots.items c.self.invariant).each c.in-Some.node (c.self.invariant.linked.leads.slot_of c.args.handle.slot c.in-Some.node found.0).0
+    subst (λ r. is_live (alone r) c.args.handle ≡ true) c.self.view_is (live_seen c.self.inside.set c.self.inside.slots.items c.self.invariant.linked c.args.handle c.in-Some.node found.0 found.1)
 
 pub take_out-entry-requires-clause-held : goal.take_out-entry-requires-clause-held
 take_out-entry-requires-clause-held g c = all_held c.self.inside.set c.self.inside.slots.items c.self.invariant
@@ -61,14 +57,6 @@ returns-clause-row g c =
     let found = c.node_at.ensures.found c.in-Some.node c.in-Some.is in
     ap (λ s. row_of s.entries c.args.handle) (sym c.self.view_is)
     ∙ row_of_live (store_of c.self.inside.set) c.self.inside.slots.items linked.sound.nodes linked.leads linked.apart c.args.handle c.in-Some.node c.take_out-entry.result found.0 found.1 c.take_out-entry.ensures.record
-
-pub returns-clause-next : goal.returns-clause-next
-returns-clause-next g c =
-    let set = c.self.inside.set in
-    let found = c.node_at.ensures.found c.in-Some.node c.in-Some.is in
-    c.next_at-next.ensures
-    ∙ (next_named set c.self.inside.slots.items c.self.invariant.linked c.args.handle c.in-Some.node found.0 found.1 c.args.index
-    ∙ ap (λ r. option_and_then (λ i. next_in (alone r) i c.args.handle) c.args.index) c.self.view_is)
 
 pub returns-clause-left : goal.returns-clause-left
 returns-clause-left g c max writes =

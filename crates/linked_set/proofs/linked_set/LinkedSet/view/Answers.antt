@@ -1,4 +1,4 @@
-use Rattle.std.proofs.Common.{◌≡◌, ◌<◌, ◌≤◌, ◌∙◌, List, get_or, true, length, ap, sym, arith}
+use Rattle.std.proofs.Common.{◌≡◌, ◌<◌, ◌∙◌, List, get_or, true, length, ap, sym, arith}
 use Rattle.std.proofs.lemmas.Result.{IfOk-weaker}
 use Rattle.container_model.specs.declared.handle.Spec.{Spec}
 use Rattle.container_model.specs.State.{is_hashed_kind, list_at}
@@ -7,15 +7,7 @@ use Rattle.index_set.proofs.Reading.{some_spec}
 use Rattle.linked_set.specs.Records.{records_in}
 use Rattle.linked_set.proofs.Contents.{handles_by_age}
 use Rattle.linked_set.proofs.Indices.{index_here}
-use Rattle.linked_set.proofs.Reading.{list_seen}
-use Rattle.linked_set.proofs.There.{list_past}
 use Rattle.linked_set.proofs.linked_set.LinkedSet.view.Goals as goal
-
-pub returns-then-specs-index : goal.returns-then-specs-index
-returns-then-specs-index g c =
-    let r = records_in c.self.inside.set in
-    let past : length r.specs ≤ c.args.index = omega (arith, c.if-specs-index.true, ap length c.specs-specs.ensures) in
-    c.new.ensures.items ∙ (sym (list_past (g.E.Extract.order_of r.keys) r.entries 0 r.specs r.lists c.args.index c.self.invariant.listed past) ∙ ap (λ t. list_at t.lists c.args.index) c.self.view_is)
 
 pub returns-in-Hashed : goal.returns-in-Hashed
 returns-in-Hashed g c =
