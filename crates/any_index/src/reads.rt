@@ -4,11 +4,12 @@ ghost use Rattle.container_model.specs.State.{has_places_kind, is_hashed_kind};
 ghost use Rattle.list_model.specs.Walk.{place_of as the_place, next as the_next, prev as the_prev, last as the_last};
 ghost use Rattle.node_store.specs.ByNode.{same_node};
 ghost use Rattle.any_index.specs.Spelled.{Holds};
+ghost use Rattle.any_index.specs.Stored.{HasNodeOfKind, nodes_of};
 
 use crate::at::IndexRef;
 use crate::index::AnyIndex;
 use key_extract::Extract;
-use node_store::Node;
+use node_store::{Node, NodeStore};
 
 impl<'a, R, E: Extract<R>> IndexRef<'a, R, E> {
     ghost use Rattle.any_index.specs.At.{list_in, kind_in};
@@ -49,13 +50,7 @@ impl<'a, R, E: Extract<R>> IndexRef<'a, R, E> {
         requires held { Holds (list_in self.now) n }
         ensures { result ≡ the_next (same_node n) (list_in self.now) }
     {
-        match self.index {
-            AnyIndex::Sequenced(sequence) => return sequence.next(self.store, n),
-            AnyIndex::Random(row) => return row.next(self.store, n),
-            AnyIndex::Ordered(tree) => tree.next(self.store, n),
-            AnyIndex::Ranked(tree) => tree.next(self.store, n),
-            AnyIndex::Hashed(_) => unreachable!(),
-        }
+        node_after(self.index, self.store, n)
     }
 
     /// The node of the index before `n`, or `None` at the front. The costs are those of `next`. A hashed one has no such
@@ -66,13 +61,7 @@ impl<'a, R, E: Extract<R>> IndexRef<'a, R, E> {
         requires held { Holds (list_in self.now) n }
         ensures { result ≡ the_prev (same_node n) (list_in self.now) }
     {
-        match self.index {
-            AnyIndex::Sequenced(sequence) => return sequence.prev(self.store, n),
-            AnyIndex::Random(row) => return row.prev(self.store, n),
-            AnyIndex::Ordered(tree) => tree.prev(self.store, n),
-            AnyIndex::Ranked(tree) => tree.prev(self.store, n),
-            AnyIndex::Hashed(_) => unreachable!(),
-        }
+        node_before(self.index, self.store, n)
     }
 
     /// The node at a place of the index, counted from 0, or `None` past the end: O(log n) in a ranked index, O(1) in a
@@ -102,5 +91,33 @@ impl<'a, R, E: Extract<R>> IndexRef<'a, R, E> {
             AnyIndex::Ranked(tree) => rank_tree::rank(tree, self.store, n),
             AnyIndex::Sequenced(_) | AnyIndex::Ordered(_) | AnyIndex::Hashed(_) => unreachable!(),
         }
+    }
+}
+
+// The node after `n`. Three words go from step to step of a walk, and no struct in memory.
+fn node_after<R>(index: &AnyIndex, store: &NodeStore<R>, n: Node) -> Option<Node>
+    requires { HasNodeOfKind (λ kind. not (is_hashed_kind kind)) index.now store.now n }
+    ensures { result ≡ the_next (same_node n) (nodes_of index.now store.now) }
+{
+    match index {
+        AnyIndex::Sequenced(sequence) => return sequence.next(store, n),
+        AnyIndex::Random(row) => return row.next(store, n),
+        AnyIndex::Ordered(tree) => tree.next(store, n),
+        AnyIndex::Ranked(tree) => tree.next(store, n),
+        AnyIndex::Hashed(_) => unreachable!(),
+    }
+}
+
+// The node before `n`.
+fn node_before<R>(index: &AnyIndex, store: &NodeStore<R>, n: Node) -> Option<Node>
+    requires { HasNodeOfKind (λ kind. not (is_hashed_kind kind)) index.now store.now n }
+    ensures { result ≡ the_prev (same_node n) (nodes_of index.now store.now) }
+{
+    match index {
+        AnyIndex::Sequenced(sequence) => return sequence.prev(store, n),
+        AnyIndex::Random(row) => return row.prev(store, n),
+        AnyIndex::Ordered(tree) => tree.prev(store, n),
+        AnyIndex::Ranked(tree) => tree.prev(store, n),
+        AnyIndex::Hashed(_) => unreachable!(),
     }
 }
