@@ -1,5 +1,5 @@
 -- What a borrowed index of a set asks for and answers, in the words of its set.
-use Rattle.std.proofs.Common.{◌≡◌, ℕ, Bool, List, get_or, refl, sym, ap, ◌∙◌, subst, ◌<◌, length}
+use Rattle.std.proofs.Common.{◌≡◌, ℕ, Bool, List, get_or, refl, sym, subst, ◌<◌, length}
 use Rattle.std.specs.Prelude.{IsTrue}
 use Rattle.std.specs.declared.cmp.Ordering.{Ordering}
 use Rattle.key_extract.specs.declared.extract.Extract.{Ghosts}

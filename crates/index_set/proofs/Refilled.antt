@@ -9,8 +9,8 @@ use Rattle.node_store.specs.Store.{Store}
 use Rattle.container_model.specs.declared.handle.Spec.{Spec}
 use Rattle.any_index.specs.declared.index.AnyIndex.{AnyIndex}
 use Rattle.index_set.specs.declared.parts.Parts.{Parts}
-use Rattle.index_set.specs.Indices.{ArePlaced, AreWithin, AreKeyed}
-use Rattle.index_set.specs.Set.{specs_of, IsSound}
+use Rattle.index_set.specs.Indices.{ArePlaced, AreWithin, AreKeyed, lists_in}
+use Rattle.index_set.specs.Set.{specs_of, lists_of, IsSound}
 use Rattle.index_set.proofs.Stores.{IsStore_kept, columns_kept}
 
 -- a vector whose items were written through a slice of all of them has these
@@ -38,3 +38,6 @@ module _ {R E : Type 0} {has_key : E → ℕ → Bool} (s : Parts R E) (old : Is
 
   pub keyed_refilled : (order : ℕ → R → R → Ordering) (marks : ℕ → R → Marks) → AreKeyed order marks t specs is → AreKeyed order marks t (specs_of s) (with_items s.indices is).items
   keyed_refilled order marks h = subst (λ T. T) (λ i. AreKeyed order marks t (told i) (sym here i)) h
+
+  pub lists_refilled : lists_of (record s { store = t; indices = with_items s.indices is }) ≡ lists_in (columns_in t) is
+  lists_refilled = ap (lists_in (columns_in t)) here

@@ -1,7 +1,7 @@
 //! The parts of a set, and the steps that its calls are made of. Between two steps a node may stand in no index, and a
 //! record may have other keys than the indices go by.
 ghost use Rattle.any_index.specs.Keyed.{marks_of};
-ghost use Rattle.std.specs.Prelude.{◌≡◌, ◌+◌, ◌≤◌, ◌<◌, ◌^◌, ℕ, map, length, Some, None, IfOk, IfErr, IfSome, OnOk, OnErr};
+ghost use Rattle.std.specs.Prelude.{◌≡◌, ◌+◌, ◌<◌, ◌^◌, ℕ, map, Some, None, IfOk, IfErr, OnOk, OnErr};
 ghost use Rattle.list_model.specs.Walk.{without};
 ghost use Rattle.node_store.specs.Store.{IsNodeOf, age_of, len_of};
 ghost use Rattle.node_store.specs.ByNode.{AddsNode, RemovesNode, same_node};
@@ -9,18 +9,16 @@ ghost use Rattle.any_index.specs.Side.{AreNodesOf};
 ghost use Rattle.index_set.specs.Changed.{may_differ, differs};
 ghost use Rattle.index_set.specs.Each.{changed_from};
 ghost use Rattle.index_set.specs.Indices.{LackIt, HoldIt};
-ghost use Rattle.index_set.specs.Lists.{entered_at, settled_at, ban_from};
-ghost use Rattle.index_set.specs.Places.{IsPlaceAt};
+ghost use Rattle.index_set.specs.Lists.{settled_at, ban_from};
 
 use crate::bans::first_ban;
 use crate::changed::Changed;
-use crate::every::{enter_each, leave_each, reserve_each, settle_each};
-use crate::places::FreePlace;
+use crate::every::{leave_each, settle_each};
 use any_index::AnyIndex;
 use container_model::Spec;
 use key_extract::Extract;
 use node_store::{NoRoom, Node, NodeStore};
-use std::alloc::{AllocError, Global};
+use std::alloc::Global;
 
 /// Records under one to eight indices, each of which may have any of its nodes. Each goes through a column of the store of
 /// its own, one of the first `columns`.
@@ -82,54 +80,6 @@ impl<R: Drop, E: Extract<R>> Parts<R, E> {
 impl<R, E: Extract<R>> Parts<R, E> {
     ghost use Rattle.index_set.specs.Asked.{IsFiledBut};
     ghost use Rattle.index_set.specs.Set.{store_of, keys_of, specs_of, contents, record_of, lists_of, list_of, HasRoom, IsSound, IsKeyed, IsKeyedBut, IsKeyedExcept, IsUniqueExcept, HasKeysOf, IsRestored, IsKeyedBeside, IsFreeBeside, IsOfSame, with_record};
-
-    /// Makes room for one more node in each index. Where memory is refused, the lists are as before. O(indices) on
-    /// average over many insertions.
-    pub(crate) fn reserve_one(&mut self) -> Result<(), AllocError>
-        requires { IsSound E.has_key self.old }
-        ensures sound { IsSound E.has_key self.new }
-        ensures same { IsOfSame self.old self.new }
-        ensures lists { lists_of self.new ≡ lists_of self.old }
-        ensures contents { contents self.new ≡ contents self.old }
-        ensures room { OnOk result (HasRoom self.new) }
-        ensures full { OnErr result (¬ HasRoom self.old) }
-        ensures keyed { IsKeyed E.order_of (marks_of E.Extract) self.old →
-            IsKeyed E.order_of (marks_of E.Extract) self.new }
-    {
-        reserve_each(&mut self.store, &self.specs, &mut self.indices)
-    }
-
-    /// Puts a node that is in no index into each, in room that was reserved: by its key, or in a sequence last. With
-    /// `at` an index and a place in it: in that sequence before the node at the place. An index in which the place of its
-    /// record is `known` is not searched. O(log n) for each index.
-    pub(crate) fn enter(&mut self, n: Node, at: Option<(usize, u64)>, known: Option<FreePlace>)
-        requires sound { IsSound E.has_key self.old }
-        requires node { IsNodeOf (store_of self.old) n }
-        requires loose { LackIt (lists_of self.old) n }
-        requires room { HasRoom self.old }
-        requires place { (j p : ℕ) → at ≡ Some (j, p) → p ≤ length (list_of self.old j) }
-        requires known { IfSome known (IsPlaceAt (E.order_of (keys_of self.old))
-            (record_of self.old) (lists_of self.old) n) }
-        requires keyed { IsKeyed E.order_of (marks_of E.Extract) self.old }
-        ensures sound { IsSound E.has_key self.new }
-        ensures same { IsOfSame self.old self.new }
-        ensures lists { lists_of self.new ≡ changed_from
-            (entered_at (E.order_of (keys_of self.old)) (record_of self.old)
-            (age_of (store_of self.old)) at n) 0
-            (specs_of self.old) (lists_of self.old) }
-        ensures keyed { IsKeyed E.order_of (marks_of E.Extract) self.new }
-        ensures contents { contents self.new ≡ contents self.old }
-    {
-        enter_each(
-            &mut self.store,
-            &self.keys,
-            &self.specs,
-            &mut self.indices,
-            n,
-            at,
-            known,
-        );
-    }
 
     /// Takes a node out of each index. It reads no record, so the node's may have changed. It takes no memory, and
     /// leaves room for one node. O(log n) for each index, but O(the nodes behind it) in one with places.

@@ -6,7 +6,7 @@ ghost use Rattle.index_set.specs.Lists.{ban_from};
 ghost use Rattle.index_set.specs.Places.{place_from};
 
 use crate::bans::free_place;
-use crate::every::empty_indices;
+use crate::every::{empty_indices, enter_each, reserve_each};
 use crate::nodes::Nodes;
 use crate::parts::Parts;
 use crate::places::FreePlace;
@@ -177,11 +177,20 @@ impl<R: Drop, E: Extract<R>> IndexSet<R, E> {
         ensures unchanged { OnErr result (IsAlike self.old self.new) }
         ensures returned { IfErr result (λ e. e.value ≡ value) }
     {
-        let Ok(()) = self.parts.reserve_one() else {
+        let parts = &mut self.parts;
+        let Ok(()) = reserve_each(&mut parts.store, &parts.specs, &mut parts.indices) else {
             return Err(NoRoom { value });
         };
-        let n = self.parts.add(value)?;
-        self.parts.enter(n, at, known);
+        let n = parts.add(value)?;
+        enter_each(
+            &mut parts.store,
+            &parts.keys,
+            &parts.specs,
+            &mut parts.indices,
+            n,
+            at,
+            known,
+        );
         Ok(n)
     }
 
