@@ -4,7 +4,7 @@ ghost use Rattle.container_model.specs.State.{has_places_kind, is_hashed_kind};
 ghost use Rattle.list_model.specs.Walk.{place_of as the_place, next as the_next, prev as the_prev, last as the_last};
 ghost use Rattle.node_store.specs.ByNode.{same_node};
 ghost use Rattle.any_index.specs.Spelled.{Holds};
-ghost use Rattle.any_index.specs.Stored.{HasNodeOfKind, nodes_of};
+ghost use Rattle.any_index.specs.Stored.{HasNodeOfKind, IsOfKind, nodes_of};
 
 use crate::at::IndexRef;
 use crate::index::AnyIndex;
@@ -71,11 +71,7 @@ impl<'a, R, E: Extract<R>> IndexRef<'a, R, E> {
         requires { IsTrue (has_places_kind (kind_in self.now)) }
         ensures { result ≡ slice_get (list_in self.now) place }
     {
-        match self.index {
-            AnyIndex::Random(row) => row.nth(self.store, place),
-            AnyIndex::Ranked(tree) => rank_tree::nth(tree, self.store, place),
-            AnyIndex::Sequenced(_) | AnyIndex::Ordered(_) | AnyIndex::Hashed(_) => unreachable!(),
-        }
+        node_at(self.index, self.store, place)
     }
 
     /// The place of `n` in the index, counted from 0: O(log n) in a ranked index, O(1) in a sequence with places. It reads
@@ -86,11 +82,7 @@ impl<'a, R, E: Extract<R>> IndexRef<'a, R, E> {
         requires held { Holds (list_in self.now) n }
         ensures { result ≡ the_place (same_node n) (list_in self.now) }
     {
-        match self.index {
-            AnyIndex::Random(row) => row.place_of(self.store, n),
-            AnyIndex::Ranked(tree) => rank_tree::rank(tree, self.store, n),
-            AnyIndex::Sequenced(_) | AnyIndex::Ordered(_) | AnyIndex::Hashed(_) => unreachable!(),
-        }
+        place_in(self.index, self.store, n)
     }
 }
 
@@ -119,5 +111,29 @@ fn node_before<R>(index: &AnyIndex, store: &NodeStore<R>, n: Node) -> Option<Nod
         AnyIndex::Ordered(tree) => tree.prev(store, n),
         AnyIndex::Ranked(tree) => tree.prev(store, n),
         AnyIndex::Hashed(_) => unreachable!(),
+    }
+}
+
+// The node at a place.
+fn node_at<R>(index: &AnyIndex, store: &NodeStore<R>, place: u64) -> Option<Node>
+    requires { IsOfKind has_places_kind index.now store.now }
+    ensures { result ≡ slice_get (nodes_of index.now store.now) place }
+{
+    match index {
+        AnyIndex::Random(row) => row.nth(store, place),
+        AnyIndex::Ranked(tree) => rank_tree::nth(tree, store, place),
+        AnyIndex::Sequenced(_) | AnyIndex::Ordered(_) | AnyIndex::Hashed(_) => unreachable!(),
+    }
+}
+
+// The place of `n`.
+fn place_in<R>(index: &AnyIndex, store: &NodeStore<R>, n: Node) -> u64
+    requires { HasNodeOfKind has_places_kind index.now store.now n }
+    ensures { result ≡ the_place (same_node n) (nodes_of index.now store.now) }
+{
+    match index {
+        AnyIndex::Random(row) => row.place_of(store, n),
+        AnyIndex::Ranked(tree) => rank_tree::rank(tree, store, n),
+        AnyIndex::Sequenced(_) | AnyIndex::Ordered(_) | AnyIndex::Hashed(_) => unreachable!(),
     }
 }
