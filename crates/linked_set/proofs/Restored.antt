@@ -43,7 +43,7 @@ use Rattle.index_set.specs.Added.{entered_all, clash_from, clash, IsCause}
 use Rattle.index_set.specs.declared.build.NoIndex.{NoIndex}
 use Rattle.index_set.specs.declared.build.NoIndex.TheVariants as no
 use Rattle.index_set.specs.declared.parts.Parts.{Parts}
-use Rattle.index_set.specs.Set.{store_of, keys_of, specs_of, list_of, lists_of, IsSound, IsKeyed, IsOfSame, IsUniqueExcept, contents as contents_of}
+use Rattle.index_set.specs.Set.{store_of, keys_of, specs_of, kind_at, list_of, lists_of, IsSound, IsKeyed, IsOfSame, IsUniqueExcept, contents as contents_of}
 use Rattle.index_set.proofs.Uniques.{unique_at}
 use Rattle.any_index.specs.Side.{order_at}
 use Rattle.index_set.specs.declared.by_row.ByRow.{ByRow}
@@ -215,162 +215,157 @@ module _ {R : Type 0} (entries : List (Entry R)) (list : List Handle) (slots : A
       each_once entries list slots live_members (omega (arith, length_permutation (map (λ e. e.handle) entries) list moved, length-map entries (λ e. e.handle)))
       (IsDistinct-IsPermutation nat_eq eqb_flip _ _ (IsPermutation-map (λ (h : Handle). h.slot) _ list moved) (entries_apart entries slots))
 
--- the nodes of such handles are all nodes
-module _ {R : Type 0} (s : Store (Entry R)) (slots : List (Option Node)) (store : IsStore s) (leads : LeadsTo s slots) (ns : List Node) (held : AllByRecursion (IsNodeOf s) ns) (list : List Handle) (is : map (handle_of (record_of s)) ns ≡ list) (members : HasMembers (entries_in (contents s)) list) where
-  pub nodes_moved : IsPermutation ns (nodes_in (contents s))
-  nodes_moved =
-      let f = handle_of (record_of s) in
-      let own = map (λ e. e.handle) (entries_in (contents s)) in
-      IsPermutation-unmap f (λ h. item_at slots h.slot) ns (nodes_in (contents s))
-      (All-map (IsNodeOf s) _ (λ n at. leads.node_at n at) ns held)
-      (All-map (IsNodeOf s) _ (λ n at. leads.node_at n at) (nodes_in (contents s)) (nodes_held s store))
-      (subst (λ l. IsPermutation (map f ns) l) (handles_by_age s store) (subst (λ l. IsPermutation l own) (sym is) (IsPermutation-sym own list members)))
-
-  pub nodes_distinct : IsDistinct ns
-  nodes_distinct = IsDistinct_moved (nodes_in (contents s)) ns (IsPermutation-sym ns (nodes_in (contents s)) nodes_moved) (distinct_by_age (age_of s) (nodes_in (contents s)) (nodes_rise s store))
-
 -- ---- the list of an index that is filled
 
-module _ {R : Type 0} (s : Store (Entry R)) (slots : List (Option Node)) (store : IsStore s) (leads : LeadsTo s slots) (apart : AreApart (entries_in (contents s))) (order : R → R → Ordering) (spec : Spec) (ns : List Node) (held : AllByRecursion (IsNodeOf s) ns) (list : List Handle)
-    (is : map (handle_of (record_of s)) ns ≡ list) (members : HasMembers (entries_in (contents s)) list) (aged : IsTrue (is_hashed_kind spec.kind) → ns ≡ nodes_in (contents s)) where
+-- nodes that an index is to be filled with: their handles are these, each record's once, and in a hashed index they are by age
+pub record AreTold {E R : Type 0} (set : Parts (Entry R) (ByRow E)) (index : ℕ) (list : List Handle) (ns : List Node) : Type 0 where
+  pub members : HasMembers (entries_in (contents_of set)) list
+  pub nodes : AllByRecursion (IsNodeOf (store_of set)) ns
+  pub handles : map (handle_of (record_of (store_of set))) ns ≡ list
+  pub aged : IsTrue (is_hashed_kind (spec_at (specs_of set) index).kind) → ns ≡ nodes_in (contents_of set)
+
+module _ {E R : Type 0} {has_key : E → ℕ → Bool} {order_of : E → ℕ → R → R → Ordering} {marks : E → ℕ → R → Marks} (set : Parts (Entry R) (ByRow E)) (slots : List (Option Node)) (linked : IsLinked has_key order_of marks set slots)
+    (total : (index : ℕ) → IsTrue (has_key (keys_of set).keys index) → IsTotalOrder (order_of (keys_of set).keys index)) (index : ℕ) (within : index < length (specs_of set)) (list : List Handle) (ns : List Node) (t : AreTold set index list ns) where
+  abbrev s : Store (Entry R)
+  s = store_of set
+
+  abbrev none : Spec
+  none = record { kind = Sequenced; unique = false }
+
+  abbrev spec : Spec
+  spec = spec_at (specs_of set) index
+
+  abbrev order : R → R → Ordering
+  order = order_of (keys_of set).keys index
+
   abbrev entries : List (Entry R)
   entries = entries_in (contents s)
 
+  abbrev compare : Node → Node → Ordering
+  compare = by_rows (record_of s) entries order
+
   abbrev filled : List Node
-  filled = entered_all (age_of s) (by_rows (record_of s) entries order) spec.kind [] ns
+  filled = entered_all (age_of s) compare spec.kind [] ns
+
+  -- it has a key where it is in order, or unique
+  sorted_total : IsTrue (is_sorted_kind spec.kind) → IsTotalOrder order
+  sorted_total sorted = total index (subst IsTrue (sym (linked.sound.keys.keyed index none within)) (sorted_has_key spec.kind sorted))
+
+  unique_total : IsTrue spec.unique → IsTotalOrder compare
+  unique_total one = on_total (record_of s) (options_total (on_total (λ (e : Entry R). e.row) (total index (subst IsTrue (sym (linked.sound.keys.keyed index none within)) (linked.sound.keys.unique index none within one)))))
 
   known_nodes : (ms : List Node) → AllByRecursion (IsNodeOf s) ms → AllByRecursion (IsKnown (record_of s) entries) ms
-  known_nodes ms are = All-map (IsNodeOf s) _ (λ n at. known s n store apart at) ms are
-
-  moved : IsPermutation ns (nodes_in (contents s))
-  moved = nodes_moved s slots store leads ns held list is members
+  known_nodes ms are = All-map (IsNodeOf s) _ (λ n at. known s n linked.sound.nodes linked.apart at) ms are
 
   all_known : AllByRecursion (IsKnown (record_of s) entries) (nodes_in (contents s))
-  all_known = known_nodes (nodes_in (contents s)) (nodes_held s store)
+  all_known = known_nodes (nodes_in (contents s)) (nodes_held s linked.sound.nodes)
+
+  -- the nodes are all
+  moved : IsPermutation ns (nodes_in (contents s))
+  moved =
+      let f = handle_of (record_of s) in
+      let own = map (λ e. e.handle) entries in
+      IsPermutation-unmap f (λ h. item_at slots h.slot) ns (nodes_in (contents s))
+      (All-map (IsNodeOf s) _ (λ n at. linked.leads.node_at n at) ns t.nodes)
+      (All-map (IsNodeOf s) _ (λ n at. linked.leads.node_at n at) (nodes_in (contents s)) (nodes_held s linked.sound.nodes))
+      (subst (λ l. IsPermutation (map f ns) l) (handles_by_age s linked.sound.nodes) (subst (λ l. IsPermutation l own) (sym t.handles) (IsPermutation-sym own list t.members)))
+
+  pub nodes_distinct : IsDistinct ns
+  nodes_distinct = IsDistinct_moved (nodes_in (contents s)) ns (IsPermutation-sym ns (nodes_in (contents s)) moved) (distinct_by_age (age_of s) (nodes_in (contents s)) (nodes_rise s linked.sound.nodes))
 
   abbrev settled : List Handle
   settled = cond (is_sorted_kind spec.kind) (stable_sorted (compare_of order entries) list) list
 
-  by_key : map (handle_of (record_of s)) (stable_sorted (by_rows (record_of s) entries order) ns) ≡ stable_sorted (compare_of order entries) list
+  by_key : map (handle_of (record_of s)) (stable_sorted compare ns) ≡ stable_sorted (compare_of order entries) list
   by_key =
-      map-stable_sorted (handle_of (record_of s)) (IsKnown (record_of s) entries) (by_rows (record_of s) entries order) (compare_of order entries) (by_handles (record_of s) entries order) ns (known_nodes ns held)
-      ∙ ap (stable_sorted (compare_of order entries)) is
+      map-stable_sorted (handle_of (record_of s)) (IsKnown (record_of s) entries) compare (compare_of order entries) (by_handles (record_of s) entries order) ns (known_nodes ns t.nodes)
+      ∙ ap (stable_sorted (compare_of order entries)) t.handles
 
-  -- its handles
-  pub filled_handles : map (handle_of (record_of s)) filled ≡ settled
-  filled_handles = by_kind spec.kind aged
+  -- the handles of the nodes that are filled in
+  filled_handles : map (handle_of (record_of s)) filled ≡ settled
+  filled_handles = by_kind spec.kind t.aged
     where
       f : Node → Handle
       f = handle_of (record_of s)
 
-      compare : Node → Node → Ordering
-      compare = by_rows (record_of s) entries order
-
       by_kind : (kind : Kind) → (IsTrue (is_hashed_kind kind) → ns ≡ nodes_in (contents s)) → map f (entered_all (age_of s) compare kind [] ns) ≡ cond (is_sorted_kind kind) (stable_sorted (compare_of order entries) list) list
-      by_kind Sequenced h = ap (map f) (sequenced_in_turn (age_of s) compare ns) ∙ is
-      by_kind Random h = ap (map f) (random_in_turn (age_of s) compare ns) ∙ is
+      by_kind Sequenced h = ap (map f) (sequenced_in_turn (age_of s) compare ns) ∙ t.handles
+      by_kind Random h = ap (map f) (random_in_turn (age_of s) compare ns) ∙ t.handles
       by_kind Ordered h = ap (map f) (ordered (age_of s) compare [] ns) ∙ by_key
       by_kind Ranked h = ap (map f) (ranked (age_of s) compare [] ns) ∙ by_key
-      by_kind Hashed h = ap (map f) (hashed_in_turn (age_of s) compare ns (subst (AreByAge (age_of s)) (sym (h refl)) (nodes_rise s store))) ∙ is
-
-  -- where it is the list that was told, it is that of an index
-  pub fitting : (IsTrue (is_sorted_kind spec.kind) → IsTotalOrder order) → (IsTrue (is_hashed_kind spec.kind) → list ≡ map (λ e. e.handle) entries) → (IsTrue (is_sorted_kind spec.kind) → list ≡ settled) →
-      (IsTrue spec.unique → IsTotalOrder order) → (IsTrue spec.unique → EachPair (λ m n. is_eq (by_rows (record_of s) entries order m n) ≡ false) filled) → IsIndex order entries spec list
-  unfolding contents
-  fitting total hashed same keyed once = record {
-    members = members;
-    in_order = λ sorted. in_place (is_sorted_kind spec.kind) sorted (same sorted) (IsInOrder-stable_sorted (compare_of order entries) (on_total (λ g. row_of entries g) (options_total (total sorted))) list);
-    by_stamp = hashed;
-    unique = λ one.
-        let compare = by_rows (record_of s) entries order in
-        let all = IsPermutation-trans filled ns (nodes_in (contents s)) (IsPermutation-sym ns filled (members_all (age_of s) compare spec.kind ns)) moved in
-        records_differ (differ_moved compare (on_total (record_of s) (options_total (on_total (λ (e : Entry R). e.row) (keyed one)))) filled (nodes_in (contents s)) all (once one));
-  }
-    where
-      in_place : (b : Bool) → IsTrue b → list ≡ cond b (stable_sorted (compare_of order entries) list) list → IsInOrder (compare_of order entries) (stable_sorted (compare_of order entries) list) → IsInOrder (compare_of order entries) list
-      in_place true sorted e h = subst (IsInOrder (compare_of order entries)) (sym e) h
-      in_place false sorted e h = absurd (search rules)
-
-      records_differ : EachPair (λ m n. is_eq (by_rows (record_of s) entries order m n) ≡ false) (nodes_in (contents s)) → EachPair (λ a b. is_eq (order a.row b.row) ≡ false) entries
-      records_differ h = rows_differ (record_of s) entries order (nodes_in (contents s)) all_known h
+      by_kind Hashed h = ap (map f) (hashed_in_turn (age_of s) compare ns (subst (AreByAge (age_of s)) (sym (h refl)) (nodes_rise s linked.sound.nodes))) ∙ t.handles
 
   -- no clash is seen where the records have one key each
-  pub unclashed : (IsTrue spec.unique → IsTotalOrder order) → HasEachKeyOnce entries order spec list → clash (by_rows (record_of s) entries order) spec.unique ns ≡ None
+  unclashed : HasEachKeyOnce entries order spec list → clash compare spec.unique ns ≡ None
   unfolding contents
-  unclashed keyed once = by_unique spec.unique once keyed
+  unclashed once = by_unique spec.unique once unique_total
     where
-      compare : Node → Node → Ordering
-      compare = by_rows (record_of s) entries order
-
-      nodes_apart : EachPair (λ a b. is_eq (order a.row b.row) ≡ false) entries → EachPair (λ m n. is_eq (compare m n) ≡ false) (nodes_in (contents s))
-      nodes_apart h = nodes_differ (record_of s) entries order (nodes_in (contents s)) all_known h
-
-      by_unique : (b : Bool) → (IsTrue b → EachPair (λ a b. is_eq (order a.row b.row) ≡ false) entries) → (IsTrue b → IsTotalOrder order) → clash compare b ns ≡ None
+      by_unique : (b : Bool) → (IsTrue b → EachPair (λ a b. is_eq (order a.row b.row) ≡ false) entries) → (IsTrue b → IsTotalOrder compare) → clash compare b ns ≡ None
       by_unique true each total =
-          none_clash compare ns (differ_moved compare (on_total (record_of s) (options_total (on_total (λ (e : Entry R). e.row) (total refl)))) (nodes_in (contents s)) ns (IsPermutation-sym ns (nodes_in (contents s)) moved) (nodes_apart (each refl)))
+          none_clash compare ns (differ_moved compare (total refl) (nodes_in (contents s)) ns (IsPermutation-sym ns (nodes_in (contents s)) moved) (nodes_differ (record_of s) entries order (nodes_in (contents s)) all_known (each refl)))
       by_unique false each total = refl
 
-  -- a list in order is the one that is made of it
-  pub listed : IsListed entries order spec list → list ≡ settled
-  listed h = by_sorted (is_sorted_kind spec.kind) h.in_order
-    where
-      by_sorted : (b : Bool) → (IsTrue b → IsInOrder (compare_of order entries) list) → list ≡ cond b (stable_sorted (compare_of order entries) list) list
-      by_sorted true in_order = sym (sorted_as_it_is (compare_of order entries) list (in_order refl))
-      by_sorted false in_order = refl
-
-  -- so it is where it is in order
-  pub settled_where : (IsTrue (is_sorted_kind spec.kind) → list ≡ settled) → list ≡ settled
-  settled_where same = by_sorted (is_sorted_kind spec.kind) same
-    where
-      by_sorted : (b : Bool) → (IsTrue b → list ≡ cond b (stable_sorted (compare_of order entries) list) list) → list ≡ cond b (stable_sorted (compare_of order entries) list) list
-      by_sorted true same = same refl
-      by_sorted false same = refl
-
   -- why nodes are refused
-  pub refused : (IsTrue spec.unique → IsTotalOrder order) → (why : NoIndex) → IsCause (Unit {0}) (clash (by_rows (record_of s) entries order) spec.unique ns) why → IsUnfit entries order spec list (unfit_of why)
-  refused keyed no.Columns is = absurd (is tt)
-  refused keyed (no.Clash first second) is = λ once. (let bad = sym (unclashed keyed once) ∙ is.1 in cc)
-  refused keyed no.Memory is = tt
+  pub refused : (why : NoIndex) → IsCause (Unit {0}) (clash compare spec.unique ns) why → IsUnfit entries order spec list (unfit_of why)
+  refused no.Columns is = absurd (is tt)
+  refused (no.Clash first second) is = λ once. (let bad = sym (unclashed once) ∙ is.1 in cc)
+  refused no.Memory is = tt
 
--- ---- the set in which it is filled
+  -- a list that is in order where its index sorts is the one that is made of it
+  as_settled : (b : Bool) → (IsTrue b → IsInOrder (compare_of order entries) list) → list ≡ cond b (stable_sorted (compare_of order entries) list) list
+  as_settled true in_order = sym (sorted_as_it_is (compare_of order entries) list (in_order refl))
+  as_settled false in_order = refl
 
-module _ {E R : Type 0} (set made : Parts (Entry R) (ByRow E)) (index : ℕ) (within : index < length (specs_of set)) (one : length (lists_of set) ≡ length (specs_of set)) (same : IsOfSame set made) (kept : contents_of made ≡ contents_of set) (xs : List Node) (lists : lists_of made ≡ slice_set (lists_of set) index xs) where
-  list_is : get_or (lists_of made) index [] ≡ xs
-  list_is = ap (λ ls. get_or ls index []) lists ∙ get_or-set_same (lists_of set) index xs [] (omega (arith, within, one))
+  -- ---- the set in which it is filled
 
-  pub listed_at : map (handle_of (record_of (store_of made))) (list_of made index) ≡ map (handle_of (record_of (store_of set))) xs
-  listed_at = (λ i. map (handle_of (records_kept (store_of set) (store_of made) kept i)) (list_is i))
+  module _ (made : Parts (Entry R) (ByRow E)) (same : IsOfSame set made) (kept : contents_of made ≡ contents_of set) (lists : lists_of made ≡ slice_set (lists_of set) index (entered_all (age_of s) compare (kind_at set index) [] ns)) where
+    one : length (lists_of set) ≡ length (specs_of set)
+    one = one_list_each set linked.sound
 
-  pub handles_filled : (list : List Handle) → map (handle_of (record_of (store_of set))) xs ≡ list → handles_in (record_of (store_of made)) (lists_of made) ≡ slice_set (handles_in (record_of (store_of set)) (lists_of set)) index list
-  handles_filled list is =
-      let f = handle_of (record_of (store_of set)) in
-      handles_kept (store_of set) (store_of made) (lists_of made) kept
-      ∙ (ap (handles_in (record_of (store_of set))) lists ∙ (map-set (map f) (lists_of set) index xs ∙ ap (λ l. slice_set (handles_in (record_of (store_of set)) (lists_of set)) index l) is))
+    filled_in : lists_of made ≡ slice_set (lists_of set) index filled
+    filled_in = lists ∙ ap (λ (o : Option Spec). slice_set (lists_of set) index (entered_all (age_of s) compare (option_map_or (λ (d : Spec). d.kind) o Sequenced) [] ns)) (slice_get_at (specs_of set) index none within)
 
-  pub once_filled : (order : E → ℕ → R → R → Ordering) → IsUniqueExcept (order_by_row order) made None → IsTrue (spec_at (specs_of set) index).unique →
-      EachPair (λ m n. is_eq (by_rows (record_of (store_of set)) (entries_in (contents_of set)) (order (keys_of set).keys index) m n) ≡ false) xs
-  once_filled order unique one_key =
-      let specs = same.specs in
-      let lists_one : length (lists_of made) ≡ length (specs_of made) = ap length lists ∙ (length-set (lists_of set) index xs ∙ (one ∙ ap length (sym specs))) in
-      let here = unique_at (order_by_row order (keys_of made)) (record_of (store_of made)) None (specs_of made) (lists_of made) lists_one unique index (record { kind = Sequenced; unique = false }) (omega (arith, within, ap length specs))
-      (subst (λ ds. IsTrue (spec_at ds index).unique) (sym specs) one_key) in
-      subst (λ (f : Node → Node → Ordering). EachPair (λ m n. is_eq (f m n) ≡ false) xs) (λ i. order_at (records_kept (store_of set) (store_of made) kept i) (order_by_row order (same.keys i) index))
-      (subst (EachPair _) list_is here)
+    list_is : get_or (lists_of made) index [] ≡ filled
+    list_is = ap (λ ls. get_or ls index []) filled_in ∙ get_or-set_same (lists_of set) index filled [] (omega (arith, within, one))
 
--- the kind of an index is that of what it is to be
-pub kind_is : (specs : List Spec) (index : ℕ) → index < length specs → option_map_or (λ (d : Spec). d.kind) (slice_get specs index) Sequenced ≡ (spec_at specs index).kind
-kind_is specs index within = ap (λ (o : Option Spec). option_map_or (λ (d : Spec). d.kind) o Sequenced) (slice_get_at specs index (record { kind = Sequenced; unique = false }) within)
+    abbrev found : List Handle
+    found = map (handle_of (record_of (store_of made))) (list_of made index)
 
--- an index has a key where it is in order, or unique
-module _ {R : Type 0} (has_key : ℕ → Bool) (order : ℕ → R → R → Ordering) (total : (index : ℕ) → IsTrue (has_key index) → IsTotalOrder (order index)) (specs : List Spec) (match : KeysMatch has_key specs) (index : ℕ) (within : index < length specs) where
-  abbrev none : Spec
-  none = record { kind = Sequenced; unique = false }
+    found_is : found ≡ settled
+    found_is = (λ i. map (handle_of (records_kept s (store_of made) kept i)) (list_is i)) ∙ filled_handles
 
-  pub sorted_total : IsTrue (is_sorted_kind (spec_at specs index).kind) → IsTotalOrder (order index)
-  sorted_total sorted = total index (subst IsTrue (sym (match.keyed index none within)) (sorted_has_key (spec_at specs index).kind sorted))
+    -- a list that does not stand there was not in order
+    pub out_of_order : list ≢ found → ¬ IsListed entries order spec list
+    out_of_order other fits = other (as_settled (is_sorted_kind spec.kind) fits.in_order ∙ sym found_is)
 
-  pub unique_total : IsTrue (spec_at specs index).unique → IsTotalOrder (order index)
-  unique_total one = total index (subst IsTrue (sym (match.keyed index none within)) (match.unique index none within one))
+    module _ (in_place : IsTrue (is_sorted_kind (spec_at (specs_of made) index).kind) → list ≡ found) where
+      in_order : IsTrue (is_sorted_kind spec.kind) → IsInOrder (compare_of order entries) list
+      in_order sorted =
+          let sorted_list = in_place (subst (λ ds. IsTrue (is_sorted_kind (spec_at ds index).kind)) (sym same.specs) sorted) ∙ found_is ∙ ap (λ b. cond b (stable_sorted (compare_of order entries) list) list) sorted in
+          subst (IsInOrder (compare_of order entries)) (sym sorted_list) (IsInOrder-stable_sorted (compare_of order entries) (on_total (λ g. row_of entries g) (options_total (sorted_total sorted))) list)
+
+      pub handles_filled : handles_in (record_of (store_of made)) (lists_of made) ≡ slice_set (handles_in (record_of s) (lists_of set)) index list
+      handles_filled =
+          handles_kept s (store_of made) (lists_of made) kept
+          ∙ ap (handles_in (record_of s)) filled_in
+          ∙ map-set (map (handle_of (record_of s))) (lists_of set) index filled
+          ∙ ap (slice_set (handles_in (record_of s) (lists_of set)) index) (filled_handles ∙ sym (as_settled (is_sorted_kind spec.kind) in_order))
+
+      -- and one that does is that of an index
+      pub fitting : IsUniqueExcept (order_by_row order_of) made None → IsIndex order entries spec list
+      unfolding contents
+      fitting unique = record {
+        members = t.members;
+        in_order = in_order;
+        by_stamp = λ hashed. sym t.handles ∙ ap (map (handle_of (record_of s))) (t.aged hashed) ∙ sym (handles_by_age s linked.sound.nodes);
+        unique = λ once.
+            let lists_one : length (lists_of made) ≡ length (specs_of made) = ap length filled_in ∙ (length-set (lists_of set) index filled ∙ (one ∙ ap length (sym same.specs))) in
+            let here = unique_at (order_by_row order_of (keys_of made)) (record_of (store_of made)) None (specs_of made) (lists_of made) lists_one unique index none (omega (arith, within, ap length same.specs))
+            (subst (λ ds. IsTrue (spec_at ds index).unique) (sym same.specs) once) in
+            let apart = subst (λ (f : Node → Node → Ordering). EachPair (λ m n. is_eq (f m n) ≡ false) filled) (λ i. order_at (records_kept s (store_of made) kept i) (order_by_row order_of (same.keys i) index)) (subst (EachPair _) list_is here) in
+            let all = IsPermutation-trans filled ns (nodes_in (contents s)) (IsPermutation-sym ns filled (members_all (age_of s) compare spec.kind ns)) moved in
+            rows_differ (record_of s) entries order (nodes_in (contents s)) all_known (differ_moved compare (unique_total once) filled (nodes_in (contents s)) all apart);
+      }
 
 -- ---- results
 
