@@ -13,7 +13,7 @@ ghost use Rattle.linked_set.specs.Restored.{HasMembers, IsUnfit, spec_at, unfit_
 ghost use Rattle.linked_set.specs.Seen.{IsLinked};
 
 use crate::rearrange::{all_live, has_each_once, nodes_of};
-use crate::walk::{by_age, in_order, nodes_by_age};
+use crate::walk::{by_age, in_order};
 use container_model::{Entry, Handle, Kind};
 use index_set::{ByRow, Filling, NoIndex, Nodes};
 use key_extract::Extract;
@@ -100,7 +100,7 @@ fn aged_nodes<R, E: Extract<R>>(
     if !are_same(order, &handles) {
         return Err(Unfit::Order);
     }
-    let Ok(nodes) = nodes_by_age(alloc, set) else {
+    let Ok(nodes) = by_age(alloc, set) else {
         return Err(Unfit::Memory);
     };
     Ok(nodes)

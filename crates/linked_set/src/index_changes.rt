@@ -8,7 +8,7 @@ ghost use Rattle.linked_set.specs.Refusal.{HasItsNodes, IsRefusal, by_handles};
 ghost use Rattle.linked_set.specs.Seen.{seen, IsLinked};
 
 use crate::linked::handle_at;
-use crate::walk::nodes_by_age;
+use crate::walk::by_age;
 use container_model::{Entry, Refused, Spec, Why};
 use index_set::{ByRow, IndexSet, NoIndex};
 use key_extract::Extract;
@@ -39,7 +39,7 @@ pub(crate) fn add_index<R, E: Extract<R> + Drop>(
     ensures same { OnErr result ((max writes : ℕ) → seen set.new max writes ≡
         seen set.old max writes) }
 {
-    let Ok(nodes) = nodes_by_age(alloc, set) else {
+    let Ok(nodes) = by_age(alloc, set) else {
         return Err(Refused {
             why: Why::Memory,
             row: Some(keys),
@@ -71,7 +71,7 @@ pub(crate) fn check_index<R, E: Extract<R> + Drop>(
     ensures why { IfErr result (IsRefusal
         (clash E.order_of (seen set.old 0 0) spec keys.now.keys)) }
 {
-    let Ok(nodes) = nodes_by_age(alloc, set) else {
+    let Ok(nodes) = by_age(alloc, set) else {
         return Err(Why::Memory);
     };
     match set.check_index(spec, keys, &nodes) {

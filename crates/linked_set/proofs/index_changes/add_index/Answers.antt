@@ -1,4 +1,5 @@
 use Rattle.std.proofs.Common.{ap, sym, subst, ◌∙◌}
+use Rattle.std.proofs.lemmas.List.{map-id}
 use Rattle.std.specs.List.{AllByRecursion}
 use Rattle.node_store.specs.Nodes.{Holds, IsDistinct}
 use Rattle.node_store.specs.Store.{IsNodeOf, age_of}
@@ -14,7 +15,7 @@ pub add_index-requires : goal.add_index-requires
 add_index-requires g c =
     let set = c.args.set.now in
     let linked = c.requires.linked in
-    let by_age = c.deref.ensures.value ∙ c.in-Ok.ensures in
+    let by_age = c.deref.ensures.value ∙ c.in-Ok.ensures ∙ map-id (nodes_in (contents set)) in
     record {
       keys = c.requires.keys;
       orders = λ k d lt has. ap (λ order a b. order a.row b.row) (c.requires.orders k d lt has);
@@ -34,11 +35,11 @@ returns-in-Ok-add_index-clause-count g c = added_kept (store_of c.args.set.now) 
 
 pub returns-in-Ok-add_index-clause-no_clash : goal.returns-in-Ok-add_index-clause-no_clash
 returns-in-Ok-add_index-clause-no_clash g c =
-    no_clash_seen c.args.set.now c.args.slots.now.items c.requires.linked c.args.spec c.args.keys c.deref.result.now (c.deref.ensures.value ∙ c.in-Ok.ensures) c.in-Ok-add_index.ensures.no_clash
+    no_clash_seen c.args.set.now c.args.slots.now.items c.requires.linked c.args.spec c.args.keys c.deref.result.now (c.deref.ensures.value ∙ c.in-Ok.ensures ∙ map-id (nodes_in (contents c.args.set.now))) c.in-Ok-add_index.ensures.no_clash
 
 pub told-requires : goal.told-requires
 told-requires g c =
-    refusal_nodes c.args.set.now c.args.slots.now.items c.requires.linked c.args.spec c.args.keys c.deref.result.now (c.deref.ensures.value ∙ c.in-Ok.ensures) c.add_index.new.self c.add_index.ensures.contents c.requires.room c.in-Err.refused.why c.in-Err.ensures.cause
+    refusal_nodes c.args.set.now c.args.slots.now.items c.requires.linked c.args.spec c.args.keys c.deref.result.now (c.deref.ensures.value ∙ c.in-Ok.ensures ∙ map-id (nodes_in (contents c.args.set.now))) c.add_index.new.self c.add_index.ensures.contents c.requires.room c.in-Err.refused.why c.in-Err.ensures.cause
 
 pub returns-clause-linked : goal.returns-clause-linked
 returns-clause-linked g c =
@@ -51,7 +52,7 @@ returns-clause-count g c = added_kept (store_of c.args.set.now) (store_of c.add_
 pub returns-clause-why : goal.returns-clause-why
 returns-clause-why g c =
     subst (IsRefusal _) (sym c.told.ensures)
-    (refusal_seen c.args.set.now c.args.slots.now.items c.requires.linked c.args.spec c.args.keys c.deref.result.now (c.deref.ensures.value ∙ c.in-Ok.ensures) c.add_index.new.self c.add_index.ensures.contents c.requires.room c.in-Err.refused.why c.in-Err.ensures.cause)
+    (refusal_seen c.args.set.now c.args.slots.now.items c.requires.linked c.args.spec c.args.keys c.deref.result.now (c.deref.ensures.value ∙ c.in-Ok.ensures ∙ map-id (nodes_in (contents c.args.set.now))) c.add_index.new.self c.add_index.ensures.contents c.requires.room c.in-Err.refused.why c.in-Err.ensures.cause)
 
 pub returns-clause-same : goal.returns-clause-same
 returns-clause-same g c max writes =
@@ -62,4 +63,4 @@ pub returns-in-Ok-add_index-clause-ok : goal.returns-in-Ok-add_index-clause-ok
 returns-in-Ok-add_index-clause-ok g c max writes =
     let e = c.in-Ok-add_index.ensures in
     seen_indexed c.args.set.now c.args.slots.now.items c.requires.linked c.args.spec c.args.keys c.add_index.new.self max writes (ap (λ by. by.keys) e.keys) e.specs e.columns e.contents
-    c.deref.result.now (c.deref.ensures.value ∙ c.in-Ok.ensures) e.lists
+    c.deref.result.now (c.deref.ensures.value ∙ c.in-Ok.ensures ∙ map-id (nodes_in (contents c.args.set.now))) e.lists

@@ -1,4 +1,5 @@
 use Rattle.std.proofs.Common.{ap, sym, subst, ◌∙◌}
+use Rattle.std.proofs.lemmas.List.{map-id}
 use Rattle.std.specs.List.{AllByRecursion}
 use Rattle.node_store.specs.Nodes.{Holds, IsDistinct}
 use Rattle.node_store.specs.Store.{IsNodeOf, age_of}
@@ -14,7 +15,7 @@ pub check_index-requires : goal.check_index-requires
 check_index-requires g c =
     let set = c.args.set.now in
     let linked = c.requires.linked in
-    let by_age = c.deref.ensures.value ∙ c.in-Ok.ensures in
+    let by_age = c.deref.ensures.value ∙ c.in-Ok.ensures ∙ map-id (nodes_in (contents set)) in
     record {
       keys = c.requires.keys;
       orders = λ k d lt has. ap (λ order a b. order a.row b.row) (c.requires.orders k d lt has);
@@ -34,11 +35,11 @@ returns-in-Ok-check_index-clause-count g c = added_kept (store_of c.args.set.now
 
 pub returns-in-Ok-check_index-clause-no_clash : goal.returns-in-Ok-check_index-clause-no_clash
 returns-in-Ok-check_index-clause-no_clash g c =
-    no_clash_seen c.args.set.now c.args.slots.now.items c.requires.linked c.args.spec c.args.keys.now.keys c.deref.result.now (c.deref.ensures.value ∙ c.in-Ok.ensures) c.in-Ok-check_index.ensures.no_clash
+    no_clash_seen c.args.set.now c.args.slots.now.items c.requires.linked c.args.spec c.args.keys.now.keys c.deref.result.now (c.deref.ensures.value ∙ c.in-Ok.ensures ∙ map-id (nodes_in (contents c.args.set.now))) c.in-Ok-check_index.ensures.no_clash
 
 pub told-requires : goal.told-requires
 told-requires g c =
-    refusal_nodes c.args.set.now c.args.slots.now.items c.requires.linked c.args.spec c.args.keys.now.keys c.deref.result.now (c.deref.ensures.value ∙ c.in-Ok.ensures) c.check_index.new.self c.check_index.ensures.unchanged.contents c.requires.room c.in-Err.why c.in-Err.ensures.cause
+    refusal_nodes c.args.set.now c.args.slots.now.items c.requires.linked c.args.spec c.args.keys.now.keys c.deref.result.now (c.deref.ensures.value ∙ c.in-Ok.ensures ∙ map-id (nodes_in (contents c.args.set.now))) c.check_index.new.self c.check_index.ensures.unchanged.contents c.requires.room c.in-Err.why c.in-Err.ensures.cause
 
 pub returns-clause-linked : goal.returns-clause-linked
 returns-clause-linked g c =
@@ -51,7 +52,7 @@ returns-clause-count g c = added_kept (store_of c.args.set.now) (store_of c.chec
 pub returns-clause-why : goal.returns-clause-why
 returns-clause-why g c =
     subst (IsRefusal _) (sym c.told.ensures)
-    (refusal_seen c.args.set.now c.args.slots.now.items c.requires.linked c.args.spec c.args.keys.now.keys c.deref.result.now (c.deref.ensures.value ∙ c.in-Ok.ensures) c.check_index.new.self c.check_index.ensures.unchanged.contents c.requires.room c.in-Err.why c.in-Err.ensures.cause)
+    (refusal_seen c.args.set.now c.args.slots.now.items c.requires.linked c.args.spec c.args.keys.now.keys c.deref.result.now (c.deref.ensures.value ∙ c.in-Ok.ensures ∙ map-id (nodes_in (contents c.args.set.now))) c.check_index.new.self c.check_index.ensures.unchanged.contents c.requires.room c.in-Err.why c.in-Err.ensures.cause)
 
 pub returns-clause-same : goal.returns-clause-same
 returns-clause-same g c max writes =
