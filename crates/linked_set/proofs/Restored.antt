@@ -1,6 +1,6 @@
 -- Lists that are filled in an order that is told.
-use Rattle.std.proofs.Common.{◌≡◌, ◌≢◌, ⊎_elim, eq-eqb, ℕ, suc, ◌+◌, ◌≤◌, ◌<◌, ◌==◌, Bool, true, false, cond, List, [], ◌∷◌, ◌++◌, length, map, get_or, Option, Some, None, Result, Ok, Err, rules, refl, sym, ap, ◌∙◌, subst, arith, append-nil, append_assoc}
-use Rattle.std.specs.Prelude.{find, insert, count_by, is_some, nat_eq, slice_get, slice_set, IfOk, OnOk, IsTrue, IsPermutation}
+use Rattle.std.proofs.Common.{◌≡◌, ◌≢◌, ⊎_elim, eq-eqb, ℕ, suc, ◌+◌, ◌≤◌, ◌<◌, ◌==◌, Bool, true, false, cond, List, [], ◌∷◌, ◌++◌, length, map, get_or, Option, Some, None, Result, Ok, Err, refl, sym, ap, ◌∙◌, subst, arith, append-nil, append_assoc}
+use Rattle.std.specs.Prelude.{find, insert, count_by, is_some, nat_eq, slice_set, IfOk, OnOk, IsTrue, IsPermutation}
 use Rattle.std.specs.List.{AllByRecursion, filter_map, cons_option, list_all}
 use Rattle.std.specs.Option.{option_map_or, option_cmp}
 use Rattle.std.specs.Ordering.{is_eq, is_gt, is_le}
@@ -25,7 +25,7 @@ use Rattle.list_model.proofs.Orders.{not_gt_le}
 use Rattle.list_model.proofs.Permuted.{count_by-permutation, none_passes}
 use Rattle.node_store.specs.declared.Node.{Node}
 use Rattle.node_store.specs.Nodes.{IsDistinct}
-use Rattle.node_store.specs.Store.{Store, IsStore, IsNodeOf, age_of}
+use Rattle.node_store.specs.Store.{Store, IsNodeOf, age_of}
 use Rattle.node_store.specs.ByNode.{record_of, contents, AddsNode}
 use Rattle.node_store.proofs.ByNode.{records_kept}
 use Rattle.node_store.proofs.Members.{IsDistinct_moved}
@@ -35,7 +35,7 @@ use Rattle.container_model.specs.declared.handle.Kind.{Kind}
 use Rattle.container_model.specs.declared.handle.Spec.{Spec}
 use Rattle.container_model.specs.declared.handle.Kind.TheVariants.{Sequenced, Random, Ordered, Ranked, Hashed}
 use Rattle.container_model.specs.Sequence.{has_each_once}
-use Rattle.container_model.specs.State.{IsIndex, AreIndices, KeysMatch, list_at, row_of, compare_of, is_sorted_kind, is_hashed_kind}
+use Rattle.container_model.specs.State.{IsIndex, AreIndices, list_at, row_of, compare_of, is_sorted_kind, is_hashed_kind}
 use Rattle.container_model.proofs.Keys.{sorted_has_key}
 use Rattle.container_model.proofs.Found.{row_of_members, eqb_flip}
 use Rattle.any_index.specs.Lists.{entered}
