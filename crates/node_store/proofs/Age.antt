@@ -1,19 +1,18 @@
 -- Laws of what a map by number has in the order of the numbers, and of the nodes of a store in the order of their adds.
-use Rattle.std.proofs.Common.{◌≡◌, ◌≢◌, ℕ, zero, suc, ◌+◌, ◌-◌, ◌<◌, ◌≤◌, Bool, cond, is_some, [], ◌∷◌, ◌++◌, length, Option, Some, None, refl, sym, ap, ◌∙◌, ⊎_elim, arith, nat_cmp}
+use Rattle.std.proofs.Common.{◌≡◌, ◌≢◌, ℕ, zero, suc, ◌+◌, ◌<◌, ◌≤◌, Bool, cond, [], ◌∷◌, ◌++◌, length, Option, Some, None, refl, sym, ap, ◌∙◌, ⊎_elim, arith, nat_cmp}
 use Rattle.std.specs.Prelude.{map as each, filter, not}
 use Rattle.std.specs.List.{All}
 use Rattle.std.specs.Option.{option_map, option_or, option_map_or}
-use Rattle.std.specs.Cmp.{nat_cmp_total}
 use Rattle.std.specs.FinMap as map
 use Rattle.std.proofs.lemmas.Bool.{cases_eq}
 use Rattle.std.proofs.lemmas.Option.{same_Some}
-use Rattle.std.proofs.lemmas.List.{append-nil, length-append, length-map, map-append}
+use Rattle.std.proofs.lemmas.List.{append-nil, length-append, map-append}
 use Rattle.std.proofs.lemmas.List.Elements.{All-append, All-from_recursion, filter-append}
 use Rattle.node_store.specs.declared.Node.{Node}
 use Rattle.node_store.specs.Store.{Entry, Store, IsStore, IsNodeOf, nodes, aged, age_of, without, len_of}
 use Rattle.node_store.specs.ByNode.{same_node, AddsNode, RemovesNode}
 use Rattle.node_store.specs.Age.{last_below, all_below, nodes_of}
-use Rattle.node_store.proofs.Keyed.{same_map, remove_same, remove_other}
+use Rattle.node_store.proofs.Keyed.{same_map}
 use Rattle.node_store.proofs.StoreLemmas.{Removes-without, len-without}
 use Rattle.node_store.proofs.ByNode.{same_node-refl, RemovesNode-removed}
 use Rattle.node_store.proofs.Members.{same_node-false}

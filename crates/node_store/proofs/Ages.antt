@@ -1,5 +1,5 @@
 -- Laws of the ages of a store's nodes.
-use Rattle.std.proofs.Common.{◌≡◌, ◌≢◌, ◌⊎◌, inl, inr, ℕ, ◌+◌, ◌<◌, ◌≤◌, Option, Some, None, sym, ap, ◌∙◌, arith, ⊎_elim, nat_cmp}
+use Rattle.std.proofs.Common.{◌≡◌, ◌≢◌, ℕ, ◌+◌, ◌<◌, ◌≤◌, Option, Some, None, sym, ap, ◌∙◌, arith, ⊎_elim, nat_cmp}
 use Rattle.std.specs.Option.{option_map}
 use Rattle.std.specs.FinMap as map
 use Rattle.std.proofs.lemmas.Bool.{cases_eq, cases_lt}
@@ -7,7 +7,7 @@ use Rattle.std.proofs.lemmas.Option.{same_Some}
 use Rattle.node_store.specs.declared.Node.{Node}
 use Rattle.node_store.specs.Store.{Store, Entry, IsStore, IsNodeOf, number_of, nodes, aged, age_of, empty_store}
 use Rattle.node_store.specs.ByNode.{contents, AddsNode, RemovesNode}
-use Rattle.node_store.proofs.ByNode.{nodes_kept, aged_kept, ages_kept, added_kept, node_cases}
+use Rattle.node_store.proofs.ByNode.{nodes_kept, aged_kept, ages_kept, added_kept}
 
 no_node : (R : Type 0) (width k : ℕ) → nodes (empty_store {R = R} width) k ≡ None
 unfolding nodes

@@ -1,12 +1,13 @@
 -- Records that know the places of their neighbours in the order of their adds, while records come and go.
 use Rattle.std.proofs.Common.{◌≡◌, ◌≢◌, ℕ, zero, suc, ◌<◌, ◌≤◌, List, Option, Some, None, refl, sym, ap, ◌∙◌, ⊎_elim, arith}
-use Rattle.std.specs.Option.{option_map, option_or}
+use Rattle.std.specs.Option.{option_or}
 use Rattle.std.proofs.lemmas.Bool.{cases_eq}
 use Rattle.node_store.specs.declared.kept.Kept.{Kept}
 use Rattle.node_store.specs.Age.{last_below}
 use Rattle.node_store.specs.Kept.{at_place, node_of, node_at, named, AreChained}
 use Rattle.node_store.proofs.Age.{last_below-same, last_below-none, last_below-is, IsLast, IsLast-found, none_found}
 use Rattle.node_store.proofs.Places.{AreApart}
+use Rattle.node_store.proofs.Rows.{seen_like}
 use Rattle.node_store.proofs.Edited.{named_same}
 
 -- ---- the last below a number, once one has gone
@@ -57,11 +58,7 @@ module _ {R : Type 0} where
     pub newer : e.newer ≡ f.newer
 
   pub node_like : (ss new : List (Option (Kept R))) (q : ℕ) → ((f : Kept R) → at_place new q ≡ Some f → (g : Kept R) × (at_place ss q ≡ Some g)) → (at_place new q ≡ None → at_place ss q ≡ None) → node_at new q ≡ node_at ss q
-  node_like ss new q some none =
-      elim (at_place new q) as (λ o. at_place new q ≡ o → option_map (node_of q) o ≡ node_at ss q) [
-        | None ↦ λ h. sym (ap (option_map (node_of q)) (none h))
-        | Some f ↦ λ h. let r = some f h in sym (ap (option_map (node_of q)) r.1)
-      ] refl
+  node_like ss new q some none = seen_like (node_of q) (node_of q) ss new q (λ f h. let r = some f h in (r.0, r.1, refl)) none
 
   pub chained_like : (ss new : List (Option (Kept R))) (newest added : ℕ) → AreChained ss newest added
       → ((q : ℕ) (f : Kept R) → at_place new q ≡ Some f → (g : Kept R) × (at_place ss q ≡ Some g) × IsLike f g)

@@ -5,10 +5,10 @@ use Rattle.std.proofs.lemmas.Bool.{cases_eq}
 use Rattle.std.proofs.lemmas.Option.{same_Some}
 use Rattle.node_store.specs.declared.Node.{Node}
 use Rattle.node_store.specs.declared.kept.Kept.{Kept}
-use Rattle.node_store.specs.Kept.{at_place, node_of, node_at, named}
+use Rattle.node_store.specs.Kept.{at_place, node_of, named}
 use Rattle.node_store.proofs.Keyed.{some_mapped}
 use Rattle.node_store.proofs.Places.{AreApart, listed_none}
-use Rattle.node_store.proofs.Rows.{named_here, named_found, node_place}
+use Rattle.node_store.proofs.Rows.{named_here, named_found}
 
 module _ {R : Type 0} where
   -- a place that has something is below the length

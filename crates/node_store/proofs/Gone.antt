@@ -3,7 +3,6 @@ use Rattle.std.proofs.Common.{◌≡◌, ◌≢◌, ℕ, List, Option, Some, Non
 use Rattle.std.specs.Option.{option_map}
 use Rattle.std.proofs.lemmas.Bool.{cases_eq}
 use Rattle.std.proofs.lemmas.Option.{same_Some}
-use Rattle.node_store.specs.declared.Node.{Node}
 use Rattle.node_store.specs.declared.kept.Kept.{Kept}
 use Rattle.node_store.specs.Age.{last_below}
 use Rattle.node_store.specs.Kept.{nowhere, at_place, node_of, node_at, named, with_older, with_newer, newest_beside, AreChained}

@@ -13,8 +13,11 @@ use Rattle.node_store.proofs.Edited.{edited_was, edited_there, edited_other, nam
 use Rattle.node_store.proofs.Chained.{node_like}
 use Rattle.node_store.proofs.Gone.{kept_field}
 
-module _ {R : Type 0} (ss s1 : List (Option (Kept R))) (newest added : ℕ) (ch : AreChained ss newest added) (place : ℕ) (x : Kept R) (vacant : at_place ss place ≡ None) (below : place < nowhere)
-    (is_older : x.older ≡ newest) (is_newer : x.newer ≡ nowhere) (is_age : x.age ≡ added) (put : at_place s1 place ≡ Some x) (rest : (q : ℕ) → q ≢ place → at_place s1 q ≡ at_place ss q) where
+module _ {R : Type 0} (ss s1 : List (Option (Kept R))) (newest added : ℕ) (ch : AreChained ss newest added) (place : ℕ) (v : R) (vacant : at_place ss place ≡ None) (below : place < nowhere)
+    (put : at_place s1 place ≡ Some (record { older = newest; newer = nowhere; age = added; value = v })) (rest : (q : ℕ) → q ≢ place → at_place s1 q ≡ at_place ss q) where
+  abbrev x : Kept R
+  x = record { older = newest; newer = nowhere; age = added; value = v }
+
   abbrev new : List (Option (Kept R))
   new = with_newer newest place s1
 
@@ -88,7 +91,7 @@ module _ {R : Type 0} (ss s1 : List (Option (Kept R))) (newest added : ℕ) (ch 
   node_here = ap (option_map (node_of place)) here
 
   pub named_new : named new added ≡ Some (node_of place x)
-  named_new = ap (named new) (sym is_age) ∙ named_here new place x apart_new here
+  named_new = named_here new place x apart_new here
 
   pub named_rest : (k : ℕ) → k ≢ added → named new k ≡ named ss k
   named_rest k off =
@@ -96,7 +99,7 @@ module _ {R : Type 0} (ss s1 : List (Option (Kept R))) (newest added : ℕ) (ch 
       (λ q f z h. let r = stood q f z h in (r.kept, r.at, r.age))
       (λ q f z h. stays q f z h)
       (λ f h same. let bad = sym vacant ∙ h in cc bad)
-      (λ f h same. off (sym same ∙ ap (λ (u : Kept R). u.age) (is_new place f refl h) ∙ is_age))
+      (λ f h same. off (sym same ∙ ap (λ (u : Kept R). u.age) (is_new place f refl h)))
 
   last_same : (j : ℕ) → j ≤ added → last_below (named new) j ≡ last_below (named ss) j
   last_same j le = last_below-same (named ss) (named new) j (λ i less. named_rest i (λ z. absurd (omega arith)))
@@ -110,8 +113,8 @@ module _ {R : Type 0} (ss s1 : List (Option (Kept R))) (newest added : ℕ) (ch 
       ⊎_elim
       (λ (z : q ≡ place).
       let is = is_new q f z h in
-      ap (λ (u : Kept R). node_at new u.older) is ∙ ap (node_at new) is_older ∙ node_new newest newest_apart ∙ ch.first ∙ sym (last_same added (omega arith))
-      ∙ ap (last_below (named new)) (sym is_age ∙ ap (λ (u : Kept R). u.age) (sym is)))
+      ap (λ (u : Kept R). node_at new u.older) is ∙ node_new newest newest_apart ∙ ch.first ∙ sym (last_same added (omega arith))
+      ∙ ap (last_below (named new)) (ap (λ (u : Kept R). u.age) (sym is)))
       (λ (z : q ≢ place).
       let r = stood q f z h in
       let less = older_age q f z h in
@@ -132,12 +135,12 @@ module _ {R : Type 0} (ss s1 : List (Option (Kept R))) (newest added : ℕ) (ch 
   newer_new q f g a b =
       ⊎_elim
       (λ (z : q ≡ place).
-      let end : f.newer ≡ nowhere = ap (λ (u : Kept R). u.newer) (is_new q f z a) ∙ is_newer in
+      let end : f.newer ≡ nowhere = ap (λ (u : Kept R). u.newer) (is_new q f z a) in
       let bad = sym b ∙ ap (at_place new) end ∙ nowhere_free in absurd (cc))
       (λ (z : q ≢ place).
       let r = stood q f z a in
       ⊎_elim
-      (λ (s : q ≡ newest). ap (λ (u : Kept R). u.older) (is_new f.newer g (r.newer_here s) b) ∙ is_older ∙ sym s)
+      (λ (s : q ≡ newest). ap (λ (u : Kept R). u.older) (is_new f.newer g (r.newer_here s) b) ∙ sym s)
       (λ (s : q ≢ newest).
       let kept : f.newer ≡ r.kept.newer = r.newer s in
       let other : f.newer ≢ place = λ k. s (sym (ch.last q r.kept r.at (ap (at_place ss) (sym kept ∙ k) ∙ vacant)).0) in
@@ -150,7 +153,7 @@ module _ {R : Type 0} (ss s1 : List (Option (Kept R))) (newest added : ℕ) (ch 
   after_older_new q f g a b =
       ⊎_elim
       (λ (z : q ≡ place).
-      let back : f.older ≡ newest = ap (λ (u : Kept R). u.older) (is_new q f z a) ∙ is_older in
+      let back : f.older ≡ newest = ap (λ (u : Kept R). u.older) (is_new q f z a) in
       let t = stood f.older g (λ k. newest_apart (sym back ∙ k)) b in
       t.newer_here back ∙ sym z)
       (λ (z : q ≢ place).
@@ -170,7 +173,7 @@ module _ {R : Type 0} (ss s1 : List (Option (Kept R))) (newest added : ℕ) (ch 
   last_new : (q : ℕ) (f : Kept R) → at_place new q ≡ Some f → at_place new f.newer ≡ None → (place ≡ q) × (f.newer ≡ nowhere)
   last_new q f a b =
       ⊎_elim
-      (λ (z : q ≡ place). (sym z, ap (λ (u : Kept R). u.newer) (is_new q f z a) ∙ is_newer))
+      (λ (z : q ≡ place). (sym z, ap (λ (u : Kept R). u.newer) (is_new q f z a)))
       (λ (z : q ≢ place).
       let r = stood q f z a in
       ⊎_elim
@@ -183,7 +186,7 @@ module _ {R : Type 0} (ss s1 : List (Option (Kept R))) (newest added : ℕ) (ch 
   older_none_new q f a b =
       ⊎_elim
       (λ (z : q ≡ place).
-      let back : f.older ≡ newest = ap (λ (u : Kept R). u.older) (is_new q f z a) ∙ is_older in
+      let back : f.older ≡ newest = ap (λ (u : Kept R). u.older) (is_new q f z a) in
       back ∙ ch.first_none (ap (at_place ss) (sym back) ∙ none_was f.older b))
       (λ (z : q ≢ place). let r = stood q f z a in r.older ∙ ch.older_none q r.kept r.at (ap (at_place ss) (sym r.older) ∙ none_was f.older b))
       (cases_eq q place)
@@ -206,7 +209,7 @@ module _ {R : Type 0} (ss s1 : List (Option (Kept R))) (newest added : ℕ) (ch 
     newer = newer_new;
     after_older = after_older_new;
     last = last_new;
-    after_newest = λ f a. ap (λ (u : Kept R). u.newer) (is_new place f refl a) ∙ is_newer;
+    after_newest = λ f a. ap (λ (u : Kept R). u.newer) (is_new place f refl a);
     first_none = λ h. let bad = sym here ∙ h in absurd (cc);
     older_none = older_none_new;
   }

@@ -10,6 +10,8 @@ pub mod Columns
 pub mod Rows
 pub mod Edited
 pub mod Chained
+pub mod Linked
+pub mod Fields
 pub mod Rewritten
 pub mod Gone
 pub mod Removed
