@@ -7,7 +7,7 @@ use Rattle.std.proofs.lemmas.Option.{same_Some}
 use Rattle.node_store.specs.declared.Node.{Node}
 use Rattle.node_store.specs.Store.{Store, Entry, IsStore, IsNodeOf, number_of, nodes, aged, age_of, empty_store}
 use Rattle.node_store.specs.ByNode.{contents, AddsNode, RemovesNode}
-use Rattle.node_store.proofs.ByNode.{nodes_kept, aged_kept, ages_kept, added_kept}
+use Rattle.node_store.proofs.ByNode.{nodes_kept, aged_kept, ages_kept, added_kept, others_added, others_removed}
 
 no_node : (R : Type 0) (width k : ℕ) → nodes (empty_store {R = R} width) k ≡ None
 unfolding nodes
@@ -26,22 +26,13 @@ module _ {R : Type 0} where
   pub same_age : (s : Store R) → IsStore s → (m n : Node) → IsNodeOf s m → IsNodeOf s n → age_of s m ≡ age_of s n → m ≡ n
   same_age s sound m n is_m is_n e = same_Some m n (sym (sound.stands m is_m) ∙ (ap (aged s) e ∙ sound.stands n is_n))
 
-  module _ (s : Store R) (sound : IsStore s) where
-    -- what stands at an age is a node of the store
-    pub node_aged : (k : ℕ) (n : Node) → aged s k ≡ Some n → IsNodeOf s n
-    node_aged k n at = sound.node k n at
-
-    -- and has that age
-    pub age_aged : (k : ℕ) (n : Node) → aged s k ≡ Some n → age_of s n ≡ k
-    age_aged k n at = sound.age k n at
-
-    -- which is below the count of adds
-    pub age_below : (n : Node) → IsNodeOf s n → age_of s n < s.added
-    age_below n is =
-        ⊎_elim
-        (λ (below : age_of s n < s.added). below)
-        (λ (above : s.added ≤ age_of s n). let bad = sym (sound.stands n is) ∙ sound.bounded (age_of s n) above in cc)
-        (cases_lt (age_of s n) s.added)
+  -- which is below the count of adds
+  pub age_below : (s : Store R) (sound : IsStore s) (n : Node) → IsNodeOf s n → age_of s n < s.added
+  age_below s sound n is =
+      ⊎_elim
+      (λ (below : age_of s n < s.added). below)
+      (λ (above : s.added ≤ age_of s n). let bad = sym (sound.stands n is) ∙ sound.bounded (age_of s n) above in cc)
+      (cases_lt (age_of s n) s.added)
 
   -- ---- which stores are sound
 
@@ -82,7 +73,7 @@ module _ {R : Type 0} where
     node = λ k m at.
         ⊎_elim
         (λ (same : k ≡ old.added). let is_n : n ≡ m = same_Some n m (sym a.aged.changed ∙ (ap (aged new) (sym same) ∙ at)) in ap (λ z. nodes new (number_of z)) (sym is_n) ∙ (a.nodes.changed ∙ ap Some is_n))
-        (λ apart. still_node m (h.node k m (sym (a.aged.others k apart) ∙ at)))
+        (λ apart. others_added old new n value a m (h.node k m (sym (a.aged.others k apart) ∙ at)))
         (cases_eq k old.added);
     age = λ k m at.
         ⊎_elim
@@ -102,9 +93,6 @@ module _ {R : Type 0} where
         (cases_eq (number_of m) (number_of n));
     bounded = λ k le. a.aged.others k (λ e. absurd (omega (arith, le, count, e))) ∙ h.bounded k (omega (arith, le, count));
   }
-    where
-      still_node : (m : Node) → IsNodeOf old m → IsNodeOf new m
-      still_node m is = a.nodes.others (number_of m) (λ e. let bad = sym is ∙ (ap (nodes old) e ∙ a.was_absent) in cc bad) ∙ is
 
   -- a node goes
   pub IsStore_removed : (old new : Store R) (n : Node) → IsNodeOf old n → RemovesNode old new n → new.added ≡ old.added → IsStore old → IsStore new
@@ -114,9 +102,7 @@ module _ {R : Type 0} where
         (λ (same : k ≡ number_of n). let bad = sym r.nodes.changed ∙ (ap (nodes new) (sym same) ∙ at) in cc)
         (λ apart. h.numbered k m (sym (r.nodes.others k apart) ∙ at))
         (cases_eq k (number_of n));
-    node = λ k m at.
-        let was = h.node k m (stood k m at) in
-        r.nodes.others (number_of m) (λ e. apart k m at (same_Some m n (sym was ∙ (ap (nodes old) e ∙ here)))) ∙ was;
+    node = λ k m at. others_removed old new n here r m (apart k m at) (h.node k m (stood k m at));
     age = λ k m at. let was = stood k m at in r.ages m (apart k m at) (h.node k m was) ∙ h.age k m was;
     stands = λ m is.
         let off : number_of m ≢ number_of n = λ e. let bad = sym is ∙ (ap (nodes new) e ∙ r.nodes.changed) in cc bad in

@@ -8,7 +8,7 @@ use Rattle.node_store.specs.Kept.{at_place, node_of, node_at, named, AreChained}
 use Rattle.node_store.proofs.Age.{last_below-same, last_below-none, last_below-is, IsLast, IsLast-found, none_found}
 use Rattle.node_store.proofs.Places.{AreApart}
 use Rattle.node_store.proofs.Rows.{seen_like}
-use Rattle.node_store.proofs.Edited.{named_same}
+use Rattle.node_store.proofs.Edited.{was_none, named_same}
 
 -- ---- the last below a number, once one has gone
 
@@ -46,11 +46,6 @@ module _ {A : Type 0} where
 module _ {R : Type 0} where
   -- ---- a change that the order does not see
 
-  -- what an option that is not empty has
-  is_there : (o : Option (Kept R)) → o ≢ None → (g : Kept R) × (o ≡ Some g)
-  is_there None not = absurd (not refl)
-  is_there (Some g) not = (g, refl)
-
   -- the same ages and neighbours
   pub record IsLike (e f : Kept R) : Type 0 where
     pub age : e.age ≡ f.age
@@ -62,12 +57,12 @@ module _ {R : Type 0} where
 
   pub chained_like : (ss new : List (Option (Kept R))) (newest added : ℕ) → AreChained ss newest added
       → ((q : ℕ) (f : Kept R) → at_place new q ≡ Some f → (g : Kept R) × (at_place ss q ≡ Some g) × IsLike f g)
-      → ((q : ℕ) → at_place new q ≡ None → at_place ss q ≡ None) → AreChained new newest added
-  chained_like ss new newest added ch some none =
+      → ((q : ℕ) (f : Kept R) → at_place ss q ≡ Some f → (g : Kept R) × (at_place new q ≡ Some g)) → AreChained new newest added
+  chained_like ss new newest added ch some there =
+      let none : (q : ℕ) → at_place new q ≡ None → at_place ss q ≡ None = λ q. was_none ss new q (there q) in
       let apart : AreApart new = λ p q e f x y same.
       let a = some p e x in let b = some q f y in ch.apart p q a.0 b.0 a.1 b.1 (sym a.2.age ∙ same ∙ b.2.age) in
       let node : (q : ℕ) → node_at new q ≡ node_at ss q = λ q. node_like ss new q (λ f h. let r = some q f h in (r.0, r.1)) (none q) in
-      let there : (q : ℕ) (f : Kept R) → at_place ss q ≡ Some f → (g : Kept R) × (at_place new q ≡ Some g) = λ q f h. is_there (at_place new q) (λ z. let bad = sym h ∙ none q z in cc bad) in
       let name : (k : ℕ) → named new k ≡ named ss k = λ k. named_same ss new k ch.apart apart (λ q f h. let r = some q f h in (r.0, r.1, r.2.age)) there in
       record {
         apart = apart;

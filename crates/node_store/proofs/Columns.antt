@@ -1,7 +1,6 @@
 -- The links that columns keep.
-use Rattle.std.proofs.Common.{◌≡◌, ◌≢◌, ℕ, zero, suc, ◌+◌, ◌<◌, List, [], ◌∷◌, length, get_or, set, slice_get, Option, Some, None, IsSome, option_and_then, refl, sym, ap, ◌∙◌, ⊎_elim, arith}
+use Rattle.std.proofs.Common.{◌≡◌, ◌≢◌, ℕ, zero, suc, ◌+◌, ◌<◌, List, [], ◌∷◌, length, length-set, get_or, get_or-set_same, set, slice_get, Option, Some, None, IsSome, option_and_then, refl, ap, ◌∙◌, arith}
 use Rattle.std.specs.Option.{option_map_or}
-use Rattle.std.proofs.lemmas.Bool.{cases_eq}
 use Rattle.std.proofs.lemmas.Option.{slice_get-get_or}
 use Rattle.node_store.specs.declared.Link.{Link}
 use Rattle.node_store.specs.declared.links.Links.{Links}
@@ -47,11 +46,6 @@ links_from-set f g col (suc n) (suc i) at l less place here other =
 
 -- ---- columns
 
-pub get_set_same : {X : Type 0} (xs : List X) (i : ℕ) (x y : X) → slice_get xs i ≡ Some y → slice_get (set xs i x) i ≡ Some x
-get_set_same [] i x y e = absurd (cc)
-get_set_same (z ∷ xs) zero x y e = refl
-get_set_same (z ∷ xs) (suc i) x y e = get_set_same xs i x y e
-
 pub get_set_other : {X : Type 0} (xs : List X) (i j : ℕ) (x : X) → j ≢ i → slice_get (set xs i x) j ≡ slice_get xs j
 get_set_other [] i j x apart = refl
 get_set_other (z ∷ xs) zero zero x apart = absurd (apart refl)
@@ -70,16 +64,7 @@ stored_there cs col p d less = ap (λ o. option_and_then (λ c. stored_at c p) o
 
 -- a column that is put in place of another
 pub stored_new : (cs : List Links) (col p : ℕ) (old new : Links) → col < length cs → stored_in (set cs col new) col p ≡ stored_at new p
-stored_new cs col p old new within = ap (λ o. option_and_then (λ c. stored_at c p) o) (get_set_same cs col new (get_or cs col old) (slice_get-get_or cs col old within))
+stored_new cs col p old new within = ap (λ o. option_and_then (λ c. stored_at c p) o) (slice_get-get_or (set cs col new) col old (omega (arith, within, length-set cs col new)) ∙ ap Some (get_or-set_same cs col new old within))
 
 pub stored_other : (cs : List Links) (col j p : ℕ) (new : Links) → j ≢ col → stored_in (set cs col new) j p ≡ stored_in cs j p
 stored_other cs col j p new apart = ap (λ o. option_and_then (λ c. stored_at c p) o) (get_set_other cs col j new apart)
-
--- what it keeps of the other places
-pub stored_kept : (cs : List Links) (col place : ℕ) (old new : Links) → col < length cs → ((p : ℕ) (s : Stored) → p ≢ place → stored_at (get_or cs col old) p ≡ Some s → stored_at new p ≡ Some s)
-    → (j p : ℕ) (s : Stored) → p ≢ place → stored_in cs j p ≡ Some s → stored_in (set cs col new) j p ≡ Some s
-stored_kept cs col place old new within keeps j p s apart here =
-    ⊎_elim
-    (λ (same : j ≡ col). ap (λ z. stored_in (set cs col new) z p) same ∙ stored_new cs col p old new within ∙ keeps p s apart (sym (stored_there cs col p old within) ∙ ap (λ z. stored_in cs z p) (sym same) ∙ here))
-    (λ (off : j ≢ col). stored_other cs col j p new off ∙ here)
-    (cases_eq j col)

@@ -3,7 +3,6 @@ use Rattle.std.proofs.Common.{◌≡◌, ◌≢◌, ℕ, zero, suc, ◌<◌, Lis
 use Rattle.std.specs.Option.{option_map, option_map_or}
 use Rattle.std.proofs.lemmas.Bool.{cases_eq}
 use Rattle.std.proofs.lemmas.Option.{same_Some}
-use Rattle.node_store.specs.declared.Node.{Node}
 use Rattle.node_store.specs.declared.kept.Kept.{Kept}
 use Rattle.node_store.specs.Kept.{at_place, node_of, named}
 use Rattle.node_store.proofs.Keyed.{some_mapped}
@@ -27,7 +26,7 @@ module _ {R : Type 0} where
   abbrev pub edited : (Kept R → Kept R) → ℕ → List (Option (Kept R)) → List (Option (Kept R))
   edited g p ss = option_map_or (λ e. set ss p (Some (g e))) (at_place ss p) ss
 
-  edited_here : (g : Kept R → Kept R) (p : ℕ) (ss : List (Option (Kept R))) → at_place (edited g p ss) p ≡ option_map g (at_place ss p)
+  pub edited_here : (g : Kept R → Kept R) (p : ℕ) (ss : List (Option (Kept R))) → at_place (edited g p ss) p ≡ option_map g (at_place ss p)
   edited_here g p ss =
       elim (at_place ss p) as (λ o. at_place ss p ≡ o → at_place (option_map_or (λ e. set ss p (Some (g e))) o ss) p ≡ option_map g o) [
         | None ↦ λ h. h
@@ -57,6 +56,10 @@ module _ {R : Type 0} where
       (λ (off : q ≢ p). record { kept = f; at = sym (edited_other g p q ss off) ∙ at; here = λ same. absurd (off same); elsewhere = λ _. refl })
       (cases_eq q p)
 
+  -- what a change keeps of a record
+  pub kept_field : {Y : Type 0} (see : Kept R → Y) (g : Kept R → Kept R) → ((x : Kept R) → see (g x) ≡ see x) → (p : ℕ) (ss : List (Option (Kept R))) (q : ℕ) (f : Kept R) (was : Was g p ss q f) → see f ≡ see was.kept
+  kept_field see g keeps p ss q f was = ⊎_elim (λ (same : q ≡ p). ap see (was.here same) ∙ keeps was.kept) (λ (off : q ≢ p). ap see (was.elsewhere off)) (cases_eq q p)
+
   pub edited_there : (g : Kept R → Kept R) (p : ℕ) (ss : List (Option (Kept R))) (q : ℕ) (f : Kept R) → at_place ss q ≡ Some f → (h : Kept R) × (at_place (edited g p ss) q ≡ Some h)
   edited_there g p ss q f at =
       ⊎_elim
@@ -72,14 +75,29 @@ module _ {R : Type 0} where
       (λ (off : q ≢ p). edited_other g p q ss off ∙ at)
       (cases_eq q p)
 
-  -- ---- nodes by age
+  -- an empty place was empty, where what lay there stays
+  pub was_none : (ss new : List (Option (Kept R))) (q : ℕ) → ((f : Kept R) → at_place ss q ≡ Some f → (h : Kept R) × (at_place new q ≡ Some h)) → at_place new q ≡ None → at_place ss q ≡ None
+  was_none ss new q stays h =
+      elim (at_place ss q) as (λ o. at_place ss q ≡ o → o ≡ None) [
+        | None ↦ λ z. refl
+        | Some f ↦ λ z. let r = stays f z in let bad = sym r.1 ∙ h in absurd (cc)
+      ] refl
 
-  -- a node of an age, and what lies in its place
-  pub named_node : (ss : List (Option (Kept R))) (k : ℕ) (n : Node) → named ss k ≡ Some n → (e : Kept R) × (at_place ss n.number ≡ Some e) × (e.age ≡ k)
-  named_node ss k n h = named_found ss k n h
+  -- ---- nodes by age
 
   pub named_is : (ss : List (Option (Kept R))) (p k : ℕ) (e : Kept R) → AreApart ss → at_place ss p ≡ Some e → e.age ≡ k → named ss k ≡ Some (node_of p e)
   named_is ss p k e apart h age = ap (named ss) (sym age) ∙ named_here ss p e apart h
+
+  -- an age whose records stay in their places
+  pub named_stays : (ss new : List (Option (Kept R))) (k : ℕ) → AreApart ss → AreApart new
+      → ((q : ℕ) (f : Kept R) → at_place new q ≡ Some f → f.age ≡ k → (g : Kept R) × (at_place ss q ≡ Some g) × (f.age ≡ g.age))
+      → ((q : ℕ) (f : Kept R) → at_place ss q ≡ Some f → f.age ≡ k → (g : Kept R) × (at_place new q ≡ Some g) × (g.age ≡ k)) → named new k ≡ named ss k
+  named_stays ss new k apart apart_new back there =
+      elim (named ss k) as (λ o. named ss k ≡ o → named new k ≡ o) [
+        | None ↦ λ h. listed_none 0 new k (λ q f at age.
+            let g = back q f at age in let bad = sym (named_is ss q k g.0 apart g.1 (sym g.2 ∙ age)) ∙ h in cc bad)
+        | Some n ↦ λ h. let r = named_found ss k n h in let g = there n.number r.0 r.1 r.2 in named_is new n.number k g.0 apart_new g.1 g.2
+      ] refl
 
   -- an age that stands in no place but perhaps one that changed
   pub named_but : (ss new : List (Option (Kept R))) (p k : ℕ) → AreApart ss → AreApart new
@@ -87,35 +105,19 @@ module _ {R : Type 0} where
       → ((q : ℕ) (f : Kept R) → q ≢ p → at_place ss q ≡ Some f → (g : Kept R) × (at_place new q ≡ Some g))
       → ((f : Kept R) → at_place ss p ≡ Some f → f.age ≢ k) → ((f : Kept R) → at_place new p ≡ Some f → f.age ≢ k) → named new k ≡ named ss k
   named_but ss new p k apart apart_new back there no_old no_new =
-      elim (named ss k) as (λ o. named ss k ≡ o → named new k ≡ o) [
-        | None ↦ λ h. listed_none 0 new k (λ q f at age.
-            ⊎_elim
-            (λ (z : q ≡ p). no_new f (ap (at_place new) (sym z) ∙ at) age)
-            (λ (z : q ≢ p). let g = back q f z at in let bad = sym (named_is ss q k g.0 apart g.1 (sym g.2 ∙ age)) ∙ h in absurd (cc))
-            (cases_eq q p))
-        | Some n ↦ λ h.
-            let r = named_node ss k n h in
-            ⊎_elim
-            (λ (z : n.number ≡ p). absurd (no_old r.0 (ap (at_place ss) (sym z) ∙ r.1) r.2))
-            (λ (z : n.number ≢ p).
-            let g = there n.number r.0 z r.1 in
-            let b = back n.number g.0 z g.1 in
-            let same = ap (λ (x : Kept R). x.age) (same_Some b.0 r.0 (sym b.1 ∙ r.1)) in
-            named_is new n.number k g.0 apart_new g.1 (b.2 ∙ same ∙ r.2))
-            (cases_eq n.number p)
-      ] refl
+      named_stays ss new k apart apart_new
+      (λ q f at age. back q f (λ z. no_new f (ap (at_place new) (sym z) ∙ at) age) at)
+      (λ q f at age.
+      let off : q ≢ p = λ z. no_old f (ap (at_place ss) (sym z) ∙ at) age in
+      let g = there q f off at in
+      let b = back q g.0 off g.1 in
+      (g.0, g.1, b.2 ∙ ap (λ (x : Kept R). x.age) (same_Some b.0 f (sym b.1 ∙ at)) ∙ age))
 
   pub named_same : (ss new : List (Option (Kept R))) (k : ℕ) → AreApart ss → AreApart new
       → ((q : ℕ) (f : Kept R) → at_place new q ≡ Some f → (g : Kept R) × (at_place ss q ≡ Some g) × (f.age ≡ g.age))
       → ((q : ℕ) (f : Kept R) → at_place ss q ≡ Some f → (g : Kept R) × (at_place new q ≡ Some g)) → named new k ≡ named ss k
   named_same ss new k apart apart_new back there =
-      elim (named ss k) as (λ o. named ss k ≡ o → named new k ≡ o) [
-        | None ↦ λ h. listed_none 0 new k (λ q f at age.
-            let g = back q f at in let bad = sym (named_is ss q k g.0 apart g.1 (sym g.2 ∙ age)) ∙ h in cc bad)
-        | Some n ↦ λ h.
-            let r = named_node ss k n h in
-            let g = there n.number r.0 r.1 in
-            let b = back n.number g.0 g.1 in
-            let same = ap (λ (x : Kept R). x.age) (same_Some b.0 r.0 (sym b.1 ∙ r.1)) in
-            named_is new n.number k g.0 apart_new g.1 (b.2 ∙ same ∙ r.2)
-      ] refl
+      named_stays ss new k apart apart_new (λ q f at age. back q f at) (λ q f at age.
+      let g = there q f at in
+      let b = back q g.0 g.1 in
+      (g.0, g.1, b.2 ∙ ap (λ (x : Kept R). x.age) (same_Some b.0 f (sym b.1 ∙ at)) ∙ age))

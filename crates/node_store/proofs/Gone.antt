@@ -8,15 +8,11 @@ use Rattle.node_store.specs.Age.{last_below}
 use Rattle.node_store.specs.Kept.{nowhere, at_place, node_of, node_at, named, with_older, with_newer, newest_beside, AreChained}
 use Rattle.node_store.proofs.Age.{IsLast, IsLast-found}
 use Rattle.node_store.proofs.Places.{AreApart, listed_none}
-use Rattle.node_store.proofs.Rows.{named_here, node_place}
-use Rattle.node_store.proofs.Edited.{Was, edited_was, edited_there, edited_none, named_node, named_but}
+use Rattle.node_store.proofs.Rows.{named_found, named_here, node_place}
+use Rattle.node_store.proofs.Edited.{edited_was, edited_there, edited_none, kept_field, was_none, named_but}
 use Rattle.node_store.proofs.Chained.{last_gone, last_stays, node_like}
 
 module _ {R : Type 0} where
-  -- what a change keeps of a record
-  pub kept_field : {Y : Type 0} (see : Kept R → Y) (g : Kept R → Kept R) → ((x : Kept R) → see (g x) ≡ see x) → (p : ℕ) (ss : List (Option (Kept R))) (q : ℕ) (f : Kept R) (was : Was g p ss q f) → see f ≡ see was.kept
-  kept_field see g keeps p ss q f was = ⊎_elim (λ (same : q ≡ p). ap see (was.here same) ∙ keeps was.kept) (λ (off : q ≢ p). ap see (was.elsewhere off)) (cases_eq q p)
-
   pub nowhere_empty : (ss : List (Option (Kept R))) (newest added : ℕ) → AreChained ss newest added → at_place ss nowhere ≡ None
   nowhere_empty ss newest added ch =
       elim (at_place ss nowhere) as (λ o. at_place ss nowhere ≡ o → o ≡ None) [
@@ -71,11 +67,7 @@ module _ {R : Type 0} where
         edited_there (λ x. record x { older = o }) w (with_newer o w s1) q a.0 a.1
 
     pub none_was : (q : ℕ) → q ≢ p → at_place new q ≡ None → at_place ss q ≡ None
-    none_was q other h =
-        elim (at_place ss q) as (λ x. at_place ss q ≡ x → x ≡ None) [
-          | None ↦ λ z. refl
-          | Some f ↦ λ z. let r = stays q f other z in let bad = sym r.1 ∙ h in absurd (cc)
-        ] refl
+    none_was q other = was_none ss new q (λ f. stays q f other)
 
     pub gone_new : at_place new p ≡ None
     gone_new = edited_none (λ x. record x { older = o }) w (with_newer o w s1) p (edited_none (λ x. record x { newer = w }) o s1 p gone)
@@ -104,7 +96,7 @@ module _ {R : Type 0} where
     was_last : (j : ℕ) → last_below (named ss) j ≡ Some (node_of p e) → IsLast (named ss) j e.age (node_of p e)
     was_last j h =
         let r = IsLast-found (named ss) j (node_of p e) h in
-        let was = named_node ss r.0 (node_of p e) r.1.at in
+        let was = named_found ss r.0 (node_of p e) r.1.at in
         let age : e.age ≡ r.0 = ap (λ (x : Kept R). x.age) (same_Some e was.0 (sym lies ∙ was.1)) ∙ was.2 in
         subst (λ i. IsLast (named ss) j i (node_of p e)) (sym age) r.1
 
@@ -146,35 +138,27 @@ module _ {R : Type 0} where
         (λ (z : q ≢ w). ap (node_at new) (r.older z) ∙ last_after r.kept.age r.kept.older (older_apart q r.kept r.at z) (ch.older q r.kept r.at) ∙ ap (last_below (named new)) (sym r.age))
         (cases_eq q w)
 
-    newer_new : (q : ℕ) (f g : Kept R) → at_place new q ≡ Some f → at_place new f.newer ≡ Some g → g.older ≡ q
-    newer_new q f g x y =
+    -- a neighbour of a record that is left knows it, on one side or the other
+    leads_back : (to from : Kept R → ℕ) (a : ℕ) → ((q : ℕ) (f : Kept R) (r : Stood q f) → (q ≡ a → to f ≡ to e) × (q ≢ a → to f ≡ to r.kept) × (q ≡ to e → from f ≡ a) × (q ≢ to e → from f ≡ from r.kept))
+        → ((q : ℕ) (f g : Kept R) → at_place ss q ≡ Some f → at_place ss (to f) ≡ Some g → from g ≡ q) → (q : ℕ) (f g : Kept R) → at_place new q ≡ Some f → at_place new (to f) ≡ Some g → from g ≡ q
+    leads_back to from a sees known q f g x y =
         let r = stood q f x in
-        let t = stood f.newer g y in
+        let t = stood (to f) g y in
         ⊎_elim
-        (λ (z : q ≡ o). t.older_here (r.newer_here z) ∙ sym z)
-        (λ (z : q ≢ o).
-        let was : at_place ss r.kept.newer ≡ Some t.kept = ap (at_place ss) (sym (r.newer z)) ∙ t.at in
-        let back : t.kept.older ≡ q = ch.newer q r.kept t.kept r.at was in
+        (λ (z : q ≡ a). (sees (to f) g t).2 ((sees q f r).0 z) ∙ sym z)
+        (λ (z : q ≢ a).
+        let back : from t.kept ≡ q = known q r.kept t.kept r.at (ap (at_place ss) (sym ((sees q f r).1 z)) ∙ t.at) in
         ⊎_elim
-        (λ (s : f.newer ≡ w). absurd (r.other (sym back ∙ ch.newer p e t.kept lies (ap (at_place ss) (sym s) ∙ t.at))))
-        (λ (s : f.newer ≢ w). t.older s ∙ back)
-        (cases_eq f.newer w))
-        (cases_eq q o)
+        (λ (s : to f ≡ to e). absurd (r.other (sym back ∙ known p e t.kept lies (ap (at_place ss) (sym s) ∙ t.at))))
+        (λ (s : to f ≢ to e). (sees (to f) g t).3 s ∙ back)
+        (cases_eq (to f) (to e)))
+        (cases_eq q a)
+
+    newer_new : (q : ℕ) (f g : Kept R) → at_place new q ≡ Some f → at_place new f.newer ≡ Some g → g.older ≡ q
+    newer_new = leads_back (λ x. x.newer) (λ x. x.older) o (λ q f r. (r.newer_here, r.newer, r.older_here, r.older)) ch.newer
 
     after_older_new : (q : ℕ) (f g : Kept R) → at_place new q ≡ Some f → at_place new f.older ≡ Some g → g.newer ≡ q
-    after_older_new q f g x y =
-        let r = stood q f x in
-        let t = stood f.older g y in
-        ⊎_elim
-        (λ (z : q ≡ w). t.newer_here (r.older_here z) ∙ sym z)
-        (λ (z : q ≢ w).
-        let was : at_place ss r.kept.older ≡ Some t.kept = ap (at_place ss) (sym (r.older z)) ∙ t.at in
-        let back : t.kept.newer ≡ q = ch.after_older q r.kept t.kept r.at was in
-        ⊎_elim
-        (λ (s : f.older ≡ o). absurd (r.other (sym back ∙ ch.after_older p e t.kept lies (ap (at_place ss) (sym s) ∙ t.at))))
-        (λ (s : f.older ≢ o). t.newer s ∙ back)
-        (cases_eq f.older o))
-        (cases_eq q w)
+    after_older_new = leads_back (λ x. x.older) (λ x. x.newer) w (λ q f r. (r.older_here, r.older, r.newer_here, r.newer)) ch.after_older
 
     older_none_new : (q : ℕ) (f : Kept R) → at_place new q ≡ Some f → at_place new f.older ≡ None → f.older ≡ nowhere
     older_none_new q f x y =

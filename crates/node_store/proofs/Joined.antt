@@ -9,9 +9,9 @@ use Rattle.node_store.specs.Kept.{nowhere, at_place, node_of, node_at, named, wi
 use Rattle.node_store.proofs.Age.{last_below-same, last_below-is}
 use Rattle.node_store.proofs.Places.{AreApart}
 use Rattle.node_store.proofs.Rows.{named_here}
-use Rattle.node_store.proofs.Edited.{edited_was, edited_there, edited_other, named_but}
+use Rattle.node_store.proofs.Edited.{edited_was, edited_there, edited_other, edited_none, kept_field, was_none, named_but}
 use Rattle.node_store.proofs.Chained.{node_like}
-use Rattle.node_store.proofs.Gone.{kept_field}
+use Rattle.node_store.proofs.Gone.{nowhere_empty}
 
 module _ {R : Type 0} (ss s1 : List (Option (Kept R))) (newest added : ℕ) (ch : AreChained ss newest added) (place : ℕ) (v : R) (vacant : at_place ss place ≡ None) (below : place < nowhere)
     (put : at_place s1 place ≡ Some (record { older = newest; newer = nowhere; age = added; value = v })) (rest : (q : ℕ) → q ≢ place → at_place s1 q ≡ at_place ss q) where
@@ -62,11 +62,7 @@ module _ {R : Type 0} (ss s1 : List (Option (Kept R))) (newest added : ℕ) (ch 
   was_apart q f h z = let bad = sym h ∙ ap (at_place ss) z ∙ vacant in cc bad
 
   pub none_was : (q : ℕ) → at_place new q ≡ None → at_place ss q ≡ None
-  none_was q h =
-      elim (at_place ss q) as (λ o. at_place ss q ≡ o → o ≡ None) [
-        | None ↦ λ z. refl
-        | Some f ↦ λ z. let r = stays q f (was_apart q f z) z in let bad = sym r.1 ∙ h in absurd (cc)
-      ] refl
+  none_was q = was_none ss new q (λ f z. stays q f (was_apart q f z) z)
 
   older_age : (q : ℕ) (f : Kept R) → q ≢ place → at_place new q ≡ Some f → f.age < added
   older_age q f other h = let r = stood q f other h in let k = ch.young q r.kept r.at in let s = r.age in omega arith
@@ -122,14 +118,7 @@ module _ {R : Type 0} (ss s1 : List (Option (Kept R))) (newest added : ℕ) (ch 
       (cases_eq q place)
 
   nowhere_free : at_place new nowhere ≡ None
-  nowhere_free =
-      elim (at_place new nowhere) as (λ o. at_place new nowhere ≡ o → o ≡ None) [
-        | None ↦ λ h. refl
-        | Some f ↦ λ h.
-            let r = stood nowhere f (λ z. absurd (omega arith)) h in
-            let k = ch.within nowhere r.kept r.at in
-            absurd (omega arith)
-      ] refl
+  nowhere_free = edited_none (λ y. record y { newer = place }) newest s1 nowhere (rest nowhere (λ z. absurd (omega arith)) ∙ nowhere_empty ss newest added ch)
 
   newer_new : (q : ℕ) (f g : Kept R) → at_place new q ≡ Some f → at_place new f.newer ≡ Some g → g.older ≡ q
   newer_new q f g a b =
