@@ -68,4 +68,5 @@ module _ {R : Type 0} (old : Inside R) (sound : IsSound old.kept.slots old.colum
       get_at ss ds old.width old.added q
       ∙ seen_like (entry_of old.columns old.width q) (entry_of ds old.width q) ss ss q (λ f h. (f, h, entry_same old.columns ds old.width q f f refl refl (λ j less. ap shown (kept_elsewhere j q off)))) (λ h. h)
       ∙ sym (get_at ss old.columns old.width old.added q)) in
-      ap (λ m. record { width = old.width; added = old.added; nodes = m; ages = s.ages }) nodes ∙ sym to
+      let changed : store_of ss ds old.width old.added ≡ with_entry s n.number w = ap (λ m. record { width = old.width; added = old.added; nodes = m; ages = s.ages }) nodes in
+      changed ∙ sym to

@@ -49,4 +49,5 @@ module _ {R : Type 0} (old : Inside R) (sound : IsSound old.kept.slots old.colum
       let nodes = insert_is (store_of new old.columns old.width old.added).nodes s.nodes n.number x
       (look new old.columns old.width old.added n.number (written e) (edited_here written n.number old.kept.slots ∙ ap (option_map written) at))
       (λ q off. get_at new old.columns old.width old.added q ∙ ap (option_map (entry_of old.columns old.width q)) (edited_other written n.number q old.kept.slots off) ∙ sym (get_at old.kept.slots old.columns old.width old.added q)) in
-      rw is_new ((λ i. record { width = old.width; added = old.added; nodes = nodes i; ages = ages i }) ∙ sym to)
+      let changed : store_of new old.columns old.width old.added ≡ with_entry s n.number x = λ i. record { width = old.width; added = old.added; nodes = nodes i; ages = ages i } in
+      rw is_new (changed ∙ sym to)
