@@ -4,7 +4,7 @@ ghost use Rattle.std.specs.Prelude.{◌≡◌, IfErr, IfOk, false};
 ghost use Rattle.multi_index.specs.Restored.{IsUnrestorable};
 ghost use Rattle.table_changes.specs.Change.{is_change};
 ghost use Rattle.table_records.specs.Restored.{restored_table};
-ghost use Rattle.table_step.specs.Step.{IsOfSameTable, Steps, new_table, step_of};
+ghost use Rattle.table_step.specs.Step.{IsOfSameTable, Steps, new_table, step_at, step_of};
 ghost use Rattle.table_terms.specs.Table.{keys_of, row_order, specs_of};
 ghost use Rattle.table_terms.specs.Telling.{IsTold};
 
@@ -71,12 +71,29 @@ impl Table {
         self.records.spec().name()
     }
 
-    /// Carries a command out and appends the line of its answer, or that of a refusal. A refused command changes
-    /// nothing. Where memory is refused nothing is changed and the memory line is appended; an accepted write is
-    /// always answered. The buffer keeps its memory. The table keeps its name and its columns; its indices may be declared anew.
+    /// Carries a command out, whatever table it names, and appends the line of its answer, or that of a refusal. A refused
+    /// command changes nothing. Where memory is refused nothing is changed and the memory line is appended; an accepted write
+    /// is always answered. The buffer keeps its memory. The table keeps its name and its columns; its indices may be declared
+    /// anew.
     ///
     /// An insertion and a replacement read their row in O(columns · fields), a record is shown in O(columns) and a listing
     /// in O(records · columns), besides what the container's own call costs.
+    pub fn carry_out<'o>(&mut self, command: &Command, out: Ready<'o>) -> Told<'o, Outcome>
+        ensures answer { Steps result.what out.entry.out.now.bytes result.out.now.bytes self.old self.new
+            (step_at self.old command.now) }
+        ensures told { IsTold out.entry result }
+        ensures declared { IsOfSameTable self.new.shape self.old.shape }
+        ensures unchanged { (result.what ≡ Outcome.Write → ⊥) → self.new ≡ self.old }
+    {
+        if is_change(command) {
+            change(self.alloc, &mut self.records, command, out)
+        } else {
+            read(self.alloc, &self.records, command, out)
+        }
+    }
+
+    /// Carries out a command that names this table, as `carry_out` does. Any other is refused and changes nothing.
+    /// O(what the command costs).
     #[tactic(auto, unfolding(crate::specs::Step::step_of))]
     pub fn step<'o>(&mut self, command: &Command, out: Ready<'o>) -> Told<'o, Outcome>
         ensures answer { Steps result.what out.entry.out.now.bytes result.out.now.bytes self.old self.new
@@ -85,14 +102,10 @@ impl Table {
         ensures declared { IsOfSameTable self.new.shape self.old.shape }
         ensures unchanged { (result.what ≡ Outcome.Write → ⊥) → self.new ≡ self.old }
     {
-        if command.table() != self.records.spec().name() {
+        if command.table() != self.name() {
             return refuse(Fault::Table, out);
         }
-        if is_change(command) {
-            change(self.alloc, &mut self.records, command, out)
-        } else {
-            read(self.alloc, &self.records, command, out)
-        }
+        self.carry_out(command, out)
     }
 
     /// Carries out a command that changes no table, as `step` does. O(what the read costs).

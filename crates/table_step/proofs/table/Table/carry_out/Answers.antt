@@ -2,7 +2,7 @@ use Rattle.std.proofs.Common.{subst, ◌∙◌}
 use Rattle.table_changes.specs.Change.{change_step}
 use Rattle.table_changes.proofs.Kept.{change_keeps, steps_declared, steps_unwritten}
 use Rattle.table_terms.specs.Table.{IsOfSameTable}
-use Rattle.table_step.proofs.table.Table.step.Goals as goal
+use Rattle.table_step.proofs.table.Table.carry_out.Goals as goal
 
 pub returns-then-is_change-clause-declared : goal.returns-then-is_change-clause-declared
 returns-then-is_change-clause-declared c =
