@@ -1,13 +1,14 @@
 -- The step of one table among those of all.
-use Rattle.std.proofs.Common.{◌≡◌, ℕ, List, length, get_or, slice_set, Some, refl, ap, ◌∙◌, inl, inr}
+use Rattle.std.proofs.Common.{◌≡◌, ℕ, List, true, length, get_or, slice_set, Some, bytes_eq, refl, sym, ap, ◌∙◌, inl, inr}
 use Rattle.std.proofs.lemmas.List.{set-get_or}
 use Rattle.std.proofs.lemmas.Option.{slice_get_read}
 use Rattle.std.proofs.lemmas.List.Quantifiers.{position-Some}
+use Rattle.std.proofs.lemmas.Slice.Eq.{bytes_eq-Decides}
 use Rattle.table_cmd.specs.declared.command.Command.{Command}
 use Rattle.table_terms.specs.declared.outcome.Outcome.{Outcome}
 use Rattle.table_terms.specs.declared.outcome.Outcome.TheVariants as outcomes
 use Rattle.table_cmd.specs.Command.{table_in}
-use Rattle.table_step.specs.Step.{TableState, Step, Steps, Took, step_of}
+use Rattle.table_step.specs.Step.{TableState, Step, Steps, Took, step_at, step_of}
 use Rattle.table_engine.specs.Tables.{Replies, carried, stepped, table_at}
 
 -- a table that is as before
@@ -27,9 +28,19 @@ Replies-from_Steps outcomes.Read told_before told tables place old new step is h
 Replies-from_Steps outcomes.Refusal told_before told tables place old new step is h = took outcomes.Refusal told_before told tables place new step h
 Replies-from_Steps outcomes.Memory told_before told tables place old new step is h = (_, h.0, inr (refl, set_same tables place old new is h.1))
 
+-- a command on a table of the name that it has
+step_of-named : (t : TableState) (command : Command) → bytes_eq t.shape.name (table_in command) ≡ true → step_of t command ≡ step_at t command
+unfolding step_of
+step_of-named t command named =
+    let name = t.shape.name in
+    let asked = table_in command in
+    let same : bytes_eq asked name ≡ true = (bytes_eq-Decides asked name).1 (sym ((bytes_eq-Decides name asked).0 named)) in
+    rw (same) refl
+
 -- the table that the command names
 pub carried-at : (tables : List TableState) (command : Command) (place : ℕ) (old : TableState) → table_at tables (table_in command) ≡ Some place → old ≡ get_or tables place old
-    → carried tables command ≡ stepped tables place (step_of old command)
+    → carried tables command ≡ stepped tables place (step_at old command)
 carried-at tables command place old at is =
-    let within = (position-Some _ tables place old at).0 in
-    rw (at, slice_get_read tables (length tables) place old refl within is) refl
+    let found = position-Some _ tables place old at in
+    let named : bytes_eq old.shape.name (table_in command) ≡ true = ap (λ (t : TableState). bytes_eq t.shape.name (table_in command)) is ∙ found.1 in
+    rw (at, slice_get_read tables (length tables) place old refl found.0 is) (ap (stepped tables place) (step_of-named old command named))

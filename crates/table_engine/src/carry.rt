@@ -90,7 +90,7 @@ fn carry_out<'o>(tables: &mut [Table], command: &Command, out: Ready<'o>) -> Tol
     ensures behind { IsBehind out.entry result }
 {
     match table_at(tables, command.table()) {
-        Some(place) => tables[place].step(command, out),
+        Some(place) => tables[place].carry_out(command, out),
         None => refuse(Fault::Table, out),
     }
 }

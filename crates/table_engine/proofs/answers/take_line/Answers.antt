@@ -1,7 +1,7 @@
 use Rattle.std.proofs.Common.{◌≡◌, [], true, false, sym, append-nil, arith}
+use Rattle.std.proofs.lemmas.Result.{IfErr-weaker, on_ok_weaker}
 use Rattle.table_engine.specs.Lines.{is_blank, is_empty}
 use Rattle.table_engine.proofs.Added.{begins, refuses_whole, tells_blank, tells_whole}
-use Rattle.table_engine.proofs.Results.{IfErr-map, OnOk-map}
 use Rattle.table_engine.proofs.answers.take_line.Goals as goal
 
 pub returns-then-is_blank-clause-told : goal.returns-then-is_blank-clause-told
@@ -23,7 +23,7 @@ returns-clause-told g c =
     let line = c.args.line.now in
     let empty : is_empty before ≡ true = cc in
     let some : is_blank line ≡ false = cc in
-    OnOk-map c.answer.result.what (λ told. (
+    on_ok_weaker c.answer.result.what (λ told. (
       told.0,
       told.1,
       tells_whole (g.T.Answers.tells c.args.seat.now) c.args.answers.now c.answer.new.self before line told.0 empty (omega arith) some told.2,
@@ -35,7 +35,7 @@ returns-clause-refused g c =
     let line = c.args.line.now in
     let empty : is_empty before ≡ true = cc in
     let some : is_blank line ≡ false = cc in
-    IfErr-map c.answer.result.what (λ why refused. refuses_whole (g.T.Answers.refuses c.args.seat.now) c.args.answers.now before line why empty (omega arith) some refused) c.answer.ensures.refused
+    IfErr-weaker c.answer.result.what _ _ (λ why refused. refuses_whole (g.T.Answers.refuses c.args.seat.now) c.args.answers.now before line why empty (omega arith) some refused) c.answer.ensures.refused
 
 pub returns-clause-ended : goal.returns-clause-ended
 returns-clause-ended g c =
