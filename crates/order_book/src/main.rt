@@ -34,24 +34,43 @@ impl Fields for Bid {
     }
 }
 
-fn main(rt: HostRuntime) -> io::Result<()> {
-    let mut bids: Indexed<Bid> = Indexed::new(rt.alloc(), INDICES, 1000)?;
+fn place(rt: &HostRuntime, bids: &mut Indexed<Bid>) -> io::Result<()> {
     for (number, price) in [(1, 250), (2, 310), (3, 250), (4, 180), (5, 330)] {
         let is_in = bids.insert(Bid { number, price }).is_ok();
-        println!(&rt; "bid {number}: {is_in}")?;
-    }
-    if let Some(bid) = bids.index(BY_NUMBER).find(&Search::unsigned(3)) {
-        let is_raised = bids.modify_with(bid, |bid| bid.price = 320).is_ok();
-        println!(&rt; "raised: {is_raised}")?;
-    }
-    if let Some(bid) = bids.index(BY_NUMBER).find(&Search::unsigned(4)) {
-        println!(&rt; "cancelled: {}", bids.erase(bid).is_ok())?;
-        println!(&rt; "and again: {}", bids.erase(bid).is_ok())?;
-    }
-    println!(&rt; "from 320 to 250:")?;
-    let (high, low) = (Search::unsigned(320), Search::unsigned(250));
-    for (_, bid) in bids.index(BY_PRICE).between(&high, &low) {
-        println!(&rt; "  {} for {}", bid.number, bid.price)?;
+        println!(rt; "bid {number}: {is_in}")?;
     }
     Ok(())
+}
+
+fn amend(rt: &HostRuntime, bids: &mut Indexed<Bid>, number: u64) -> io::Result<()> {
+    if let Some(bid) = bids.index(BY_NUMBER).find(&Search::unsigned(number)) {
+        let is_raised = bids.modify_with(bid, |bid| bid.price = 320).is_ok();
+        println!(rt; "raised: {is_raised}")?;
+    }
+    Ok(())
+}
+
+fn cancel(rt: &HostRuntime, bids: &mut Indexed<Bid>, number: u64) -> io::Result<()> {
+    if let Some(bid) = bids.index(BY_NUMBER).find(&Search::unsigned(number)) {
+        println!(rt; "cancelled: {}", bids.erase(bid).is_ok())?;
+        println!(rt; "and again: {}", bids.erase(bid).is_ok())?;
+    }
+    Ok(())
+}
+
+fn list(rt: &HostRuntime, bids: &Indexed<Bid>, high: u64, low: u64) -> io::Result<()> {
+    println!(rt; "from {high} to {low}:")?;
+    let (high, low) = (Search::unsigned(high), Search::unsigned(low));
+    for (_, bid) in bids.index(BY_PRICE).between(&high, &low) {
+        println!(rt; "  {} for {}", bid.number, bid.price)?;
+    }
+    Ok(())
+}
+
+fn main(rt: HostRuntime) -> io::Result<()> {
+    let mut bids: Indexed<Bid> = Indexed::new(rt.alloc(), INDICES, 1000)?;
+    place(&rt, &mut bids)?;
+    amend(&rt, &mut bids, 3)?;
+    cancel(&rt, &mut bids, 4)?;
+    list(&rt, &bids, 320, 250)
 }

@@ -43,13 +43,18 @@ fn see(pages: &mut Indexed<Page>, number: u64) -> Result<(), Why> {
     }
 }
 
+fn list(rt: &HostRuntime, pages: &Indexed<Page>) -> io::Result<()> {
+    for (_, page) in pages.index(LATEST).iter() {
+        println!(rt; "  {}", page.number)?;
+    }
+    Ok(())
+}
+
 fn main(rt: HostRuntime) -> io::Result<()> {
     let mut pages = Indexed::new(rt.alloc(), INDICES, 3)?;
     for number in [7, 3, 7, 5, 9, 3] {
         println!(&rt; "page {number}: {:?}", see(&mut pages, number))?;
-        for (_, page) in pages.index(LATEST).iter() {
-            println!(&rt; "  {}", page.number)?;
-        }
+        list(&rt, &pages)?;
     }
     Ok(())
 }

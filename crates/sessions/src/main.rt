@@ -41,19 +41,33 @@ fn hear(live: &mut Indexed<Session>, number: u64, end: u64) -> bool {
     }
 }
 
-fn main(rt: HostRuntime) -> io::Result<()> {
-    let mut live = Indexed::new(rt.alloc(), INDICES, 1000)?;
+fn hear_all(rt: &HostRuntime, live: &mut Indexed<Session>) -> io::Result<()> {
     for (number, end) in [(1, 40), (2, 30), (3, 35), (2, 50)] {
-        println!(&rt; "heard of {number}: {}", hear(&mut live, number, end))?;
-    }
-    for _ in 0..live.index(BY_END).lower_rank(&Search::unsigned(45)) {
-        if let Some((handle, session)) = live.index(BY_END).iter().next() {
-            println!(&rt; "session {} ended at {}", session.number, session.end)?;
-            println!(&rt; "taken out: {}", live.erase(handle).is_ok())?;
-        }
-    }
-    for (_, session) in live.index(BY_END).iter() {
-        println!(&rt; "session {} until {}", session.number, session.end)?;
+        println!(rt; "heard of {number}: {}", hear(live, number, end))?;
     }
     Ok(())
+}
+
+fn end_first(rt: &HostRuntime, live: &mut Indexed<Session>) -> io::Result<()> {
+    if let Some((handle, session)) = live.index(BY_END).iter().next() {
+        println!(rt; "session {} ended at {}", session.number, session.end)?;
+        println!(rt; "taken out: {}", live.erase(handle).is_ok())?;
+    }
+    Ok(())
+}
+
+fn list(rt: &HostRuntime, live: &Indexed<Session>) -> io::Result<()> {
+    for (_, session) in live.index(BY_END).iter() {
+        println!(rt; "session {} until {}", session.number, session.end)?;
+    }
+    Ok(())
+}
+
+fn main(rt: HostRuntime) -> io::Result<()> {
+    let mut live = Indexed::new(rt.alloc(), INDICES, 1000)?;
+    hear_all(&rt, &mut live)?;
+    for _ in 0..live.index(BY_END).lower_rank(&Search::unsigned(45)) {
+        end_first(&rt, &mut live)?;
+    }
+    list(&rt, &live)
 }

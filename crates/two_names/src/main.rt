@@ -1,7 +1,7 @@
 //! Words that are found under either of two names: two hashed indices, both unique.
 #![tactic(auto)]
 
-use indexed::{Field, Fields, Index, Indexed, Rising, Search, UNIQUE_HASHED, pick, text};
+use indexed::{Field, Fields, Index, Indexed, Rising, Search, UNIQUE_HASHED, View, pick, text};
 use std::io;
 
 #[derive(Clone, Copy, Debug)]
@@ -39,16 +39,25 @@ const WORDS: [(&str, &str); 4] = [
     ("house", "casa"),
 ];
 
-fn main(rt: HostRuntime) -> io::Result<()> {
-    let mut words: Indexed<Word> = Indexed::new(rt.alloc(), INDICES, 1000)?;
+fn put_all(rt: &HostRuntime, words: &mut Indexed<Word>) -> io::Result<()> {
     for (english, spanish) in WORDS {
         match words.insert(Word { english, spanish }) {
-            Ok(_) => println!(&rt; "{english} is {spanish}")?,
-            Err(refused) => println!(&rt; "{english}: {:?}", refused.why)?,
+            Ok(_) => println!(rt; "{english} is {spanish}")?,
+            Err(refused) => println!(rt; "{english}: {:?}", refused.why)?,
         }
     }
-    let (english, spanish) = (words.index(ENGLISH), words.index(SPANISH));
-    println!(&rt; "{:?}", english.row(&Search::text(rt.alloc(), "cat")?))?;
-    println!(&rt; "{:?}", spanish.row(&Search::text(rt.alloc(), "casa")?))?;
-    println!(&rt; "{:?}", spanish.row(&Search::text(rt.alloc(), "perro")?))
+    Ok(())
+}
+
+fn look_up(rt: &HostRuntime, words: View<'_, Word>, word: &str) -> io::Result<()> {
+    let word = Search::text(rt.alloc(), word)?;
+    println!(rt; "{:?}", words.row(&word))
+}
+
+fn main(rt: HostRuntime) -> io::Result<()> {
+    let mut words: Indexed<Word> = Indexed::new(rt.alloc(), INDICES, 1000)?;
+    put_all(&rt, &mut words)?;
+    look_up(&rt, words.index(ENGLISH), "cat")?;
+    look_up(&rt, words.index(SPANISH), "casa")?;
+    look_up(&rt, words.index(SPANISH), "perro")
 }
