@@ -19,14 +19,24 @@ use Rattle.table_state.proofs.Again.{cells_again, handles_again}
 use Rattle.table_terms.specs.Table.{Cells}
 
 module _ (shape : TableShape) (entry : Entry Cells) (table index : List ℕ) (handle : HandleText) (key : List Value) (rollback : Bool) (is : commands.ModifyKey table index handle key rollback ≡ record_command shape entry) where
-  pub handle_said : handle ≡ texts.Handle entry.handle
+  handle_said : handle ≡ texts.Handle entry.handle
   handle_said = cc
 
   key_said : key ≡ map values.Cell entry.row
   key_said = cc
 
-  pub row_said : EntryFits shape entry → cells_from shape.columns key ≡ Some entry.row
-  row_said fits = ap (cells_from shape.columns) key_said ∙ cells_again shape.columns entry.row fits.row
+  -- the row that is read of its values is that of the record
+  pub row_said : EntryFits shape entry → (columns : List Column) (values : List Value) (row : Option Cells) → row ≡ cells_from columns values → columns ≡ shape.columns → values ≡ key → row ≡ Some entry.row
+  row_said fits columns values row read all same =
+      read ∙ ap₂ cells_from all (same ∙ key_said) ∙ cells_again shape.columns entry.row fits.row
+
+  -- and with the handle it is the record
+  pub entry_said : (h : Handle) (row : Cells) → handle ≡ texts.Handle h → Some row ≡ Some entry.row → record { handle = h; row = row } ≡ entry
+  entry_said h row is found =
+      let e : texts.Handle h ≡ texts.Handle entry.handle = sym is ∙ handle_said in
+      let one : h ≡ entry.handle = cc in
+      let other : row ≡ entry.row = cc in
+      ap₂ (λ (a : Handle) (r : Cells). record { handle = a; row = r }) one other
 
 module _ (shape : TableShape) (index : IndexSpec) (table name : List ℕ) (kind : Kind) (unique : Bool) (key : Option (List (List ℕ))) (is : commands.AddIndex table name kind unique key ≡ index_command shape index) where
   -- the draft is that of the index
@@ -48,8 +58,9 @@ module _ (shape : TableShape) (index : IndexSpec) (table name : List ℕ) (kind 
   index_said columns indices given made same all found fits =
       let e : Some made ≡ Some index = sym found ∙ ap₂ (λ (cs : List Column) (draft : IndexDraft). defined cs indices draft) all (ap draft_with same ∙ draft_said) ∙ fits.again in cc
 
--- and handles
-pub order_said : (shape : TableShape) (name : List ℕ) (handles : List Handle) (table index : List ℕ) (said : List HandleText) → commands.Rearrange table index said ≡ order_command shape name handles → handles_in said ≡ Some handles
-order_said shape name handles table index said is =
-    let same : said ≡ map texts.Handle handles = cc in
-    ap handles_in same ∙ handles_again handles
+-- and the handles that are read of texts are those of the order
+pub order_said : (shape : TableShape) (name : List ℕ) (handles : List Handle) (table index : List ℕ) (said given : List HandleText) (read : Option (List Handle))
+    → commands.Rearrange table index said ≡ order_command shape name handles → read ≡ handles_in given → given ≡ said → read ≡ Some handles
+order_said shape name handles table index said given read is from same =
+    let all : said ≡ map texts.Handle handles = cc in
+    from ∙ ap handles_in (same ∙ all) ∙ handles_again handles

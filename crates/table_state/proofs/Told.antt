@@ -1,5 +1,5 @@
 -- What all lines of a state tell.
-use Rattle.std.proofs.Common.{◌≡◌, ℕ, List, [], ◌∷◌, ◌++◌, length, map, Option, refl, sym, ap, ap₂, ◌∙◌, subst}
+use Rattle.std.proofs.Common.{◌≡◌, ℕ, List, [], ◌∷◌, ◌++◌, length, map, sym, ap, ap₂, ◌∙◌, append_assoc}
 use Rattle.std.specs.Prelude.{codes, option_map}
 use Rattle.container_model.specs.declared.handle.Entry.{Entry}
 use Rattle.container_model.specs.declared.handle.Handle.{Handle}
@@ -8,14 +8,11 @@ use Rattle.table_schema.specs.declared.column.Column.{Column}
 use Rattle.table_schema.specs.declared.column.IndexSpec.{IndexSpec}
 use Rattle.table_schema.specs.Shape.{TableShape}
 use Rattle.table_terms.specs.Table.{Cells, IsOfSameTable}
-use Rattle.table_state.specs.declared.source.Source.{Source}
-use Rattle.table_state.specs.Reading.{Takes}
 use Rattle.table_state.specs.State.{columns_command, count_command, head_commands, index_command, line_of, lines_text, order_commands, part_text, record_command}
-use Rattle.table_state.proofs.Taking.{takes_both, takes_none}
 
 module _ (made spec : TableShape) (same : IsOfSameTable made spec) where
   -- the lines of the numbers and the columns are those of the declaration
-  pub same_head : (writes indices records : ℕ) → lines_text (head_commands spec writes indices records) ≡ lines_text (head_commands made writes indices records)
+  same_head : (writes indices records : ℕ) → lines_text (head_commands spec writes indices records) ≡ lines_text (head_commands made writes indices records)
   same_head writes indices records =
       ap₂
       (λ name columns. lines_text
@@ -25,45 +22,39 @@ module _ (made spec : TableShape) (same : IsOfSameTable made spec) where
       (sym same.columns)
 
   -- and so are those of indices
-  pub same_indices : (indices : List IndexSpec) → lines_text (map (index_command spec) indices) ≡ lines_text (map (index_command made) indices)
+  same_indices : (indices : List IndexSpec) → lines_text (map (index_command spec) indices) ≡ lines_text (map (index_command made) indices)
   same_indices indices =
       ap₂
       (λ name columns. lines_text (map (λ (index : IndexSpec). commands.AddIndex name index.name index.kind index.unique (option_map (map (part_text columns)) index.key)) indices))
       (sym same.name)
       (sym same.columns)
 
-module _ (contents : Option (List ℕ)) (shape : TableShape) (writes indices records : ℕ) (s0 s1 s2 s3 s4 : Source) where
-  pub takes_head : Takes contents s0 (line_of (count_command shape (codes "writes") writes)) s1 → Takes contents s1 (line_of (count_command shape (codes "indices") indices)) s2
-      → Takes contents s2 (line_of (count_command shape (codes "records") records)) s3 → Takes contents s3 (line_of (columns_command shape)) s4
-      → Takes contents s0 (lines_text (head_commands shape writes indices records)) s4
-  takes_head t1 t2 t3 t4 =
-      let a = line_of (count_command shape (codes "writes") writes) in
-      let b = line_of (count_command shape (codes "indices") indices) in
-      let c = line_of (count_command shape (codes "records") records) in
-      let d = line_of (columns_command shape) in
-      takes_both contents s0 s1 s4 a (b ++ (c ++ (d ++ []))) t1
-      (takes_both contents s1 s2 s4 b (c ++ (d ++ [])) t2
-      (takes_both contents s2 s3 s4 c (d ++ []) t3
-      (takes_both contents s3 s4 s4 d [] t4 (takes_none contents s4))))
+module _ (a b c d e f g rest : List ℕ) where
+  -- the parts of a text, one behind another
+  apart : ((a ++ (b ++ (c ++ (d ++ [])))) ++ (e ++ (f ++ g))) ++ rest ≡ a ++ (b ++ (c ++ (d ++ (e ++ (f ++ (g ++ rest))))))
+  apart =
+      append_assoc (a ++ (b ++ (c ++ (d ++ [])))) (e ++ (f ++ g)) rest
+      ∙ ap (λ xs. (a ++ (b ++ (c ++ (d ++ [])))) ++ xs) (append_assoc e (f ++ g) rest ∙ ap (λ xs. e ++ xs) (append_assoc f g rest))
+      ∙ append_assoc a (b ++ (c ++ (d ++ []))) (e ++ (f ++ (g ++ rest)))
+      ∙ ap (λ xs. a ++ xs)
+      (append_assoc b (c ++ (d ++ [])) (e ++ (f ++ (g ++ rest)))
+      ∙ ap (λ xs. b ++ xs) (append_assoc c (d ++ []) (e ++ (f ++ (g ++ rest))) ∙ ap (λ xs. c ++ xs) (append_assoc d [] (e ++ (f ++ (g ++ rest))))))
 
--- the lines of a table of the declaration
-module _ (contents : Option (List ℕ)) (made spec : TableShape) (same : IsOfSameTable made spec) (writes indices records : ℕ) (entries : List (Entry Cells)) (lists : List (List Handle)) (s0 s4 s5 s6 s7 : Source) where
-  pub takes_state : length made.indices ≡ indices → length entries ≡ records
-      → Takes contents s0 (lines_text (head_commands spec writes indices records)) s4
-      → Takes contents s4 (lines_text (map (index_command spec) made.indices)) s5
-      → Takes contents s5 (lines_text (map (record_command made) entries)) s6
-      → Takes contents s6 (lines_text (order_commands made lists)) s7
-      → Takes contents s0 (lines_text (head_commands made writes (length made.indices) (length entries))
-      ++ (lines_text (map (index_command made) made.indices)
-      ++ (lines_text (map (record_command made) entries)
-      ++ lines_text (order_commands made lists)))) s7
-  takes_state as_many all t4 t5 t6 t7 =
-      let a = lines_text (head_commands made writes (length made.indices) (length entries)) in
-      let b = lines_text (map (index_command made) made.indices) in
-      let c = lines_text (map (record_command made) entries) in
-      let d = lines_text (order_commands made lists) in
-      let first : lines_text (head_commands spec writes indices records) ≡ a =
-      ap₂ (λ n m. lines_text (head_commands spec writes n m)) (sym as_many) (sym all) ∙ same_head made spec same writes (length made.indices) (length entries) in
-      takes_both contents s0 s4 s7 a (b ++ (c ++ d)) (subst (λ xs. Takes contents s0 xs s4) first t4)
-      (takes_both contents s4 s5 s7 b (c ++ d) (subst (λ xs. Takes contents s4 xs s5) (same_indices made spec same made.indices) t5)
-      (takes_both contents s5 s6 s7 c d t6 t7))
+-- the parts of a state of the declaration were taken, one behind another
+pub all_taken : (made spec : TableShape) → IsOfSameTable made spec → (writes indices records : ℕ) (entries : List (Entry Cells)) (lists : List (List Handle)) (l0 l1 l2 l3 l4 l5 l6 l7 : List ℕ)
+    → length made.indices ≡ indices → length entries ≡ records
+    → l0 ≡ line_of (count_command spec (codes "writes") writes) ++ l1 → l1 ≡ line_of (count_command spec (codes "indices") indices) ++ l2 → l2 ≡ line_of (count_command spec (codes "records") records) ++ l3
+    → l3 ≡ line_of (columns_command spec) ++ l4 → l4 ≡ lines_text (map (index_command spec) made.indices) ++ l5 → l5 ≡ lines_text (map (record_command made) entries) ++ l6 → l6 ≡ lines_text (order_commands made lists) ++ l7
+    → l0 ≡ (lines_text (head_commands made writes (length made.indices) (length entries)) ++ (lines_text (map (index_command made) made.indices) ++ (lines_text (map (record_command made) entries) ++ lines_text (order_commands made lists)))) ++ l7
+all_taken made spec same writes indices records entries lists l0 l1 l2 l3 l4 l5 l6 l7 many all e0 e1 e2 e3 e4 e5 e6 =
+    let a = line_of (count_command spec (codes "writes") writes) in
+    let b = line_of (count_command spec (codes "indices") indices) in
+    let c = line_of (count_command spec (codes "records") records) in
+    let d = line_of (columns_command spec) in
+    let e = lines_text (map (index_command spec) made.indices) in
+    let f = lines_text (map (record_command made) entries) in
+    let g = lines_text (order_commands made lists) in
+    e0 ∙ ap (λ l. a ++ l) (e1 ∙ ap (λ l. b ++ l) (e2 ∙ ap (λ l. c ++ l) (e3 ∙ ap (λ l. d ++ l) (e4 ∙ ap (λ l. e ++ l) (e5 ∙ ap (λ l. f ++ l) e6)))))
+    ∙ sym (apart a b c d e f g l7)
+    ∙ ap₂ (λ n m. (lines_text (head_commands spec writes n m) ++ (e ++ (f ++ g))) ++ l7) (sym many) (sym all)
+    ∙ ap₂ (λ xs ys. (xs ++ (ys ++ (f ++ g))) ++ l7) (same_head made spec same writes (length made.indices) (length entries)) (same_indices made spec same made.indices)

@@ -1,4 +1,4 @@
-use Rattle.std.proofs.Common.{◌≡◌, ℕ, ◌+◌, ◌<◌, ◌≤◌, [], None, false, length, map, get_or, take, sym, ap, subst, ◌∙◌, arith}
+use Rattle.std.proofs.Common.{◌≡◌, ℕ, ◌+◌, ◌<◌, ◌≤◌, [], None, false, length, map, get_or, take, refl, sym, ap, subst, ◌∙◌, arith}
 use Rattle.std.proofs.lemmas.List.{length_push}
 use Rattle.std.proofs.lemmas.Result.{err_from_is_err_and}
 use Rattle.container_model.specs.declared.handle.Kind.TheVariants.{Sequenced}
@@ -10,8 +10,8 @@ use Rattle.table_state.proofs.Fronts.{begins_all, begins_more, begins_none, next
 use Rattle.table_state.proofs.Lines.{lines_one, lines_push}
 use Rattle.table_state.proofs.Spelled.{each_index_fits}
 use Rattle.table_state.proofs.ReadingOn.{reads_then, reads_told}
-use Rattle.table_state.proofs.Taking.{takes_none}
-use Rattle.table_state.proofs.Taking.{takes_then}
+use Rattle.table_state.proofs.Steps.{same_but_indices}
+use Rattle.table_state.proofs.Taking.{takes_none, takes_then}
 use Rattle.table_state.proofs.read.read_indices.Goals as goal
 
 one_more : (n m k : ℕ) → m ≡ n + 1 → n < k → m ≤ k
@@ -40,13 +40,7 @@ loop-alloc-preserved g c =
           let longer = begins_more f (IndicesFit c.args.spec.now c.args.count) (g.D.Disk.contents c.args.disk.now) c.args.source.now c.loop-alloc.source done old.takes old.begins xs bytes rest index index known fits front lt is in
           subst (λ ys. ys ≡ take (length ys) xs) (sym more) longer;
       count = one_more _ _ _ (ap length more ∙ length_push c.loop-alloc.made.indices index) (subst (λ xs. length xs < c.args.count) c.indices.ensures.value c.loop-alloc-test.true);
-      same = record {
-        name = ap (λ t. t.name) made ∙ old.same.name;
-        max = ap (λ t. t.max) made ∙ old.same.max;
-        columns = ap (λ t. t.columns) made ∙ old.same.columns;
-        place = ap (λ t. t.place) made ∙ old.same.place;
-        tables = ap (λ t. t.tables) made ∙ old.same.tables;
-      };
+      same = same_but_indices _ c.loop-alloc.made c.args.spec.now made old.same;
       reads = reads_then old.reads c.in_ok-next.ensures.reads;
     }
 
@@ -69,13 +63,7 @@ loop-alloc-init g c =
           let is : index ≡ get_or xs 0 index = c.in_ok-first.ensures.finds (get_or xs 0 index) bytes _ known here next in
           subst (λ ys. ys ≡ take (length ys) xs) (sym more) (begins_more f Fits first s0 s0 [] (takes_none first s0) none xs bytes rest index index known fits front lt is);
       count = omega (arith, ap length more);
-      same = record {
-        name = ap (λ t. t.name) made;
-        max = ap (λ t. t.max) made;
-        columns = ap (λ t. t.columns) made;
-        place = ap (λ t. t.place) made;
-        tables = ap (λ t. t.tables) made;
-      };
+      same = same_but_indices _ c.args.spec.now c.args.spec.now made (record { name = refl; max = refl; columns = refl; place = refl; tables = refl });
       reads = reads_told c.in_ok-first.ensures.reads;
     }
 

@@ -1,7 +1,6 @@
 use Rattle.std.proofs.Common.{◌≡◌, Some, None, sym, ap, ◌∙◌}
 use Rattle.std.specs.Prelude.{option_map}
 use Rattle.std.proofs.lemmas.Result.{err_from_is_err_and}
-use Rattle.table_state.specs.Parts.{handles_in}
 use Rattle.table_state.specs.State.{line_of, order_command}
 use Rattle.table_state.proofs.Said.{order_said}
 use Rattle.table_state.proofs.read.read_order.Goals as goal
@@ -16,8 +15,7 @@ returns-in_default-2-clause-finds g c = λ handles bytes rest known fits front.
     let spec = c.args.spec.now in
     let m = c.in-Rearrange in
     let read = c.in_ok-texts.ensures.back (order_command spec c.args.index.now handles) bytes rest known fits front in
-    let said = order_said spec c.args.index.now handles m.table m.index m.texts (sym m.is ∙ read.0) in
-    let found : option_map (λ list. list.items) c.in_ok-handles.field-0 ≡ Some handles = c.in_ok-handles.ensures ∙ ap handles_in c.as_slice.ensures ∙ said in
+    let found = order_said spec c.args.index.now handles m.table m.index m.texts _ _ (sym m.is ∙ read.0) c.in_ok-handles.ensures c.as_slice.ensures in
     let e : None ≡ Some handles = sym (ap (option_map (λ list. list.items)) c.in_default-2.is) ∙ found in cc
 
 pub returns-in_err-confirm-clause-finds : goal.returns-in_err-confirm-clause-finds
@@ -25,8 +23,7 @@ returns-in_err-confirm-clause-finds g c = λ handles bytes rest known fits front
     let spec = c.args.spec.now in
     let m = c.in-Rearrange in
     let read = c.in_ok-texts.ensures.back (order_command spec c.args.index.now handles) bytes rest known fits front in
-    let said = order_said spec c.args.index.now handles m.table m.index m.texts (sym m.is ∙ read.0) in
-    let found : option_map (λ list. list.items) c.in_ok-handles.field-0 ≡ Some handles = c.in_ok-handles.ensures ∙ ap handles_in c.as_slice.ensures ∙ said in
+    let found = order_said spec c.args.index.now handles m.table m.index m.texts _ _ (sym m.is ∙ read.0) c.in_ok-handles.ensures c.as_slice.ensures in
     let same : c.in-Some.handles.items ≡ handles = let e : Some c.in-Some.handles.items ≡ Some handles = sym (ap (option_map (λ list. list.items)) c.in-Some.is) ∙ found in cc in
     let command = c.in_ok-order_command.ensures ∙ ap (order_command spec c.args.index.now) (c.deref.ensures.value ∙ same) in
     let p = err_from_is_err_and c.from_residual-in_err-confirm.result c.from_residual-in_err-confirm.ensures.1 in rw (p.1, p.2)
@@ -37,7 +34,5 @@ returns-clause-finds g c = λ handles bytes rest known fits front.
     let spec = c.args.spec.now in
     let m = c.in-Rearrange in
     let read = c.in_ok-texts.ensures.back (order_command spec c.args.index.now handles) bytes rest known fits front in
-    let said = order_said spec c.args.index.now handles m.table m.index m.texts (sym m.is ∙ read.0) in
-    let found : option_map (λ list. list.items) c.in_ok-handles.field-0 ≡ Some handles = c.in_ok-handles.ensures ∙ ap handles_in c.as_slice.ensures ∙ said in
-    let same : c.in-Some.handles.items ≡ handles = let e : Some c.in-Some.handles.items ≡ Some handles = sym (ap (option_map (λ list. list.items)) c.in-Some.is) ∙ found in cc in
-    same
+    let found = order_said spec c.args.index.now handles m.table m.index m.texts _ _ (sym m.is ∙ read.0) c.in_ok-handles.ensures c.as_slice.ensures in
+    let e : Some c.in-Some.handles.items ≡ Some handles = sym (ap (option_map (λ list. list.items)) c.in-Some.is) ∙ found in cc

@@ -1,6 +1,5 @@
 use Rattle.std.proofs.Common.{◌≡◌, length, map, take}
-use Rattle.std.specs.List.{range_with_len}
-use Rattle.table_state.specs.State.{index_command, lines_text, order_at, record_command}
+use Rattle.table_state.specs.State.{index_command, lines_text}
 use Rattle.table_state.specs.Writing.{Puts, gathered}
 use Rattle.table_state.proofs.write.put_indices.Given as goal
 

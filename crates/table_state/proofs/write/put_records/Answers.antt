@@ -18,8 +18,7 @@ put_record-requires g c =
     let d : Entry Cells = record { handle = none; row = [] } in
     let are : c.deref-handle-items.result.now ≡ map (λ e. e.handle) t.records.entries = c.deref-handle-items.ensures.value ∙ c.in_ok-handles.ensures.handles in
     let lt : k < length t.records.entries = subst (λ n. k < n) (ap length are ∙ length-map t.records.entries (λ e. e.handle)) c.loop-handle-test.true in
-    let at = has_row t.records.entries c.in_ok-handles.ensures.apart c.deref-handle-items.result.now are k none d lt in
-    at
+    has_row t.records.entries c.in_ok-handles.ensures.apart c.deref-handle-items.result.now are k none d lt
 
 pub returns-in_err-put_record-clause-puts : goal.returns-in_err-put_record-clause-puts
 returns-in_err-put_record-clause-puts g c =
