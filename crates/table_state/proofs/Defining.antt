@@ -1,5 +1,5 @@
 -- The line of an index of a valid table defines that index again.
-use Rattle.std.proofs.Common.{◌≡◌, ℕ, ◌+◌, ◌<◌, Bool, true, false, not, cond, ◌&&◌, ◌||◌, ◌==◌, List, [], ◌∷◌, ◌++◌, length, map, get_or, Option, Some, None, refl, sym, ap, ◌∙◌, arith}
+use Rattle.std.proofs.Common.{◌≡◌, ℕ, ◌<◌, Bool, true, false, not, cond, ◌&&◌, ◌||◌, ◌==◌, List, [], ◌∷◌, ◌++◌, length, map, get_or, Option, Some, None, refl, sym, ap, ◌∙◌, arith}
 use Rattle.std.specs.Prelude.{bytes_eq, codes, nat_lt, option_map, option_and_then, slice_get, is_none, if◌then◌else◌}
 use Rattle.std.specs.List.{list_all, position}
 use Rattle.std.specs.Option.{option_map_or}
@@ -20,7 +20,7 @@ use Rattle.table_schema.specs.Valid.{are_distinct, are_names, has_good_key, is_k
 use Rattle.table_schema.proofs.Defined.{is_defined}
 use Rattle.table_state.specs.Parts.{draft_of}
 use Rattle.table_state.specs.State.{part_text}
-use Rattle.table_state.proofs.Names.{both, itself, name_at, name_first, other_before}
+use Rattle.table_state.proofs.Names.{itself, name_at, name_first, other_before}
 
 module _ (columns : List Column) (names : are_names (map (λ c. c.name) columns) ≡ true) where
   -- the column at a place is found by its name

@@ -1,10 +1,9 @@
 -- Lines that are gathered and appended one after another.
-use Rattle.std.proofs.Common.{◌≡◌, ℕ, ◌+◌, List, [], ◌∷◌, ◌++◌, length, Option, Some, None, Result, Ok, Err, refl, sym, ap, ◌∙◌, append_assoc, append-nil, length-append, subst, arith}
+use Rattle.std.proofs.Common.{◌≡◌, ℕ, ◌+◌, List, [], ◌++◌, length, Option, Some, None, Result, Ok, Err, refl, sym, ap, ◌∙◌, append_assoc, append-nil, length-append, subst, arith}
 use Rattle.std.specs.Prelude.{codes, OnOk, OnErr, IfErr}
 use Rattle.std.specs.Io.KnownBytes.{append_known}
 use Rattle.command_text.specs.Text.{command_text}
 use Rattle.table_cmd.specs.declared.command.Command.{Command}
-use Rattle.table_engine.specs.Devices.{IsFront}
 use Rattle.table_state.specs.State.{line_of}
 use Rattle.table_state.specs.declared.fault.StateWhy.{StateWhy}
 use Rattle.table_state.specs.Writing.{Gathered, IsCutOff, IsInterruption, IsWritten, Puts, Putting, Stops, gathered}

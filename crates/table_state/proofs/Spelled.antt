@@ -13,7 +13,6 @@ use Rattle.key_extract.specs.declared.key.Part.{Part}
 use Rattle.table_schema.specs.declared.column.Column.{Column}
 use Rattle.table_schema.specs.declared.column.CellKind.TheVariants.{Int}
 use Rattle.table_schema.specs.declared.column.IndexSpec.{IndexSpec}
-use Rattle.table_schema.specs.Defined.{defined}
 use Rattle.table_schema.specs.Shape.{TableShape}
 use Rattle.table_schema.specs.Valid.{IsValidTable, are_distinct, has_good_key, is_name}
 use Rattle.table_schema.proofs.Facts.{all_at, within_high}

@@ -1,5 +1,5 @@
 -- Where each part of a state stands once those before it are read.
-use Rattle.std.proofs.Common.{◌≡◌, ℕ, List, [], ◌++◌, length, map, Option, Some, refl, sym, ap, ◌∙◌, subst}
+use Rattle.std.proofs.Common.{◌≡◌, ℕ, List, ◌++◌, length, map, Option, Some, refl, sym, ap, ◌∙◌, subst}
 use Rattle.std.specs.Prelude.{codes}
 use Rattle.table_schema.specs.declared.column.IndexSpec.{IndexSpec}
 use Rattle.table_schema.specs.Shape.{TableShape}

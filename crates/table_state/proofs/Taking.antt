@@ -1,6 +1,6 @@
 -- Texts that are taken off the front of what is left.
-use Rattle.std.proofs.Common.{◌≡◌, ℕ, List, [], ◌∷◌, ◌++◌, Option, Some, None, refl, sym, ap, ◌∙◌, append_assoc, append-nil, zero, suc, ◌+◌, ◌<◌, ◌≤◌, length, take, drop, take-append-drop, subst, arith}
-use Rattle.std.specs.Prelude.{codes, slice_index_or}
+use Rattle.std.proofs.Common.{◌≡◌, ℕ, List, [], ◌∷◌, ◌++◌, Option, Some, refl, sym, ap, ◌∙◌, append_assoc, append-nil, zero, suc, ◌+◌, ◌<◌, ◌≤◌, length, take, drop, take-append-drop, subst, arith}
+use Rattle.std.specs.Prelude.{slice_index_or}
 use Rattle.std.proofs.Math.Seq.{drop-nil}
 use Rattle.std.proofs.lemmas.List.{drop_all}
 use Rattle.table_state.specs.declared.source.Source.{Source}

@@ -1,6 +1,5 @@
-use Rattle.std.proofs.Common.{◌≡◌, ◌++◌, ap, ◌∙◌}
+use Rattle.std.proofs.Common.{◌++◌, ap, ◌∙◌}
 use Rattle.std.specs.Prelude.{codes}
-use Rattle.table_state.specs.Writing.{gathered}
 use Rattle.table_state.proofs.Putting.{puts_line, putting_rest}
 use Rattle.table_state.proofs.gather.put.Goals as goal
 

@@ -1,4 +1,4 @@
-use Rattle.std.proofs.Common.{◌≡◌, ◌≤◌, ◌-◌, length, map, Ok}
+use Rattle.std.proofs.Common.{◌≤◌, ◌-◌, length, map, Ok}
 use Rattle.table_state.specs.Parts.{IndicesFit}
 use Rattle.table_state.specs.Reading.{ReadsOn, Takes}
 use Rattle.table_state.specs.State.{index_command, lines_text}

@@ -1,5 +1,5 @@
 use Rattle.std.proofs.lemmas.Result.{err_from_is_err_and}
-use Rattle.std.proofs.Common.{◌≡◌, ◌<◌, ◌≤◌, ◌++◌, length, map, take, drop, get_or, sym, ap, ◌∙◌, subst, arith, codes}
+use Rattle.std.proofs.Common.{◌≡◌, length, ap, ◌∙◌, codes}
 use Rattle.table_state.specs.State.{columns_command, count_command, line_of}
 use Rattle.table_state.proofs.Putting.{fails_as, fails_second, fails_within, putting_as, putting_both, putting_end, puts_as}
 use Rattle.table_state.proofs.write.put_head.Goals as goal

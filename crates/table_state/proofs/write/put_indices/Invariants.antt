@@ -1,4 +1,4 @@
-use Rattle.std.proofs.Common.{◌≡◌, length, map, take}
+use Rattle.std.proofs.Common.{◌≡◌, map, take}
 use Rattle.table_state.specs.State.{index_command, lines_text}
 use Rattle.table_state.specs.Writing.{Puts, gathered}
 use Rattle.table_state.proofs.write.put_indices.Given as goal

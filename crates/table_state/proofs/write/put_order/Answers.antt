@@ -1,5 +1,5 @@
 use Rattle.std.proofs.lemmas.Result.{err_from_is_err_and}
-use Rattle.std.proofs.Common.{◌≡◌, ◌<◌, ◌≤◌, ◌++◌, length, map, take, drop, get_or, sym, ap, Some, [], ◌∙◌, subst, arith, codes}
+use Rattle.std.proofs.Common.{◌≡◌, get_or, sym, ap, Some, [], ◌∙◌}
 use Rattle.std.specs.Prelude.{slice_get}
 use Rattle.std.specs.Option.{option_map_or}
 use Rattle.container_model.specs.State.{list_at}

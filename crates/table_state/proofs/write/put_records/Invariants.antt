@@ -1,4 +1,4 @@
-use Rattle.std.proofs.Common.{◌≡◌, length, map, take}
+use Rattle.std.proofs.Common.{◌≡◌, map, take}
 use Rattle.table_state.specs.State.{lines_text, record_command}
 use Rattle.table_state.specs.Writing.{Puts, gathered}
 use Rattle.table_state.proofs.write.put_records.Given as goal

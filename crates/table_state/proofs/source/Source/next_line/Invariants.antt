@@ -1,4 +1,4 @@
-use Rattle.std.proofs.Common.{◌≡◌, Ok}
+use Rattle.std.proofs.Common.{Ok}
 use Rattle.command_text.specs.Line.{IsOneLine}
 use Rattle.table_state.specs.Reading.{ReadsOn, Takes, unread}
 use Rattle.table_state.proofs.source.Source.next_line.Given as goal
