@@ -15,11 +15,21 @@ use std::marker::Model;
 /// Records under several indices, each of which keeps all of them in an order of its own. Indices are numbered from 0. A call
 /// may name a number that no index has: it is then answered as of a sequence without records and without places, by `Kind`
 /// where a key, a rank or a place is asked for, and a change of its order is a write that leaves every index as it is.
-#[derive(Drop)]
 pub struct MultiIndex<R: Drop, E: Extract<R> + Drop> {
     pub(crate) set: LinkedSet<R, E>,
     pub(crate) max: u32,
     pub(crate) writes: u64,
+}
+
+// As a function: a derived drop is written out at each exit of each function that owns a container.
+impl<R: Drop, E: Extract<R> + Drop> Drop for MultiIndex<R, E> {
+    fn drop(self) {
+        let MultiIndex {
+            set: _set,
+            max: _,
+            writes: _,
+        } = self;
+    }
 }
 
 impl<R: Drop, E: Extract<R> + Drop> Model for MultiIndex<R, E> {

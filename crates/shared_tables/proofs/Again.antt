@@ -14,7 +14,7 @@ use Rattle.table_cmd.specs.declared.command.Command.{Command}
 use Rattle.table_engine.specs.Lines.{max_line, short}
 use Rattle.table_engine.specs.Tables.{AnswersLine, MayAnswer, answer_to, stepped, table_at}
 use Rattle.table_engine.specs.Whole.{AnswersLines, as_line, lines_of}
-use Rattle.table_engine.proofs.Tables.{carried-at}
+use Rattle.table_engine.proofs.Tables.{carried-at, step_of-named}
 use Rattle.table_engine.proofs.Serving.{lines-from_Run}
 use Rattle.table_reply.specs.Buffer.{joined}
 use Rattle.table_schema.specs.Shape.{TableShape}
@@ -60,11 +60,6 @@ first_named done later t name others here =
 abbrev IsTold : List TableState → List TableState → TableState → EntryData → List ℕ → List TableState → Type 0
 IsTold done later t e text new = (text ≡ e.answer) × (new ≡ done ++ (step_of t e.command).table ∷ later)
 
--- a command that names the table
-step_named : (t : TableState) (command : Command) → bytes_eq (table_in command) t.shape.name ≡ true → step_of t command ≡ step_at t command
-unfolding step_of
-step_named t command named = rw (named) refl
-
 line_again : (done later : List TableState) (t : TableState) (e : EntryData) (text : List ℕ) (new : List TableState) → CanBeRead e → Others done t.shape.name
     → is_write (step_of t e.command).outcome ≡ true → e.answer ≡ line_of (step_of t e.command)
     → AnswersLine (done ++ t ∷ later) (as_line (command_text e.command)) text new → IsTold done later t e text new ⊎ (text ≡ memory_line)
@@ -75,7 +70,7 @@ line_again done later t e text new readable others write answer h =
     let same : table_in c ≡ t.shape.name = (bytes_eq-Decides (table_in c) t.shape.name).0 named in
     let here : bytes_eq t.shape.name (table_in c) ≡ true = (bytes_eq-Decides t.shape.name (table_in c)).1 (sym same) in
     let at = first_named done later t (table_in c) (subst (Others done) (sym same) others) here in
-    let is = carried-at tables c (length done) t at (sym (get_mid done later t t)) ∙ ap (stepped tables (length done)) (sym (step_named t c named)) in
+    let is = carried-at tables c (length done) t at (sym (get_mid done later t t)) ∙ ap (stepped tables (length done)) (sym (step_of-named t c here)) in
     let whole : as_line (command_text c) ≡ short (command_text c) = rw (le-leb (length (command_text c)) max_line readable.short) refl in
     let line : AnswersLine tables (short (command_text c)) text new = subst (λ l. AnswersLine tables l text new) whole h in
     let meant = subst (λ r. MayAnswer tables (answer_to tables r) text new) (meaning-command_text c readable.fits) line in

@@ -11,6 +11,7 @@ use crate::entry::Entry;
 use crate::fault::CallFault;
 use crate::locks::Locked;
 use crate::pass::Pass;
+use crate::unlocked::Unlocked;
 use std::alloc::{AllocError, Global};
 use std::marker::Model;
 use std::sync::Wait;
@@ -33,7 +34,6 @@ impl Gate for OpenGate {
 }
 
 /// The tables of a schema, each behind a lock of its own, which several sessions call.
-#[derive(Drop)]
 pub struct Shared<G: Gate> {
     pub(crate) alloc: Global,
     pub(crate) schema: Schema,
@@ -43,6 +43,21 @@ pub struct Shared<G: Gate> {
     /// Room for what is gathered: of the journals, and of the answers that looks are compared with.
     pub(crate) journals: Vec<Vec<Entry>>,
     pub(crate) answer: Out,
+}
+
+// As a function: a derived drop is written out at each exit of each function that owns the tables.
+impl<G: Gate + Drop> Drop for Shared<G> {
+    fn drop(self) {
+        let Shared {
+            alloc: _,
+            schema: _schema,
+            workers: _,
+            tables: _tables,
+            gate: _gate,
+            journals: _journals,
+            answer: _answer,
+        } = self;
+    }
 }
 
 impl<G: Gate> Model for Shared<G> {
@@ -81,6 +96,31 @@ impl<G: Gate + Drop> Shared<G> {
             answer,
         };
         Ok((shared, passes))
+    }
+
+    /// Takes the tables out of their locks. Takes no memory. O(tables).
+    pub(crate) fn open(self) -> Unlocked<G>
+        ensures schema { result.schema ≡ self.schema }
+        ensures workers { result.workers ≡ self.workers }
+    {
+        let Shared {
+            alloc,
+            schema,
+            workers,
+            tables,
+            gate,
+            journals,
+            answer,
+        } = self;
+        Unlocked {
+            alloc,
+            schema,
+            workers,
+            cells: tables.open(),
+            gate,
+            journals,
+            answer,
+        }
     }
 }
 

@@ -17,13 +17,13 @@ use table_schema::{Schema, TableSpec};
 /// What sessions shared, with the tables out of their locks.
 #[derive(Drop)]
 pub(crate) struct Unlocked<G: Gate> {
-    alloc: Global,
-    schema: Schema,
-    workers: u32,
-    cells: Opened<TableCell>,
-    gate: G,
-    journals: Vec<Vec<Entry>>,
-    answer: Out,
+    pub(crate) alloc: Global,
+    pub(crate) schema: Schema,
+    pub(crate) workers: u32,
+    pub(crate) cells: Opened<TableCell>,
+    pub(crate) gate: G,
+    pub(crate) journals: Vec<Vec<Entry>>,
+    pub(crate) answer: Out,
     ghost each: { length cells ≡ length schema },
     ghost empty: { vec_len journals ≡ 0 },
     ghost wide: { length schema ≤ vec_capacity journals },
@@ -94,33 +94,6 @@ fn journals_of(mut cells: Vec<TableCell>, mut journals: Vec<Vec<Entry>>) -> Vec<
         journals.push_reserved(cell.into_journal());
     }
     journals
-}
-
-impl<G: Gate> Shared<G> {
-    /// Takes the tables out of their locks. Takes no memory. O(tables).
-    pub(crate) fn open(self) -> Unlocked<G>
-        ensures schema { result.schema ≡ self.schema }
-        ensures workers { result.workers ≡ self.workers }
-    {
-        let Shared {
-            alloc,
-            schema,
-            workers,
-            tables,
-            gate,
-            journals,
-            answer,
-        } = self;
-        Unlocked {
-            alloc,
-            schema,
-            workers,
-            cells: tables.open(),
-            gate,
-            journals,
-            answer,
-        }
-    }
 }
 
 impl<G: Gate + Drop> Unlocked<G> {

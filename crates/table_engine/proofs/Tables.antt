@@ -29,7 +29,7 @@ Replies-from_Steps outcomes.Refusal told_before told tables place old new step i
 Replies-from_Steps outcomes.Memory told_before told tables place old new step is h = (_, h.0, inr (refl, set_same tables place old new is h.1))
 
 -- a command on a table of the name that it has
-step_of-named : (t : TableState) (command : Command) → bytes_eq t.shape.name (table_in command) ≡ true → step_of t command ≡ step_at t command
+pub step_of-named : (t : TableState) (command : Command) → bytes_eq t.shape.name (table_in command) ≡ true → step_of t command ≡ step_at t command
 unfolding step_of
 step_of-named t command named =
     let name = t.shape.name in

@@ -14,11 +14,21 @@ use table_reply::Heading;
 use table_schema::TableSpec;
 
 /// The records of a table, under the indices that its schema declares.
-#[derive(Drop)]
 pub struct Records {
     pub(crate) spec: TableSpec,
     pub(crate) headings: Vec<Heading>,
     pub(crate) container: MultiIndex<Row, RowKeys>,
+}
+
+// As a function, as a container's.
+impl Drop for Records {
+    fn drop(self) {
+        let Records {
+            spec: _spec,
+            headings: _headings,
+            container: _container,
+        } = self;
+    }
 }
 
 impl Model for Records {
