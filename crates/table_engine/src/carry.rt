@@ -77,7 +77,11 @@ fn answer_line<'o>(
     ensures behind { IsBehind out.entry result }
 {
     match read_command(alloc, line) {
-        Ok(command) => carry_out(tables, &command, out),
+        Ok(command) => {
+            let told = carry_out(tables, &command, out);
+            drop(command);
+            told
+        }
         Err(CommandFault::Json) => refuse(Fault::Json, out),
         Err(CommandFault::Command) => refuse(Fault::Command, out),
         Err(CommandFault::Memory) => refuse(Fault::Memory, out),
