@@ -86,6 +86,12 @@ fn probe_of(alloc: Global, row: &Row, parts: &[Part], count: usize) -> Result<Pr
     Ok(Probe::new(cells))
 }
 
+// A pair without records, under the index alone.
+fn alone_with(alloc: Global, index: &Index) -> Result<Option<Pair>, AllocError> {
+    let indices = Indices::read(alloc, "")?.with(index)?;
+    Pair::new(alloc, &indices, ALONE)
+}
+
 impl Pair {
     // Compares the look-ups by the last index, of each place, of each record's key and its leading part, and of these keys.
     pub(super) fn same_look_ups(
@@ -97,38 +103,55 @@ impl Pair {
         let Some(ages) = self.plain.by_age(self.alloc()) else {
             return Ok(false);
         };
-        let Some(made) = self.made_with(index, &ages)? else {
-            return Ok(false);
-        };
-        let at = self.indices().saturating_sub(1);
-        if at >= self.indices() || made.indices() < 1 {
-            return Ok(false);
-        }
         let own = self.own_probes(index, &ages)?;
-        Ok(
-            is_renamed(self.container.view(at), made.container.view(0), &ages)
-                && self.same_places(at, &made, &ages, tally)
-                && self.same_searches(at, &made, &ages, probes, tally)
-                && self.same_searches(at, &made, &ages, &own, tally),
-        )
+        let at = self.indices().saturating_sub(1);
+        match self.made_with(index, &ages)? {
+            Some(made) => Ok(
+                self.same_order(at, &made, &ages, tally)
+                    && self.same_searches(at, &made, &ages, probes, tally)
+                    && self.same_searches(at, &made, &ages, &own, tally),
+            ),
+            None => Ok(false),
+        }
+    }
+
+    // Compares the views and the answers at each place, where there are such indices.
+    fn same_order(&self, at: usize, made: &Pair, ages: &[Handle], tally: &mut Tally) -> bool {
+        if at >= self.indices() || made.indices() < 1 {
+            return false;
+        }
+        is_renamed(self.container.view(at), made.container.view(0), ages)
+            && self.same_places(at, made, ages, tally)
     }
 
     // A pair that was made with the index alone, whose container is given the records by age.
     fn made_with(&self, index: &Index, ages: &[Handle]) -> Result<Option<Pair>, AllocError> {
-        let alloc = self.alloc();
-        let indices = Indices::read(alloc, "")?.with(index)?;
-        let Some(mut made) = Pair::new(alloc, &indices, ALONE)? else {
+        let Some(mut made) = alone_with(self.alloc(), index)? else {
             return Ok(None);
         };
-        for handle in ages {
-            let Ok(row) = self.container.get(*handle) else {
-                return Ok(None);
-            };
-            if made.insert_in_container(None, row.copy()?).is_err() {
-                return Ok(None);
+        match made.copy_each(self, ages) {
+            Ok(true) => Ok(Some(made)),
+            Ok(false) => Ok(None),
+            Err(why) => Err(why),
+        }
+    }
+
+    // Puts copies of another pair's records into the container alone. Answers whether it took each.
+    fn copy_each(&mut self, other: &Pair, handles: &[Handle]) -> Result<bool, AllocError> {
+        for handle in handles {
+            if !self.copy_in(other, *handle)? {
+                return Ok(false);
             }
         }
-        Ok(Some(made))
+        Ok(true)
+    }
+
+    // Puts a copy of one of them in. Answers whether it was taken.
+    fn copy_in(&mut self, other: &Pair, handle: Handle) -> Result<bool, AllocError> {
+        match other.container.get(handle) {
+            Ok(row) => Ok(self.insert_in_container(None, row.copy()?).is_ok()),
+            Err(_) => Ok(false),
+        }
     }
 
     // Each record's whole key, and its leading part.
