@@ -30,7 +30,9 @@ fn stays(alloc: Global, text: &[u8]) -> bool {
     let Ok(command) = read_command(alloc, text) else {
         return false;
     };
-    is_written(alloc, &command, text)
+    let is_so = is_written(alloc, &command, text);
+    drop(command);
+    is_so
 }
 
 // Whether two commands are the same, whichever is asked.
@@ -43,7 +45,9 @@ fn is_copied(alloc: Global, command: &Command, text: &[u8]) -> bool {
     let Ok(copy) = command.copy() else {
         return false;
     };
-    are_same(command, &copy) & is_written(alloc, &copy, text)
+    let is_so = are_same(command, &copy) & is_written(alloc, &copy, text);
+    drop(copy);
+    is_so
 }
 
 // Whether a command and the one of another line, if it has one, are the same exactly where their texts are.
@@ -51,7 +55,9 @@ fn is_told_apart(alloc: Global, command: &Command, text: &[u8], line: &[u8]) -> 
     let Ok(other) = read_command(alloc, line) else {
         return true;
     };
-    command.is_same(&other) == is_written(alloc, &other, text)
+    let is_so = command.is_same(&other) == is_written(alloc, &other, text);
+    drop(other);
+    is_so
 }
 
 /// The fault of a line, in a word.
@@ -103,14 +109,18 @@ fn tell_line(
     report: &mut Vec<u8>,
 ) -> Result<bool, AllocError> {
     match read_command(alloc, line) {
-        Ok(command) => tell_command(alloc, &command, before, report).map(|()| true),
+        Ok(command) => {
+            let told = tell_command(alloc, &command, before, report);
+            drop(command);
+            told.map(|()| true)
+        }
         Err(fault) => report
             .extend_from_slice(name_of(fault).as_bytes())
             .map(|()| false),
     }
 }
 
-/// What each line is. (The command before is read again, so that none is kept, which would take long to prove.)
+/// What each line is. (The command before is read again, so that none is kept.)
 pub(crate) fn tell(rt: &HostRuntime, lines: &[Vec<u8>]) -> io::Result<()> {
     let alloc = rt.alloc();
     let mut report = Vec::new(alloc);

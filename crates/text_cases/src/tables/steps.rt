@@ -128,7 +128,11 @@ fn tell_line(
     report: &mut Vec<u8>,
 ) -> Result<(), AllocError> {
     match read_command(alloc, line) {
-        Ok(command) => tell_command(alloc, tables, &command, report),
+        Ok(command) => {
+            let told = tell_command(alloc, tables, &command, report);
+            drop(command);
+            told
+        }
         Err(fault) => tell_unread(alloc, fault, report),
     }
 }
