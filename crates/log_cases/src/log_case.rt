@@ -126,13 +126,18 @@ impl LogCase<'_> {
         let command = read_command(self.alloc, line);
         let Ok(out) = self.out.emptied();
         match (command, &mut self.logged) {
-            (Ok(_), None) => Err(Over),
+            (Ok(command), None) => {
+                drop(command);
+                Err(Over)
+            }
             (Ok(command), Some(logged)) => {
-                if is_change(&command) {
+                let answered = if is_change(&command) {
                     logged.call(&command, out).end()
                 } else {
                     logged.read(&command, out).end()
-                }
+                };
+                drop(command);
+                answered
             }
             (Err(fault), _) => {
                 refuse(fault_of(fault), out).end();

@@ -51,7 +51,11 @@ impl<'a, D: Disk, T: Wait> Answers<Seat<'a, D, T>> for Lines {
         out: Ready<'o>,
     ) -> Told<'o, Result<(), OverAt>> {
         match read_command(seat.alloc(), line) {
-            Ok(command) => seat.call(&command, out),
+            Ok(command) => {
+                let told = seat.call(&command, out);
+                drop(command);
+                told
+            }
             Err(CommandFault::Json) => refuse(Fault::Json, out).with(Ok(())),
             Err(CommandFault::Command) => refuse(Fault::Command, out).with(Ok(())),
             Err(CommandFault::Memory) => refuse(Fault::Memory, out).with(Ok(())),

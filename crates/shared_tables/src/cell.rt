@@ -69,6 +69,7 @@ fn prepare(
     ensures answer { IfSome result (λ _. 256 ≤ writes.new.bytes) }
 {
     if journal.reserve(1).is_err() || writes.reserve().is_err() || room.reserve(KEPT).is_err() {
+        drop(command);
         return None;
     }
     let command = Arc::new(*room.allocator(), command).ok()?;
@@ -179,6 +180,7 @@ impl TableCell {
         ensures behind { IsBehind out.entry result }
     {
         if let Some(fault) = self.fault(pass) {
+            drop(command);
             return out.give_back(Err(fault));
         }
         let session = pass.session;

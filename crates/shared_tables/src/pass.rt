@@ -14,6 +14,7 @@ use crate::writes::Writes;
 use arrayvec::ArrayVec;
 use std::alloc::{AllocError, Global};
 use std::marker::Model;
+use std::mem::replace;
 use table_cmd::Command;
 
 /// A command that was answered, with the number of writes then, and how the answer began.
@@ -47,7 +48,7 @@ impl Answered {
         ensures { self.new ≡ record { number = number; command = asked_command command; answer = answer.now } }
     {
         self.number = number;
-        self.command = command;
+        drop(replace(&mut self.command, command));
         self.answer.clear();
         self.answer.try_extend_from_slice(answer).unwrap();
     }
@@ -62,11 +63,12 @@ fn keep_look(look: &mut Option<Answered>, number: u64, command: Asked, answer: &
         look.set(number, command, answer);
         return;
     }
-    *look = Some(Answered {
+    let first = Answered {
         number,
         command,
         answer: kept(answer),
-    });
+    };
+    drop(look.replace(first));
 }
 
 /// What a session knows of one table.

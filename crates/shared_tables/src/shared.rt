@@ -175,6 +175,7 @@ impl<G: Gate> Shared<G> {
     {
         let tables = self.schema.tables();
         if !pass.is_known(tables.len(), self.workers as usize) {
+            drop(command);
             return out.give_back(Err(CallFault::Stranger));
         }
         let Some(place) = table_at(tables, command.table()) else {

@@ -51,7 +51,9 @@ impl Loader {
             Err(_) => return Err(OpenWhy::Line(self.number + 1)),
         };
         let Ok(ready) = self.out.emptied();
-        match self.table.step(&command, ready).end() {
+        let outcome = self.table.step(&command, ready).end();
+        drop(command);
+        match outcome {
             Outcome::Write => {}
             Outcome::Memory => return Err(OpenWhy::Memory),
             Outcome::Read | Outcome::Refusal => return Err(OpenWhy::Line(self.number + 1)),
