@@ -41,7 +41,7 @@ fn read_count<D: Disk>(
     let Command::Nth { place, .. } = source.next_command(alloc, disk)? else {
         return Err(source.wrong());
     };
-    source.confirm(&count_command(alloc, spec, name, place)?)?;
+    source.confirm(count_command(alloc, spec, name, place)?)?;
     Ok(place)
 }
 
@@ -58,7 +58,7 @@ fn read_columns<D: Disk>(
     ensures reads { ReadsOn D.Disk disk.old disk.new source.new result }
 {
     source.next_line(disk)?;
-    source.confirm(&columns_command(alloc, spec)?)
+    source.confirm(columns_command(alloc, spec)?)
 }
 
 // The texts of a key, if there is one.
@@ -98,7 +98,7 @@ fn read_index<D: Disk>(
     let texts = texts_of(&key);
     match define_index(spec.columns(), indices, &index, kind, unique, texts) {
         Ok(defined) => {
-            source.confirm(&index_command(alloc, spec, &defined)?)?;
+            source.confirm(index_command(alloc, spec, &defined)?)?;
             Ok(defined)
         }
         Err(DefineFault::Memory) => Err(StateWhy::Memory),
@@ -184,7 +184,7 @@ fn read_record<D: Disk>(
     let Some(row) = row_from(alloc, spec.columns(), key.as_slice())? else {
         return Err(source.wrong());
     };
-    source.confirm(&record_command(alloc, spec, handle, row.cells())?)?;
+    source.confirm(record_command(alloc, spec, handle, row.cells())?)?;
     Ok(Entry { handle, row })
 }
 
@@ -244,7 +244,7 @@ fn read_order<D: Disk>(
     let Some(handles) = handles_from(alloc, texts.as_slice())? else {
         return Err(source.wrong());
     };
-    source.confirm(&order_command(alloc, spec, index, &handles)?)?;
+    source.confirm(order_command(alloc, spec, index, &handles)?)?;
     Ok(handles)
 }
 

@@ -164,14 +164,16 @@ impl Source {
     }
 
     /// Tests whether the last line is the text of the command.
-    pub(crate) fn confirm(&mut self, command: &Command) -> Result<(), StateWhy>
-        ensures same { OnOk result (self.new.line.items ++ codes "\n" ≡ line_of command.now) }
+    pub(crate) fn confirm(&mut self, command: Command) -> Result<(), StateWhy>
+        ensures same { OnOk result (self.new.line.items ++ codes "\n" ≡ line_of command) }
         ensures kept { self.new ≡ record self.old { text = self.new.text } }
         ensures not_disk { IfErr result (λ why. why ≡ StateWhy.Disk → ⊥) }
-        ensures differs { self.old.line.items ++ codes "\n" ≡ line_of command.now → IfErr result IsInterruption }
+        ensures differs { self.old.line.items ++ codes "\n" ≡ line_of command → IfErr result IsInterruption }
     {
         self.text.clear();
-        write_command(command, &mut self.text)?;
+        let written = write_command(&command, &mut self.text);
+        drop(command);
+        written?;
         if self.text.bytes() == self.line.as_slice() {
             Ok(())
         } else {

@@ -31,8 +31,7 @@ fn put_count<D: Disk>(
     ensures synced { D.synced disk.new ≡ D.synced disk.old }
     ensures failures { D.failures disk.new ≡ failures_of_state result (D.failures disk.old) }
 {
-    let command = count_command(alloc, spec, name, count)?;
-    put(disk, lines, &command)
+    put(disk, lines, count_command(alloc, spec, name, count)?)
 }
 
 // Puts the names of the columns.
@@ -47,8 +46,7 @@ fn put_columns<D: Disk>(
     ensures synced { D.synced disk.new ≡ D.synced disk.old }
     ensures failures { D.failures disk.new ≡ failures_of_state result (D.failures disk.old) }
 {
-    let command = columns_command(alloc, spec)?;
-    put(disk, lines, &command)
+    put(disk, lines, columns_command(alloc, spec)?)
 }
 
 // Puts the numbers of a table and its columns.
@@ -85,8 +83,7 @@ fn put_index<D: Disk>(
     ensures synced { D.synced disk.new ≡ D.synced disk.old }
     ensures failures { D.failures disk.new ≡ failures_of_state result (D.failures disk.old) }
 {
-    let command = index_command(alloc, spec, index)?;
-    put(disk, lines, &command)
+    put(disk, lines, index_command(alloc, spec, index)?)
 }
 
 // Puts the indices that a table has.
@@ -128,7 +125,7 @@ fn put_record<D: Disk>(
         unreachable!();
     };
     let command = record_command(alloc, records.spec(), handle, row.cells())?;
-    put(disk, lines, &command)
+    put(disk, lines, command)
 }
 
 // The handles of the records, in the order of their insertion. No two records lie in one slot.
@@ -179,7 +176,7 @@ fn put_order<D: Disk>(
         return Err(StateWhy::Memory);
     };
     let command = order_command(alloc, spec, spec.indices()[index].name.as_str(), &handles)?;
-    put(disk, lines, &command)
+    put(disk, lines, command)
 }
 
 // Puts the orders of the indices.
