@@ -4,6 +4,8 @@ use Rattle.std.specs.List.{AllByRecursion, zip}
 use Rattle.command_lines.specs.Fits.{CommandFits}
 use Rattle.container_model.specs.declared.handle.Entry.{Entry}
 use Rattle.container_model.specs.declared.handle.Handle.{Handle}
+use Rattle.table_cmd.specs.declared.command.Command.{Command}
+use Rattle.table_cmd.specs.declared.command.Command.TheVariants as commands
 use Rattle.table_cmd.specs.declared.command.HandleText.{HandleText}
 use Rattle.table_cmd.specs.declared.command.HandleText.TheVariants as texts
 use Rattle.table_cmd.specs.declared.command.Value.{Value}
@@ -35,6 +37,32 @@ handles_in hs = all_of (map handle_in hs)
 -- the draft of an index, as its line has it
 abbrev pub draft_of : List Column → IndexSpec → IndexDraft
 draft_of columns index = record { name = index.name; kind = index.kind; unique = index.unique; key = option_map (map (part_text columns)) index.key }
+
+-- ---- what a command that was read says
+
+-- the number under a name
+abbrev pub count_in : Command → Option ℕ
+count_in (commands.Nth table index count) = Some count
+count_in _ = None
+
+-- the index that it defines, which a table with these may have
+abbrev pub index_in : List Column → List IndexSpec → Command → Option IndexSpec
+index_in columns indices (commands.AddIndex table name kind unique key) =
+    defined columns indices (record { name = name; kind = kind; unique = unique; key = key })
+index_in columns indices _ = None
+
+-- the record, where its values are cells of the columns
+abbrev pub entry_in : List Column → Command → Option (Entry Cells)
+entry_in columns (commands.ModifyKey table index (texts.Handle handle) key rollback) =
+    option_map (λ row. record { handle = handle; row = row }) (cells_from columns key)
+entry_in columns _ = None
+
+-- the order of an index, where each of its texts spells a handle
+abbrev pub order_in : Command → Option (List Handle)
+order_in (commands.Rearrange table index handles) = handles_in handles
+order_in _ = None
+
+-- ---- what can be read
 
 -- its line can be read, and defines it again behind these
 pub record IndexFits (shape : TableShape) (indices : List IndexSpec) (index : IndexSpec) : Type 0 where

@@ -2,8 +2,8 @@
 
 ghost use Rattle.std.specs.Prelude.{◌≡◌, ◌<◌, ◌≤◌, ◌++◌, [], ℕ, List, Some, IfErr, IfOk, OnOk, length, map, option_map};
 ghost use Rattle.command_lines.specs.Fits.{CommandFits};
-ghost use Rattle.table_schema.specs.Defined.{IsNewIndex};
-ghost use Rattle.table_state.specs.Parts.{EntriesFit, EntryFits, IndexFits, IndicesFit, OrdersFit, cells_from, handles_in};
+ghost use Rattle.table_schema.specs.Defined.{IsFault, IsNewIndex};
+ghost use Rattle.table_state.specs.Parts.{EntriesFit, EntryFits, IndexFits, IndicesFit, OrdersFit, cells_from, count_in, entry_in, handles_in, index_in, order_in};
 ghost use Rattle.table_state.specs.Reading.{IsWithin, ReadsOn, Recalls, Seeks, Takes, left_of};
 ghost use Rattle.table_state.specs.Standing.{CanStand};
 ghost use Rattle.table_state.specs.State.{columns_command, count_command, index_command, line_of, lines_text, order_command, order_commands, record_command, state_text};
@@ -25,6 +25,16 @@ use table_schema::{Column, DefineFault, IndexSpec, TableSpec, define_index};
 use table_step::{Saved, Table, Unrestorable};
 use table_terms::can_hold;
 
+// The number that a command gives under a name.
+fn count_in(command: &Command) -> Option<u64>
+    ensures { result ≡ count_in command.now }
+{
+    match command {
+        Command::Nth { place, .. } => Some(*place),
+        _ => None,
+    }
+}
+
 // Reads a number under its name.
 fn read_count<D: Disk>(
     alloc: Global,
@@ -38,11 +48,14 @@ fn read_count<D: Disk>(
     ensures finds { Seeks (D.contents disk.old) source.old (λ count. line_of (count_command spec.now name.now count)) (λ count. CommandFits (count_command spec.now name.now count)) (λ count. count) result }
     ensures reads { ReadsOn D.Disk disk.old disk.new source.new result }
 {
-    let Command::Nth { place, .. } = source.next_command(alloc, disk)? else {
+    let command = source.next_command(alloc, disk)?;
+    let said = count_in(&command);
+    drop(command);
+    let Some(count) = said else {
         return Err(source.wrong());
     };
-    source.confirm(count_command(alloc, spec, name, place)?)?;
-    Ok(place)
+    source.confirm(count_command(alloc, spec, name, count)?)?;
+    Ok(count)
 }
 
 // Reads the names of the columns, which are to be the declared ones.
@@ -71,6 +84,28 @@ fn texts_of(key: &Option<Names>) -> Option<&[Text]>
     }
 }
 
+// The index that a command defines, which a table with these columns and indices may have.
+fn index_in(
+    columns: &[Column],
+    indices: &[IndexSpec],
+    command: &Command,
+) -> Result<IndexSpec, DefineFault>
+    ensures defined { IfOk result (λ index. index_in columns.now indices.now command.now ≡ Some index) }
+    ensures fits { IfOk result (λ index. IsNewIndex columns.now indices.now index) }
+    ensures fault { IfErr result (λ why. IsFault (index_in columns.now indices.now command.now) why) }
+{
+    match command {
+        Command::AddIndex {
+            index,
+            kind,
+            unique,
+            key,
+            ..
+        } => define_index(columns, indices, index, *kind, *unique, texts_of(key)),
+        _ => Err(DefineFault::Definition),
+    }
+}
+
 // Reads an index that a table with these indices may have.
 fn read_index<D: Disk>(
     alloc: Global,
@@ -85,18 +120,10 @@ fn read_index<D: Disk>(
     ensures fits { IfOk result (λ index. IsNewIndex spec.now.columns indices.now index) }
     ensures reads { ReadsOn D.Disk disk.old disk.new source.new result }
 {
-    let Command::AddIndex {
-        index,
-        kind,
-        unique,
-        key,
-        ..
-    } = source.next_command(alloc, disk)?
-    else {
-        return Err(source.wrong());
-    };
-    let texts = texts_of(&key);
-    match define_index(spec.columns(), indices, &index, kind, unique, texts) {
+    let command = source.next_command(alloc, disk)?;
+    let said = index_in(spec.columns(), indices, &command);
+    drop(command);
+    match said {
         Ok(defined) => {
             source.confirm(index_command(alloc, spec, &defined)?)?;
             Ok(defined)
@@ -161,6 +188,30 @@ fn row_from(alloc: Global, columns: &[Column], values: &[Value]) -> Result<Optio
     Ok(Some(Row::new(cells)))
 }
 
+// The record that a command tells, where its values are cells of the columns.
+fn entry_in(
+    alloc: Global,
+    columns: &[Column],
+    command: &Command,
+) -> Result<Option<Entry<Row>>, AllocError>
+    ensures { IfOk result (λ entry. entry ≡ entry_in columns.now command.now) }
+{
+    match command {
+        Command::ModifyKey {
+            handle: HandleText::Handle(handle),
+            key,
+            ..
+        } => match row_from(alloc, columns, key.as_slice())? {
+            Some(row) => Ok(Some(Entry {
+                handle: *handle,
+                row,
+            })),
+            None => Ok(None),
+        },
+        _ => Ok(None),
+    }
+}
+
 // Reads a record.
 fn read_record<D: Disk>(
     alloc: Global,
@@ -173,19 +224,14 @@ fn read_record<D: Disk>(
     ensures finds { Seeks (D.contents disk.old) source.old (λ entry. line_of (record_command spec.now entry)) (EntryFits spec.now) (λ entry. entry) result }
     ensures reads { ReadsOn D.Disk disk.old disk.new source.new result }
 {
-    let Command::ModifyKey {
-        handle: HandleText::Handle(handle),
-        key,
-        ..
-    } = source.next_command(alloc, disk)?
-    else {
+    let command = source.next_command(alloc, disk)?;
+    let said = entry_in(alloc, spec.columns(), &command);
+    drop(command);
+    let Some(entry) = said? else {
         return Err(source.wrong());
     };
-    let Some(row) = row_from(alloc, spec.columns(), key.as_slice())? else {
-        return Err(source.wrong());
-    };
-    source.confirm(record_command(alloc, spec, handle, row.cells())?)?;
-    Ok(Entry { handle, row })
+    source.confirm(record_command(alloc, spec, entry.handle, entry.row.cells())?)?;
+    Ok(entry)
 }
 
 // Reads so many records.
@@ -225,6 +271,16 @@ fn handles_from(alloc: Global, texts: &[HandleText]) -> Result<Option<Vec<Handle
     Ok(Some(handles))
 }
 
+// The order of an index that a command tells, where each of its texts spells a handle.
+fn order_in(alloc: Global, command: &Command) -> Result<Option<Vec<Handle>>, AllocError>
+    ensures { IfOk result (λ handles. option_map (λ list. list.items) handles ≡ order_in command.now) }
+{
+    match command {
+        Command::Rearrange { handles, .. } => handles_from(alloc, handles.as_slice()),
+        _ => Ok(None),
+    }
+}
+
 // Reads the order of an index.
 fn read_order<D: Disk>(
     alloc: Global,
@@ -238,10 +294,10 @@ fn read_order<D: Disk>(
     ensures finds { Seeks (D.contents disk.old) source.old (λ handles. line_of (order_command spec.now index.now handles)) (λ handles. CommandFits (order_command spec.now index.now handles)) (λ handles. handles.items) result }
     ensures reads { ReadsOn D.Disk disk.old disk.new source.new result }
 {
-    let Command::Rearrange { handles: texts, .. } = source.next_command(alloc, disk)? else {
-        return Err(source.wrong());
-    };
-    let Some(handles) = handles_from(alloc, texts.as_slice())? else {
+    let command = source.next_command(alloc, disk)?;
+    let said = order_in(alloc, &command);
+    drop(command);
+    let Some(handles) = said? else {
         return Err(source.wrong());
     };
     source.confirm(order_command(alloc, spec, index, &handles)?)?;
