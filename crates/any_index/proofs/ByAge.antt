@@ -20,9 +20,9 @@ use Rattle.node_store.specs.declared.Node.{Node}
 use Rattle.node_store.specs.Nodes.{Lacks, Holds, IsDistinct}
 use Rattle.node_store.specs.Store.{Store, IsStore, IsNodeOf, age_of}
 use Rattle.node_store.specs.ByNode.{same_node}
-use Rattle.node_store.proofs.ByNode.{same_node-refl, same_node-true}
+use Rattle.node_store.proofs.ByNode.{same_node-refl, same_node-true, same_node-false}
 use Rattle.node_store.proofs.Ages.{same_age}
-use Rattle.node_store.proofs.Members.{same_node-false, IsDistinct_moved, each_held}
+use Rattle.node_store.proofs.Members.{IsDistinct_moved, each_held}
 use Rattle.hash_index.proofs.Cutting.{Distinct_filter}
 use Rattle.any_index.specs.Spelled.{age_cmp, by_age}
 

@@ -10,8 +10,7 @@ use Rattle.node_store.specs.declared.Node.{Node}
 use Rattle.node_store.specs.Nodes.{Holds}
 use Rattle.node_store.specs.Store.{IsNodeOf, nodes, number_of}
 use Rattle.node_store.specs.ByNode.{same_node}
-use Rattle.node_store.proofs.ByNode.{node_cases, IsNodeOf_kept, IsNodeOf_added}
-use Rattle.node_store.proofs.Members.{same_node-false}
+use Rattle.node_store.proofs.ByNode.{node_cases, IsNodeOf_kept, IsNodeOf_added, same_node-false}
 use Rattle.node_store.proofs.StoreLemmas.{nodes_with_record}
 use Rattle.list_model.proofs.Lists.{All-at}
 use Rattle.container_model.specs.Insert.{At}

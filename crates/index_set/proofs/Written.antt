@@ -12,8 +12,7 @@ use Rattle.node_store.specs.Column.{Column}
 use Rattle.node_store.specs.Store.{Store, IsNodeOf, nodes, records, number_of}
 use Rattle.node_store.specs.Store as store
 use Rattle.node_store.specs.ByNode.{column_of, record_of, of_node, same_node, columns_in, Columns}
-use Rattle.node_store.proofs.ByNode.{node_cases, record_of-at, column_of_with_record}
-use Rattle.node_store.proofs.Members.{same_node-false}
+use Rattle.node_store.proofs.ByNode.{node_cases, record_of-at, column_of_with_record, same_node-false}
 use Rattle.node_store.proofs.StoreLemmas.{nodes_with_record, aged_with_record, ages_with_record, added_with_record, width_with_record, Rewrites-with_record}
 use Rattle.container_model.specs.State.{has_key_kind}
 use Rattle.any_index.specs.declared.index.AnyIndex.{AnyIndex}

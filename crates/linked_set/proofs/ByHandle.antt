@@ -12,8 +12,7 @@ use Rattle.node_store.specs.declared.Node.{Node}
 use Rattle.node_store.specs.Nodes.{Holds}
 use Rattle.node_store.specs.Store.{Store, IsNodeOf}
 use Rattle.node_store.specs.ByNode.{record_of, same_node}
-use Rattle.node_store.proofs.ByNode.{node_cases, same_node-refl}
-use Rattle.node_store.proofs.Members.{same_node-false}
+use Rattle.node_store.proofs.ByNode.{node_cases, same_node-refl, same_node-false}
 use Rattle.container_model.specs.declared.handle.Handle.{Handle}
 use Rattle.container_model.specs.declared.handle.Entry.{Entry}
 use Rattle.container_model.specs.declared.handle.Spec.{Spec}

@@ -17,8 +17,8 @@ use Rattle.node_store.specs.Store.{Store, IsStore, IsNodeOf, nodes, number_of, w
 use Rattle.node_store.specs.ByNode.{contents, record_of, same_node}
 use Rattle.node_store.specs.Age.{nodes_of, all_below}
 use Rattle.node_store.proofs.Age.{all_nodes_of}
-use Rattle.node_store.proofs.ByNode.{node_cases, same_node-refl, nodes_kept, records_kept, added_kept, aged_kept}
-use Rattle.node_store.proofs.Members.{same_node-false, others_differ}
+use Rattle.node_store.proofs.ByNode.{node_cases, same_node-refl, nodes_kept, records_kept, added_kept, aged_kept, same_node-false}
+use Rattle.node_store.proofs.Members.{others_differ}
 use Rattle.node_store.proofs.NodeLists.{IsDistinct-parts, AreApart-head}
 use Rattle.node_store.proofs.StoreLemmas.{nodes_with_record, added_with_record, aged_with_record}
 use Rattle.container_model.specs.declared.handle.Handle.{Handle}

@@ -14,8 +14,7 @@ use Rattle.node_store.specs.ByNode.{same_node, AddsNode, RemovesNode}
 use Rattle.node_store.specs.Age.{last_below, all_below, nodes_of}
 use Rattle.node_store.proofs.Keyed.{same_map}
 use Rattle.node_store.proofs.StoreLemmas.{Removes-without, len-without}
-use Rattle.node_store.proofs.ByNode.{same_node-refl, RemovesNode-removed}
-use Rattle.node_store.proofs.Members.{same_node-false}
+use Rattle.node_store.proofs.ByNode.{same_node-refl, RemovesNode-removed, same_node-false}
 use Rattle.node_store.proofs.Ages.{at_its_age, IsStore_removed}
 
 module _ {A : Type 0} where

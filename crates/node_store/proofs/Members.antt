@@ -2,7 +2,6 @@
 use Rattle.std.proofs.Common.{◌≡◌, ◌≢◌, ℕ, zero, suc, ◌<◌, true, false, List, [], ◌∷◌, ◌++◌, length, Some, refl, ap, sym, ◌∙◌, subst, slice_get, append_assoc, ⊎_elim, arith}
 use Rattle.std.specs.Prelude.{IsPermutation}
 use Rattle.std.specs.List.{AllByRecursion, IsDistinct as IsDistinctBy}
-use Rattle.std.proofs.lemmas.Bool.{false_from_ne_true}
 use Rattle.std.proofs.lemmas.List.Elements.{All-from_recursion, recursion_from_All}
 use Rattle.std.proofs.lemmas.List.Sorted.{All-permutation}
 use Rattle.std.proofs.lemmas.Map.Keys.{IsDistinct-IsPermutation}
@@ -10,12 +9,9 @@ use Rattle.node_store.specs.declared.Node.{Node}
 use Rattle.node_store.specs.Column.{Column, IsNode, KeepsNodes}
 use Rattle.node_store.specs.Nodes.{Lacks, Holds, IsDistinct, AllNodes}
 use Rattle.node_store.specs.ByNode.{same_node}
-use Rattle.node_store.proofs.ByNode.{same_node-refl, same_node-true, node_cases}
+use Rattle.node_store.proofs.ByNode.{same_node-refl, same_node-false, node_cases}
 
 -- ---- a node that the list has not
-
-pub same_node-false : (m n : Node) → m ≢ n → same_node m n ≡ false
-same_node-false m n apart = false_from_ne_true (same_node m n) (λ e. apart (same_node-true m n e))
 
 pub differ : (n x : Node) → same_node n x ≡ false → n ≢ x
 differ n x e k = let bad : true ≡ false = sym (same_node-refl n) ∙ (ap (same_node n) k ∙ e) in cc

@@ -11,8 +11,7 @@ use Rattle.node_store.specs.declared.Node.{Node}
 use Rattle.node_store.specs.declared.Link.{Link}
 use Rattle.node_store.specs.Column.{Column}
 use Rattle.node_store.specs.Nodes.{Lacks, Holds, IsDistinct, last_or}
-use Rattle.node_store.proofs.ByNode.{same_node-refl, node_cases}
-use Rattle.node_store.proofs.Members.{same_node-false}
+use Rattle.node_store.proofs.ByNode.{same_node-refl, node_cases, same_node-false}
 use Rattle.list_model.specs.Order.{EachPair}
 use Rattle.list_model.proofs.Lists.{All-join}
 use Rattle.list_model.proofs.Kept.{All-split}
