@@ -1,5 +1,5 @@
 //! An index that is added to a container of one, and dropped again.
-ghost use Rattle.std.specs.Prelude.{◌<◌, length};
+ghost use Rattle.std.specs.Prelude.{◌<◌};
 
 use crate::book::{Book, Chosen, INDICES, keys_match};
 use crate::keys::{Key, Keys};

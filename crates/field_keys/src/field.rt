@@ -1,5 +1,5 @@
 //! The fields of a record.
-ghost use Rattle.std.specs.Prelude.{◌≡◌, ℕ, List, [], slice_get};
+ghost use Rattle.std.specs.Prelude.{◌≡◌, List, [], slice_get};
 ghost use Rattle.std.specs.Option.{option_map};
 ghost use Rattle.key_extract.specs.declared.cell.Cell.{Cell};
 ghost use Rattle.container_model.specs.declared.handle.Spec.{Spec};

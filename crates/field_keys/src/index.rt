@@ -1,5 +1,5 @@
 //! Indices as a program declares them.
-ghost use Rattle.std.specs.Prelude.{◌≡◌, IfOk, map};
+ghost use Rattle.std.specs.Prelude.{◌≡◌, IfOk};
 ghost use Rattle.field_keys.specs.Indices.{declared_specs};
 
 use crate::part::KeyPart;

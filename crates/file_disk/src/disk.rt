@@ -1,6 +1,6 @@
 //! A log's disk in a file.
 
-ghost use Rattle.std.specs.Prelude.{◌≡◌, ◌+◌, ◌≤◌, ◌<◌, ◌^◌, ℕ, List, Some, IfOk, OnErr, OnOk, length, take, option_map};
+ghost use Rattle.std.specs.Prelude.{◌≡◌, ◌+◌, ◌≤◌, ◌<◌, ◌^◌, ℕ, List, Some, OnErr, OnOk, length, take, option_map};
 ghost use Rattle.std.specs.Io.{WritesAtMost};
 ghost use Rattle.table_engine.specs.Devices.{failures_after, raised};
 ghost use Rattle.table_log.specs.Disk.{Cuts, synced_after};

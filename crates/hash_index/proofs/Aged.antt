@@ -1,5 +1,5 @@
 -- Chains stay what they are where the ages of their nodes stay.
-use Rattle.std.proofs.Common.{◌≡◌, ◌≢◌, ℕ, ◌<◌, ◌+◌, ◌≤◌, List, [], ◌∷◌, ◌++◌, Option, Some, sym, ap, ◌∙◌, subst, arith}
+use Rattle.std.proofs.Common.{◌≡◌, ℕ, ◌<◌, ◌+◌, List, [], ◌∷◌, Option, sym, subst, arith}
 use Rattle.std.specs.List.{AllByRecursion}
 use Rattle.node_store.specs.declared.Node.{Node}
 use Rattle.node_store.specs.Column.{Column}
@@ -9,12 +9,12 @@ use Rattle.node_store.specs.ByNode.{column_of, contents, AddsNode, RemovesNode}
 use Rattle.node_store.proofs.ByNode.{node_of_column, ages_kept}
 use Rattle.list_model.proofs.Kept.{All-split}
 use Rattle.hash_index.specs.declared.HashIndex.{HashIndex}
-use Rattle.hash_index.specs.Chains.{tag_at, AreChains, IsIn, joined}
+use Rattle.hash_index.specs.Chains.{AreChains, joined}
 use Rattle.hash_index.specs.Rising.{Rises, IsRising}
 use Rattle.hash_index.specs.Oldest.{IsOldestOf}
-use Rattle.hash_index.specs.Spelled.{Spells, IsSound, spelled, all_of, leads_to}
+use Rattle.hash_index.specs.Spelled.{Spells, all_of, leads_to}
 use Rattle.hash_index.proofs.Oldest.{oldest_kept}
-use Rattle.hash_index.proofs.Spelling.{hangs_of, Spells_from, Spells_nodes}
+use Rattle.hash_index.proofs.Spelling.{hangs_of, Spells_from}
 
 -- the nodes have the same ages
 abbrev pub AreAged : (before after : Node → ℕ) → List Node → Type 0

@@ -1,5 +1,5 @@
 //! Look-ups by a key.
-ghost use Rattle.std.specs.Prelude.{◌≡◌, ◌≢◌, IsTrue, false, not, ◌&&◌, length, slice_get, option_and_then, Option, Some, None};
+ghost use Rattle.std.specs.Prelude.{◌≡◌, ◌≢◌, IsTrue, false, not, ◌&&◌, slice_get, option_and_then, Option, Some, None};
 ghost use Rattle.std.specs.Option.{option_map_or};
 ghost use Rattle.std.specs.Ordering.{is_eq};
 ghost use Rattle.node_store.specs.declared.Node.{Node};

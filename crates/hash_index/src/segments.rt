@@ -1,5 +1,5 @@
 //! The heads of the chains, in segments that are never moved.
-ghost use Rattle.std.specs.Prelude.{◌≡◌, ◌≢◌, ◌==◌, ℕ, ◌+◌, ◌<◌, ◌≤◌, ◌^◌, vec_len, vec_capacity, [], ◌∷◌, ◌++◌, length, get_or, slice_get, set, option_and_then, true, Some, None, OnOk, OnErr};
+ghost use Rattle.std.specs.Prelude.{◌≡◌, ◌≢◌, ◌==◌, ◌+◌, ◌<◌, ◌≤◌, ◌^◌, vec_len, vec_capacity, [], ◌∷◌, ◌++◌, length, get_or, slice_get, set, option_and_then, Some, None, OnOk, OnErr};
 ghost use Rattle.hash_index.specs.Heads.{start_in};
 ghost use Rattle.hash_index.specs.Segments.{first_in, all_in, heads_in, spare, AreSegments, AreSegments_prop, IsAt};
 

@@ -79,7 +79,7 @@ impl<R: Drop, E: Extract<R>> Parts<R, E> {
 
 impl<R, E: Extract<R>> Parts<R, E> {
     ghost use Rattle.index_set.specs.Asked.{IsFiledBut};
-    ghost use Rattle.index_set.specs.Set.{store_of, keys_of, specs_of, contents, record_of, lists_of, list_of, HasRoom, IsSound, IsKeyed, IsKeyedBut, IsKeyedExcept, IsUniqueExcept, HasKeysOf, IsRestored, IsKeyedBeside, IsFreeBeside, IsOfSame, with_record};
+    ghost use Rattle.index_set.specs.Set.{store_of, keys_of, specs_of, contents, record_of, lists_of, HasRoom, IsSound, IsKeyed, IsKeyedBut, IsKeyedExcept, IsUniqueExcept, HasKeysOf, IsRestored, IsKeyedBeside, IsFreeBeside, IsOfSame, with_record};
 
     /// Takes a node out of each index. It reads no record, so the node's may have changed. It takes no memory, and
     /// leaves room for one node. O(log n) for each index, but O(the nodes behind it) in one with places.

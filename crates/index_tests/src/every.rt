@@ -1,11 +1,10 @@
 //! Changes of one of several indices, and of each.
-ghost use Rattle.std.specs.Prelude.{◌≡◌, ◌+◌, ◌<◌, ◌≤◌, ◌^◌, Some};
+ghost use Rattle.std.specs.Prelude.{◌≡◌, ◌<◌, Some};
 ghost use Rattle.node_store.specs.declared.Node.{Node};
-ghost use Rattle.node_store.specs.Column.{KeepsOthers};
 ghost use Rattle.node_store.specs.Store.{IsNodeOf};
 ghost use Rattle.node_store.specs.Nodes.{Holds};
-ghost use Rattle.node_store.specs.ByNode.{column_of, contents};
-ghost use Rattle.index_tests.specs.Kinds.{IsSoundIn, listed, col_in};
+ghost use Rattle.node_store.specs.ByNode.{column_of};
+ghost use Rattle.index_tests.specs.Kinds.{IsSoundIn, listed};
 ghost use Rattle.index_tests.specs.Every.{HaveColumns, LackFrom};
 
 use crate::index::Index;

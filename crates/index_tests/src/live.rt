@@ -2,7 +2,7 @@
 ghost use Rattle.std.specs.Prelude.{◌≡◌, ◌≤◌, ◌<◌, ◌+◌, ◌++◌, ◌∷◌, [], false, not, length, remove, IsTrue, IfSome, IfOk};
 ghost use Rattle.container_model.specs.State.{KeysMatch, has_key_kind, is_hashed_kind};
 ghost use Rattle.container_model.specs.declared.handle.Kind.TheVariants.{Ordered};
-ghost use Rattle.index_set.specs.Set.{specs_of, keys_of, kind_at};
+ghost use Rattle.index_set.specs.Set.{specs_of, kind_at};
 ghost use Rattle.index_tests.specs.Tens.{has_tens, IsLive};
 
 use crate::set::insert;

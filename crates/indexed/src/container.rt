@@ -1,5 +1,5 @@
 //! The container.
-ghost use Rattle.std.specs.Prelude.{◌≡◌, ◌↔◌, ◌<◌, IsTrue, false, length, [], None, unwrap_or, Some, IfOk, IfErr, OnOk, OnErr};
+ghost use Rattle.std.specs.Prelude.{◌≡◌, ◌↔◌, ◌<◌, IsTrue, length, [], None, unwrap_or, Some, IfOk, IfErr, OnOk, OnErr};
 ghost use Rattle.container_model.specs.State.{empty_with_most, row_of};
 ghost use Rattle.container_model.specs.Insert.{insert_refusal, new_handle, with_inserted};
 ghost use Rattle.container_model.specs.Change.{erase_refusal, with_erased};

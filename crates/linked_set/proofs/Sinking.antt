@@ -32,7 +32,7 @@ use Rattle.index_set.specs.declared.parts.Parts.{Parts}
 use Rattle.index_set.specs.Indices.{HoldIt}
 use Rattle.index_set.specs.Lists.{IsSunk, is_match}
 use Rattle.index_set.specs.Set as set
-use Rattle.index_set.specs.Set.{store_of, keys_of, specs_of, contents, record_of, list_of, lists_of, kind_at, IsSound, IsKeyed, IsOfSame}
+use Rattle.index_set.specs.Set.{store_of, specs_of, contents, record_of, list_of, lists_of, kind_at, IsSound, IsKeyed, IsOfSame}
 use Rattle.index_set.proofs.Members.{nodes_held_at, one_list_each}
 use Rattle.index_set.proofs.Sinking.{sunk_alike}
 use Rattle.index_set.proofs.StaysUnique.{unique_after_move}

@@ -4,7 +4,7 @@ ghost use Rattle.std.specs.Prelude.{◌≡◌, ◌+◌, filter, map, not, Some};
 ghost use Rattle.node_store.specs.Store.{IsNodeOf, len_of};
 ghost use Rattle.container_model.specs.State.{is_handle};
 ghost use Rattle.index_set.specs.Set.{store_of, contents, record_of, lists_of, IsOfSame};
-ghost use Rattle.linked_set.specs.Linked.{handle_of, entries_in, handles_in};
+ghost use Rattle.linked_set.specs.Linked.{entries_in, handles_in};
 ghost use Rattle.linked_set.specs.Seen.{IsLinked};
 ghost use Rattle.index_set.specs.Set.{AreHeld};
 

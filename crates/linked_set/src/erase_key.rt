@@ -1,13 +1,13 @@
 //! Taking out all records of a key.
 ghost use Rattle.any_index.specs.Keyed.{marks_of};
-ghost use Rattle.std.specs.Prelude.{◌≡◌, ◌+◌, ◌<◌, filter, length, map, None, Some, IfSome, IsTrue};
+ghost use Rattle.std.specs.Prelude.{◌≡◌, ◌+◌, ◌<◌, filter, map, None, Some, IfSome};
 ghost use Rattle.std.specs.declared.cmp.Ordering.TheVariants.{Equal};
 ghost use Rattle.list_model.specs.Place.{find_equal};
 ghost use Rattle.node_store.specs.Nodes.{Holds};
-ghost use Rattle.node_store.specs.Store.{IsNodeOf, len_of};
-ghost use Rattle.index_set.specs.Set.{probe_side, store_of, keys_of, contents, record_of, list_of, lists_of, IsSound, IsOfSame};
+ghost use Rattle.node_store.specs.Store.{len_of};
+ghost use Rattle.index_set.specs.Set.{probe_side, store_of, contents, record_of, list_of, lists_of, IsOfSame};
 ghost use Rattle.linked_set.specs.Asked.{CanTakeKey};
-ghost use Rattle.index_set.specs.ByRow.{has_by_row, probe_by_row};
+ghost use Rattle.index_set.specs.ByRow.{probe_by_row};
 ghost use Rattle.index_set.specs.Set.{AreHeld};
 ghost use Rattle.linked_set.specs.Held.{has_other_key};
 ghost use Rattle.linked_set.specs.Linked.{entries_in, handles_in};

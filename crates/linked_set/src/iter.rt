@@ -1,7 +1,6 @@
 //! Walks along an index, record by record.
 ghost use Rattle.std.specs.Prelude.{◌≡◌};
 ghost use Rattle.std.specs.Iterator.{YieldsFirstBy, item_count};
-ghost use Rattle.node_store.specs.Store.{number_of};
 ghost use Rattle.linked_set.specs.Iteration.{is_numbered};
 
 use container_model::{Entry, Handle};

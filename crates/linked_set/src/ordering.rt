@@ -1,6 +1,6 @@
 //! The order of one sequence. A number that no index has names one without records.
 ghost use Rattle.any_index.specs.Keyed.{marks_of};
-ghost use Rattle.std.specs.Prelude.{◌≡◌, ◌==◌, ◌+◌, ◌⊎◌, ℕ, IfErr, IfOk, IsTrue, None, OnErr, OnOk, Some, map};
+ghost use Rattle.std.specs.Prelude.{◌≡◌, ◌+◌, ◌⊎◌, ℕ, IfErr, IfOk, IsTrue, None, OnErr, OnOk, Some, map};
 ghost use Rattle.std.specs.List.{AllByRecursion};
 ghost use Rattle.container_model.specs.State.{is_sequence_kind};
 ghost use Rattle.container_model.specs.Find.{kind_at};

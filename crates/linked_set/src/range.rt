@@ -1,5 +1,5 @@
 //! Where the bounds of a range stand in an index in order.
-ghost use Rattle.std.specs.Prelude.{◌≡◌, ◌<◌, IfOk, IsTrue, Ok, Some, None, cond, count_by, length, map, not, option_and_then, slice_get};
+ghost use Rattle.std.specs.Prelude.{◌≡◌, ◌<◌, IsTrue, Some, None, cond, count_by, length, not, option_and_then, slice_get};
 ghost use Rattle.std.specs.Range.Bound.{bound_map};
 ghost use Rattle.list_model.specs.Place.{is_from, is_to};
 ghost use Rattle.node_store.specs.Store.{IsNodeOf};

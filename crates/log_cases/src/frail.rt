@@ -1,5 +1,4 @@
 //! Files in memory that fail.
-ghost use Rattle.std.specs.Prelude.{◌≡◌};
 
 use file_disk::LogFile;
 use std::alloc::{AllocError, Global};

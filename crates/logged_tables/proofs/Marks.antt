@@ -1,8 +1,7 @@
 -- Marks that are taken away.
-use Rattle.std.proofs.Common.{◌≡◌, ℕ, ◌+◌, ◌<◌, List, length, refl, sym, ap, subst, ◌∙◌, take, Some, None}
-use Rattle.std.specs.Prelude.{Option, All, slice_get, slice_set}
-use Rattle.std.proofs.lemmas.List.{set-get_or, take_more_set}
-use Rattle.std.proofs.lemmas.List.Elements.{All-push}
+use Rattle.std.proofs.Common.{◌≡◌, ℕ, List, sym, ap, ◌∙◌, Some, None}
+use Rattle.std.specs.Prelude.{Option, slice_get, slice_set}
+use Rattle.std.proofs.lemmas.List.{set-get_or}
 use Rattle.std.proofs.lemmas.Option.{get_or_from_slice_get}
 use Rattle.table_log.specs.declared.logged.Mark.{Mark}
 

@@ -1,6 +1,6 @@
 //! A stream of lines that a session serves.
 
-ghost use Rattle.std.specs.Prelude.{◌≡◌, ◌⊎◌, List, ℕ, Err, OnOk};
+ghost use Rattle.std.specs.Prelude.{◌≡◌, ◌⊎◌, Err, OnOk};
 ghost use Rattle.table_engine.specs.Outcomes.{IsRefused, IsServed, IsUnread, IsUnwritten};
 ghost use Rattle.table_engine.specs.Whole.{lines_of};
 ghost use Rattle.logged_tables.specs.Ends.{EndsAs, failed_sink, whole_sink};

@@ -1,6 +1,6 @@
 //! When logs are synced, and how.
 
-ghost use Rattle.std.specs.Prelude.{◌≡◌, ◌⊎◌, ◌≤◌, ◌<◌, OnErr, OnOk};
+ghost use Rattle.std.specs.Prelude.{◌<◌, OnErr, OnOk};
 ghost use Rattle.logged_tables.specs.Standing.{StopsSync, SyncsTo};
 
 use table_log::{Disk, LoggedTable, Mark, Over};

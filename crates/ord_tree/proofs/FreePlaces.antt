@@ -19,7 +19,7 @@ use Rattle.ord_tree.specs.Tree.{Tree, Leaf, Fork, nodes, root, Hangs, IsAt}
 use Rattle.ord_tree.specs.Cut.{AllAre, IsCut}
 use Rattle.ord_tree.specs.Last.{last_that}
 use Rattle.ord_tree.specs.Side.{side_of, order_at}
-use Rattle.ord_tree.proofs.Descent.{AllAre-append, AllAre-back, IsCut-after, IsCut-before}
+use Rattle.ord_tree.proofs.Descent.{AllAre-append, IsCut-after, IsCut-before}
 use Rattle.ord_tree.proofs.LastThat.{last_that-cut}
 use Rattle.ord_tree.proofs.Removing.{is_leaf}
 use Rattle.ord_tree.proofs.Rotations.{Opened-from}

@@ -10,7 +10,6 @@ use Rattle.std.proofs.lemmas.Slice.Eq.{bytes_eq-Decides}
 use Rattle.command_text.specs.Text.{command_text}
 use Rattle.command_text.proofs.Law.{command_text_line, meaning-command_text}
 use Rattle.table_cmd.specs.Command.{table_in}
-use Rattle.table_cmd.specs.declared.command.Command.{Command}
 use Rattle.table_engine.specs.Lines.{max_line, short}
 use Rattle.table_engine.specs.Tables.{AnswersLine, MayAnswer, answer_to, stepped, table_at}
 use Rattle.table_engine.specs.Whole.{AnswersLines, as_line, lines_of}
@@ -19,7 +18,7 @@ use Rattle.table_engine.proofs.Serving.{lines-from_Run}
 use Rattle.table_reply.specs.Buffer.{joined}
 use Rattle.table_schema.specs.Shape.{TableShape}
 use Rattle.table_schema.specs.Valid.{IsValidSchema, are_distinct}
-use Rattle.table_step.specs.Step.{TableState, memory_line, new_table, step_at, step_of}
+use Rattle.table_step.specs.Step.{TableState, memory_line, new_table, step_of}
 use Rattle.shared_tables.specs.Again.{CanBeRead, RunsAgain, StopsAtMemory, answers_in, replays}
 use Rattle.shared_tables.specs.Journal.{EntryData, LegalAfter, is_write, line_of, replay, replay_from}
 use Rattle.shared_tables.specs.Journals.{AreJournals, IsLegalCell, cells_of}

@@ -5,7 +5,7 @@
 
 mod restore;
 
-ghost use Rattle.std.specs.Prelude.{◌≡◌, ◌≢◌, ◌<◌, ◌≤◌, ◌∷◌, [], None, Some, OnOk, OnErr};
+ghost use Rattle.std.specs.Prelude.{◌≡◌, ◌≢◌, ◌<◌, ◌≤◌, [], None, Some, OnOk, OnErr};
 ghost use Rattle.slot_table.specs.Slots.{HasRoom, first_free, item_at, with_item};
 
 pub use restore::put;

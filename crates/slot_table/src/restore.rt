@@ -1,5 +1,5 @@
 //! Tables whose slots are taken as they are told to be.
-ghost use Rattle.std.specs.Prelude.{◌≡◌, Some, IfOk, OnOk, OnErr};
+ghost use Rattle.std.specs.Prelude.{◌≡◌, Some, IfOk, OnOk};
 ghost use Rattle.std.specs.BinaryHeap.{heap_items, heap_capacity};
 ghost use Rattle.slot_table.specs.Noted.{IsNoted};
 ghost use Rattle.slot_table.specs.Slots.{with_item};

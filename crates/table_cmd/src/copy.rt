@@ -4,15 +4,19 @@ ghost use Rattle.std.specs.Prelude.{◌≡◌, IfOk, true};
 ghost use Rattle.table_cmd.specs.Command.{is_index_change, is_keyed, is_row_change, is_sequence_change, is_unkeyed_read};
 
 use crate::command::Command;
+use crate::copies::{copies, copy_five, copy_four, copy_three, copy_two};
 use crate::groups::by_group;
 use crate::part::CommandPart;
 use std::alloc::AllocError;
 
-// A copy of a command that is one of these, part by part.
+// A copy of a command that is one of these.
 macro_rules! copy_among {
     ($command:expr; $($op:ident { $($part:ident),* })*) => {
         match $command {
-            $(Command::$op { $($part),* } => Ok(Command::$op { $($part: $part.copy()?),* }),)*
+            $(Command::$op { $($part),* } => {
+                let ($($part),*) = copies!($($part),*)?;
+                Ok(Command::$op { $($part),* })
+            })*
             _ => unreachable!(),
         }
     };

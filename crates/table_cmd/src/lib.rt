@@ -2,6 +2,7 @@
 #![tactic(auto)]
 
 mod command;
+mod copies;
 mod copy;
 mod groups;
 mod items;

@@ -1,6 +1,6 @@
 //! A stream of lines, over a reader and a writer.
 
-ghost use Rattle.std.specs.Prelude.{◌≡◌, ◌++◌, [], ⊤, List, ℕ, Err, OnErr, OnOk};
+ghost use Rattle.std.specs.Prelude.{◌≡◌, [], ⊤, List, ℕ, Err, OnErr, OnOk};
 ghost use Rattle.std.specs.Io.KnownBytes.{Appends};
 ghost use Rattle.table_engine.specs.Devices.{AppendsFront};
 ghost use Rattle.table_engine.specs.Lines.{short, added};

@@ -1,6 +1,6 @@
 //! One session over a reader and a writer.
 
-ghost use Rattle.std.specs.Prelude.{◌≡◌, ◌<◌, ◌++◌, [], ◌∷◌, List, ℕ, length, Err, OnOk};
+ghost use Rattle.std.specs.Prelude.{◌≡◌, ◌<◌, ◌++◌, [], ◌∷◌, List, length, Err, OnOk};
 ghost use Rattle.table_engine.specs.Devices.{IsFront};
 ghost use Rattle.table_engine.specs.Outcomes.{IsServed, IsUnread, IsUntouched, IsUnwritten};
 ghost use Rattle.table_engine.specs.Run.{Signal, bytes_of, end};

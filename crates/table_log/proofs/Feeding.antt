@@ -1,5 +1,5 @@
 -- Bytes that are loaded one after another.
-use Rattle.std.proofs.Common.{◌≡◌, ◌⊎◌, inl, inr, ℕ, suc, eqb, ◌+◌, ◌-◌, ◌==◌, ◌<◌, true, false, List, [], ◌∷◌, ◌++◌, length, take, drop, get_or, drop-cons, Ok, Some, None, refl, sym, ap, subst, ◌∙◌, append-nil, append_assoc, length-append, arith}
+use Rattle.std.proofs.Common.{◌≡◌, ◌⊎◌, inl, inr, ℕ, suc, eqb, ◌+◌, ◌-◌, ◌==◌, ◌<◌, true, false, List, [], ◌∷◌, ◌++◌, length, take, drop, get_or, drop-cons, Ok, Some, None, refl, sym, ap, subst, ◌∙◌, append_assoc, length-append, arith}
 use Rattle.std.specs.Prelude.{IfErr, IfOk, Err, Option, Result, option_map}
 use Rattle.std.proofs.lemmas.Bool.Decides.{eqb_tells}
 use Rattle.std.proofs.lemmas.List.{take-append-drop}
@@ -9,7 +9,7 @@ use Rattle.table_log.specs.declared.fault.OpenWhy.{OpenWhy}
 use Rattle.table_log.specs.declared.fault.OpenWhy.TheVariants as whys
 use Rattle.table_log.specs.declared.loading.Loader.{Loader}
 use Rattle.table_log.specs.Log.{IsLoaded, IsLog, IsRefused, after_line, after_lines, begun, whole_lines}
-use Rattle.table_log.specs.Loading.{Grows, IsLoading, IsUnloaded, Loads, LoadsLine, LoadsTo, Refuses, RefusesFrom, RefusesLine}
+use Rattle.table_log.specs.Loading.{IsLoading, IsUnloaded, Loads, LoadsLine, LoadsTo, Refuses, RefusesFrom, RefusesLine}
 use Rattle.table_log.specs.Logged.{IsOpened}
 use Rattle.table_log.proofs.Lines.{begun-byte, begun-newline, front_lines, keeps, kept_bytes, whole-byte, whole-newline}
 use Rattle.table_log.proofs.Replays.{after_more, loads}

@@ -1,6 +1,6 @@
 //! Indices added and dropped.
 
-ghost use Rattle.std.specs.Prelude.{◌≡◌, ◌<◌, IfErr, length};
+ghost use Rattle.std.specs.Prelude.{◌<◌, IfErr, length};
 ghost use Rattle.container_model.specs.Indices.{drop_index_refusal};
 ghost use Rattle.table_records.specs.Reindexed.{Becomes, IsNotAdded, IsNotDropped, add_refusal, with_table_index, without_table_index};
 ghost use Rattle.table_schema.specs.Defined.{IsNewIndex};

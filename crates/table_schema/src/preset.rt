@@ -1,5 +1,5 @@
 //! The schema that a server has where it is given none.
-ghost use Rattle.std.specs.Prelude.{◌≡◌, IfOk, [], ◌∷◌, codes, None, Some, true, false};
+ghost use Rattle.std.specs.Prelude.{◌≡◌, IfOk, [], ◌∷◌, None, Some, true, false};
 ghost use Rattle.table_schema.specs.Builtin.{builtin_schema, builtin_columns, builtin_indices, builtin_table};
 
 use crate::column::{CellKind, Column, IndexSpec};

@@ -1,5 +1,5 @@
 -- The passes of a serving.
-use Rattle.std.proofs.Common.{◌≡◌, ℕ, List, length}
+use Rattle.std.proofs.Common.{◌≡◌, ℕ, length}
 use Rattle.std.proofs.lemmas.List.FromFn.{length-map-range_with_len}
 use Rattle.shared_tables.specs.Pass.{fresh_pass, fresh_passes}
 

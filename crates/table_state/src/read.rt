@@ -1,6 +1,6 @@
 //! Reads the state of a table.
 
-ghost use Rattle.std.specs.Prelude.{◌≡◌, ◌<◌, ◌≤◌, ◌++◌, [], ℕ, List, Some, IfErr, IfOk, OnOk, length, map, option_map};
+ghost use Rattle.std.specs.Prelude.{◌≡◌, ◌<◌, ◌++◌, [], ℕ, List, Some, IfErr, IfOk, OnOk, length, map, option_map};
 ghost use Rattle.command_lines.specs.Fits.{CommandFits};
 ghost use Rattle.table_schema.specs.Defined.{IsFault, IsNewIndex};
 ghost use Rattle.table_state.specs.Parts.{EntriesFit, EntryFits, IndexFits, IndicesFit, OrdersFit, cells_from, count_in, entry_in, handles_in, index_in, order_in};

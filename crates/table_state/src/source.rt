@@ -1,6 +1,6 @@
 //! The lines of a disk.
 
-ghost use Rattle.std.specs.Prelude.{◌≡◌, ◌∷◌, ◌+◌, ◌<◌, ◌≤◌, ◌++◌, ℕ, List, Some, [], codes, IfErr, IfOk, IfSome, OnOk, length};
+ghost use Rattle.std.specs.Prelude.{◌≡◌, ◌∷◌, ◌+◌, ◌<◌, ◌++◌, ℕ, List, Some, [], codes, IfErr, IfOk, IfSome, OnOk};
 ghost use Rattle.command_lines.specs.Fits.{CommandFits};
 ghost use Rattle.command_text.specs.Line.{IsOneLine};
 ghost use Rattle.table_cmd.specs.declared.command.Command.{Command};

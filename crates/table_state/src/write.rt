@@ -1,7 +1,7 @@
 //! Writes the state of a table.
 
-ghost use Rattle.std.specs.Prelude.{◌≡◌, ◌+◌, ◌<◌, ◌==◌, IfErr, IfOk, OnErr, OnOk, Some, codes, false, is_some, length, map, true};
-ghost use Rattle.container_model.specs.State.{list_at, row_of};
+ghost use Rattle.std.specs.Prelude.{◌≡◌, ◌+◌, ◌<◌, ◌==◌, IfErr, IfOk, OnErr, OnOk, Some, false, is_some, length, map, true};
+ghost use Rattle.container_model.specs.State.{row_of};
 ghost use Rattle.list_model.specs.Order.{EachPair};
 ghost use Rattle.table_state.specs.State.{columns_command, count_command, head_commands, index_command, line_of, lines_text, order_at, order_commands, record_command, state_text};
 ghost use Rattle.table_state.specs.Writing.{IsCutOff, IsInterruption, IsWritten, Putting, gathered, failures_of_state};

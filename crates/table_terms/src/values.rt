@@ -1,6 +1,6 @@
 //! The values of a command as cells of a table.
 
-ghost use Rattle.std.specs.Prelude.{◌≡◌, IfOk, option_and_then, slice_get, length};
+ghost use Rattle.std.specs.Prelude.{◌≡◌, IfOk, option_and_then, slice_get};
 ghost use Rattle.std.specs.Option.{option_copied};
 ghost use Rattle.table_terms.specs.Values.{is_cell_of, is_null, can_hold, cell_for, value_named, column_cell, row_from, are_enough, parts_of, probe_from};
 

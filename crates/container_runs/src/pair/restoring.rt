@@ -1,5 +1,4 @@
 //! The container goes, and another is made of what it held.
-ghost use Rattle.std.specs.Prelude.{◌≡◌, ◌≤◌, length};
 
 use super::{Pair, keys_match};
 use crate::tally::{Count, Tally};

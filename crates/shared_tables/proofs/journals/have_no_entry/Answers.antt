@@ -1,4 +1,4 @@
-use Rattle.std.proofs.Common.{rules, tests, ◌==◌, IsTrue, Vec, Global, subst, sym}
+use Rattle.std.proofs.Common.{rules, tests, ◌==◌, Vec, Global}
 use Rattle.std.proofs.lemmas.Iterator.{YieldsList-from_slice}
 use Rattle.std.proofs.lemmas.Iterator.Search.{all_from_yields_List}
 use Rattle.shared_tables.specs.declared.entry.Entry.{Entry}

@@ -1,10 +1,9 @@
-use Rattle.std.proofs.Common.{◌^◌, ◌-◌, ◌==◌, ◌∙◌, false, cond, Some, ap, sym, subst, arith}
+use Rattle.std.proofs.Common.{◌-◌, ◌∙◌, false, cond, Some, ap, sym, subst, arith}
 use Rattle.std.specs.Prelude.{IfSome, IsTrue, not, option_and_then}
-use Rattle.std.specs.Option.{option_map_or}
 use Rattle.container_model.specs.declared.refusal.Why.TheVariants.{Kind, Stale}
 use Rattle.container_model.specs.State.{is_hashed_kind, row_of}
 use Rattle.container_model.specs.Find.{is_live, kind_at}
-use Rattle.container_model.specs.Change.{erase_refusal, next_in, spent, with_erased}
+use Rattle.container_model.specs.Change.{next_in, spent, with_erased}
 use Rattle.container_model.proofs.Erased.{IsState-erased}
 use Rattle.linked_set.specs.Records.{state_of}
 use Rattle.multi_index.proofs.Steps.{next_number, none_added, IsContainer-next, IsContainer-same}
