@@ -1,20 +1,43 @@
 //! Copies of commands.
 
-ghost use Rattle.std.specs.Prelude.{◌≡◌, IfOk, true};
+ghost use Rattle.std.specs.Prelude.{◌≡◌, IfOk, Ok, true};
 ghost use Rattle.table_cmd.specs.Command.{is_index_change, is_keyed, is_row_change, is_sequence_change, is_unkeyed_read};
 
 use crate::command::Command;
-use crate::copies::{copies, copy_five, copy_four, copy_three, copy_two};
 use crate::groups::by_group;
 use crate::part::CommandPart;
 use std::alloc::AllocError;
+
+// A copy of a part with the copies of those behind it: all or none. What was copied before memory ran out is let go here, where its
+// type is not known. A drop of a known type would be written out, and proved, at each call.
+fn copy_before<A: CommandPart + Drop, B: Drop>(
+    part: &A,
+    copies: Result<B, AllocError>,
+) -> Result<(A, B), AllocError>
+    ensures { IfOk result (λ all. (all.0 ≡ part.now) × (copies ≡ Ok all.1)) }
+{
+    let copies = copies?;
+    Ok((part.copy()?, copies))
+}
+
+// Copies of parts, each paired with those behind it.
+macro_rules! copies {
+    ($part:ident) => { $part.copy() };
+    ($part:ident, $($behind:ident),*) => { copy_before($part, copies!($($behind),*)) };
+}
+
+// The names of such copies.
+macro_rules! copied {
+    ($part:ident) => { $part };
+    ($part:ident, $($behind:ident),*) => { ($part, copied!($($behind),*)) };
+}
 
 // A copy of a command that is one of these.
 macro_rules! copy_among {
     ($command:expr; $($op:ident { $($part:ident),* })*) => {
         match $command {
             $(Command::$op { $($part),* } => {
-                let ($($part),*) = copies!($($part),*)?;
+                let copied!($($part),*) = copies!($($part),*)?;
                 Ok(Command::$op { $($part),* })
             })*
             _ => unreachable!(),

@@ -2,7 +2,6 @@
 #![tactic(auto)]
 
 mod command;
-mod copies;
 mod copy;
 mod groups;
 mod items;
