@@ -3,3 +3,4 @@ pub mod Kinds
 pub mod Every
 pub mod Tens
 pub mod Lone
+pub mod Pairs

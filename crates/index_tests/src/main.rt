@@ -36,6 +36,14 @@ fn tell(rt: &impl Print, case: &str, holds: Option<bool>) -> io::Result<()> {
     }
 }
 
+// Tells of each of some cases.
+fn tell_each(rt: &impl Print, cases: &[(&str, Option<bool>)]) -> io::Result<()> {
+    for (case, holds) in cases {
+        tell(rt, case, *holds)?;
+    }
+    Ok(())
+}
+
 // The cases of the store and of the slots, each with whether it holds.
 fn of_stores(rt: &impl Threads, alloc: Global) -> [(&'static str, Option<bool>); 6] {
     [
@@ -157,20 +165,9 @@ fn of_several(alloc: Global) -> [(&'static str, Option<bool>); 4] {
 
 fn main(rt: HostRuntime) -> io::Result<()> {
     let alloc = rt.alloc();
-    for (case, holds) in of_comings(alloc) {
-        tell(&rt, case, holds)?;
-    }
-    for (case, holds) in of_stores(&rt, alloc) {
-        tell(&rt, case, holds)?;
-    }
-    for (case, holds) in of_kinds(alloc) {
-        tell(&rt, case, holds)?;
-    }
-    for (case, holds) in of_counts(alloc) {
-        tell(&rt, case, holds)?;
-    }
-    for (case, holds) in of_several(alloc) {
-        tell(&rt, case, holds)?;
-    }
-    Ok(())
+    tell_each(&rt, &of_comings(alloc))?;
+    tell_each(&rt, &of_stores(&rt, alloc))?;
+    tell_each(&rt, &of_kinds(alloc))?;
+    tell_each(&rt, &of_counts(alloc))?;
+    tell_each(&rt, &of_several(alloc))
 }

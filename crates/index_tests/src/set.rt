@@ -1,9 +1,9 @@
 //! A record comes into a set of two kinds of index, is found in each, changes and goes.
-ghost use Rattle.std.specs.Prelude.{◌≡◌, ◌∷◌, ◌<◌, [], true, false, IfOk, IfSome, None};
+ghost use Rattle.std.specs.Prelude.{◌≡◌, ◌<◌, IfOk, IfSome, None};
 ghost use Rattle.node_store.specs.Store.{IsNodeOf};
-ghost use Rattle.container_model.specs.declared.handle.Kind.TheVariants.{Ordered, Hashed};
-ghost use Rattle.index_set.specs.Set.{store_of, IsOfSame};
+ghost use Rattle.index_set.specs.Set.{specs_of, store_of, IsOfSame};
 ghost use Rattle.index_set.specs.Writes.{IsPut};
+ghost use Rattle.index_tests.specs.Pairs.{ordered_and_hashed};
 
 use container_model::{Entry, Handle, Kind, Spec};
 use index_set::{ByRow, IndexSet, Nodes, RowEdit};
@@ -140,8 +140,7 @@ fn rewrite_and_undo(set: &mut IndexSet<Entry<u64>, ByRow<OneKey>>, n: Node, row:
 
 // An index in order, and a hashed one without two records of one key.
 fn two_indices(alloc: Global) -> Result<Vec<Spec>, AllocError>
-    ensures { IfOk result (λ made. made.items ≡ record { kind = Ordered; unique = false } ∷ record
-        { kind = Hashed; unique = true } ∷ []) }
+    ensures { IfOk result (λ made. made.items ≡ ordered_and_hashed) }
 {
     let mut specs = Vec::new(alloc);
     specs.push(Spec {
@@ -161,6 +160,37 @@ fn entry(row: u64) -> Entry<u64> {
     Entry { handle, row }
 }
 
+// Whether the first node of the key is this one in each index.
+fn finds(set: &IndexSet<Entry<u64>, ByRow<OneKey>>, n: Node) -> bool
+    requires { specs_of set.now ≡ ordered_and_hashed }
+{
+    set.at(0).find(&()) == Some(n) && set.at(1).find(&()) == Some(n)
+}
+
+// Whether some node of the key is this one in each index, or none is.
+fn finds_any(set: &IndexSet<Entry<u64>, ByRow<OneKey>>, wanted: Option<Node>) -> bool
+    requires { specs_of set.now ≡ ordered_and_hashed }
+{
+    set.at(0).find_any(&()) == wanted && set.at(1).find_any(&()) == wanted
+}
+
+// Whether the record is another one after a change, and still that one after a change that was undone.
+fn changes(set: &mut IndexSet<Entry<u64>, ByRow<OneKey>>, n: Node) -> bool
+    requires { IsNodeOf (store_of set.old) n }
+    ensures same { IsOfSame set.old set.new }
+    ensures node { IsNodeOf (store_of set.new) n }
+{
+    rewrite(set, n, entry(8)) && rewrite_and_undo(set, n, 9) && set.store().get(n).row == 8
+}
+
+// Whether nothing is found once the set is emptied, though one record was added.
+fn is_emptied(set: &mut IndexSet<Entry<u64>, ByRow<OneKey>>) -> bool
+    requires { specs_of set.old ≡ ordered_and_hashed }
+{
+    set.clear();
+    finds_any(set, None) && set.store().len() == 0 && set.store().added() == 1
+}
+
 /// Whether a number that was put in is found at its key in each index, also once it is another of that key, and once a change
 /// was undone, until the set is emptied.
 pub(crate) fn script(alloc: Global) -> Option<bool> {
@@ -173,13 +203,9 @@ pub(crate) fn script(alloc: Global) -> Option<bool> {
     };
     let mut set = made;
     let n = insert(&mut set, entry(7))?;
-    let found = set.at(0).find(&()) == Some(n) && set.at(1).find(&()) == Some(n);
-    let changes = rewrite(&mut set, n, entry(8)) && rewrite_and_undo(&mut set, n, 9);
-    let is_changed = changes && set.store().get(n).row == 8;
-    let found_again = set.at(0).find_any(&()) == Some(n) && set.at(1).find_any(&()) == Some(n);
+    let is_found = finds(&set, n);
+    let is_changed = changes(&mut set, n);
+    let is_found_again = finds_any(&set, Some(n));
     let one = set.specs().len() == 2 && set.store().len() == 1;
-    set.clear();
-    let none = set.at(0).find_any(&()).is_none() && set.at(1).find_any(&()).is_none();
-    let empty = none && set.store().len() == 0 && set.store().added() == 1;
-    Some(found && is_changed && found_again && one && empty)
+    Some(is_found && is_changed && is_found_again && one && is_emptied(&mut set))
 }
