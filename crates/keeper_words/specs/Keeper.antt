@@ -1,8 +1,9 @@
 -- The words of the program that keeps its tables, as `clap` reads them.
-use Rattle.std.specs.Prelude.{List, [], ◌∷◌, ℕ, codes, true, Some, pos}
+use Rattle.std.specs.Prelude.{◌≡◌, List, [], ◌∷◌, ℕ, codes, true, Some, pos}
 use Rattle.clap.specs.Words.{App, Rule, fault_of, new_app, new_rule, with_rule}
 use Rattle.clap.specs.declared.builder.action.ArgAction.TheVariants.{SetTrue}
 use Rattle.clap.specs.declared.builder.value_parser.ValueParser.TheVariants.{Signed}
+use Rattle.clap.specs.declared.error.kind.ErrorKind.TheVariants.{DisplayHelp, DisplayVersion}
 use Rattle.program_words.specs.Program.{option_named, required_named}
 
 -- an option with one value, and this one where it is absent

@@ -1,7 +1,8 @@
 -- The program's words as `clap` reads them: the words `run` and `serve` with their options.
-use Rattle.std.specs.Prelude.{List, [], ◌∷◌, ℕ, codes, true, Some, pos}
+use Rattle.std.specs.Prelude.{◌≡◌, List, [], ◌∷◌, ℕ, codes, true, Some, pos}
 use Rattle.clap.specs.Words.{App, Rule, fault_of, new_app, new_rule, with_rule, with_subcommand}
 use Rattle.clap.specs.declared.builder.value_parser.ValueParser.TheVariants.{Signed}
+use Rattle.clap.specs.declared.error.kind.ErrorKind.TheVariants.{DisplayHelp, DisplayVersion}
 
 -- an option with one value, of this name
 abbrev pub option_named : List ℕ → Rule
