@@ -1,19 +1,23 @@
 -- One step of closing a row up over its marks.
 use Rattle.std.proofs.Common.{◌≡◌, ◌≢◌, ℕ, zero, suc, ◌+◌, ◌<◌, ◌≤◌, cond, ⊎_elim, Bool, true, false, not, List, [], ◌∷◌, ◌++◌, length, get_or, take, drop, Option, Some, None, refl, sym, ap, ◌∙◌, subst, arith}
-use Rattle.std.specs.Prelude.{IsPermutation, ◌==◌, ◌-◌, ◌^◌, filter}
+use Rattle.std.specs.Prelude.{IsPermutation, All, ◌==◌, ◌-◌, ◌^◌, filter}
 use Rattle.std.specs.List.{AllByRecursion, SwappedAt}
 use Rattle.std.specs.Option.{option_map, option_map_or}
 use Rattle.std.proofs.lemmas.List.{take-append-drop, drop_more, take-take, length-take-le, take-set-le, drop-set-lt}
+use Rattle.std.proofs.lemmas.List.Elements.{All-drop, All-from_recursion}
+use Rattle.list_model.proofs.InOrder.{All-map}
 use Rattle.std.proofs.lemmas.List.Sorted.{IsPermutation-trans, IsPermutation-append_right}
 use Rattle.std.proofs.lemmas.Bool.Decides.{nat_tests}
 use Rattle.node_store.specs.declared.Node.{Node}
 use Rattle.node_store.specs.declared.Link.{Link}
 use Rattle.node_store.specs.Column.{Column, IsNode}
 use Rattle.node_store.specs.Nodes.{Lacks, Holds, IsDistinct, AllNodes}
-use Rattle.node_store.proofs.Members.{IsDistinct_moved, AllNodes_moved, AllNodes_kept}
+use Rattle.node_store.proofs.Members.{each_node, IsDistinct_moved, AllNodes_moved, AllNodes_kept}
 use Rattle.row_index.specs.declared.RowIndex.{RowIndex}
 use Rattle.row_index.proofs.Places.{numbered_nodes, numbered_same, numbered_take}
-use Rattle.node_store.proofs.ByNode.{node_cases}
+use Rattle.node_store.specs.Store.{Store, IsNodeOf}
+use Rattle.node_store.specs.ByNode.{column_of}
+use Rattle.node_store.proofs.ByNode.{node_cases, node_of_column}
 use Rattle.node_store.proofs.NodeLists.{IsSameAt-others, IsDistinct-parts, AreApart-head}
 use Rattle.row_index.specs.Marked.{is_marked}
 use Rattle.row_index.specs.Spelled.{tag_at, KeepPlaces, Spells, AreNumbered, spelled, IsNumberedTo, HasMarks}
@@ -77,6 +81,12 @@ permuted_behind xs ys k same behind =
     subst (λ l. IsPermutation l ys) (take-append-drop k xs)
     (subst (IsPermutation (take k xs ++ drop k xs)) (ap (λ l. l ++ drop k ys) (sym same) ∙ take-append-drop k ys)
     (IsPermutation-append_right (take k xs) (drop k xs) (drop k ys) behind))
+
+-- nodes of a column are nodes of its store, also those from a place on
+pub nodes_behind : {R : Type 0} (s : Store R) (col k : ℕ) (xs : List Node) → AllNodes (column_of s col) xs → All (IsNodeOf s) (drop k xs)
+nodes_behind s col k xs h =
+    All-drop (IsNodeOf s) k xs
+    (All-from_recursion (IsNodeOf s) xs (All-map (IsNode (column_of s col)) (IsNodeOf s) (node_of_column s col) xs (each_node (column_of s col) xs h)))
 
 -- the front stays what the filter keeps, however what stands behind it moves
 pub sunk_from : {X : Type 0} (sinks : X → Bool) (old mid new : List X) (kept : ℕ) → take kept mid ≡ filter (λ x. not (sinks x)) old → IsPermutation old mid → take kept new ≡ take kept mid → IsPermutation (drop kept mid) (drop kept new) → IsSunk sinks old new
