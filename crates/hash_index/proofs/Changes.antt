@@ -10,7 +10,7 @@ use Rattle.node_store.specs.Digest.{no_digest}
 use Rattle.node_store.specs.declared.Node.{Node}
 use Rattle.node_store.specs.declared.Link.{Link}
 use Rattle.node_store.specs.Column.{Column, IsPut, IsNode}
-use Rattle.node_store.specs.ByNode.{same_node, column_of}
+use Rattle.node_store.specs.ByNode.{same_node, column_of, contents}
 use Rattle.list_model.specs.Walk.{without}
 use Rattle.seq_index.proofs.Walks.{without_at}
 use Rattle.hash_index.specs.declared.HashIndex.{HashIndex}
@@ -18,7 +18,7 @@ use Rattle.hash_index.specs.LinearHashing.{chain_of}
 use Rattle.hash_index.specs.declared.head.Head.{Head}
 use Rattle.hash_index.specs.Heads.{first_in, IsRight, AreRight}
 use Rattle.hash_index.specs.Oldest.{IsOldestOf, IsOldest, AreOldest}
-use Rattle.node_store.proofs.ByNode.{node_of_column}
+use Rattle.node_store.proofs.ByNode.{node_of_column, IsNodeOf_kept}
 use Rattle.node_store.proofs.Ages.{same_age}
 use Rattle.hash_index.proofs.Oldest.{old_tags, old_more, old_less, oldest_at, oldest_set}
 use Rattle.hash_index.specs.Spelled.{HasRoom, all_of, heads_of, Spells, IsSound, spelled, leads_to, Holds}
@@ -32,7 +32,7 @@ use Rattle.seq_index.specs.Links.{Runs, chain_link, SetsNext, SetsPrev, end_besi
 use Rattle.seq_index.proofs.Runs.{Runs-same, Runs-insert, Runs-remove, SetsNext-none, IsSameAt-end, LacksEnd-first, LacksEnd-last, Lacks-first, Lacks-last, AreNodes-first, Distinct-insert, Distinct-remove}
 use Rattle.seq_index.proofs.ChainLists.{first-remove, length-insert, length-remove}
 use Rattle.hash_index.specs.Chains.{untagged_link, untagged, tag_at, KeepsTags, KeepsOtherNodes, IsIn}
-use Rattle.node_store.specs.Store.{Store, IsStore, age_of}
+use Rattle.node_store.specs.Store.{Store, IsStore, IsNodeOf, age_of}
 use Rattle.hash_index.proofs.Untagged.{same_all, put_untagged, tag_put, tag_other, tagged_node}
 use Rattle.hash_index.proofs.Heads.{first_has, last_has, others_of, one_chain, right_at, right_set, right_up, slice_first}
 use Rattle.hash_index.proofs.OneChain.{Focus, Hangs, IsElsewhere}
@@ -263,6 +263,10 @@ first_split (x ∷ xs) n e = let is : x ≡ n = cc in (xs, ap (λ z. z ∷ xs) i
 -- the node of a head is one of the column
 pub head_there : {ages : Node → ℕ} {R : Type 0} (s : Store R) (i : HashIndex) (b : ℕ) (head : Head) → b < i.chains.len → slice_get (all_of i) b ≡ Some head → IsSound ages (column_of s) i → (n : Node) → first_in head ≡ Some n → IsNode (column_of s i.col) n
 head_there {ages} s i b head within at h n begin = head_node _ _ _ _ _ (focus_of (column_of s) i (spelled (column_of s) i) b within h) n (sym (slice_first (heads_of i) (all_of i) b refl head at) ∙ begin)
+
+-- it is of the store too, and stays there where links alone change
+pub first_stays : {ages : Node → ℕ} {R : Type 0} (s t : Store R) (i : HashIndex) (b : ℕ) (head : Head) → b < i.chains.len → slice_get (all_of i) b ≡ Some head → IsSound ages (column_of s) i → contents t ≡ contents s → (n : Node) → first_in head ≡ Some n → IsNodeOf t n
+first_stays s t i b head within at h same n begin = IsNodeOf_kept s t n same (node_of_column s i.col n (head_there s i b head within at h n begin))
 
 -- the first node of a chain is one of all
 pub began_held : {ages : Node → ℕ} (cs : ℕ → Column) (i : HashIndex) (b : ℕ) (first : Node) → b < i.chains.len → get_or (heads_of i) b None ≡ Some first → IsSound ages cs i → Holds (spelled cs i) first

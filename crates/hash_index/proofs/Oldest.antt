@@ -1,16 +1,11 @@
 -- Heads whose first nodes were added before all others of their hash.
-use Rattle.std.proofs.Common.{◌≡◌, ◌≢◌, ℕ, zero, suc, Bool, not, ◌+◌, ◌<◌, ◌≤◌, List, [], ◌∷◌, ◌++◌, map, set, Option, Some, None, refl, sym, ap, ◌∙◌, subst, arith}
+use Rattle.std.proofs.Common.{◌≡◌, ◌≢◌, ℕ, zero, suc, Bool, not, ◌+◌, ◌<◌, ◌≤◌, List, [], ◌∷◌, ◌++◌, map, set, Some, None, sym, ◌∙◌, subst, arith}
 use Rattle.std.specs.Prelude.{filter}
 use Rattle.std.specs.List.{AllByRecursion, slice_get}
 use Rattle.std.proofs.lemmas.Option.{slice_get_within, get_or_from_slice_get}
 use Rattle.node_store.specs.declared.Node.{Node}
-use Rattle.node_store.specs.Column.{Column, IsNode}
+use Rattle.node_store.specs.Column.{Column}
 use Rattle.node_store.specs.Nodes.{Lacks, first_or}
-use Rattle.node_store.specs.declared.Link.{Link}
-use Rattle.std.specs.Option.{option_map}
-use Rattle.node_store.specs.Store.{Store, IsNodeOf, nodes, number_of}
-use Rattle.node_store.specs.ByNode.{column_of}
-use Rattle.node_store.proofs.ByNode.{node_of_column}
 use Rattle.list_model.proofs.Lists.{All-at, All-both, All-join}
 use Rattle.list_model.proofs.InOrder.{All-map}
 use Rattle.list_model.proofs.Kept.{All-split, All-filter}
@@ -18,7 +13,7 @@ use Rattle.hash_index.specs.declared.head.Head.{Head}
 use Rattle.hash_index.specs.Heads.{first_in, IsRight}
 use Rattle.hash_index.specs.Chains.{tag_at, KeepsTags, IsIn, AreChains, joined}
 use Rattle.hash_index.specs.Oldest.{IsOldestOf, IsOldest, AreOldest}
-use Rattle.hash_index.proofs.Heads.{first_at, first_has, others_of}
+use Rattle.hash_index.proofs.Heads.{first_has, others_of}
 
 -- ---- what a list becomes
 
@@ -91,27 +86,9 @@ none_oldest ages c xs (h ∷ hs) none = ((λ says n first. absurd (cc)), none_ol
 pub oldest_at : (ages : Node → ℕ) (c : Column) (hs : List Head) (xs : List Node) (b : ℕ) (h : Head) → AreOldest ages c xs hs → slice_get hs b ≡ Some h → IsOldest ages c xs h
 oldest_at ages c hs xs b h all e = subst (IsOldest ages c xs) (get_or_from_slice_get hs b h h e) (All-at (IsOldest ages c xs) hs b h (slice_get_within hs b h e) all)
 
-node_by : (d : Column) (n : Node) (o : Option Link) (t : ℕ) → d n ≡ o → option_map (λ (l : Link). l.tag) o ≡ Some t → IsNode d n
-node_by d n None t is e = absurd (cc)
-node_by d n (Some l) t is e = record { block = l; is = is }
-
--- a node that has a hash is one of the column
-pub tags_node : (c d : Column) (n : Node) → KeepsTags c d → IsNode c n → IsNode d n
-tags_node c d n tags node = node_by d n (d n) node.block.tag refl (tags n ∙ ap (option_map (λ (l : Link). l.tag)) node.is)
-
--- two nodes of a store that have one number are the same
-pub same_number : {R : Type 0} (s : Store R) (m n : Node) → IsNodeOf s m → IsNodeOf s n → number_of m ≡ number_of n → m ≡ n
-same_number s m n here there e = let both : Some m ≡ Some n = sym here ∙ (ap (nodes s) e ∙ there) in cc
-
 -- a shorter chain that begins with the same node
-pub cut_oldest : (ages : Node → ℕ) {R : Type 0} (s : Store R) (col : ℕ) (c : Column) (hs : List Head) (xs : List Node) (b : ℕ) (head cut : Head) → AreOldest ages c xs hs → slice_get hs b ≡ Some head → (192 ≤ cut.mark → 192 ≤ head.mark) → (192 ≤ cut.mark → number_of cut.node ≡ number_of head.node)
-    → KeepsTags c (column_of s col) → ((n : Node) → first_in head ≡ Some n → IsNode c n) → ((n : Node) → first_in cut ≡ Some n → IsNode (column_of s col) n) → IsOldest ages c xs cut
-cut_oldest ages s col c hs xs b head cut old at says same tags there here = λ is n first.
-    let begin = first_at head (omega (arith, says is)) in
-    let own = first_at cut (omega (arith, is)) in
-    let node = tags_node c (column_of s col) head.node tags (there head.node begin) in
-    let one = same_number s cut.node head.node (node_of_column s col cut.node (here cut.node own)) (node_of_column s col head.node node) (same is) in
-    oldest_at ages c hs xs b head old at (says is) n (begin ∙ (ap Some (sym one) ∙ (sym own ∙ first)))
+pub cut_oldest : (ages : Node → ℕ) (c : Column) (hs : List Head) (xs : List Node) (b : ℕ) (head cut : Head) → AreOldest ages c xs hs → slice_get hs b ≡ Some head → (192 ≤ cut.mark → 192 ≤ head.mark) → (192 ≤ cut.mark → first_in cut ≡ first_in head) → IsOldest ages c xs cut
+cut_oldest ages c hs xs b head cut old at says same = λ is n first. oldest_at ages c hs xs b head old at (says is) n (sym (same is) ∙ first)
 
 pub cut_right : (c : Column) (head cut : Head) → (cut.mark < 128 → cut ≡ head) → IsRight c head → IsRight c cut
 cut_right c head cut kept right = λ alone. subst (IsRight c) (sym (kept alone)) right alone

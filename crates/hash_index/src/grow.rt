@@ -155,8 +155,8 @@ impl HashIndex {
         let (stay, moved) = self.cut(store, head.node());
         let stay = self.head_of(store, stay.first);
         let moved = self.head_of(store, moved.first);
-        self.chains.set(from, stay.cut_from(head));
-        self.chains.push_reserved(moved.cut_from(head));
+        self.chains.set(from, stay.cut_from(store, head));
+        self.chains.push_reserved(moved.cut_from(store, head));
     }
 
     // Cuts a chain in two: the nodes that stay in it once there is one more, and those that go there. Where the chain has

@@ -1,10 +1,10 @@
 //! The first node of a chain, with a mark of its hash.
 ghost use Rattle.std.specs.Prelude.{◌≡◌, ◌↔◌, ◌+◌, ◌/◌, ◌<◌, ◌≤◌, ◌^◌, IsTrue, cond, Option, Some, None};
 ghost use Rattle.node_store.specs.declared.Node.{Node};
-ghost use Rattle.node_store.specs.Store.{number_of};
+ghost use Rattle.node_store.specs.Store.{IsNodeOf};
 ghost use Rattle.hash_index.specs.Heads.{first_in, hinted_in, passes};
 
-use node_store::Node;
+use node_store::{Node, NodeStore};
 
 // What a mark has beside the top six bits of a hash: that the node is the only one of its chain, that others may follow,
 // or that others may follow, of which those that have its hash were added after it.
@@ -80,14 +80,19 @@ impl Head {
 
     // The head of a chain that a longer one was cut to: where both begin with the same node, the oldest of its hash stays
     // that.
-    pub(crate) fn cut_from(self, longer: Head) -> Head
-        requires { self.mark < 192 }
+    pub(crate) fn cut_from<R>(self, store: &NodeStore<R>, longer: Head) -> Head
+        requires plain { self.mark < 192 }
+        requires node { (n : Node) → first_in self ≡ Some n → IsNodeOf store.now n }
+        requires longer { (n : Node) → first_in longer ≡ Some n → IsNodeOf store.now n }
         ensures first { first_in result ≡ first_in self }
         ensures kept { result.mark < 128 → result ≡ self }
         ensures oldest { 192 ≤ result.mark → 192 ≤ longer.mark }
-        ensures same { 192 ≤ result.mark → number_of result.node ≡ number_of longer.node }
+        ensures same { 192 ≤ result.mark → first_in result ≡ first_in longer }
     {
-        if FOLLOWED <= self.mark && OLDEST <= longer.mark && self.node == longer.node {
+        if FOLLOWED <= self.mark
+            && OLDEST <= longer.mark
+            && store.is_node(longer.node(), self.node)
+        {
             Head {
                 mark: self.mark % ALONE + OLDEST,
                 node: self.node,
