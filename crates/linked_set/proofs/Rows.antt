@@ -1,10 +1,9 @@
 -- The records of nodes with their handles: those of the handles, and what a walk has left of them.
 use Rattle.key_extract.specs.Digests.{Marks}
-use Rattle.std.proofs.Common.{◌≡◌, ◌⊎◌, inl, inr, ◌+◌, ◌<◌, ◌≤◌, ℕ, ◌==◌, Bool, true, false, List, [], ◌∷◌, length, map, slice_get, Option, Some, None, refl, sym, ap, ◌∙◌, subst, eq-eqb}
+use Rattle.std.proofs.Common.{◌≡◌, ◌≢◌, ◌⊎◌, inl, inr, ◌+◌, ◌<◌, ◌≤◌, ℕ, Bool, true, false, List, [], ◌∷◌, length, map, slice_get, Option, Some, None, refl, sym, ap, ◌∙◌, subst}
 use Rattle.std.specs.Prelude.{IsTrue, not, is_some, option_map}
 use Rattle.std.specs.List.{AllByRecursion, filter_map, cons_option}
-use Rattle.std.proofs.lemmas.Bool.{cases_lt, eqb-true}
-use Rattle.std.proofs.lemmas.Option.{same_Some}
+use Rattle.std.proofs.lemmas.Bool.{cases_lt}
 use Rattle.list_model.specs.Walk.{next as node_after}
 use Rattle.std.specs.declared.cmp.Ordering.{Ordering}
 use Rattle.std.specs.declared.ops.Bound.{Bound}
@@ -20,9 +19,9 @@ use Rattle.container_model.specs.State.{AreIndices, row_of, list_at, is_hashed_k
 use Rattle.container_model.specs.Find.{probe_side}
 use Rattle.node_store.specs.declared.Node.{Node}
 use Rattle.node_store.specs.Nodes.{Holds, IsDistinct}
-use Rattle.node_store.specs.Store.{Store, IsNodeOf, number_of, nodes}
+use Rattle.node_store.specs.Store.{IsNodeOf}
 use Rattle.node_store.specs.ByNode.{same_node}
-use Rattle.node_store.proofs.ByNode.{same_node-refl, same_node-true}
+use Rattle.node_store.proofs.ByNode.{same_node-refl, same_node-false}
 use Rattle.any_index.proofs.Runs.{next_is}
 use Rattle.index_set.specs.declared.parts.Parts.{Parts}
 use Rattle.index_set.specs.Set.{store_of, keys_of, specs_of, contents, record_of, list_of, lists_of}
@@ -34,7 +33,7 @@ use Rattle.linked_set.specs.Records.{Records, alone, records_in}
 use Rattle.linked_set.specs.Seen.{seen, IsLinked}
 use Rattle.linked_set.proofs.Reading.{known_at, list_seen}
 use Rattle.linked_set.proofs.Sides.{handle_known, row_known}
-use Rattle.linked_set.specs.Iteration.{is_one, is_numbered, nodes_left, rows_of_nodes, with_rows, IsWalk}
+use Rattle.linked_set.specs.Iteration.{is_one, nodes_left, rows_of_nodes, with_rows, IsWalk}
 use Rattle.linked_set.proofs.Rising.{range_seen}
 use Rattle.linked_set.proofs.There.{list_past, no_nodes, there_at}
 use Rattle.linked_set.proofs.WalksLeft.{all_left, none_left, one_left, past_end}
@@ -62,20 +61,10 @@ module _ {R : Type 0} (records : Node → Option (Entry R)) where
     rows_seen [] known = refl
     rows_seen (n ∷ ns) known = λ i. cons_option (row_seen n known.0 i) (rows_seen ns known.1 i)
 
--- two nodes of a store are one where they have one number
-one_numbered : {R : Type 0} (s : Store R) (m n : Node) → IsNodeOf s m → IsNodeOf s n → (number_of m == number_of n) ≡ same_node m n
-one_numbered s m n has_m has_n = by_number (number_of m == number_of n) refl (same_node m n) refl
-  where
-    by_number : (b : Bool) → (number_of m == number_of n) ≡ b → (t : Bool) → same_node m n ≡ t → b ≡ t
-    by_number true e true f = refl
-    by_number true e false f =
-        let same : m ≡ n = same_Some _ _ (sym has_m ∙ (ap (nodes s) (eqb-true (number_of m) (number_of n) e) ∙ has_n)) in
-        let bad : true ≡ false = sym (same_node-refl n) ∙ (ap (λ (z : Node). same_node z n) (sym same) ∙ f) in
-        cc
-    by_number false e true f =
-        let bad : true ≡ false = sym (eq-eqb (number_of m) (number_of n) (ap number_of (same_node-true m n f))) ∙ e in
-        cc
-    by_number false e false f = refl
+-- a node is another one than the one that there is, if any
+other_one : (o : Option Node) (n : Node) → o ≢ Some n → is_one o n ≡ false
+other_one None n apart = refl
+other_one (Some m) n apart = same_node-false m n (λ e. apart (ap Some e))
 
 module _ {E R : Type 0} {has_key : E → ℕ → Bool} (set : Parts (Entry R) (ByRow E)) (index : ℕ) (next end : Option Node) (w : IsWalk has_key set index next end) where
   abbrev list : List Node
@@ -106,23 +95,20 @@ module _ {E R : Type 0} {has_key : E → ℕ → Bool} (set : Parts (Entry R) (B
     pub there : IsNodeOf (store_of set) n
     there = some_at (IsNodeOf (store_of set)) list w.begins.place (nodes_held_at set w.sound index within) n here
 
-    numbered : (b : Bool) → is_numbered end n ≡ b → is_one end n ≡ b
-    numbered b e = by_end end refl ∙ e
-      where
-        by_end : (o : Option Node) → end ≡ o → is_one o n ≡ is_numbered o n
-        by_end None k = refl
-        by_end (Some m) k = sym (one_numbered (store_of set) m n (some_at (IsNodeOf (store_of set)) list w.ends.place (nodes_held_at set w.sound index within) m (sym w.ends.is ∙ k)) there)
+    -- the node that ends the walk, if there is one, is of the store too
+    pub end_there : (m : Node) → end ≡ Some m → IsNodeOf (store_of set) m
+    end_there m e = some_at (IsNodeOf (store_of set)) list w.ends.place (nodes_held_at set w.sound index within) m (sym w.ends.is ∙ e)
 
     -- where it ends the walk, nothing is left
-    pub ended : is_numbered end n ≡ true → rows next ≡ []
-    ended e = ap rows is ∙ ap (rows_of_nodes (record_of set)) (none_left list distinct end w.begins.place n here (numbered true e))
+    pub ended : end ≡ Some n → rows next ≡ []
+    ended e = ap rows is ∙ ap (rows_of_nodes (record_of set)) (none_left list distinct end w.begins.place n here (ap (λ o. is_one o n) e ∙ same_node-refl n))
 
     -- where it does not, it is left, and what is left from the node after it on
-    pub stepped : (e : Entry R) (after : Option Node) → is_numbered end n ≡ false → record_of set n ≡ Some e → after ≡ node_after (same_node n) list → rows next ≡ (e.handle, e.row) ∷ rows after
+    pub stepped : (e : Entry R) (after : Option Node) → end ≢ Some n → record_of set n ≡ Some e → after ≡ node_after (same_node n) list → rows next ≡ (e.handle, e.row) ∷ rows after
     stepped e after goes has comes =
         let at : slice_get list (w.begins.place + 1) ≡ after = sym (comes ∙ next_is list w.begins.place n distinct here) in
         ap rows is
-        ∙ (ap (rows_of_nodes (record_of set)) (one_left list distinct end w.begins.place n here (numbered false goes))
+        ∙ (ap (rows_of_nodes (record_of set)) (one_left list distinct end w.begins.place n here (other_one end n goes))
         ∙ (row_more (record_of set) n (nodes_left (slice_get list (w.begins.place + 1)) end list) e has ∙ ap (λ o. (e.handle, e.row) ∷ rows o) at))
 
 -- ---- the records of an index

@@ -1,5 +1,5 @@
 -- What a walk along an index has left.
-use Rattle.std.specs.Prelude.{◌≡◌, ℕ, ◌==◌, Bool, false, not, List, drop, take, slice_get, Option, option_map, IsTrue}
+use Rattle.std.specs.Prelude.{◌≡◌, ℕ, Bool, false, not, List, drop, take, slice_get, Option, option_map, IsTrue}
 use Rattle.std.specs.List.{filter_map}
 use Rattle.std.specs.Option.{option_map_or}
 use Rattle.list_model.specs.Walk.{place_of}
@@ -7,7 +7,6 @@ use Rattle.container_model.specs.declared.handle.Entry.{Entry}
 use Rattle.container_model.specs.declared.handle.Handle.{Handle}
 use Rattle.container_model.specs.State.{State, is_hashed_kind, row_of}
 use Rattle.node_store.specs.declared.Node.{Node}
-use Rattle.node_store.specs.Store.{number_of}
 use Rattle.node_store.specs.ByNode.{same_node}
 use Rattle.index_set.specs.declared.parts.Parts.{Parts}
 use Rattle.index_set.specs.Set.{list_of, kind_at, IsSound}
@@ -21,10 +20,6 @@ with_rows s handles = filter_map (λ h. option_map (λ r. (h, r)) (row_of s.entr
 -- whether the node is this one, if there is one
 abbrev pub is_one : Option Node → Node → Bool
 is_one o n = option_map_or (λ m. same_node m n) o false
-
--- and whether it has its number
-abbrev pub is_numbered : Option Node → Node → Bool
-is_numbered o n = option_map_or (λ m. number_of m == number_of n) o false
 
 -- the nodes from the next one up to the one that ends the walk
 abbrev pub nodes_left : (next end : Option Node) → List Node → List Node

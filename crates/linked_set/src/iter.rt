@@ -1,7 +1,5 @@
 //! Walks along an index, record by record.
-ghost use Rattle.std.specs.Prelude.{◌≡◌};
 ghost use Rattle.std.specs.Iterator.{YieldsFirstBy, item_count};
-ghost use Rattle.linked_set.specs.Iteration.{is_numbered};
 
 use container_model::{Entry, Handle};
 use index_set::{ByRow, IndexSet, Nodes};
@@ -45,27 +43,17 @@ impl<'a, R: Drop, E: Extract<R> + Drop> Iterator for Iter<'a, R, E> {
         let Some(node) = self.next else {
             return None;
         };
-        if has_number_of(self.end, node) {
+        let set = self.set;
+        let store = set.store();
+        if store.is_node(self.end, node) {
             return None;
         }
-        let set = self.set;
         self.next = set.at(self.index).next(node);
-        let entry = set.store().get(node);
+        let entry = store.get(node);
         Some((entry.handle, &entry.row))
     }
 
     fn size_hint(&self) -> (usize, Option<usize>) {
         (0, None)
-    }
-}
-
-// Whether the two nodes have one number.
-#[inline(always)]
-fn has_number_of(end: Option<Node>, node: Node) -> bool
-    ensures { result ≡ is_numbered end node }
-{
-    match end {
-        Some(end) => end.number() == node.number(),
-        None => false,
     }
 }
