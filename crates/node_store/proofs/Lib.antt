@@ -5,15 +5,18 @@ pub mod ByNode
 pub mod Members
 pub mod Age
 pub mod Ages
-pub mod Places
-pub mod Columns
-pub mod Rows
-pub mod Edited
-pub mod Chained
-pub mod Linked
-pub mod Fields
-pub mod Rewritten
-pub mod Gone
-pub mod Removed
-pub mod Joined
-pub mod Added
+mod Found
+mod Chain
+mod Seen
+mod ChainAge
+mod Written
+mod Fields
+mod Neighbours
+mod Coming
+mod Leaving
+mod Reached
+mod Memory
+mod Apart
+mod Starts
+mod Crossing
+mod Values

@@ -1,28 +1,29 @@
-//! A store of records, with links between them in columns.
+//! A store of records in heap blocks that never move.
 //!
 //! A node has a record and, in each of the store's columns, links to other nodes with a tag, a height and a digest. What
-//! the links mean is for the layers above: the store only keeps them. A record lies in a place, and a column has the links
-//! of all places side by side. The place of a record that was removed is taken by a later one. Every call is O(1), `add` on
-//! the average, but the store's drop, which is O(places). `add` may allocate; no other call does.
+//! the links mean is for the layers above: the store only keeps them. A record, its age, its neighbours by age and its
+//! links are one block of memory, and a node is the pointer to it. Every call is O(1) but the store's drop, which
+//! is O(length). `add` allocates one block; no other call allocates.
 #![tactic(auto)]
 
-ghost use Rattle.std.specs.Prelude.{◌≡◌, ◌+◌, ◌<◌, ◌≤◌, ◌^◌, IfOk, IfErr, OnOk, OnErr, Some, IsTrue, ◌↔◌};
+ghost use Rattle.std.specs.Prelude.{◌≡◌, ◌+◌, ◌<◌, ◌≤◌, ◌^◌, max, IfOk, IfErr, OnOk, OnErr, Some, IsTrue, ◌↔◌};
 ghost use Rattle.std.specs.Borrow.{sem};
-ghost use Rattle.node_store.specs.Store.{number_of, no_link, aged, age_of, IsNodeOf, IsStore, len_of, empty_store, width_of};
+ghost use Rattle.node_store.specs.Store.{no_link, aged, age_of, IsNodeOf, IsStore, len_of, empty_store, width_of};
 ghost use Rattle.node_store.specs.Age.{last_below};
 ghost use Rattle.node_store.specs.Column.{IsNode, IsPut, KeepsOthers};
-ghost use Rattle.node_store.specs.ByNode.{column_of, record_of, contents, AddsNode, RemovesNode};
+ghost use Rattle.node_store.specs.ByNode.{is_nowhere, column_of, record_of, contents, AddsNode, RemovesNode};
 
+mod blocks;
 mod digest;
-mod kept;
-mod links;
+mod shelf;
+mod shelves;
 mod stored;
 
+use blocks::Place;
 pub use digest::Digest;
-use kept::{Kept, NOWHERE, kept_at, newest_without, node_in, set_newer, set_older};
-use links::{Links, open_each};
-use slab::Slab;
-use std::alloc::{AllocFailed, Global};
+use shelf::Shelf;
+use shelves::Shelves;
+use std::alloc::Global;
 use std::marker::Model;
 use std::mem::size_of;
 use stored::Stored;
@@ -30,10 +31,11 @@ use stored::Stored;
 /// How many columns a store can have at most. A column is named by its number, the first by 0.
 pub const COLUMNS: usize = 8;
 
-/// A node of a store, until the store removes it: the number of its place. Only nodes of one store can be told apart.
+/// A node of a store, until the store removes it: the place of its block. Whether two nodes are the same is asked of their
+/// store.
 #[derive(Clone, Copy)]
 pub struct Node {
-    number: u32,
+    place: Place,
 }
 
 /// The links of one node in one column, with three values that the layer above keeps there.
@@ -56,14 +58,27 @@ pub struct NoRoom<R> {
 /// The bytes of the links of one node in one column.
 pub const LINK_BYTES: usize = size_of::<Stored>();
 
-/// Records with their links, in places that are numbered from 0.
+// Makes the call on the shelf, whatever its width.
+macro_rules! on_shelf {
+    ($shelves:expr, $shelf:ident => $call:expr) => {
+        match $shelves {
+            Shelves::One($shelf) => $call,
+            Shelves::Two($shelf) => $call,
+            Shelves::Three($shelf) => $call,
+            Shelves::Four($shelf) => $call,
+            Shelves::Five($shelf) => $call,
+            Shelves::Six($shelf) => $call,
+            Shelves::Seven($shelf) => $call,
+            Shelves::Eight($shelf) => $call,
+        }
+    };
+}
+
+/// Records with their links, each in a heap block of its own, which has links in as many columns as the store was made
+/// for.
 #[derive(Drop)]
 pub struct NodeStore<R> {
-    kept: Slab<Kept<R>>,
-    columns: [Links; COLUMNS],
-    width: usize,
-    newest: u32,
-    added: u64,
+    shelves: Shelves<R>,
 }
 
 impl<R> Model for NodeStore<R> {
@@ -73,48 +88,20 @@ impl<R> Model for NodeStore<R> {
 
     ghost coded = { store_code R.code };
 
-    ghost use Rattle.node_store.specs.Kept.{store_of, IsSound};
+    ghost use Rattle.node_store.specs.Shelves.{shelved};
 
-    ghost view = { λ s. store_of s.kept.slots s.columns s.width s.added };
-
-    ghost invariant = { λ s. IsSound s.kept.slots s.columns s.width s.newest s.added };
+    ghost view = { λ s. shelved s.shelves };
 }
 
 impl Node {
-    /// A value where there is no node. Its number is that of no node.
+    /// A value for places that have no node. It is no node of any store.
     pub fn nowhere() -> Node
-        ensures { number_of result + 1 ≡ 2 ^ 32 }
+        ensures { IsTrue (is_nowhere result) }
     {
-        Node { number: NOWHERE }
+        Node {
+            place: Place::nowhere(),
+        }
     }
-
-    /// The number by which a store tells the node from its other ones. A later node may have it once the store has removed
-    /// this one.
-    pub fn number(&self) -> u64
-        ensures { result ≡ number_of self.now }
-    {
-        self.number as u64
-    }
-}
-
-impl PartialEq for Node {
-    ghost use Rattle.std.specs.Ordering.{on};
-    ghost use Rattle.std.specs.Prelude.{nat_eq};
-    ghost use Rattle.std.specs.Cmp.{on_equiv, partial_equiv_from_equiv, nat_eq_equiv};
-
-    ghost eq = { on number_of nat_eq };
-
-    ghost laws = { partial_equiv_from_equiv (on_equiv number_of nat_eq_equiv) };
-
-    fn eq(&self, other: &Node) -> bool {
-        other.number == self.number
-    }
-}
-
-impl Eq for Node {
-    ghost use Rattle.std.specs.Cmp.{on_equiv, nat_eq_equiv};
-
-    ghost laws = { on_equiv number_of nat_eq_equiv };
 }
 
 impl Link {
@@ -138,28 +125,25 @@ impl<R> NodeStore<R> {
     ghost use Rattle.node_store.specs.declared.Node.{Node};
     ghost use Rattle.node_store.specs.declared.Link.{Link};
 
-    /// A store with no node, and with so many columns. It allocates nothing until the first `add`.
+    /// A store with no node, and with so many columns, or one where none are asked for. It allocates nothing until the
+    /// first `add`.
     pub fn new(alloc: Global, columns: usize) -> NodeStore<R>
         requires { columns ≤ 8 }
         ensures empty { result ≡ empty_store (width_of result) }
         ensures enough { columns ≤ width_of result }
+        ensures exact { width_of result ≤ max columns 1 }
     {
-        NodeStore {
-            kept: Slab::new(alloc),
-            columns: [
-                Links::new(alloc),
-                Links::new(alloc),
-                Links::new(alloc),
-                Links::new(alloc),
-                Links::new(alloc),
-                Links::new(alloc),
-                Links::new(alloc),
-                Links::new(alloc),
-            ],
-            width: columns,
-            newest: NOWHERE,
-            added: 0,
-        }
+        let shelves = match columns {
+            0 | 1 => Shelves::One(Shelf::new(alloc)),
+            2 => Shelves::Two(Shelf::new(alloc)),
+            3 => Shelves::Three(Shelf::new(alloc)),
+            4 => Shelves::Four(Shelf::new(alloc)),
+            5 => Shelves::Five(Shelf::new(alloc)),
+            6 => Shelves::Six(Shelf::new(alloc)),
+            7 => Shelves::Seven(Shelf::new(alloc)),
+            _ => Shelves::Eight(Shelf::new(alloc)),
+        };
+        NodeStore { shelves }
     }
 
     /// How many nodes there are.
@@ -168,7 +152,7 @@ impl<R> NodeStore<R> {
         ensures len { result ≡ len_of self.now }
         ensures sound { IsStore self.now }
     {
-        self.kept.len()
+        on_shelf!(&self.shelves, shelf => shelf.len())
     }
 
     /// How many records were added so far, whether or not they were removed since.
@@ -176,7 +160,7 @@ impl<R> NodeStore<R> {
         ensures added { result ≡ self.now.added }
         ensures sound { IsStore self.now }
     {
-        self.added
+        on_shelf!(&self.shelves, shelf => shelf.added())
     }
 
     /// The node's age: the number of its add. The first is 0.
@@ -186,14 +170,14 @@ impl<R> NodeStore<R> {
         ensures age { result ≡ age_of self.now n }
         ensures sound { IsStore self.now }
     {
-        kept_at(&self.kept, n.number).age
+        on_shelf!(&self.shelves, shelf => shelf.age(n))
     }
 
     /// The node that was added last, of those that are there.
     pub fn newest(&self) -> Option<Node>
         ensures { result ≡ last_below (aged self.now) self.now.added }
     {
-        node_in(&self.kept, self.newest)
+        on_shelf!(&self.shelves, shelf => shelf.newest())
     }
 
     /// The node that was added last before `n`, of those that are there.
@@ -201,7 +185,7 @@ impl<R> NodeStore<R> {
         requires { IsNodeOf self.now n }
         ensures { result ≡ last_below (aged self.now) (age_of self.now n) }
     {
-        node_in(&self.kept, kept_at(&self.kept, n.number).older)
+        on_shelf!(&self.shelves, shelf => shelf.older(n))
     }
 
     /// The node's record.
@@ -210,7 +194,7 @@ impl<R> NodeStore<R> {
         requires { IsNodeOf self.now n }
         ensures { record_of self.now n ≡ Some result.now }
     {
-        &kept_at(&self.kept, n.number).value
+        on_shelf!(&self.shelves, shelf => shelf.get(n))
     }
 
     /// The node's record for writing. No link changes.
@@ -219,10 +203,7 @@ impl<R> NodeStore<R> {
         ensures* writes_back { sem 𝓛 (lends_record R.row self.entry n result) }
         ensures value { record_of self.old n ≡ Some result.now }
     {
-        match self.kept.get_mut(n.number as usize) {
-            Some(entry) => &mut entry.value,
-            None => unreachable!(),
-        }
+        self.shelves.get_mut(n)
     }
 
     /// The node's links in a column.
@@ -231,11 +212,10 @@ impl<R> NodeStore<R> {
         requires { IsNode (column_of self.now col) n }
         ensures { column_of self.now col n ≡ Some result }
     {
-        let columns = &self.columns;
-        columns[col].get(n.number).link()
+        on_shelf!(&self.shelves, shelf => shelf.link(n, col))
     }
 
-    /// Whether `o` is the node `n`. Their numbers decide, so both must be nodes of this store.
+    /// Whether `o` is the node `n`. Their ages decide, so both must be nodes of this store.
     #[inline(always)]
     pub fn is_node(&self, o: Option<Node>, n: Node) -> bool
         requires other { (m : Node) → o ≡ Some m → IsNodeOf self.now m }
@@ -243,7 +223,7 @@ impl<R> NodeStore<R> {
         ensures { IsTrue result ↔ (o ≡ Some n) }
     {
         match o {
-            Some(m) => m.number == n.number,
+            Some(m) => self.age(m) == self.age(n),
             None => false,
         }
     }
@@ -256,8 +236,7 @@ impl<R> NodeStore<R> {
         ensures others { KeepsOthers (column_of self.old) (column_of self.new) col }
         ensures contents { contents self.new ≡ contents self.old }
     {
-        let columns = &mut self.columns;
-        columns[col].set(n.number, Stored::of(link));
+        on_shelf!(&mut self.shelves, shelf => shelf.set_link(n, col, link))
     }
 
     /// Replaces the tag of the node's links in a column, which it does not read. The links themselves, the node's record,
@@ -271,13 +250,12 @@ impl<R> NodeStore<R> {
         ensures others { KeepsOthers (column_of self.old) (column_of self.new) col }
         ensures contents { contents self.new ≡ contents self.old }
     {
-        let columns = &mut self.columns;
-        columns[col].set_tag(n.number, tag);
+        on_shelf!(&mut self.shelves, shelf => shelf.set_tag(n, col, tag))
     }
 }
 
 impl<R: Drop> NodeStore<R> {
-    /// Adds a node with empty links in each column. Where there is no memory for it, the record is handed
+    /// Adds a node with empty links in each column. Where there is no memory for its block, the record is handed
     /// back and the store stays as it was.
     pub fn add(&mut self, value: R) -> Result<Node, NoRoom<R>>
         requires { self.old.added + 1 < 2 ^ 64 }
@@ -288,37 +266,10 @@ impl<R: Drop> NodeStore<R> {
         ensures unchanged { OnErr result (self.new ≡ self.old) }
         ensures returned { IfErr result (λ e. e.value ≡ value) }
     {
-        let place = self.kept.vacant_key();
-        if place >= NOWHERE as usize {
-            return Err(NoRoom { value });
-        }
-        let place = place as u32;
-        match open_each(&mut self.columns, self.width, place) {
-            Ok(()) => {}
-            Err(_) => return Err(NoRoom { value }),
-        }
-        let age = self.added;
-        let entry = Kept {
-            older: self.newest,
-            newer: NOWHERE,
-            age,
-            value,
-        };
-        match self.kept.insert(entry) {
-            Ok(_) => {
-                set_newer(&mut self.kept, self.newest, place);
-                self.newest = place;
-                self.added = age + 1;
-                Ok(Node { number: place })
-            }
-            Err(failed) => {
-                let AllocFailed { value: entry } = failed;
-                Err(NoRoom { value: entry.value })
-            }
-        }
+        on_shelf!(&mut self.shelves, shelf => shelf.add(value))
     }
 
-    /// Removes the node, and returns its record. Other nodes' links to it stay as they were, and
+    /// Removes the node, frees its block and returns its record. Other nodes' links to it stay as they were, and
     /// name no node from then on.
     pub fn remove(&mut self, n: Node) -> R
         requires { IsNodeOf self.old n }
@@ -327,20 +278,6 @@ impl<R: Drop> NodeStore<R> {
         ensures count { self.new.added ≡ self.old.added }
         ensures len { len_of self.new + 1 ≡ len_of self.old }
     {
-        match self.kept.try_remove(n.number as usize) {
-            Some(entry) => {
-                let Kept {
-                    older,
-                    newer,
-                    age: _,
-                    value,
-                } = entry;
-                set_newer(&mut self.kept, older, newer);
-                set_older(&mut self.kept, newer, older);
-                self.newest = newest_without(older, newer, self.newest);
-                value
-            }
-            None => unreachable!(),
-        }
+        on_shelf!(&mut self.shelves, shelf => shelf.remove(n))
     }
 }

@@ -5,17 +5,24 @@ ghost use Rattle.node_store.specs.Stored.{link_of};
 
 use crate::{Digest, Link, Node};
 
-/// Links in which an absent node has a flag in place of a tag of its own, so that the whole is shorter.
+/// Links in which an absent node has a flag in place of a tag of its own, so that the whole is shorter. What a descent
+/// reads stands first.
 #[derive(Clone, Copy)]
 pub(crate) struct Stored {
-    tag: u64,
+    a: Node,
+    b: Node,
     high: u32,
     low: u16,
     height: u8,
     there: u8,
-    a: Node,
-    b: Node,
+    tag: u64,
     up: Node,
+}
+
+/// Links in so many columns.
+#[derive(Drop)]
+pub(crate) struct Row<const N: usize> {
+    pub(crate) row: [Stored; N],
 }
 
 // The bits of `there`.
@@ -52,13 +59,13 @@ impl Stored {
     {
         let absent = Node::nowhere();
         Stored {
-            tag: link.tag,
+            a: link.a.unwrap_or(absent),
+            b: link.b.unwrap_or(absent),
             high: link.digest.high,
             low: link.digest.low,
             height: link.height,
             there: flags(link.a.is_some(), link.b.is_some(), link.up.is_some()),
-            a: link.a.unwrap_or(absent),
-            b: link.b.unwrap_or(absent),
+            tag: link.tag,
             up: link.up.unwrap_or(absent),
         }
     }

@@ -1,0 +1,8 @@
+use Rattle.node_store.proofs.Fields.{is_there, record_read}
+use Rattle.node_store.proofs.shelf.Shelf.get.Goals as goal
+
+pub get-requires : goal.get-requires
+get-requires g c = is_there c.self.invariant c.self.view_is c.args.n c.requires
+
+pub returns : goal.returns
+returns g c = record_read c.self.invariant c.self.view_is c.args.n c.requires c.get.result.now c.get.ensures

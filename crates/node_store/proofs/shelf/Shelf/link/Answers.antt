@@ -1,0 +1,15 @@
+use Rattle.std.proofs.Common.{Some, ap, ◌∙◌, sym, arith}
+use Rattle.node_store.proofs.Fields.{linked_there, there, link_read}
+use Rattle.node_store.proofs.shelf.Shelf.link.Goals as goal
+
+pub get-requires : goal.get-requires
+get-requires g c = linked_there c.self.invariant c.self.view_is c.args.n c.args.col c.requires
+
+pub bounds-get-col : goal.bounds-get-col
+bounds-get-col g c = there c.self.invariant c.self.view_is c.args.n c.args.col c.requires
+
+pub offset_bounds-get-col : goal.offset_bounds-get-col
+offset_bounds-get-col g c = omega (arith, there c.self.invariant c.self.view_is c.args.n c.args.col c.requires, c.self.invariant.narrow)
+
+pub returns : goal.returns
+returns g c = link_read c.self.invariant c.self.view_is c.args.n c.args.col c.requires c.get.result.now c.get.ensures _ ∙ ap Some (sym c.link.ensures)
