@@ -11,7 +11,7 @@ use Rattle.node_store.proofs.ByNode.{IsNodeOf_kept}
 use Rattle.container_model.specs.declared.handle.Spec.{Spec}
 use Rattle.container_model.specs.State.{KeysMatch, has_key_kind}
 use Rattle.index_set.specs.declared.parts.Parts.{Parts}
-use Rattle.index_set.specs.Set.{store_of, keys_of, specs_of, contents}
+use Rattle.index_set.specs.Set.{store_of, keys_of, specs_of, contents, IsSound}
 use Rattle.index_set.specs.Writes.{IsPut}
 use Rattle.index_set.proofs.Stores.{no_node_of_empty}
 use Rattle.index_tests.specs.declared.tens.Tens.{Tens}
@@ -19,9 +19,10 @@ use Rattle.index_tests.specs.Tens.{has_tens, by_tens, IsLive}
 use Rattle.index_tests.proofs.Arrived.{members_put, distinct_put, all_put}
 
 -- it is as before but for its indices, which have such keys
-pub live_from : {s t : Parts ℕ Tens} {nodes : List Node} {keys : Tens} {specs : List Spec} → IsLive s nodes → contents t ≡ contents s → keys_of t ≡ keys → specs_of t ≡ specs → KeysMatch (has_tens keys) specs → keys.keyed ≤ length specs →
+pub live_from : {s t : Parts ℕ Tens} {nodes : List Node} {keys : Tens} {specs : List Spec} → IsSound has_tens t → IsLive s nodes → contents t ≡ contents s → keys_of t ≡ keys → specs_of t ≡ specs → KeysMatch (has_tens keys) specs → keys.keyed ≤ length specs →
     IsLive t nodes
-live_from {s = s} {t = t} {nodes = nodes} {keys = keys} live same keys_are specs_are match few = record {
+live_from {s = s} {t = t} {nodes = nodes} {keys = keys} sound live same keys_are specs_are match few = record {
+  sound = sound;
   keys = subst (λ k. KeysMatch (has_tens k) (specs_of t)) (sym keys_are) (subst (KeysMatch (has_tens keys)) (sym specs_are) match);
   few = let count = ap (λ (k : Tens). k.keyed) keys_are in let many = ap length specs_are in omega (arith, few, count, many);
   members = All-map (IsNodeOf (store_of s)) (IsNodeOf (store_of t)) (λ n is. IsNodeOf_kept (store_of s) (store_of t) n same is) nodes live.members;
@@ -31,11 +32,12 @@ live_from {s = s} {t = t} {nodes = nodes} {keys = keys} live same keys_are specs
 
 -- three numbers came into one without records
 pub live_new : {s t u v : Parts ℕ Tens} {a b c : Node} {x y z : ℕ} → store_of s ≡ empty_store (width_of (store_of s)) → KeysMatch (has_tens (keys_of s)) (specs_of s) → (keys_of s).keyed ≤ length (specs_of s) → IsPut (λ _ _. by_tens) s t a x None →
-    IsPut (λ _ _. by_tens) t u b y None → IsPut (λ _ _. by_tens) u v c z None → IsLive v (a ∷ b ∷ c ∷ [])
-live_new {s = s} {v = v} empty match few first second third =
+    IsPut (λ _ _. by_tens) t u b y None → IsPut (λ _ _. by_tens) u v c z None → IsSound has_tens v → IsLive v (a ∷ b ∷ c ∷ [])
+live_new {s = s} {v = v} empty match few first second third sound =
     let keys = third.same.keys ∙ second.same.keys ∙ first.same.keys in
     let specs = third.same.specs ∙ second.same.specs ∙ first.same.specs in
     let none = no_node_of_empty (store_of s) empty in record {
+      sound = sound;
       keys = subst (λ k. KeysMatch (has_tens k) (specs_of v)) (sym keys) (subst (KeysMatch (has_tens (keys_of s))) (sym specs) match);
       few = let count = ap (λ (k : Tens). k.keyed) keys in let many = ap length specs in omega (arith, few, count, many);
       members = members_put none first.added second.added third.added;

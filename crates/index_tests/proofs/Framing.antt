@@ -3,7 +3,7 @@ use Rattle.std.proofs.Common.{◌≡◌, ℕ, zero, suc, ◌+◌, ◌<◌, ◌�
 use Rattle.std.proofs.lemmas.List.{length-set}
 use Rattle.node_store.specs.declared.Node.{Node}
 use Rattle.node_store.specs.Column.{Column, IsNode, KeepsOthers}
-use Rattle.node_store.specs.Nodes.{Lacks}
+use Rattle.node_store.specs.Nodes.{Lacks, Holds}
 use Rattle.node_store.specs.Store.{Store, IsNodeOf}
 use Rattle.node_store.specs.ByNode.{column_of, contents, AddsNode}
 use Rattle.node_store.proofs.ByNode.{width_kept, node_in_column}
@@ -24,6 +24,14 @@ listed_kept cs ds (Row i) e = rows.spelled_kept cs ds i e
 listed_kept cs ds (Ordered i) e = trees.spelled_kept cs ds i e
 listed_kept cs ds (Ranked i) e = trees.spelled_kept cs ds i e
 listed_kept cs ds (Hashed i) e = buckets.spelled_kept cs ds i e
+
+-- the nodes of a sound index are the store's
+pub listed_node : {T : Type 0} (s : Store (Keyed T)) (i : Index) (n : Node) → IsSoundIn s i → Holds (listed (column_of s) i) n → IsNodeOf s n
+listed_node s (Chain i) n h = chains.node_held s i n h
+listed_node s (Row i) n h = rows.node_held s i n h
+listed_node s (Ordered i) n h = trees.node_held s i n h.0
+listed_node s (Ranked i) n h = trees.node_held s i n h.0
+listed_node s (Hashed i) n h = buckets.node_held s i n h
 
 -- no column from this one on changed
 abbrev KeepsFrom : (ℕ → Column) → (ℕ → Column) → ℕ → Type 0

@@ -3,3 +3,4 @@ pub mod Alone
 pub mod Framing
 pub mod ByTens
 pub mod Arrived
+pub mod Told

@@ -4,3 +4,4 @@ pub mod Every
 pub mod Tens
 pub mod Lone
 pub mod Pairs
+pub mod Linked

@@ -67,7 +67,7 @@ fn without(list: &[u64], number: u64, alloc: Global) -> Option<Vec<u64>> {
     Some(left)
 }
 
-// Whether the list at the place has lost this number, and the others are as before.
+// Whether the list at the place has lost this age, and the others are as before.
 fn only_lost(
     before: &[Vec<u64>],
     after: &[Vec<u64>],
@@ -109,7 +109,7 @@ fn taken_from_each(indices: &mut [Index], alloc: Global) -> Option<Vec<Vec<u64>>
     views(&store, indices, alloc)
 }
 
-// What the four nodes that are left have for numbers in the order of their adds, in the other one, and by their keys.
+// What the four nodes that are left have for ages in the order of their adds, in the other one, and by their keys.
 const ADDED: [u64; 4] = [0, 1, 3, 4];
 
 const TURNED: [u64; 4] = [4, 3, 1, 0];

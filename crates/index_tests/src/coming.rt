@@ -1,9 +1,8 @@
 //! Indices that are added to a set with records, read, and dropped again.
 ghost use Rattle.index_tests.specs.Tens.{IsLive};
 
-use crate::live::{Live, Walk};
+use crate::live::{Live, Refusal, Walk};
 use container_model::{Kind, Spec};
-use index_set::NoIndex;
 use std::alloc::Global;
 
 // What a walk through 30, 11 and 20 meets, by their tens and in the order in which they came.
@@ -56,7 +55,7 @@ fn walk_of(kind: Kind) -> Option<Walk> {
     }
 }
 
-// The node of 20, where the kind has a key to find it by.
+// The age of the node of 20, where the kind has a key to find it by.
 fn found_in(kind: Kind) -> Option<u64> {
     match kind {
         Kind::Sequenced | Kind::Random => None,
@@ -72,11 +71,11 @@ fn is_added(live: &mut Live, spec: Spec) -> Option<bool>
     let before = [live.walk(0), live.walk(1)];
     match live.add(spec)? {
         Ok(()) => Some(true),
-        Err(NoIndex::Memory) => {
+        Err(Refusal::Memory) => {
             let same = [live.walk(0), live.walk(1)] == before;
             match live.add(spec)? {
                 Ok(()) => Some(same),
-                Err(NoIndex::Memory) => None,
+                Err(Refusal::Memory) => None,
                 Err(_) => Some(false),
             }
         }
@@ -93,7 +92,7 @@ fn is_full(live: &mut Live) -> Option<bool>
     let refused = live.add(SEQUENCE)?;
     Some(matches!(
         (told, refused),
-        (Err(NoIndex::Columns), Err(NoIndex::Columns))
+        (Err(Refusal::Columns), Err(Refusal::Columns))
     ))
 }
 
@@ -123,12 +122,10 @@ pub(crate) fn each_comes_and_stays(alloc: Global) -> Option<bool> {
 }
 
 // Whether the refusal names the first and the third node. None where memory was refused before they were met.
-fn names_the_pair(refused: &Result<(), NoIndex>) -> Option<bool> {
+fn names_the_pair(refused: &Result<(), Refusal>) -> Option<bool> {
     match refused {
-        Err(NoIndex::Clash { first, second }) => {
-            Some(first.number() == 0 && second.number() == 2)
-        }
-        Err(NoIndex::Memory) => None,
+        Err(Refusal::Clash { first, second }) => Some(*first == 0 && *second == 2),
+        Err(Refusal::Memory) => None,
         _ => Some(false),
     }
 }

@@ -12,19 +12,15 @@ use crate::keys::Keyed;
 use node_store::{Node, NodeStore};
 use std::alloc::Global;
 
-/// The node of this number, where the index has it.
-pub(crate) fn node_numbered<T>(
-    store: &NodeStore<Keyed<T>>,
-    index: &Index,
-    number: u64,
-) -> Option<Node>
+/// The node of this age, where the index has it.
+pub(crate) fn node_aged<T>(store: &NodeStore<Keyed<T>>, index: &Index, age: u64) -> Option<Node>
     requires { IsSoundIn store.now index.now }
     ensures { (n : Node) → result ≡ Some n → Holds (listed (column_of store.now) index.now) n }
 {
     let mut at = index.first(store);
     for _ in 0..store.added() {
         let n = at?;
-        if n.number() == number {
+        if store.age(n) == age {
             return Some(n);
         }
         at = index.next(store, n);
@@ -32,8 +28,8 @@ pub(crate) fn node_numbered<T>(
     None
 }
 
-// The numbers of the index's nodes, by a walk.
-fn numbers<T>(store: &NodeStore<Keyed<T>>, index: &Index, alloc: Global) -> Option<Vec<u64>>
+// The ages of the index's nodes, by a walk.
+fn ages<T>(store: &NodeStore<Keyed<T>>, index: &Index, alloc: Global) -> Option<Vec<u64>>
     requires { IsSoundIn store.now index.now }
 {
     let mut met = Vec::new(alloc);
@@ -42,7 +38,7 @@ fn numbers<T>(store: &NodeStore<Keyed<T>>, index: &Index, alloc: Global) -> Opti
         let Some(n) = at else {
             return Some(met);
         };
-        met.push(n.number()).ok()?;
+        met.push(store.age(n)).ok()?;
         at = index.next(store, n);
     }
     Some(met)
@@ -52,14 +48,14 @@ fn numbers<T>(store: &NodeStore<Keyed<T>>, index: &Index, alloc: Global) -> Opti
 fn view<T>(store: &NodeStore<Keyed<T>>, index: &Index, alloc: Global) -> Option<Vec<u64>>
     requires { IsSoundIn store.now index.now }
 {
-    let mut met = numbers(store, index, alloc)?;
+    let mut met = ages(store, index, alloc)?;
     if index.is_unordered() {
         met.sort().ok()?;
     }
     Some(met)
 }
 
-/// The numbers of the nodes of each index.
+/// The ages of the nodes of each index.
 pub(crate) fn views<T>(
     store: &NodeStore<Keyed<T>>,
     indices: &[Index],
@@ -98,12 +94,12 @@ fn put_into_each<T>(store: &mut NodeStore<Keyed<T>>, indices: &mut [Index], n: N
     }
 }
 
-/// Takes the node of this number out of the index at the place.
+/// Takes the node of this age out of the index at the place.
 pub(crate) fn unlink_from<T>(
     store: &mut NodeStore<Keyed<T>>,
     indices: &mut [Index],
     place: usize,
-    number: u64,
+    age: u64,
 )
     requires { HaveColumns store.old indices.old }
     ensures { HaveColumns store.new indices.new }
@@ -111,7 +107,7 @@ pub(crate) fn unlink_from<T>(
     if place >= indices.len() {
         return;
     }
-    if let Some(n) = node_numbered(store, &indices[place], number) {
+    if let Some(n) = node_aged(store, &indices[place], age) {
         indices[place].unlink(store, n);
     }
 }

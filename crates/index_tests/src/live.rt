@@ -2,8 +2,8 @@
 ghost use Rattle.std.specs.Prelude.{◌≡◌, ◌≤◌, ◌<◌, ◌+◌, ◌++◌, ◌∷◌, [], false, not, length, remove, IsTrue, IfSome, IfOk};
 ghost use Rattle.container_model.specs.State.{KeysMatch, has_key_kind, is_hashed_kind};
 ghost use Rattle.container_model.specs.declared.handle.Kind.TheVariants.{Ordered};
-ghost use Rattle.index_set.specs.Set.{specs_of, kind_at};
-ghost use Rattle.index_tests.specs.Tens.{has_tens, IsLive};
+ghost use Rattle.index_set.specs.Set.{specs_of, kind_at, store_of};
+ghost use Rattle.index_tests.specs.Tens.{has_tens, CauseNodes, IsLive};
 
 use crate::set::insert;
 use crate::tens::Tens;
@@ -19,7 +19,15 @@ pub(crate) struct Live {
     pub(crate) nodes: [Node; 3],
 }
 
-/// The numbers of the nodes that a walk meets.
+/// Why an index was not added, with the ages of nodes.
+#[derive(Clone, Copy)]
+pub(crate) enum Refusal {
+    Columns,
+    Clash { first: u64, second: u64 },
+    Memory,
+}
+
+/// The ages of the nodes that a walk meets.
 pub(crate) type Walk = [Option<u64>; 3];
 
 // An index in order, which may have two nodes of one key.
@@ -83,25 +91,43 @@ impl Live {
         Some(Tens { keyed })
     }
 
+    // The cause, with the ages of its nodes.
+    fn told(&self, why: NoIndex) -> Refusal
+        requires { CauseNodes (store_of self.now.set) why }
+    {
+        match why {
+            NoIndex::Columns => Refusal::Columns,
+            NoIndex::Clash { first, second } => {
+                let store = self.set.store();
+                let (first, second) = (store.age(first), store.age(second));
+                Refusal::Clash { first, second }
+            }
+            NoIndex::Memory => Refusal::Memory,
+        }
+    }
+
     /// Adds an index, and tells why not; none where no set may have such an index.
-    pub(crate) fn add(&mut self, spec: Spec) -> Option<Result<(), NoIndex>>
+    pub(crate) fn add(&mut self, spec: Spec) -> Option<Result<(), Refusal>>
         requires { IsLive self.old.set self.old.nodes }
         ensures { IsLive self.new.set self.new.nodes }
     {
         let keys = self.keys_with(spec)?;
         match self.set.add_index(spec, keys, &self.nodes) {
             Ok(()) => Some(Ok(())),
-            Err(refused) => Some(Err(refused.why)),
+            Err(refused) => Some(Err(self.told(refused.why))),
         }
     }
 
     /// Tells the same, and adds none.
-    pub(crate) fn check(&mut self, spec: Spec) -> Option<Result<(), NoIndex>>
+    pub(crate) fn check(&mut self, spec: Spec) -> Option<Result<(), Refusal>>
         requires { IsLive self.old.set self.old.nodes }
         ensures { IsLive self.new.set self.new.nodes }
     {
         let keys = self.keys_with(spec)?;
-        Some(self.set.check_index(spec, &keys, &self.nodes))
+        match self.set.check_index(spec, &keys, &self.nodes) {
+            Ok(()) => Some(Ok(())),
+            Err(why) => Some(Err(self.told(why))),
+        }
     }
 
     // The keys that are left where an index goes.
@@ -141,7 +167,7 @@ impl Live {
         index < self.set.specs().len() && self.set.specs()[index].kind != Kind::Hashed
     }
 
-    /// The numbers of the index's nodes in its order, if it has one.
+    /// The ages of the index's nodes in its order, if it has one.
     pub(crate) fn walk(&self, index: usize) -> Option<Walk>
         requires { IsLive self.now.set self.now.nodes }
     {
@@ -155,13 +181,13 @@ impl Live {
             let Some(n) = at else {
                 return Some(walked);
             };
-            walked[place] = Some(n.number());
+            walked[place] = Some(self.set.store().age(n));
             at = order.next(n);
         }
         Some(walked)
     }
 
-    /// The number of the index's first node of this ten, if it has a key and such a node.
+    /// The age of the index's first node of this ten, if it has a key and such a node.
     pub(crate) fn find(&self, index: usize, number: u64) -> Option<u64>
         requires { IsLive self.now.set self.now.nodes }
     {
@@ -169,6 +195,6 @@ impl Live {
             return None;
         }
         let found = self.set.at(index).find(&number)?;
-        Some(found.number())
+        Some(self.set.store().age(found))
     }
 }

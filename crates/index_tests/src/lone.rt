@@ -1,6 +1,7 @@
 //! An index by itself: its store, its keys, and the calls that ask for no more.
 ghost use Rattle.std.specs.Prelude.{◌≡◌, ◌<◌, IsTrue, Some};
 ghost use Rattle.node_store.specs.declared.Node.{Node};
+ghost use Rattle.node_store.specs.Store.{IsNodeOf};
 ghost use Rattle.container_model.specs.State.{has_key_kind};
 ghost use Rattle.any_index.specs.Spelled.{HasRoom, Holds, index_of};
 ghost use Rattle.any_index.specs.Stored.{IsFiled, IsIn, nodes_of};
@@ -137,6 +138,7 @@ fn searched<R, E: Extract<R>>(
 // The node at a place of a ranked tree, and how many links lead there, and how many lead back to the place that it has.
 fn linked<R>(store: &NodeStore<R>, index: &AnyIndex, place: u64) -> (Option<Node>, u64, (u64, u64))
     requires { IsIn index.now store.now }
+    ensures { (n : Node) → result.0 ≡ Some n → IsNodeOf store.now n }
 {
     let AnyIndex::Ranked(tree) = index else {
         return (None, 0, (0, 0));
@@ -203,14 +205,14 @@ impl<R: Drop, E: Extract<R> + Drop> Lone<R, E> {
         searched(search, &self.store, &self.index, &self.keys, probe)
     }
 
-    /// The number of the node at a place, and how many links lead there, where as many lead back to the place.
+    /// The age of the node at a place, and how many links lead there, where as many lead back to the place.
     pub(crate) fn links_to(&self, place: u64) -> Option<(u64, u64)> {
         let (found, down, (rank, up)) = linked(&self.store, &self.index, place);
         let n = found?;
         if rank != place || up != down {
             return None;
         }
-        Some((n.number(), down))
+        Some((self.store.age(n), down))
     }
 
     /// How many links are followed to a place that no node has.

@@ -1,9 +1,9 @@
 //! A record comes into a set of two kinds of index, is found in each, changes and goes.
 ghost use Rattle.std.specs.Prelude.{◌≡◌, ◌<◌, IfOk, IfSome, None};
 ghost use Rattle.node_store.specs.Store.{IsNodeOf};
-ghost use Rattle.index_set.specs.Set.{specs_of, store_of, IsOfSame};
+ghost use Rattle.index_set.specs.Set.{specs_of, store_of, IsOfSame, IsSound};
 ghost use Rattle.index_set.specs.Writes.{IsPut};
-ghost use Rattle.index_tests.specs.Pairs.{ordered_and_hashed};
+ghost use Rattle.index_tests.specs.Pairs.{ordered_and_hashed, IsPair};
 
 use container_model::{Entry, Handle, Kind, Spec};
 use index_set::{ByRow, IndexSet, Nodes, RowEdit};
@@ -105,7 +105,8 @@ impl Extract<u64> for OneKey {
 // Puts a record into each index, unless a unique one has its key.
 pub(crate) fn insert<R: Drop, E: Extract<R>>(set: &mut IndexSet<R, E>, value: R) -> Option<Node>
     requires { (store_of set.old).added < 1000 }
-    ensures { IfSome result (λ n. IsPut E.order_of set.old set.new n value None) }
+    ensures put { IfSome result (λ n. IsPut E.order_of set.old set.new n value None) }
+    ensures sound { IfSome result (λ n. IsSound E.has_key set.new) }
 {
     let Ok(_) = set.free_place(&value) else {
         return None;
@@ -115,9 +116,11 @@ pub(crate) fn insert<R: Drop, E: Extract<R>>(set: &mut IndexSet<R, E>, value: R)
 
 // Gives a node another record, unless a unique index has its key at another node. Answers whether it did.
 fn rewrite<R: Drop, E: Extract<R>>(set: &mut IndexSet<R, E>, n: Node, value: R) -> bool
-    requires { IsNodeOf (store_of set.old) n }
+    requires node { IsNodeOf (store_of set.old) n }
+    requires sound { IsSound E.has_key set.old }
     ensures same { IsOfSame set.old set.new }
     ensures node { IsNodeOf (store_of set.new) n }
+    ensures sound { IsSound E.has_key set.new }
 {
     match set.bans(&value, n) {
         Some(_) => false,
@@ -130,9 +133,8 @@ fn rewrite<R: Drop, E: Extract<R>>(set: &mut IndexSet<R, E>, n: Node, value: R) 
 
 // Gives a node another row, and its own again. Answers whether no other record has the key of either.
 fn rewrite_and_undo(set: &mut IndexSet<Entry<u64>, ByRow<OneKey>>, n: Node, row: u64) -> bool
-    requires { IsNodeOf (store_of set.old) n }
-    ensures same { IsOfSame set.old set.new }
-    ensures node { IsNodeOf (store_of set.new) n }
+    requires { IsPair set.old n }
+    ensures { IsPair set.new n }
 {
     let mut edit = RowEdit::new(row);
     set.modify_or_undo(n, &mut edit, false).is_none()
@@ -162,23 +164,31 @@ fn entry(row: u64) -> Entry<u64> {
 
 // Whether the first node of the key is this one in each index.
 fn finds(set: &IndexSet<Entry<u64>, ByRow<OneKey>>, n: Node) -> bool
-    requires { specs_of set.now ≡ ordered_and_hashed }
+    requires { IsPair set.now n }
 {
-    set.at(0).find(&()) == Some(n) && set.at(1).find(&()) == Some(n)
+    let store = set.store();
+    store.is_node(set.at(0).find(&()), n) && store.is_node(set.at(1).find(&()), n)
 }
 
-// Whether some node of the key is this one in each index, or none is.
-fn finds_any(set: &IndexSet<Entry<u64>, ByRow<OneKey>>, wanted: Option<Node>) -> bool
+// Whether some node of the key is this one in each index.
+fn finds_any(set: &IndexSet<Entry<u64>, ByRow<OneKey>>, n: Node) -> bool
+    requires { IsPair set.now n }
+{
+    let store = set.store();
+    store.is_node(set.at(0).find_any(&()), n) && store.is_node(set.at(1).find_any(&()), n)
+}
+
+// Whether no index has a node of the key.
+fn finds_none(set: &IndexSet<Entry<u64>, ByRow<OneKey>>) -> bool
     requires { specs_of set.now ≡ ordered_and_hashed }
 {
-    set.at(0).find_any(&()) == wanted && set.at(1).find_any(&()) == wanted
+    set.at(0).find_any(&()).is_none() && set.at(1).find_any(&()).is_none()
 }
 
 // Whether the record is another one after a change, and still that one after a change that was undone.
 fn changes(set: &mut IndexSet<Entry<u64>, ByRow<OneKey>>, n: Node) -> bool
-    requires { IsNodeOf (store_of set.old) n }
-    ensures same { IsOfSame set.old set.new }
-    ensures node { IsNodeOf (store_of set.new) n }
+    requires { IsPair set.old n }
+    ensures { IsPair set.new n }
 {
     rewrite(set, n, entry(8)) && rewrite_and_undo(set, n, 9) && set.store().get(n).row == 8
 }
@@ -188,7 +198,7 @@ fn is_emptied(set: &mut IndexSet<Entry<u64>, ByRow<OneKey>>) -> bool
     requires { specs_of set.old ≡ ordered_and_hashed }
 {
     set.clear();
-    finds_any(set, None) && set.store().len() == 0 && set.store().added() == 1
+    finds_none(set) && set.store().len() == 0 && set.store().added() == 1
 }
 
 /// Whether a number that was put in is found at its key in each index, also once it is another of that key, and once a change
@@ -205,7 +215,7 @@ pub(crate) fn script(alloc: Global) -> Option<bool> {
     let n = insert(&mut set, entry(7))?;
     let is_found = finds(&set, n);
     let is_changed = changes(&mut set, n);
-    let is_found_again = finds_any(&set, Some(n));
+    let is_found_again = finds_any(&set, n);
     let one = set.specs().len() == 2 && set.store().len() == 1;
     Some(is_found && is_changed && is_found_again && one && is_emptied(&mut set))
 }

@@ -10,4 +10,4 @@ returns c =
     let e = c.drop_index.ensures in
     let left = c.keys_without-keys.ensures in
     let there : c.args.index < length specs = let told = ap length c.specs-count.ensures in omega (arith, told, c.if-index-count.false) in
-    live_from c.requires e.contents e.keys e.specs left.keys (omega (arith, length-remove specs c.args.index there, left.few))
+    live_from e.kept.filed.sound c.requires e.contents e.keys e.specs left.keys (omega (arith, length-remove specs c.args.index there, left.few))

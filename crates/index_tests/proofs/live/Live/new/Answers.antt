@@ -9,4 +9,4 @@ returns c =
     let s = c.in-Ok-new.made in
     let made = c.in-Ok-new.ensures in
     let few : (keys_of s).keyed ≤ length (specs_of s) = omega (arith, ap (λ (k : Tens). k.keyed) made.keys, ap length made.specs, ap length c.in-Ok.ensures) in
-    live_new {s = s} made.empty made.kept.filed.sound.keys few c.in_ok-first.ensures c.in_ok-second.ensures c.in_ok-third.ensures
+    live_new {s = s} made.empty made.kept.filed.sound.keys few c.in_ok-first.ensures.put c.in_ok-second.ensures.put c.in_ok-third.ensures.put c.in_ok-third.ensures.sound
