@@ -7,7 +7,9 @@ GATES, SENT, SHARED, TEXTS, RUNS, INDICES = "gate_cases", "stream_cases", "share
 
 CALLS, ON = "crates/shared_tables/src/shared.rt", "crates/table_sockets/src/serving.rt"
 GATHER = "crates/shared_tables/src/gathering.rt"
+SHELF = "crates/node_store/src/shelf.rt"
 
+NEXT = "            newest = block.older;\n"
 LOCK = "        let mut cell = self.tables.at(place).lock(rt);\n"
 ENTER = "        self.gate.enter(place, pass.session);\n"
 STEP = "        cell.call(pass, command, out)\n"
@@ -84,7 +86,13 @@ OF_REFUSALS = {
     "schemas_find_no_memory": (TEXTS, gives_up("crates/schema_file/src/read.rt", "    let Some(document) = read_document(alloc, bytes)? else {\n", "Err(SchemaFault::Memory)")),
     "commands_find_no_memory": (TEXTS, gives_up("crates/command_lines/src/read.rt", "    match Json::from_slice(alloc, line) {\n", "Err(CommandFault::Memory)")),
     "insertions_find_no_memory": (RUNS, gives_up("crates/multi_index/src/container.rt", "        self.put(None, row)\n", "Err(Refused {\n                why: Why::Memory,\n                row: Some(row),\n            })")),
-    "nodes_find_no_memory": (INDICES, gives_up("crates/node_store/src/lib.rt", "        let place = self.kept.vacant_key();\n", "Err(NoRoom { value })")),
+    "nodes_find_no_memory": (INDICES, gives_up(SHELF, "        let block = Block {\n            age: self.added,\n", "Err(NoRoom { value })")),
 }
 
-PLANTS = {**{name: (GATES, changes) for name, changes in {**OF_GATES, **OF_SERVICES}.items()}, **OF_REFUSALS}
+# A store's end that leaves out records. Their blocks are freed all the same, as the clauses ask.
+OF_ENDS = {
+    "ends_drop_no_record": (INDICES, [(SHELF, NEXT, NEXT + "            std::mem::forget(block);\n")]),
+    "ends_skip_the_first_record": (INDICES, [(SHELF, NEXT, NEXT + "            if newest.is_none() {\n                std::mem::forget(block);\n            } else {\n                drop(block);\n            }\n")]),
+}
+
+PLANTS = {**{name: (GATES, changes) for name, changes in {**OF_GATES, **OF_SERVICES}.items()}, **OF_REFUSALS, **OF_ENDS}
