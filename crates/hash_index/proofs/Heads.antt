@@ -88,10 +88,6 @@ right_new c h n hash (Some o) up followed begin hint is at = λ alone m l first 
     let far : h.mark ≡ hash / 2 ^ 58 + 128 = hint ∙ ap (λ b. hash / 2 ^ 58 + cond b 128 64) is in
     absurd (omega (arith, alone, far))
 
--- a mark that is not 0 is of a node
-pub first_at : (h : Head) → 0 < h.mark → first_in h ≡ Some h.node
-first_at h some = ap (λ b. cond b None (Some h.node)) (ne_eqb h.mark 0 (λ e. omega (arith, some, e)))
-
 hinted_by : (b : Bool) (o : Option Node) (n : Node) → cond b o None ≡ Some n → o ≡ Some n
 hinted_by true o n e = e
 hinted_by false o n e = cc

@@ -1,11 +1,12 @@
 -- Columns without their tags, and the tags alone.
-use Rattle.std.proofs.Common.{◌≡◌, ◌≢◌, ℕ, true, false, ◌==◌, List, [], ◌∷◌, Option, Some, None, refl, ap, ◌∙◌}
+use Rattle.std.proofs.Common.{◌≡◌, ◌≢◌, ℕ, true, false, ◌==◌, List, [], ◌∷◌, Option, Some, None, refl, sym, ap, ◌∙◌, ⊎_elim}
 use Rattle.std.specs.Option.{option_map, option_map_or}
 use Rattle.std.proofs.lemmas.Bool.{eqb-true, eq-eqb, ne_eqb}
 use Rattle.node_store.specs.declared.Node.{Node}
 use Rattle.node_store.specs.declared.Link.{Link}
 use Rattle.node_store.specs.Column.{Column, IsPut, IsNode}
 use Rattle.node_store.specs.Nodes.{IsSameAt}
+use Rattle.node_store.proofs.ByNode.{node_cases}
 use Rattle.seq_index.specs.Links.{SetsNext, SetsPrev}
 use Rattle.seq_index.proofs.Runs.{SetsNext-some, SetsPrev-some}
 use Rattle.hash_index.specs.Chains.{untagged_link, untagged, tag_at, leads, IsIn}
@@ -48,6 +49,14 @@ tag_other c d n m l put ne = ap (option_map tag_of) (put.others m ne)
 
 pub tag_is : (c : Column) (n : Node) (l : Link) → c n ≡ Some l → tag_at c n ≡ Some l.tag
 tag_is c n l is = ap (option_map tag_of) is
+
+-- a write of links that look alike changes nothing of how the column looks
+pub seen_put : {X : Type 0} (look : Option Link → X) (c d : Column) (m : Node) (link l : Link) → c m ≡ Some link → IsPut c d m l → look (Some l) ≡ look (Some link) → (n : Node) → look (d n) ≡ look (c n)
+seen_put look c d m link l is put same n =
+    ⊎_elim
+    (λ e. ap (λ k. look (d k)) e ∙ ap look put.at ∙ same ∙ sym (ap look is) ∙ sym (ap (λ k. look (c k)) e))
+    (λ ne. ap look (put.others n ne))
+    (node_cases n m)
 
 pub next_untagged : (c d : Column) (m : Node) (link : Link) (next : Option Node) → c m ≡ Some link → IsPut c d m (record link { b = next }) → SetsNext (untagged c) (untagged d) (Some m) next
 next_untagged c d m link next is put =

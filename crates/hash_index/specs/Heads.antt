@@ -8,7 +8,7 @@ use Rattle.hash_index.specs.declared.head.Head.{Head}
 
 -- the first node of a chain with this head
 abbrev pub first_in : Head → Option Node
-first_in h = cond (h.mark == 0) None (Some h.node)
+first_in h = h.node
 
 -- where the mark says that the node is alone, no node comes after it, and the mark has the top bits of its hash
 abbrev pub IsRight : Column → Head → Type 0

@@ -9,7 +9,7 @@ use Rattle.hash_index.specs.declared.segment.Segment.{Segment}
 pub use Rattle.hash_index.specs.Heads.{first_in}
 
 -- the heads that have these marks and nodes
-abbrev pub paired : List ℕ → List Node → List Head
+abbrev pub paired : List ℕ → List (Option Node) → List Head
 paired [] ns = []
 paired (m ∷ ms) [] = []
 paired (m ∷ ms) (n ∷ ns) = record { mark = m; node = n } ∷ paired ms ns

@@ -1,5 +1,5 @@
 //! The first node of a chain, with a mark of its hash.
-ghost use Rattle.std.specs.Prelude.{◌≡◌, ◌↔◌, ◌+◌, ◌/◌, ◌<◌, ◌≤◌, ◌^◌, IsTrue, cond, Option, Some, None};
+ghost use Rattle.std.specs.Prelude.{◌≡◌, ◌↔◌, ◌+◌, ◌/◌, ◌<◌, ◌≤◌, ◌^◌, IsTrue, cond, IsSomeAnd, Some, None};
 ghost use Rattle.node_store.specs.declared.Node.{Node};
 ghost use Rattle.node_store.specs.Store.{IsNodeOf};
 ghost use Rattle.hash_index.specs.Heads.{first_in, hinted_in, passes};
@@ -20,7 +20,7 @@ const OLDEST: u8 = 0xC0;
 #[derive(Clone, Copy)]
 pub(crate) struct Head {
     pub(crate) mark: u8,
-    pub(crate) node: Node,
+    pub(crate) node: Option<Node>,
 }
 
 // The top six bits of a hash.
@@ -37,14 +37,27 @@ pub(crate) fn passes(hash: u64, mark: u8) -> bool
     mark < FOLLOWED && mark != top(hash) + ALONE
 }
 
+// Whether these are one node.
+fn is_same<R>(store: &NodeStore<R>, first: Option<Node>, other: Option<Node>) -> bool
+    requires first { (n : Node) → first ≡ Some n → IsNodeOf store.now n }
+    requires other { (n : Node) → other ≡ Some n → IsNodeOf store.now n }
+    ensures { IsTrue result ↔ IsSomeAnd other (λ n. first ≡ Some n) }
+{
+    match other {
+        Some(n) => store.is_node(first, n),
+        None => false,
+    }
+}
+
 impl Head {
     // The head of a chain of no nodes.
     pub(crate) fn none() -> Head
-        ensures { first_in result ≡ None }
+        ensures first { first_in result ≡ None }
+        ensures mark { result.mark ≡ 0 }
     {
         Head {
             mark: 0,
-            node: Node::nowhere(),
+            node: None,
         }
     }
 
@@ -57,13 +70,12 @@ impl Head {
         let beside = if followed { FOLLOWED } else { ALONE };
         Head {
             mark: top(hash) + beside,
-            node,
+            node: Some(node),
         }
     }
 
     // The head of the chain once another node comes behind the first, and after it if it has its hash.
     pub(crate) fn joined(self) -> Head
-        requires { 0 < self.mark }
         ensures first { first_in result ≡ first_in self }
         ensures followed { 128 ≤ result.mark }
         ensures oldest { 192 ≤ result.mark → 128 ≤ self.mark → 192 ≤ self.mark }
@@ -91,7 +103,7 @@ impl Head {
     {
         if FOLLOWED <= self.mark
             && OLDEST <= longer.mark
-            && store.is_node(longer.node(), self.node)
+            && is_same(store, longer.node, self.node)
         {
             Head {
                 mark: self.mark % ALONE + OLDEST,
@@ -113,11 +125,7 @@ impl Head {
     pub(crate) fn node(self) -> Option<Node>
         ensures { result ≡ first_in self }
     {
-        if self.mark == 0 {
-            None
-        } else {
-            Some(self.node)
-        }
+        self.node
     }
 
     // The node, if it has the bits of this hash.
@@ -125,7 +133,7 @@ impl Head {
         ensures { result ≡ hinted_in hash self }
     {
         if self.mark % ALONE == top(hash) {
-            self.node()
+            self.node
         } else {
             None
         }

@@ -2,7 +2,7 @@
 ghost use Rattle.std.specs.Prelude.{◌≡◌, ◌≢◌, ◌-◌, ◌<◌, vec_len, vec_capacity, [], ◌∷◌, ◌++◌, length, slice_get, set, option_and_then, Some, None, IfOk};
 
 use crate::head::{Head, passes};
-use node_store::Node;
+use node_store::MaybeNode;
 use std::alloc::{AllocError, Global};
 
 // Heads, the marks apart from the nodes: most look-ups of keys that are not there read a mark alone, and many marks lie
@@ -10,7 +10,7 @@ use std::alloc::{AllocError, Global};
 #[derive(Drop)]
 pub(crate) struct Segment {
     marks: Vec<u8>,
-    nodes: Vec<Node>,
+    nodes: Vec<MaybeNode>,
     ghost as_many: { vec_len marks ≡ vec_len nodes },
     ghost as_large: { vec_capacity marks ≡ vec_capacity nodes },
 }
@@ -44,7 +44,7 @@ impl Segment {
     {
         Head {
             mark: self.marks[place],
-            node: self.nodes[place],
+            node: self.nodes[place].node(),
         }
     }
 
@@ -69,7 +69,7 @@ impl Segment {
         ensures capacity { capacity_of self.new ≡ capacity_of self.old }
     {
         self.marks[place] = head.mark;
-        self.nodes[place] = head.node;
+        self.nodes[place] = MaybeNode::of(head.node);
     }
 
     // Adds a head behind the others, for which there is room.
@@ -79,6 +79,6 @@ impl Segment {
         ensures capacity { capacity_of self.new ≡ capacity_of self.old }
     {
         self.marks.push_reserved(head.mark);
-        self.nodes.push_reserved(head.node);
+        self.nodes.push_reserved(MaybeNode::of(head.node));
     }
 }

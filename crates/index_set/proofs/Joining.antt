@@ -1,8 +1,8 @@
 -- An index is made beside those of a set, and joins them.
 use Rattle.key_extract.specs.Digests.{Marks}
 use Rattle.key_extract.specs.declared.extract.Extract.{Ghosts}
-use Rattle.std.proofs.Common.{◌≡◌, ◌≢◌, ℕ, ◌+◌, ◌<◌, ◌≤◌, ◌==◌, Bool, true, false, List, [], ◌∷◌, ◌++◌, length, get_or, None, Option, refl, sym, ap, ◌∙◌, subst, arith, ⊎_elim}
-use Rattle.std.specs.Prelude.{IsTrue}
+use Rattle.std.proofs.Common.{◌≡◌, ◌≢◌, ℕ, ◌+◌, ◌<◌, ◌≤◌, ◌==◌, Bool, true, false, List, [], ◌∷◌, ◌++◌, length, get_or, None, Option, Result, Ok, Err, refl, sym, ap, ◌∙◌, subst, arith, ⊎_elim}
+use Rattle.std.specs.Prelude.{IsTrue, IfOk}
 use Rattle.std.specs.List.{list_any}
 use Rattle.std.specs.Ordering.{is_eq}
 use Rattle.std.specs.declared.alloc.Global.{Global}
@@ -28,7 +28,7 @@ use Rattle.any_index.specs.Side.{order_at}
 use Rattle.any_index.specs.Spelled.{col_of, list_of}
 use Rattle.any_index.proofs.ByAge.{Holds_moved}
 use Rattle.index_set.specs.declared.parts.Parts.{Parts}
-use Rattle.index_set.specs.Added.{CanAdd, HasColumn, HasEachKeyOnce, IsNext, new_list, new_order}
+use Rattle.index_set.specs.Added.{CanAdd, HasColumn, HasEachKeyOnce, IsNext, entered_all, new_list, new_order}
 use Rattle.index_set.specs.Asked.{IsKept}
 use Rattle.index_set.specs.Indices.{IsPlaced, ArePlaced, AreWithin, lists_in, AreKeyed}
 use Rattle.index_set.specs.Lists.{AreUniqueFrom}
@@ -140,6 +140,26 @@ module _ {R : Type 0} (order : ℕ → R → R → Ordering) (records : Node →
       subst (OneOfEach order records None k) (sym (get_or_push lists list [] k (one ∙ last)))
       (subst (λ j. OneOfEach order records None j list) last (new (subst (λ (z : Spec). IsTrue z.unique) (get_or_push specs spec d k last) unique))))
       (cases_lt k (length specs)))
+
+-- what is built over the store of a set, beside its indices, is the next of it
+module _ {R E P F : Type 0} (X : Ghosts E R P) (s now : Parts R E) (spec : Spec) (given : E) (ns : List Node) (u : Store R) (k col : ℕ) (of_set : u ≡ set.store_of s) (last : k ≡ length (specs_of s)) (counted : k ≡ length (specs_of now)) where
+  pub next_of : (r : Result AnyIndex F)
+      → IfOk r (IsPlaced (columns_in (set.store_of now)) k spec) → IfOk r (λ made. col_of made ≡ col)
+      → col < set.columns_of now → ((j : ℕ) (d : AnyIndex) → j < length (specs_of now) → col_of (get_or now.indices.items j d) ≢ col)
+      → IfOk r (λ made. list_of (columns_in (set.store_of now)) made ≡ entered_all (age_of u) (order_at (record_of u) (X.order_of given k)) spec.kind [] ns)
+      → IfOk r (any.IsKeyed (X.order_of given) (marks_of X given) (set.store_of now))
+      → IfOk r (λ made. IsTrue spec.unique → HasEachKeyOnce (order_at (record_of u) (X.order_of given k)) (list_of (columns_in (set.store_of now)) made))
+      → IfOk r (IsNext X s spec given ns now)
+  next_of (Ok made) placed column within apart list keyed unique =
+      record {
+        placed = subst (λ n. IsPlaced (columns_in (set.store_of now)) n spec made) counted placed;
+        within = subst (λ n. n < set.columns_of now) (sym column) within;
+        apart = λ j d lt e. apart j d lt (e ∙ column);
+        list = list ∙ (λ i. entered_all (age_of (of_set i)) (order_at (record_of (of_set i)) (X.order_of given (last i))) spec.kind [] ns);
+        keyed = keyed;
+        unique = λ one. subst (λ (h : Node → Node → Ordering). HasEachKeyOnce h (list_of (columns_in (set.store_of now)) made)) (λ i. order_at (record_of (of_set i)) (X.order_of given (last i))) (unique one);
+      }
+  next_of (Err e) placed column within apart list keyed unique = tt
 
 -- a set goes by keys for one index more, which joins it
 module _ {R E P : Type 0} (X : Ghosts E R P) {s now : Parts R E} (kept : IsKept X s) (view : s ≡ now) (spec : Spec) (given : E) (ns : List Node) (asked : CanAdd X now spec given ns)

@@ -64,6 +64,20 @@ fn loses_second(store: &mut NodeStore<u32>, a: Node, b: Node, c: Node) -> bool
     removed == 20 && are_joined && *store.get(c) == 31 && *store.get(a) == 10
 }
 
+// Of three nodes the first is linked to the second, and the second goes. Whether all are as they are to be.
+#[tactic(auto, using(node_store::proofs::ByNode::nodes_kept))]
+fn links_and_loses(store: &mut NodeStore<u32>, a: Node, b: Node, c: Node) -> bool
+    requires first { IsNodeOf store.old a }
+    requires second { IsNodeOf store.old b }
+    requires third { IsNodeOf store.old c }
+    requires before { a ≢ b }
+    requires after { c ≢ b }
+    requires columns { 3 ≤ width_of store.old }
+{
+    let are_linked = keeps_links(store, a, b);
+    loses_second(store, a, b, c) && are_linked
+}
+
 /// Whether three nodes are kept in the order of their adds, with their links and records.
 #[tactic(auto, using(node_store::proofs::ByNode::nodes_kept, node_store::proofs::ByNode::new_node))]
 pub(crate) fn links_are_kept_by_column(alloc: Global) -> Option<bool> {
@@ -74,9 +88,8 @@ pub(crate) fn links_are_kept_by_column(alloc: Global) -> Option<bool> {
     let are_counted = store.len() == 3 && store.added() == 3;
     let are_listed = is_newest(&store, c, 3) && is_before(&store, b, c);
     let has_first = store.older(a).is_none();
-    let are_linked = keeps_links(&mut store, a, b);
-    let are_left = loses_second(&mut store, a, b, c);
-    Some(are_counted && are_listed && has_first && are_linked && are_left)
+    let are_kept = links_and_loses(&mut store, a, b, c);
+    Some(are_counted && are_listed && has_first && are_kept)
 }
 
 // Whether both are one node of the store, or none.

@@ -2,13 +2,13 @@
 use Rattle.std.proofs.Common.{◌≡◌, ℕ, zero, suc, ◌+◌, ◌≤◌, Bool, true, false, cond, ◌&&◌, not, List, [], ◌∷◌, drop, slice_get, Option, Some, None, refl, sym, ap, ◌∙◌, arith}
 use Rattle.std.specs.Prelude.{count_by, filter, option_and_then}
 use Rattle.std.specs.List.{AllByRecursion}
-use Rattle.std.specs.Ordering.{is_gt, is_ge, ordering_index}
+use Rattle.std.specs.Ordering.{is_lt, is_le, is_gt, is_ge, ordering_index}
 use Rattle.std.specs.declared.cmp.Ordering.{Ordering}
 use Rattle.std.specs.declared.cmp.Ordering.TheVariants.{Less, Equal, Greater}
 use Rattle.std.specs.declared.ops.Bound.{Bound}
-use Rattle.std.specs.declared.ops.Bound.TheVariants.{Unbounded}
+use Rattle.std.specs.declared.ops.Bound.TheVariants.{Included, Excluded, Unbounded}
 use Rattle.list_model.specs.Order.{EachPair}
-use Rattle.list_model.specs.Place.{Edge, Inclusive, Exclusive, Open, is_from, is_to}
+use Rattle.list_model.specs.Place.{Edge, Inclusive, Exclusive, Open, is_from, is_to, lower, upper}
 use Rattle.list_model.proofs.Counts.{count_by-cons, count_by_none}
 use Rattle.list_model.proofs.InOrder.{All-map}
 use Rattle.list_model.proofs.Kept.{EachPair-map, filter_none}
@@ -116,3 +116,20 @@ before_open xs = count_by_none (λ x. false) xs (all_no xs)
 
 pub before_unbounded : {P X : Type 0} (side : P → X → Ordering) (bound : Bound P) (xs : List X) → bound ≡ Unbounded → before (edge_of side bound) xs ≡ 0
 before_unbounded side bound xs e = ap (λ b. before (edge_of side b) xs) e ∙ before_open xs
+
+ge_lt : (o : Ordering) → not (is_ge o) ≡ is_lt o
+ge_lt Less = refl
+ge_lt Equal = refl
+ge_lt Greater = refl
+
+gt_le : (o : Ordering) → not (is_gt o) ≡ is_le o
+gt_le Less = refl
+gt_le Equal = refl
+gt_le Greater = refl
+
+-- the first member that a bound lets through
+pub lower_from : {P X : Type 0} (side : P → X → Ordering) (bound : Bound P) (p : P) (xs : List X) → bound ≡ Included p → lower (side p) xs ≡ slice_get xs (before (edge_of side bound) xs)
+lower_from side bound p xs e = ap (slice_get xs) (λ i. count_by (λ x. sym (ge_lt (side p x)) i) xs) ∙ sym (ap (λ b. slice_get xs (before (edge_of side b) xs)) e)
+
+pub upper_from : {P X : Type 0} (side : P → X → Ordering) (bound : Bound P) (p : P) (xs : List X) → bound ≡ Excluded p → upper (side p) xs ≡ slice_get xs (before (edge_of side bound) xs)
+upper_from side bound p xs e = ap (slice_get xs) (λ i. count_by (λ x. sym (gt_le (side p x)) i) xs) ∙ sym (ap (λ b. slice_get xs (before (edge_of side b) xs)) e)

@@ -18,7 +18,7 @@ use node_store::Node;
 use slot_table::SlotTable;
 
 /// What became of a record that was changed.
-#[derive(Drop)]
+#[derive(Debug, Drop)]
 pub enum Modified<R> {
     /// It stays.
     Kept,

@@ -20,19 +20,25 @@ use key_extract::Extract;
 use node_store::Node;
 use slot_table::{SlotTable, put};
 use std::alloc::Global;
+use thiserror::Error;
 
 /// Why records and orders are not those of a container.
-#[derive(Clone, Copy, Debug, PartialEq, Eq)]
+#[derive(Clone, Copy, Debug, PartialEq, Eq, Error)]
 pub enum Misfit {
     /// Memory was refused.
+    #[error("out of memory")]
     Memory,
     /// Two records lie in one slot.
+    #[error("two records lie in one slot")]
     Slots,
     /// The order of this index has not each record's handle once.
+    #[error("the order of index {0} does not have each record's handle once")]
     Members(usize),
     /// The order of this index goes against its key, or in a hashed index against the order of insertion.
+    #[error("the order of index {0} is not by its key, or in a hashed index not that of insertion")]
     Order(usize),
     /// This index is unique, and two records have one key.
+    #[error("two records have one key in the unique index {0}")]
     Clash(usize),
 }
 

@@ -8,6 +8,7 @@ use container_model::{Entry, Handle, Spec};
 use key_extract::Extract;
 use linked_set::{LinkedSet, Misfit};
 use std::alloc::Global;
+use thiserror::Error;
 
 /// What a container held.
 #[derive(Drop)]
@@ -21,23 +22,31 @@ pub struct Saved<R> {
 }
 
 /// Why what is told is not what such a container holds.
-#[derive(Clone, Copy, Debug, PartialEq, Eq)]
+#[derive(Clone, Copy, Debug, PartialEq, Eq, Error)]
 pub enum Unrestorable {
     /// Memory was refused.
+    #[error("out of memory")]
     Memory,
     /// There are not as many orders as indices.
+    #[error("there are not as many orders as indices")]
     Orders,
     /// There are more records than there may be.
+    #[error("there are more records than there may be")]
     Full,
     /// The numbers of the records' writes do not rise from 1 or above to at most that of the last write.
+    #[error("the stamps do not rise from 1 or above to at most the number of the last write")]
     Stamps,
     /// Two records lie in one slot, or one in a slot that no record of such a container lies in.
+    #[error("two records lie in one slot, or one lies past the last slot")]
     Slots,
     /// The order of this index has not each record's handle once.
+    #[error("the order of index {0} does not have each record's handle once")]
     Members(usize),
     /// The order of this index goes against its key, or in a hashed index against the order of insertion.
+    #[error("the order of index {0} is not by its key, or in a hashed index not that of insertion")]
     Order(usize),
     /// This index is unique, and two records have one key.
+    #[error("two records have one key in the unique index {0}")]
     Clash(usize),
 }
 

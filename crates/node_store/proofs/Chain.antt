@@ -15,7 +15,7 @@ use Rattle.node_store.specs.declared.stored.Stored.{Stored}
 use Rattle.node_store.specs.Stored.{link_of}
 use Rattle.node_store.specs.Store.{Entry, IsNodeOf, number_of, nodes, no_link, no_links}
 use Rattle.node_store.specs.Blocks.{Lying, found_in, with_block, HaveBlocks}
-use Rattle.node_store.specs.Chain.{node_at, entry_at, entries_of, listed, store_of, IsChain}
+use Rattle.node_store.specs.Chain.{node_at, entry_at, entries_of, listed, store_of, LiesThere, IsChain, IsSound}
 use Rattle.node_store.proofs.Keyed.{find_head, find_tail, some_mapped}
 use Rattle.node_store.proofs.Found.{found_head, found_tail, with_head, with_tail, free_none}
 
@@ -37,7 +37,16 @@ module _ {R A : Type 0} {N : ℕ} where
       ⊎_elim
       (λ here. let same : e ≡ h = same_Some e h (sym (found_head k e es here) ∙ p) in
       (ap (λ (m : Held R A N). m.alloc) (sym same) ∙ chain.3, ap (λ (m : Held R A N). length m.value.links.row) (sym same) ∙ chain.4))
-      (λ off. chain_block al (Some (node_at e)) e.value.older e.value.age es chain.5 k h (sym (found_tail k e es off) ∙ p))
+      (λ off. chain_block al (Some (node_at e)) e.value.older e.value.age es chain.6 k h (sym (found_tail k e es off) ∙ p))
+      (cases_eq k (number_at e.at))
+
+  -- it lies where its node leads
+  pub chain_lies : (al : A) (newer newest : Option Node) (bound : ℕ) (es : List (Held R A N)) → IsChain al newer newest bound es → (k : ℕ) (h : Held R A N) → found_in k es ≡ Some h → LiesThere h
+  chain_lies al newer newest bound [] chain k h p = absurd (cc)
+  chain_lies al newer newest bound (e ∷ es) chain k h p =
+      ⊎_elim
+      (λ here. subst LiesThere (same_Some e h (sym (found_head k e es here) ∙ p)) chain.5)
+      (λ off. chain_lies al (Some (node_at e)) e.value.older e.value.age es chain.6 k h (sym (found_tail k e es off) ∙ p))
       (cases_eq k (number_at e.at))
 
   -- its age is below the bound
@@ -47,7 +56,7 @@ module _ {R A : Type 0} {N : ℕ} where
       let lower = chain.2 in
       ⊎_elim
       (λ here. let same = ap (λ (m : Held R A N). m.value.age) (same_Some e h (sym (found_head k e es here) ∙ p)) in omega arith)
-      (λ off. let less = chain_below al (Some (node_at e)) e.value.older e.value.age es chain.5 k h (sym (found_tail k e es off) ∙ p) in omega arith)
+      (λ off. let less = chain_below al (Some (node_at e)) e.value.older e.value.age es chain.6 k h (sym (found_tail k e es off) ∙ p) in omega arith)
       (cases_eq k (number_at e.at))
 
   -- a write that keeps a block's age and its two neighbours
@@ -65,7 +74,8 @@ module _ {R A : Type 0} {N : ℕ} where
         subst (λ k. k < bound) (sym aged) chain.2,
         chain.3,
         eight,
-        subst (λ o. IsChain al (Some (node_at e)) o x.age es) (sym next) (subst (λ k. IsChain al (Some (node_at e)) e.value.older k es) (sym aged) chain.5),
+        chain.5,
+        subst (λ o. IsChain al (Some (node_at e)) o x.age es) (sym next) (subst (λ k. IsChain al (Some (node_at e)) e.value.older k es) (sym aged) chain.6),
       ))
       (λ off. subst (IsChain al newer newest bound) (sym (with_tail n x e es off)) (
         chain.0,
@@ -73,7 +83,8 @@ module _ {R A : Type 0} {N : ℕ} where
         chain.2,
         chain.3,
         chain.4,
-        chain_kept al (Some (node_at e)) e.value.older e.value.age es chain.5 n h x (sym (found_tail n e es off) ∙ p) age before after eight,
+        chain.5,
+        chain_kept al (Some (node_at e)) e.value.older e.value.age es chain.6 n h x (sym (found_tail n e es off) ∙ p) age before after eight,
       ))
       (cases_eq n (number_at e.at))
 
@@ -102,8 +113,11 @@ module _ {R A : Type 0} {N : ℕ} where
       (h.0, h.1, ap (λ (x : Entry R). x.node) h.2 ∙ e.2)
 
   -- the block of a node
-  pub node_block : (es : List (Held R A N)) (added : ℕ) (n : Node) → IsNodeOf (store_of es added) n → (h : Held R A N) × (found_in (number_of n) es ≡ Some h) × (h.at ≡ n.place.ptr)
-  node_block es added n is = let b = block_at es added (number_of n) n is in (b.0, b.1, ap (λ (m : Node). m.place.ptr) b.2)
+  pub node_block : {es : List (Held R A N)} {al : A} {newest : Option Node} {len added : ℕ} → IsSound es al newest len added → (n : Node) → IsNodeOf (store_of es added) n
+      → (h : Held R A N) × (found_in (number_of n) es ≡ Some h) × (h.at ≡ n.place.ptr)
+  node_block {es} {al} {newest} {len} {added} sound n is =
+      let b = block_at es added (number_of n) n is in
+      (b.0, b.1, chain_lies al None newest added es sound.chain (number_of n) b.0 b.1 ∙ ap (λ (m : Node). m.place.ptr) b.2)
 
   -- ---- the nodes by age
 
@@ -112,7 +126,7 @@ module _ {R A : Type 0} {N : ℕ} where
   listed_past al newer newest bound [] chain k past = refl
   listed_past al newer newest bound (e ∷ es) chain k past =
       let lower = chain.2 in
-      find_tail k e.value.age (node_at e) (listed es) (λ q. absurd (omega arith)) ∙ listed_past al (Some (node_at e)) e.value.older e.value.age es chain.5 k (omega arith)
+      find_tail k e.value.age (node_at e) (listed es) (λ q. absurd (omega arith)) ∙ listed_past al (Some (node_at e)) e.value.older e.value.age es chain.6 k (omega arith)
 
   -- the node of each block is found at its age
   pub listed_here : (al : A) (newer newest : Option Node) (bound : ℕ) (es : List (Held R A N)) → IsChain al newer newest bound es → (k : ℕ) (h : Held R A N) → found_in k es ≡ Some h
@@ -123,8 +137,8 @@ module _ {R A : Type 0} {N : ℕ} where
       (λ here. let same : e ≡ h = same_Some e h (sym (found_head k e es here) ∙ p) in
       find_head h.value.age e.value.age (node_at e) (listed es) (ap (λ (m : Held R A N). m.value.age) (sym same)) ∙ ap (λ (m : Held R A N). Some (node_at m)) same)
       (λ off. let later = sym (found_tail k e es off) ∙ p in
-      let less = chain_below al (Some (node_at e)) e.value.older e.value.age es chain.5 k h later in
-      find_tail h.value.age e.value.age (node_at e) (listed es) (λ q. absurd (omega arith)) ∙ listed_here al (Some (node_at e)) e.value.older e.value.age es chain.5 k h later)
+      let less = chain_below al (Some (node_at e)) e.value.older e.value.age es chain.6 k h later in
+      find_tail h.value.age e.value.age (node_at e) (listed es) (λ q. absurd (omega arith)) ∙ listed_here al (Some (node_at e)) e.value.older e.value.age es chain.6 k h later)
       (cases_eq k (number_at e.at))
 
   -- what is found at an age is the node of a block that has it

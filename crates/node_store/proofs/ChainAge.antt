@@ -27,7 +27,7 @@ module _ {R A : Type 0} {N : ℕ} where
         at = find_head e.value.age e.value.age (node_at e) (listed es) refl;
         below = chain.2;
         last = λ i more less.
-            find_tail i e.value.age (node_at e) (listed es) (λ q. absurd (omega arith)) ∙ listed_past al (Some (node_at e)) e.value.older e.value.age es chain.5 i (omega arith);
+            find_tail i e.value.age (node_at e) (listed es) (λ q. absurd (omega arith)) ∙ listed_past al (Some (node_at e)) e.value.older e.value.age es chain.6 i (omega arith);
       }))
 
   -- what stands behind a block's head is seen below its age alone
@@ -40,10 +40,10 @@ module _ {R A : Type 0} {N : ℕ} where
   older_listed al newer newest bound (e ∷ es) chain k h p =
       ⊎_elim
       (λ here. subst (λ (m : Held R A N). m.value.older ≡ last_below (at_age (e ∷ es)) m.value.age) (same_Some e h (sym (found_head k e es here) ∙ p))
-      (newest_listed al (Some (node_at e)) e.value.older e.value.age es chain.5 ∙ behind_head e es e.value.age (omega arith)))
+      (newest_listed al (Some (node_at e)) e.value.older e.value.age es chain.6 ∙ behind_head e es e.value.age (omega arith)))
       (λ off. let later = sym (found_tail k e es off) ∙ p in
-      let less = chain_below al (Some (node_at e)) e.value.older e.value.age es chain.5 k h later in
-      older_listed al (Some (node_at e)) e.value.older e.value.age es chain.5 k h later ∙ behind_head e es h.value.age (omega arith))
+      let less = chain_below al (Some (node_at e)) e.value.older e.value.age es chain.6 k h later in
+      older_listed al (Some (node_at e)) e.value.older e.value.age es chain.6 k h later ∙ behind_head e es h.value.age (omega arith))
       (cases_eq k (number_at e.at))
 
   last_listed : (es : List (Held R A N)) (added k : ℕ) → last_below (at_age es) k ≡ last_below (aged (store_of es added)) k

@@ -31,17 +31,17 @@ pub record IsLinked {R : Type 0} (old new : Store R) (n : Node) (col : ℕ) (lin
 module _ {R A : Type 0} {N : ℕ} {es : List (Held R A N)} {al : A} {newest : Option Node} {len added : ℕ} (sound : IsSound es al newest len added) {s : Store R} (view : store_of es added ≡ s) (n : Node) where
   -- a node's block lies at its place
   pub is_there : IsNodeOf s n → LiesAt es n.place.ptr
-  is_there is = let b = node_block es added n (rw (← view) at is) in lies_at es n.place.ptr b.0 b.1 b.2
+  is_there is = let b = node_block sound n (rw (← view) at is) in lies_at es n.place.ptr b.0 b.1 b.2
 
   -- ---- what is read from the block
 
   module _ (is : IsNodeOf s n) (b : Block R (Row N)) (read : (h : Held R A N) → found_in (number_of n) es ≡ Some h → b ≡ h.value) where
     lent : Held R A N
-    lent = let h = node_block es added n (rw (← view) at is) in lying h.0.at h.0.alloc b
+    lent = let h = node_block sound n (rw (← view) at is) in lying h.0.at h.0.alloc b
 
     here : found_in (number_of n) es ≡ Some lent
     unfolding lent
-    here = let h = node_block es added n (rw (← view) at is) in read_block es (number_of n) h.0 b h.1 (read h.0 h.1)
+    here = let h = node_block sound n (rw (← view) at is) in read_block es (number_of n) h.0 b h.1 (read h.0 h.1)
 
     pub record_read : record_of s n ≡ Some b.value
     unfolding records lent
@@ -84,11 +84,13 @@ module _ {R A : Type 0} {N : ℕ} {es : List (Held R A N)} {al : A} {newest : Op
     there = column_of_node _ col n (rw (← view) at has)
 
     module _ (b : Block R (Row N)) (read : (h : Held R A N) → found_in (number_of n) es ≡ Some h → b ≡ h.value) where
+      pub in_row : col < length b.links.row
+      in_row = omega (arith, there, wide node b read)
+
       pub link_read : (default : Stored) → column_of s col n ≡ Some (link_of (get_or b.links.row col default))
       unfolding lent
       link_read default =
-          let below : col < length b.links.row = omega (arith, there, wide node b read) in
-          rw (← view) (link_kept es added n (lent node b read) col default (rw (← view) at node) (here node b read) there below)
+          rw (← view) (link_kept es added n (lent node b read) col default (rw (← view) at node) (here node b read) there in_row)
 
       -- ---- a write of links
 

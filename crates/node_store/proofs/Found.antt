@@ -9,7 +9,7 @@ use Rattle.node_store.specs.Blocks.{Lying, lying, found_in, with_block, without_
 use Rattle.node_store.specs.Chain.{edit_block}
 
 -- the start of a block
-start_is : (p : Ptr) → InBlock p → count_of p ≡ 0 → p ≡ block_ptr (number_at p) 0
+pub start_is : (p : Ptr) → InBlock p → count_of p ≡ 0 → p ≡ block_ptr (number_at p) 0
 start_is p in_block start = at_block p in_block ∙ ap (block_ptr (number_at p)) start
 
 module _ {T A : Type 0} where

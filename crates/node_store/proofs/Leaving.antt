@@ -53,12 +53,12 @@ module _ {R A : Type 0} {N : ℕ} where
   none_listed al newer newest bound (e ∷ es) chain n h p =
       ⊎_elim
       (λ here. let age : h.value.age ≡ e.value.age = ap (λ (m : Held R A N). m.value.age) (same_Some h e (sym p ∙ found_head n e es here)) in
-      ap (λ xs. find nat_cmp h.value.age (listed xs)) (without_head n e es here) ∙ listed_past al (Some (node_at e)) e.value.older e.value.age es chain.5 h.value.age (omega arith))
+      ap (λ xs. find nat_cmp h.value.age (listed xs)) (without_head n e es here) ∙ listed_past al (Some (node_at e)) e.value.older e.value.age es chain.6 h.value.age (omega arith))
       (λ off. let later = sym (found_tail n e es off) ∙ p in
-      let less = chain_below al (Some (node_at e)) e.value.older e.value.age es chain.5 n h later in
+      let less = chain_below al (Some (node_at e)) e.value.older e.value.age es chain.6 n h later in
       ap (λ xs. find nat_cmp h.value.age (listed xs)) (without_tail n e es off)
       ∙ find_tail h.value.age e.value.age (node_at e) (listed (without_block n es)) (λ q. absurd (omega arith))
-      ∙ none_listed al (Some (node_at e)) e.value.older e.value.age es chain.5 n h later)
+      ∙ none_listed al (Some (node_at e)) e.value.older e.value.age es chain.6 n h later)
       (cases_eq n (number_at e.at))
 
   -- ---- the two neighbours of a block
@@ -79,9 +79,9 @@ module _ {R A : Type 0} {N : ℕ} where
       (λ here. inl (ap (λ (m : Held R A N). m.value.newer) (same_Some h e (sym p ∙ found_head n e es here)) ∙ chain.1))
       (λ off.
       ⊎_elim
-      (λ q. inr (node_at e, q, ((e, found_head (number_at e.at) e es refl, refl), λ z. off (sym z))))
+      (λ q. inr (node_at e, q, ((e, found_head (number_at e.at) e es refl, chain.5), λ z. off (sym z))))
       (λ r. inr (r.0, r.1, behind n r.0 e es apart.0 r.2))
-      (newer_lies al (Some (node_at e)) e.value.older e.value.age es chain.5 apart.1 n h (sym (found_tail n e es off) ∙ p)))
+      (newer_lies al (Some (node_at e)) e.value.older e.value.age es chain.6 apart.1 n h (sym (found_tail n e es off) ∙ p)))
       (cases_eq n (number_at e.at))
 
   -- the block after one
@@ -92,9 +92,9 @@ module _ {R A : Type 0} {N : ℕ} where
       ⊎_elim
       (λ here.
       let is : e.value.older ≡ Some m = ap (λ (x : Held R A N). x.value.older) (same_Some e h (sym (found_head n e es here) ∙ p)) ∙ q in
-      let lies = newest_lies al (Some (node_at e)) e.value.older e.value.age es chain.5 m is in
+      let lies = newest_lies al (Some (node_at e)) e.value.older e.value.age es chain.6 m is in
       behind n m e es apart.0 (lies, λ z. found_apart (number_of m) (number_at e.at) es lies.0 lies.1 apart.0 (z ∙ here)))
-      (λ off. behind n m e es apart.0 (older_lies al (Some (node_at e)) e.value.older e.value.age es chain.5 apart.1 n h (sym (found_tail n e es off) ∙ p) m q))
+      (λ off. behind n m e es apart.0 (older_lies al (Some (node_at e)) e.value.older e.value.age es chain.6 apart.1 n h (sym (found_tail n e es off) ∙ p) m q))
       (cases_eq n (number_at e.at))
 
   -- ---- the chain
@@ -118,13 +118,13 @@ module _ {R A : Type 0} {N : ℕ} where
       let gone : with_older b.newer b.older es ≡ es = with_older_absent b.newer b.older es (λ m q. free_none (number_of m) es (free m (sym before ∙ q)).1) in
       let list : unlinked n b (e ∷ es) ≡ with_newer e.value.older newer es =
       ap (λ w. with_newer b.older b.newer (with_older b.newer b.older w)) (without_head n e es here) ∙ ap (with_newer b.older b.newer) gone ∙ (λ i. with_newer (next i) (before i) es) in
-      let chained : IsChain al newer e.value.older bound (with_newer e.value.older newer es) = headed al (Some (node_at e)) newer e.value.older e.value.age bound es (omega arith) chain.5 in
+      let chained : IsChain al newer e.value.older bound (with_newer e.value.older newer es) = headed al (Some (node_at e)) newer e.value.older e.value.age bound es (omega arith) chain.6 in
       inl (before, subst (λ xs. IsChain al newer b.older bound xs) (sym list) (subst (λ o. IsChain al newer o bound (with_newer e.value.older newer es)) (sym next) chained)))
       (λ off.
       let later = sym (found_tail n e es off) ∙ p in
       let w = without_block n es in
       let far : (m : Node) → b.older ≡ Some m → number_of m ≢ number_at e.at = λ m q.
-      let r = older_lies al (Some (node_at e)) e.value.older e.value.age es chain.5 apart.1 n h later m q in found_apart (number_of m) (number_at e.at) es r.0.0 r.0.1 apart.0 in
+      let r = older_lies al (Some (node_at e)) e.value.older e.value.age es chain.6 apart.1 n h later m q in found_apart (number_of m) (number_at e.at) es r.0.0 r.0.1 apart.0 in
       ⊎_elim
       (λ r.
       let gone : with_older b.newer b.older w ≡ w = with_older_absent b.newer b.older w (λ m q.
@@ -137,7 +137,7 @@ module _ {R A : Type 0} {N : ℕ} where
       ∙ ap (with_newer b.older b.newer) (edit_head (number_at e.at) (λ x. record x { older = b.older }) e w refl)
       ∙ with_newer_tail b.older b.newer changed w far
       ∙ ap (λ xs. changed ∷ with_newer b.older b.newer xs) (sym gone) in
-      inr ((node_at e, r.0, ((e, found_head (number_at e.at) e es refl, refl), λ z. off (sym z))), subst (IsChain al newer newest bound) (sym list) (chain.0, chain.1, chain.2, chain.3, chain.4, r.1)))
+      inr ((node_at e, r.0, ((e, found_head (number_at e.at) e es refl, chain.5), λ z. off (sym z))), subst (IsChain al newer newest bound) (sym list) (chain.0, chain.1, chain.2, chain.3, chain.4, chain.5, r.1)))
       (λ r.
       let close : (m : Node) → b.newer ≡ Some m → number_of m ≢ number_at e.at = λ m q.
       let lies = r.0.2.0 in let number : number_of m ≡ number_of r.0.0 = ap number_of (same_Some m r.0.0 (sym q ∙ r.0.1)) in
@@ -146,8 +146,8 @@ module _ {R A : Type 0} {N : ℕ} where
       ap (λ xs. with_newer b.older b.newer (with_older b.newer b.older xs)) (without_tail n e es off)
       ∙ ap (with_newer b.older b.newer) (with_older_tail b.newer b.older e w close)
       ∙ with_newer_tail b.older b.newer e (with_older b.newer b.older w) far in
-      inr ((r.0.0, r.0.1, behind n r.0.0 e es apart.0 r.0.2), subst (IsChain al newer newest bound) (sym list) (chain.0, chain.1, chain.2, chain.3, chain.4, r.1)))
-      (unlink al (Some (node_at e)) e.value.older e.value.age es chain.5 apart.1 (λ m q. subst (IsFree es) (ap number_of (same_Some (node_at e) m q)) apart.0) n h later))
+      inr ((r.0.0, r.0.1, behind n r.0.0 e es apart.0 r.0.2), subst (IsChain al newer newest bound) (sym list) (chain.0, chain.1, chain.2, chain.3, chain.4, chain.5, r.1)))
+      (unlink al (Some (node_at e)) e.value.older e.value.age es chain.6 apart.1 (λ m q. subst (IsFree es) (ap number_of (same_Some (node_at e) m q)) apart.0) n h later))
       (cases_eq n (number_at e.at))
 
   -- ---- a removal

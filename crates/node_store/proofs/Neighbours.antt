@@ -118,7 +118,7 @@ module _ {R A : Type 0} {N : ℕ} where
   newest_lies al newer newest bound [] chain m q = absurd (let bad = sym chain ∙ q in cc)
   newest_lies al newer newest bound (e ∷ es) chain m q =
       let same : node_at e ≡ m = same_Some (node_at e) m (sym chain.0 ∙ q) in
-      (e, found_head (number_of m) e es (ap number_of (sym same)), ap (λ (n : Node). n.place.ptr) same)
+      (e, found_head (number_of m) e es (ap number_of (sym same)), chain.5 ∙ ap (λ (n : Node). n.place.ptr) same)
 
   -- ---- a chain under another block before it, and a higher bound
 
@@ -133,4 +133,5 @@ module _ {R A : Type 0} {N : ℕ} where
         chain.3,
         chain.4,
         chain.5,
+        chain.6,
       ))

@@ -14,7 +14,7 @@ use Rattle.node_store.proofs.Chain.{Held}
 module _ {R A : Type 0} {N : ℕ} where
   pub IsReached-chain : (al : A) (newer newest : Option Node) (bound : ℕ) (es : List (Held R A N)) → IsChain al newer newest bound es → IsReached al newest es
   IsReached-chain al newer newest bound [] chain = chain
-  IsReached-chain al newer newest bound (e ∷ es) chain = (chain.0, chain.3, IsReached-chain al (Some (node_at e)) e.value.older e.value.age es chain.5)
+  IsReached-chain al newer newest bound (e ∷ es) chain = (chain.0, chain.3, chain.5, IsReached-chain al (Some (node_at e)) e.value.older e.value.age es chain.6)
 
   pub none_reached : (al : A) (newest : Option Node) (es : List (Held R A N)) → IsReached al newest es → newest ≡ None → es ≡ []
   none_reached al newest [] is none = refl
@@ -29,7 +29,7 @@ module _ {R A : Type 0} {N : ℕ} where
     IsAt-newest [] is = absurd (let bad = sym some ∙ is in cc)
     IsAt-newest (e ∷ es) is =
         let same = newest_at e is.0 in
-        is_at (e ∷ es) n.place.ptr al e (found_head (number_of n) e es (ap number_of same)) (ap (λ (m : Node). m.place.ptr) (sym same)) is.1
+        is_at (e ∷ es) n.place.ptr al e (found_head (number_of n) e es (ap number_of same)) (is.2 ∙ ap (λ (m : Node). m.place.ptr) (sym same)) is.1
 
     -- there is one less without it
     pub fewer : (es : List (Held R A N)) → IsReached al newest es → length (without_block (number_of n) es) < length es
@@ -43,4 +43,4 @@ module _ {R A : Type 0} {N : ℕ} where
         let number : number_of n ≡ number_at e.at = ap number_of (newest_at e is.0) in
         let same : e ≡ lying n.place.ptr al b = same_Some e (lying n.place.ptr al b) (sym (found_head (number_of n) e es number) ∙ here) in
         subst (λ o. IsReached al o (without_block (number_of n) (e ∷ es))) (ap (λ (h : Held R A N). h.value.older) same)
-        (subst (IsReached al e.value.older) (sym (without_head (number_of n) e es number)) is.2)
+        (subst (IsReached al e.value.older) (sym (without_head (number_of n) e es number)) is.3)

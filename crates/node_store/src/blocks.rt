@@ -1,10 +1,10 @@
 //! Values in heap blocks of their own, each reached by its pointer.
-ghost use Rattle.std.specs.Prelude.{◌≡◌, ◌≤◌, List, [], ◌∷◌, Some};
+ghost use Rattle.std.specs.Prelude.{◌≡◌, ◌≤◌, ◌↔◌, IsTrue, List, [], ◌∷◌, Some};
 ghost use Rattle.std.specs.Borrow.{sem};
 ghost use Rattle.std.specs.Mem.{type_size};
 ghost use Rattle.std.specs.Ptr.{null_ptr};
 ghost use Rattle.std_alloc.specs.Box.{box_allocator};
-ghost use denote.RawPtr.{block_of as number_at};
+ghost use denote.RawPtr.{block_of as number_at, Testable};
 ghost use Rattle.node_store.specs.Blocks.{Lying, lying, found_in, without_block, LiesAt, IsAt, LieApart, LieAtStarts};
 ghost use Rattle.node_store.specs.Ownership.{blocks_own, blocks_lent};
 
@@ -29,6 +29,15 @@ impl Place {
         Place {
             ptr: std::ptr::null(),
         }
+    }
+
+    /// Whether it is null.
+    #[inline(always)]
+    pub(crate) fn is_nowhere(self) -> bool
+        requires { Testable self.ptr }
+        ensures { IsTrue result ↔ (self.ptr ≡ null_ptr) }
+    {
+        self.ptr.is_null()
     }
 }
 

@@ -8,19 +8,18 @@
 
 ghost use Rattle.std.specs.Prelude.{◌≡◌, ◌+◌, ◌<◌, ◌≤◌, ◌^◌, max, IfOk, IfErr, OnOk, OnErr, Some, IsTrue, ◌↔◌};
 ghost use Rattle.std.specs.Borrow.{sem};
-ghost use Rattle.node_store.specs.Store.{no_link, aged, age_of, IsNodeOf, IsStore, len_of, empty_store, width_of};
-ghost use Rattle.node_store.specs.Age.{last_below};
-ghost use Rattle.node_store.specs.Column.{IsNode, IsPut, KeepsOthers};
-ghost use Rattle.node_store.specs.ByNode.{is_nowhere, column_of, record_of, contents, AddsNode, RemovesNode};
+ghost use denote.RawPtr.{block_ptr, block_of as number_at};
 
 mod blocks;
 mod digest;
+mod maybe;
 mod shelf;
 mod shelves;
 mod stored;
 
 use blocks::Place;
 pub use digest::Digest;
+pub use maybe::MaybeNode;
 use shelf::Shelf;
 use shelves::Shelves;
 use std::alloc::Global;
@@ -35,7 +34,8 @@ pub const COLUMNS: usize = 8;
 /// store.
 #[derive(Clone, Copy)]
 pub struct Node {
-    place: Place,
+    pub(crate) place: Place,
+    ghost start: { place.ptr ≡ block_ptr (number_at place.ptr) 0 },
 }
 
 /// The links of one node in one column, with three values that the layer above keeps there.
@@ -94,17 +94,19 @@ impl<R> Model for NodeStore<R> {
 }
 
 impl Node {
-    /// A value for places that have no node. It is no node of any store.
-    pub fn nowhere() -> Node
-        ensures { IsTrue (is_nowhere result) }
+    // The node whose block begins there.
+    #[inline(always)]
+    pub(crate) fn at(place: Place) -> Node
+        requires { place.ptr ≡ block_ptr (number_at place.ptr) 0 }
+        ensures { result.place ≡ place }
     {
-        Node {
-            place: Place::nowhere(),
-        }
+        Node { place }
     }
 }
 
 impl Link {
+    ghost use Rattle.node_store.specs.Store.{no_link};
+
     /// Links to no node, with tag, height and digest 0.
     pub fn empty() -> Link
         ensures { result ≡ no_link }
@@ -121,6 +123,10 @@ impl Link {
 }
 
 impl<R> NodeStore<R> {
+    ghost use Rattle.node_store.specs.Store.{aged, age_of, IsNodeOf, IsStore, len_of, empty_store, width_of};
+    ghost use Rattle.node_store.specs.Age.{last_below};
+    ghost use Rattle.node_store.specs.Column.{IsNode, IsPut, KeepsOthers};
+    ghost use Rattle.node_store.specs.ByNode.{column_of, record_of, contents};
     ghost use Rattle.node_store.specs.Lends.{lends_record};
     ghost use Rattle.node_store.specs.declared.Node.{Node};
     ghost use Rattle.node_store.specs.declared.Link.{Link};
@@ -255,6 +261,9 @@ impl<R> NodeStore<R> {
 }
 
 impl<R: Drop> NodeStore<R> {
+    ghost use Rattle.node_store.specs.Store.{age_of, IsNodeOf, len_of};
+    ghost use Rattle.node_store.specs.ByNode.{record_of, AddsNode, RemovesNode};
+
     /// Adds a node with empty links in each column. Where there is no memory for its block, the record is handed
     /// back and the store stays as it was.
     pub fn add(&mut self, value: R) -> Result<Node, NoRoom<R>>

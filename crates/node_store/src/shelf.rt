@@ -9,7 +9,7 @@ ghost use Rattle.node_store.specs.Chain.{HasBlock, with_older, with_newer, newes
 
 use crate::blocks::Blocks;
 use crate::stored::{Row, Stored};
-use crate::{Link, NoRoom, Node};
+use crate::{Link, MaybeNode, NoRoom, Node};
 use std::alloc::{AllocFailed, Global};
 use std::marker::Model;
 
@@ -18,8 +18,8 @@ use std::marker::Model;
 #[derive(Drop)]
 pub(crate) struct Block<R, L> {
     age: u64,
-    older: Option<Node>,
-    newer: Option<Node>,
+    older: MaybeNode,
+    newer: MaybeNode,
     value: R,
     links: L,
 }
@@ -28,7 +28,7 @@ pub(crate) struct Block<R, L> {
 pub(crate) struct Shelf<R, const N: usize> {
     heap: Blocks<Block<R, Row<N>>, Global>,
     alloc: Global,
-    newest: Option<Node>,
+    newest: MaybeNode,
     len: usize,
     added: u64,
 }
@@ -48,30 +48,30 @@ impl<R, const N: usize> Model for Shelf<R, N> {
 }
 
 // Names the node that was added before `n`, if there is one.
-fn set_older<R, L>(blocks: &mut Blocks<Block<R, L>, Global>, n: Option<Node>, older: Option<Node>)
+fn set_older<R, L>(blocks: &mut Blocks<Block<R, L>, Global>, n: MaybeNode, older: MaybeNode)
     requires { HasBlock n blocks.old.held }
     ensures { blocks.new.held ≡ with_older n older blocks.old.held }
 {
-    if let Some(n) = n {
+    if let Some(n) = n.node() {
         blocks.get_mut(n.place).older = older;
     }
 }
 
 // Names the node that was added after `n`, if there is one.
-fn set_newer<R, L>(blocks: &mut Blocks<Block<R, L>, Global>, n: Option<Node>, newer: Option<Node>)
+fn set_newer<R, L>(blocks: &mut Blocks<Block<R, L>, Global>, n: MaybeNode, newer: MaybeNode)
     requires { HasBlock n blocks.old.held }
     ensures { blocks.new.held ≡ with_newer n newer blocks.old.held }
 {
-    if let Some(n) = n {
+    if let Some(n) = n.node() {
         blocks.get_mut(n.place).newer = newer;
     }
 }
 
 // The newest node once the one between `newer` and `older` has gone.
-fn newest_between(newer: Option<Node>, older: Option<Node>, newest: Option<Node>) -> Option<Node>
+fn newest_between(newer: MaybeNode, older: MaybeNode, newest: MaybeNode) -> MaybeNode
     ensures { result ≡ newest_without newer older newest }
 {
-    match newer {
+    match newer.node() {
         Some(_) => newest,
         None => older,
     }
@@ -90,7 +90,7 @@ impl<R, const N: usize> Shelf<R, N> {
         Shelf {
             heap: Blocks::new(),
             alloc,
-            newest: None,
+            newest: MaybeNode::none(),
             len: 0,
             added: 0,
         }
@@ -127,7 +127,7 @@ impl<R, const N: usize> Shelf<R, N> {
     pub(crate) fn newest(&self) -> Option<Node>
         ensures { result ≡ last_below (aged self.now) self.now.added }
     {
-        self.newest
+        self.newest.node()
     }
 
     // The node that was added last before `n`, of those that are there.
@@ -135,7 +135,7 @@ impl<R, const N: usize> Shelf<R, N> {
         requires { IsNodeOf self.now n }
         ensures { result ≡ last_below (aged self.now) (age_of self.now n) }
     {
-        self.heap.get(n.place).older
+        self.heap.get(n.place).older.node()
     }
 
     // The node's record.
@@ -209,7 +209,7 @@ impl<R: Drop, const N: usize> Shelf<R, N> {
         let block = Block {
             age: self.added,
             older: self.newest,
-            newer: None,
+            newer: MaybeNode::none(),
             value,
             links: Row {
                 row: [Stored::of(Link::empty()); N],
@@ -220,9 +220,10 @@ impl<R: Drop, const N: usize> Shelf<R, N> {
                 let (place, _) = self.heap.put(boxed);
                 self.heap.lie_apart();
                 self.heap.lie_at_starts();
-                let node = Node { place };
-                set_newer(&mut self.heap, self.newest, Some(node));
-                self.newest = Some(node);
+                let node = Node::at(place);
+                let newest = MaybeNode::of(Some(node));
+                set_newer(&mut self.heap, self.newest, newest);
+                self.newest = newest;
                 self.len += 1;
                 self.added += 1;
                 Ok(node)
@@ -268,7 +269,7 @@ impl<R: Drop, const N: usize> Drop for Shelf<R, N> {
             len: _,
             added: _,
         } = self;
-        while let Some(n) = newest {
+        while let Some(n) = newest.node() {
             let block = Box::into_inner(heap.take(n.place, alloc));
             newest = block.older;
         }

@@ -19,7 +19,7 @@ returns-then-is_empty-clause-chain g c =
     let i = c.raise_level.new.self in
     let none = eqb-true i.chains.len 0 (sym c.is_empty.ensures ∙ c.if-is_empty.true) in
     let sound = same_sound (column_of c.args.store.now) c.args.self.now i c.raise_level.ensures.same c.requires.chain in
-    first_chain (column_of c.args.store.now) i _ _ none c.none.ensures c.push_reserved.ensures.heads (omega (arith, sound.load, none))
+    first_chain (column_of c.args.store.now) i _ _ none c.none.ensures.first c.push_reserved.ensures.heads (omega (arith, sound.load, none))
 
 pub returns-then-is_empty-clause-list : goal.returns-then-is_empty-clause-list
 returns-then-is_empty-clause-list g c =
@@ -28,7 +28,7 @@ returns-then-is_empty-clause-list g c =
     let none = eqb-true i.chains.len 0 (sym c.is_empty.ensures ∙ c.if-is_empty.true) in
     let sound = same_sound (column_of c.args.store.now) c.args.self.now i c.raise_level.ensures.same c.requires.chain in
     let len : i.len ≡ 0 = omega (arith, sound.load, none) in
-    let new = first_chain {ages = age_of c.args.store.now} (column_of c.args.store.now) i _ _ none c.none.ensures c.push_reserved.ensures.heads len in
+    let new = first_chain {ages = age_of c.args.store.now} (column_of c.args.store.now) i _ _ none c.none.ensures.first c.push_reserved.ensures.heads len in
     let was = sym (same_spelled (column_of c.args.store.now) c.args.self.now i c.raise_level.ensures.same c.requires.chain) ∙ no_nodes (column_of c.args.store.now) i sound len in
     subst (λ (z : List Node). IsPermutation (spelled (column_of c.args.store.now) c.args.self.now) z) (was ∙ sym (no_nodes (column_of c.args.store.now) _ new len)) (IsPermutation-refl (spelled (column_of c.args.store.now) c.args.self.now))
 
@@ -38,7 +38,7 @@ returns-then-is_empty-clause-order g c = λ b.
     let none = eqb-true i.chains.len 0 (sym c.is_empty.ensures ∙ c.if-is_empty.true) in
     let sound = same_sound (column_of c.args.store.now) c.args.self.now i c.raise_level.ensures.same c.requires.chain in
     let len : i.len ≡ 0 = omega (arith, sound.load, none) in
-    let new = first_chain {ages = age_of c.args.store.now} (column_of c.args.store.now) i _ _ none c.none.ensures c.push_reserved.ensures.heads len in
+    let new = first_chain {ages = age_of c.args.store.now} (column_of c.args.store.now) i _ _ none c.none.ensures.first c.push_reserved.ensures.heads len in
     let was = sym (same_spelled (column_of c.args.store.now) c.args.self.now i c.raise_level.ensures.same c.requires.chain) ∙ no_nodes (column_of c.args.store.now) i sound len in
     ap (members (column_of c.args.store.now (col_of c.args.self.now)) _ b) (no_nodes (column_of c.args.store.now) _ new len ∙ sym was)
 

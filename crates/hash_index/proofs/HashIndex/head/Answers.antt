@@ -10,7 +10,7 @@ pub returns-then-is_empty-clause-first : goal.returns-then-is_empty-clause-first
 returns-then-is_empty-clause-first c =
     let i = c.args.self.now in
     let none = eqb-true i.chains.len 0 (sym c.is_empty.ensures ∙ c.if-is_empty.true) in
-    c.none.ensures ∙ sym (ap (λ hs. option_and_then (start_in c.args.hash) (slice_get hs (leads_to i c.args.hash))) (none_long (all_of i) (omega (arith, none, i.chains.ok))))
+    c.none.ensures.first ∙ sym (ap (λ hs. option_and_then (start_in c.args.hash) (slice_get hs (leads_to i c.args.hash))) (none_long (all_of i) (omega (arith, none, i.chains.ok))))
 
 pub returns-clause-first : goal.returns-clause-first
 returns-clause-first c = c.seen.ensures.first ∙ ap (λ b. option_and_then (start_in c.args.hash) (slice_get (all_of c.args.self.now) b)) c.chain.ensures.is

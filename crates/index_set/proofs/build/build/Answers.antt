@@ -1,6 +1,5 @@
 use Rattle.std.proofs.Common.{sym, subst, refl, ◌∙◌, arith}
 use Rattle.std.specs.Prelude.{IsTrue}
-use Rattle.std.proofs.lemmas.List.{get_or_default}
 use Rattle.std.specs.declared.cmp.Ordering.{Ordering}
 use Rattle.list_model.proofs.Lists.{All-at}
 use Rattle.container_model.specs.State.{has_key_kind}
@@ -39,7 +38,9 @@ loop-n-init g c =
     }
 
 pub get-requires : goal.get-requires
-get-requires g c = IsNodeOf_kept c.args.store.now c.loop-n.store _ c.loop-n.invariant.contents (All-at (IsNodeOf c.args.store.now) c.args.nodes.now c.loop-n.n-index _ c.loop-n-test.true c.requires.nodes)
+get-requires g c =
+    subst (IsNodeOf c.loop-n.store) (sym c.n-item.is)
+    (IsNodeOf_kept c.args.store.now c.loop-n.store _ c.loop-n.invariant.contents (All-at (IsNodeOf c.args.store.now) c.args.nodes.now c.loop-n.n-index c.n-item.result c.loop-n-test.true c.requires.nodes))
 
 pub rival-requires : goal.rival-requires
 rival-requires g c one =
@@ -61,7 +62,7 @@ pub returns-in-Some-clause-cause : goal.returns-in-Some-clause-cause
 returns-in-Some-clause-cause g c = (
   tt,
   built_clash (g.E.Extract.order_of c.args.keys.now) (marks_of g.E.Extract c.args.keys.now) c.args.store.now c.args.spec c.args.column c.args.index c.args.nodes.now c.loop-n.n-index c.loop-n.store c.loop-n.made c.loop-n.invariant
-      _ c.loop-n-test.true (get_or_default c.args.nodes.now c.loop-n.n-index _ _ c.loop-n-test.true) c.get.result.now c.get.ensures c.requires.unique
+      _ c.loop-n-test.true c.n-item.is c.get.result.now c.get.ensures c.requires.unique
       (λ has. g.met.E.Extract.order_total c.args.keys.now c.args.index (c.requires.key has)) c.rival.result c.in-Some.first c.rival.ensures c.in-Some.is,
 )
 
@@ -88,10 +89,11 @@ enter-requires-clause-node g c =
       room = r.room;
       node =
           node_in_column c.reserve_one.new.store (col_of c.reserve_one.new.self) _ (omega (arith, c.requires.wide, kept, at))
-          (IsNodeOf_kept c.args.store.now c.reserve_one.new.store _ same (All-at (IsNodeOf c.args.store.now) c.args.nodes.now c.loop-n.n-index _ c.loop-n-test.true c.requires.nodes));
+          (subst (IsNodeOf c.reserve_one.new.store) (sym c.n-item.is)
+          (IsNodeOf_kept c.args.store.now c.reserve_one.new.store _ same (All-at (IsNodeOf c.args.store.now) c.args.nodes.now c.loop-n.n-index c.n-item.result c.loop-n-test.true c.requires.nodes)));
       new =
           built_lacks order marks c.args.store.now c.args.spec c.args.column c.args.index c.args.nodes.now c.loop-n.n-index c.reserve_one.new.store c.reserve_one.new.self room _ c.loop-n-test.true
-          (get_or_default c.args.nodes.now c.loop-n.n-index _ _ c.loop-n-test.true) c.requires.distinct;
+          c.n-item.is c.requires.distinct;
     }
 
 pub loop-n-preserved : goal.loop-n-preserved
@@ -105,7 +107,7 @@ loop-n-preserved g c =
     let b = c.loop-n.invariant in
     let r = c.in-Ok.ensures in
     let e = c.enter.ensures in
-    let is = get_or_default ns k _ _ lt in
+    let is = c.n-item.is in
     let room =
     built_room order marks s c.args.spec c.args.column c.args.index ns k c.loop-n.store c.reserve_one.new.store c.loop-n.made c.reserve_one.new.self b
     r.rest.col r.rest.kind r.rest.index r.rest.others r.rest.contents r.sound (r.keyed order marks b.keyed) r.list in

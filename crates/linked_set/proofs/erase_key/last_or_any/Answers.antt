@@ -1,8 +1,11 @@
-use Rattle.std.proofs.Common.{◌≡◌, ap, ◌∙◌, sym, rules}
+use Rattle.std.proofs.Common.{◌≡◌, None, ap, ◌∙◌, sym, rules}
 use Rattle.std.specs.declared.cmp.Ordering.TheVariants.{Equal}
 use Rattle.node_store.specs.Store.{IsNodeOf}
 use Rattle.any_index.specs.At.{list_in}
 use Rattle.index_set.specs.Set.{store_of, keys_of, record_of, kind_at}
+use Rattle.list_model.specs.Place.{find_equal}
+use Rattle.index_set.specs.ByRow.{probe_by_row}
+use Rattle.index_set.proofs.AtIndex.{sought_at}
 use Rattle.index_set.proofs.Reading.{has_its_key}
 use Rattle.index_set.proofs.Sinking.{by_key_kind}
 use Rattle.linked_set.proofs.Places.{some_last}
@@ -32,3 +35,7 @@ returns-then-eq-clause-found g c =
       side_said (record_of set) (λ a. g.E.Extract.probe_order_of (keys_of set).keys c.args.index a.row c.args.probe.now) c.in-Some.node c.get.result.now c.order_probe.result (rw c.store.ensures at c.get.ensures)
           (c.order_probe.ensures ∙ ap (λ by. g.E.Extract.probe_order_of by.keys c.args.index c.get.result.now.row c.args.probe.now) c.keys.ensures) ∙ equal,
     )
+
+pub returns-clause-none : goal.returns-clause-none
+returns-clause-none g c = λ none.
+    sym (sought_at c.args.set.now c.args.index c.at-2.result c.at-2.ensures c.requires.kind find_equal (probe_by_row g.E.Extract.probe_order_of) c.args.probe.now None (sym (c.find_any.ensures.none none)))

@@ -10,9 +10,10 @@ use Rattle.node_store.proofs.shelf.set_older.Goals as goal
 pub returns-in-Some : goal.returns-in-Some
 returns-in-Some g c =
     let es = c.args.blocks.now.held in
+    let is = sym c.node.ensures ∙ c.in-Some.is in
     let k = number_at c.in-Some.n.place.ptr in
-    let has : LiesAt es c.in-Some.n.place.ptr = subst (λ o. HasBlock o es) c.in-Some.is c.requires in
+    let has : LiesAt es c.in-Some.n.place.ptr = subst (λ o. HasBlock o es) is c.requires in
     let b = found (found_in k es) has in
     ap (λ (x : Block g.row.R.Denot g.row.L.Denot). with_block k (record x { older = c.args.older }) es) (c.get_mut.ensures.value b.0 b.1)
     ∙ with_edit k (λ x. record x { older = c.args.older }) es b.0 b.1
-    ∙ sym (ap (λ o. with_older o c.args.older es) c.in-Some.is)
+    ∙ sym (ap (λ o. with_older o c.args.older es) is)

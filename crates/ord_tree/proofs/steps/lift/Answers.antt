@@ -5,6 +5,7 @@ use Rattle.ord_tree.specs.Steps.{IsHeightOver}
 use Rattle.ord_tree.proofs.TreeLinks.{AreNodes-root}
 use Rattle.ord_tree.proofs.Rotations.{IsAt-height}
 use Rattle.ord_tree.proofs.Resting.{IsAt-tag}
+use Rattle.ord_tree.proofs.Digested.{put_digests}
 use Rattle.ord_tree.proofs.Rising.{graft_nodes, graft_new}
 use Rattle.ord_tree.proofs.Lifting.{sided, Sides-of, moved_tag, lifted_kept, lifted_turned}
 use Rattle.ord_tree.proofs.steps.lift.Goals as goal
@@ -56,3 +57,6 @@ set_up-requires g c = λ m e.
 
 pub returns-clause-tree : goal.returns-clause-tree
 returns-clause-tree g c = λ path was now h. lifted_turned g.T.Tally.of _ _ _ c.args.n c.link-link.result c.in_order-a.result c.child-other.result path was now c.balance-top.result (sided g.T.Tally.of _ c.args.n _ _ _ _ c.link-link.result c.in_order-a.result c.child-other.result path was now h c.link-link.ensures (c.child-other.ensures c.link-link.result c.link-link.ensures) c.in_order-a.ensures) c.balance-top.ensures.tree c.set_up.ensures.up
+
+pub returns-in-Some-clause-digests : goal.returns-in-Some-clause-digests
+returns-in-Some-clause-digests g c = put_digests _ _ _ _ _ c.link-link.ensures c.set_link.ensures.put refl

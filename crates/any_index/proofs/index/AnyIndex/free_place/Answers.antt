@@ -28,3 +28,9 @@ pub returns-in-None-clause-free : goal.returns-in-None-clause-free
 returns-in-None-clause-free g c =
     let filed = rw c.in-Hashed.is at c.requires in
     rw c.in-Hashed.is (sym (c.same_as.ensures ∙ same_in g.E.Extract c.args.store.now c.args.keys.now c.in-Hashed.buckets (g.met.E.Extract.order_total c.args.keys.now _) None c.args.r.now filed) ∙ c.in-None.is)
+
+pub returns-in-Ordered-clause-free : goal.returns-in-Ordered-clause-free
+returns-in-Ordered-clause-free g c = rw c.in-Ordered.is c.free_place.ensures.free
+
+pub returns-in-Ranked-clause-free : goal.returns-in-Ranked-clause-free
+returns-in-Ranked-clause-free g c = rw c.in-Ranked.is c.free_place-in-Ranked.ensures.free

@@ -11,3 +11,9 @@ pub returns-in-Hashed-clause-keyed : goal.returns-in-Hashed-clause-keyed
 returns-in-Hashed-clause-keyed g c = λ order marks h.
     let keyed = rw c.in-Hashed.is at h in
     keeps_hashed (λ k. hash_by (marks k)) c.args.store.now c.reserve_one-in-Hashed.new.store c.in-Hashed.buckets c.reserve_one-in-Hashed.new.self c.reserve_one-in-Hashed.ensures.rest.index c.reserve_one-in-Hashed.ensures.rest.col c.reserve_one-in-Hashed.ensures.tags c.reserve_one-in-Hashed.ensures.rest.contents c.reserve_one-in-Hashed.ensures.list keyed
+
+pub returns-in-Ordered-clause-full : goal.returns-in-Ordered-clause-full
+returns-in-Ordered-clause-full g c = rw c.in-Ordered.is c.reserve_one-in-Ordered.ensures.full
+
+pub returns-in-Ranked-clause-full : goal.returns-in-Ranked-clause-full
+returns-in-Ranked-clause-full g c = rw c.in-Ranked.is c.reserve_one-in-Ranked.ensures.full

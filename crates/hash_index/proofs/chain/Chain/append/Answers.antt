@@ -1,11 +1,12 @@
 use Rattle.std.proofs.Common.{◌≡◌, true, false, Some, None, sym, ap, ◌∙◌}
 use Rattle.std.specs.Prelude.{nat_lt}
-use Rattle.std.specs.Option.{option_map_or}
+use Rattle.std.specs.Option.{option_map, option_map_or}
 use Rattle.node_store.specs.Store.{age_of}
 use Rattle.hash_index.proofs.Rising.{rises_appended}
 use Rattle.node_store.specs.Nodes.{last_or}
 use Rattle.node_store.specs.ByNode.{column_of}
 use Rattle.seq_index.specs.Links.{end_beside}
+use Rattle.hash_index.proofs.Untagged.{tag_of, seen_put}
 use Rattle.hash_index.proofs.Cutting.{append_runs, first_appended, last_appended}
 use Rattle.hash_index.proofs.chain.Chain.append.Goals as goal
 use Rattle.node_store.proofs.ByNode.{node_of_column}
@@ -29,3 +30,8 @@ is_after-rises-requires-clause-last g c = λ m e. node_of_column c.args.store.no
 
 pub is_after-rises-requires-clause-node : goal.is_after-rises-requires-clause-node
 is_after-rises-requires-clause-node g c = node_of_column c.args.store.now c.args.col c.args.n c.requires.node
+
+pub returns-clause-tags : goal.returns-clause-tags
+returns-clause-tags g c = λ m.
+    c.set_next.ensures.tags m
+    ∙ seen_put (option_map tag_of) _ _ _ _ _ c.requires.node.is c.set_link.ensures.put (sym c.requires.hash ∙ ap (option_map tag_of) c.requires.node.is) m

@@ -11,4 +11,5 @@ returns-clause-heads c =
     let s = c.args.self.now in
     ap (λ ms. paired ms c.push_reserved-2.new.self.items) c.push_reserved.ensures.items
     ∙ (ap (paired (s.marks.items ++ c.args.head.mark ∷ [])) c.push_reserved-2.ensures.items
-    ∙ paired-last s.marks.items s.nodes.items c.args.head (omega (arith, s.marks.ok.0, s.nodes.ok.0, s.as_many)))
+    ∙ (ap (λ o. paired (s.marks.items ++ c.args.head.mark ∷ []) (s.nodes.items ++ o ∷ [])) c.of.ensures
+    ∙ paired-last s.marks.items s.nodes.items c.args.head (omega (arith, s.marks.ok.0, s.nodes.ok.0, s.as_many))))

@@ -9,7 +9,7 @@ pub returns-then-passes-clause-first : goal.returns-then-passes-clause-first
 returns-then-passes-clause-first c =
     let s = c.args.self.now in
     let at = item_at s.marks.items c.args.place c.index.result.now (omega (arith, count_is s, c.requires)) c.index.ensures in
-    c.none.ensures ∙ sym (passed_at s.marks.items s.nodes.items c.args.place c.index.result.now c.args.hash at (sym c.passes.ensures ∙ c.if-passes.true))
+    c.none.ensures.first ∙ sym (passed_at s.marks.items s.nodes.items c.args.place c.index.result.now c.args.hash at (sym c.passes.ensures ∙ c.if-passes.true))
 
 pub returns-clause-first : goal.returns-clause-first
 returns-clause-first c =

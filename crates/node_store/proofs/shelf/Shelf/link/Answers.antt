@@ -1,5 +1,5 @@
 use Rattle.std.proofs.Common.{Some, ap, ◌∙◌, sym, arith}
-use Rattle.node_store.proofs.Fields.{linked_there, there, link_read}
+use Rattle.node_store.proofs.Fields.{linked_there, in_row, there, link_read}
 use Rattle.node_store.proofs.shelf.Shelf.link.Goals as goal
 
 pub get-requires : goal.get-requires
@@ -13,3 +13,6 @@ offset_bounds-get-col g c = omega (arith, there c.self.invariant c.self.view_is 
 
 pub returns : goal.returns
 returns g c = link_read c.self.invariant c.self.view_is c.args.n c.args.col c.requires c.get.result.now c.get.ensures _ ∙ ap Some (sym c.link.ensures)
+
+pub listed : goal.listed
+listed g c = in_row c.self.invariant c.self.view_is c.args.n c.args.col c.requires c.get.result.now c.get.ensures

@@ -10,7 +10,7 @@ use Rattle.node_store.proofs.shelf.Shelf.remove.Goals as goal
 pub take-block-requires : goal.take-block-requires
 take-block-requires g c =
     let es = c.self.inside.heap.held in
-    let b = node_block es c.self.inside.added c.args.n (rw (← c.self.view_is) at c.requires) in
+    let b = node_block c.self.invariant c.args.n (rw (← c.self.view_is) at c.requires) in
     is_at es c.args.n.place.ptr c.self.inside.alloc b.0 b.1 b.2 (chain_block _ _ _ _ _ c.self.invariant.chain (number_of c.args.n) b.0 b.1).0
 
 pub set_older-requires : goal.set_older-requires

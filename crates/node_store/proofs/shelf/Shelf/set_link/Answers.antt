@@ -1,5 +1,5 @@
 use Rattle.std.proofs.Common.{arith}
-use Rattle.node_store.proofs.Fields.{linked_there, there, IsSound-linked, IsLinked-written}
+use Rattle.node_store.proofs.Fields.{linked_there, in_row, there, IsSound-linked, IsLinked-written}
 use Rattle.node_store.proofs.shelf.Shelf.set_link.Goals as goal
 
 pub get_mut-changed-requires : goal.get_mut-changed-requires
@@ -18,3 +18,6 @@ pub returns : goal.returns
 returns g c =
     let w = IsLinked-written c.self.invariant c.self.view_is c.args.n c.args.col c.requires c.get_mut-changed.result.now c.get_mut-changed.ensures.value c.of.result c.args.link c.of.ensures in
     record { put = w.put; others = w.others; contents = w.contents }
+
+pub listed : goal.listed
+listed g c = in_row c.self.invariant c.self.view_is c.args.n c.args.col c.requires c.get_mut-changed.result.now c.get_mut-changed.ensures.value

@@ -1,5 +1,5 @@
 use Rattle.std.proofs.Common.{arith}
-use Rattle.node_store.proofs.Fields.{linked_there, there, IsSound-linked, IsLinked-tagged}
+use Rattle.node_store.proofs.Fields.{linked_there, in_row, there, IsSound-linked, IsLinked-tagged}
 use Rattle.node_store.proofs.shelf.Shelf.set_tag.Goals as goal
 
 pub get_mut-changed-requires : goal.get_mut-changed-requires
@@ -19,3 +19,6 @@ returns g c =
     let tagged = IsLinked-tagged c.self.invariant c.self.view_is c.args.n c.args.col c.requires c.get_mut-changed.result.now c.get_mut-changed.ensures.value _ c.set_tag.new.self c.args.tag c.set_tag.ensures in
     let w = tagged c.requires.block c.requires.is in
     record { put = λ link is. (tagged link is).put; others = w.others; contents = w.contents }
+
+pub listed : goal.listed
+listed g c = in_row c.self.invariant c.self.view_is c.args.n c.args.col c.requires c.get_mut-changed.result.now c.get_mut-changed.ensures.value
