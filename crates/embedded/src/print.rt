@@ -16,7 +16,7 @@ pub fn placed<R: Runtime>(
 ) -> io::Result<()> {
     match answer {
         Ok(handle) => println!(rt; "order {} lies in slot {}", order.id, handle.slot),
-        Err(refused) => println!(rt; "order {} is refused: {:?}", order.id, refused.why),
+        Err(refused) => println!(rt; "order {} is refused: {refused}", order.id),
     }
 }
 
@@ -43,7 +43,7 @@ pub fn orders<R: Runtime>(
 ) -> io::Result<()> {
     match handles {
         Ok(handles) => lines(rt, book, &handles),
-        Err(why) => println!(rt; "no orders: {why:?}"),
+        Err(why) => println!(rt; "no orders: {why}"),
     }
 }
 
@@ -58,7 +58,7 @@ pub fn amended<R: Runtime>(
             "order {} bid {}, and now {}",
             old.id, old.price, order.price
         ),
-        Err(refused) => println!(rt; "order {} is refused: {:?}", order.id, refused.why),
+        Err(refused) => println!(rt; "order {} is refused: {refused}", order.id),
     }
 }
 
@@ -76,7 +76,7 @@ pub fn renumbered<R: Runtime>(
                 row.owner, by.slot
             )
         }
-        Err(why) => println!(rt; "no order gets number {id}: {why:?}"),
+        Err(why) => println!(rt; "no order gets number {id}: {why}"),
     }
 }
 
@@ -89,6 +89,6 @@ pub fn tried<R: Runtime>(
 ) -> io::Result<()> {
     match answer {
         Ok(()) => println!(rt; "order {} has number {id} now", edit.id),
-        Err(why) => println!(rt; "number {} is refused: {why:?}", edit.id),
+        Err(why) => println!(rt; "number {} is refused: {why}", edit.id),
     }
 }

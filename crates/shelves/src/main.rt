@@ -21,7 +21,7 @@ fn put_all<R: Runtime>(rt: &R, items: &mut Indexed<Item>) -> io::Result<()> {
     for (sku, shelf, due) in ITEMS {
         match items.insert(Item { sku, shelf, due }) {
             Ok(handle) => println!(rt; "item {sku}: slot {}", handle.slot)?,
-            Err(refused) => println!(rt; "item {sku}: {:?}", refused.why)?,
+            Err(refused) => println!(rt; "item {sku}: {refused}")?,
         }
     }
     Ok(())

@@ -1,5 +1,6 @@
 //! Indices of a table that is there.
 ghost use Rattle.std.specs.Prelude.{◌≡◌, IfOk, IfErr, Some, option_map};
+ghost use Rattle.table_schema.specs.declared.define.DefineFault.TheVariants.{Memory as OutOfMemory};
 ghost use Rattle.table_schema.specs.Defined.{given_key, defined, IsFault, IsNewIndex};
 
 use crate::column::{Column, IndexSpec};
@@ -8,14 +9,26 @@ use crate::names::is_new_name;
 use crate::resolve::{is_good_key, key_of_texts};
 use container_model::Kind;
 use key_extract::{KeySpec, Text};
+use std::alloc::AllocError;
+use thiserror::Error;
 
 /// Why an index is not defined.
-#[derive(Clone, Copy, Debug, PartialEq, Eq)]
+#[derive(Clone, Copy, Debug, PartialEq, Eq, Error)]
 pub enum DefineFault {
     /// There are eight indices, the name is none or an index's, or the key is none for the kind.
+    #[error("there are eight indices, the name is none or an index's, or the key is none for the kind")]
     Definition,
     /// Memory was refused.
+    #[error("out of memory")]
     Memory,
+}
+
+impl From<AllocError> for DefineFault {
+    ghost from_gives = { λ _ why. why ≡ OutOfMemory };
+
+    fn from(_error: AllocError) -> DefineFault {
+        DefineFault::Memory
+    }
 }
 
 // The key that the texts name, where they may be the parts of one, or that there is none.

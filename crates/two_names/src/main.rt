@@ -43,7 +43,7 @@ fn put_all(rt: &HostRuntime, words: &mut Indexed<Word>) -> io::Result<()> {
     for (english, spanish) in WORDS {
         match words.insert(Word { english, spanish }) {
             Ok(_) => println!(rt; "{english} is {spanish}")?,
-            Err(refused) => println!(rt; "{english}: {:?}", refused.why)?,
+            Err(refused) => println!(rt; "{english}: {refused}")?,
         }
     }
     Ok(())
