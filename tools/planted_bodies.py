@@ -1,12 +1,15 @@
 """Bodies that no clause refuses, each a change of a few lines, with the program whose stored output shows it.
 
-A plant is a program and its changes: a file, a text that stands there once, and what comes in its place.
+A plant is a program or a tool, and its changes: a file, a text that stands there once, and what comes in its place.
 """
 
 GATES, SENT, SHARED, TEXTS, RUNS, INDICES = "gate_cases", "stream_cases", "shared_cases", "text_cases", "container_runs", "index_tests"
+# Tools that drive the built server, or build it with changes of their own.
+ACCEPTS, PATHS, MISMATCHES = "run_refused_accepts", "run_journal_paths", "run_mismatches"
 
 CALLS, ON = "crates/shared_tables/src/shared.rt", "crates/table_sockets/src/serving.rt"
-GATHER = "crates/shared_tables/src/gathering.rt"
+GATHER, LOCKS, CELL = "crates/shared_tables/src/gathering.rt", "crates/shared_tables/src/locks.rt", "crates/shared_tables/src/cell.rt"
+SERVE, BESIDE, FAULT = "crates/table_server/src/serve.rt", "crates/table_server/src/beside.rt", "crates/table_server/src/fault.rt"
 SHELF = "crates/node_store/src/shelf.rt"
 
 NEXT = "            newest = block.older;\n"
@@ -15,6 +18,15 @@ ENTER = "        self.gate.enter(place, pass.session);\n"
 STEP = "        cell.call(pass, command, out)\n"
 GATHERED = "        None => Ok(opened.into_journals()),\n"
 EACH = "    for _ in 0..each {\n"
+AT = "        &self.locks[place]\n"
+UNNAMED = "        let Some(place) = table_at(tables, command.table()) else {\n"
+CHANGE = "        let Some(twins) = prepare(\n"
+NO_ACCEPT = "        return Some(End::Listen);\n"
+KEEPS_NO_ACCEPT = "        End::Listen => later(Fault::Listen, keep(rt, shared, passes, journal)),\n"
+DONE = "    keep_done(rt, done, &mut journal)\n"
+RENAME = "        fs::rename(&files, name.as_str(), path)\n"
+MISMATCH = "        End::Mismatch => Err(Fault::Mismatch),\n"
+TOLD = "        let _ = faults.write_all(self.text().as_bytes());\n"
 START = "        for pass in passes.iter_mut() {\n"
 KEPT = "    *kept = kept.later(end);\n"
 LAST = "    last.into_inner()\n"
@@ -55,6 +67,13 @@ OF_GATES = {
     "enters_before_the_lock": [(CALLS, ENTER, ""), (CALLS, LOCK, ENTER + LOCK)],
     "enters_for_another_session": [(CALLS, ENTER, "        self.gate.enter(place, 0);\n")],
     "enters_another_table": [(CALLS, ENTER, "        self.gate.enter(0, pass.session);\n")],
+    "enters_for_the_first_tables_alone": [(CALLS, ENTER, "        if place < 2 {\n    " + ENTER + "        }\n")],
+    "enters_for_the_first_sessions_alone": [(CALLS, ENTER, "        if pass.session < 2 {\n    " + ENTER + "        }\n")],
+    "fourth_table_locks_later_ones": [(CALLS, LOCK, "        let _round = if place > 3 { Some(self.tables.at(3).lock(rt)) } else { None };\n" + LOCK)],
+    "ninth_table_has_the_lock_of_the_first": [(LOCKS, AT, "        &self.locks[if place < 8 { place } else { 0 }]\n")],
+    "unknown_table_is_answered_under_the_first_lock": [(CALLS, UNNAMED, UNNAMED + "            let _held = self.tables.at(0).lock(rt);\n")],
+    "unknown_table_is_answered_under_the_last_lock": [(CALLS, UNNAMED, UNNAMED + "            let _held = self.tables.at(tables.len() - 1).lock(rt);\n")],
+    "long_journals_find_no_memory": [(CELL, CHANGE, "        if self.journal.len() >= 150_000 {\n            drop(command);\n            return refuse_memory(out);\n        }\n" + CHANGE)],
     "enters_for_writes_alone": [(CALLS, ENTER, "        if let Command::Insert { .. } = &command {\n    " + ENTER + "        }\n")],
 }
 
@@ -65,10 +84,12 @@ OF_SERVICES = {
     "starts_one_thread_fewer": [(ON, START, "        for pass in passes.iter_mut().skip(1) {\n")],
     "takes_one_connection_fewer": [(ON, EACH, "    for _ in 1..each {\n")],
     "takes_one_connection_more": [(ON, EACH, "    for _ in 0..=each {\n")],
+    "takes_two_thousand_connections_at_most": [(ON, EACH, "    for _ in 0..each.min(2_000) {\n")],
+    "takes_ninety_thousand_connections_at_most": [(ON, EACH, "    for _ in 0..each.min(90_000) {\n")],
     "always_ends_fine": [(ON, LAST, "    let _ = last.into_inner();\n    End::Fine\n")],
     "last_end_counts": [(ON, KEPT, "    *kept = end;\n")],
     "first_end_counts": [(ON, KEPT, "    if *kept == End::Fine {\n        *kept = end;\n    }\n")],
-    "no_connection_is_fine": [(ON, "        return Some(End::Listen);\n", "        return Some(End::Fine);\n")],
+    "no_connection_is_fine": [(ON, NO_ACCEPT, "        return Some(End::Fine);\n")],
 }
 
 # Bodies that always give up, or refuse without cause.
@@ -82,11 +103,22 @@ OF_REFUSALS = {
     "engines_find_no_memory": (SENT, gives_up("crates/table_engine/src/engine.rt", "        let tables = Tables::new(alloc, schema)?;\n", "Err(AllocError)")),
     "streams_find_no_memory": (SENT, gives_up("crates/table_engine/src/stream.rt", "    let cutter = &mut engine.cutters[session];\n", "Err(StreamFault::Memory)")),
     "words_find_no_memory": (SENT, gives_up("crates/program_words/src/read.rt", "    if words.is_empty() {\n", "Err(WordsFault::Memory)")),
-    "steps_find_no_memory": (TEXTS, gives_up("crates/table_step/src/table.rt", "        if command.table() != self.records.spec().name() {\n", "table_terms::refuse_memory(out)")),
+    "steps_find_no_memory": (TEXTS, gives_up("crates/table_step/src/table.rt", "        if command.table() != self.name() {\n", "table_terms::refuse_memory(out)")),
     "schemas_find_no_memory": (TEXTS, gives_up("crates/schema_file/src/read.rt", "    let Some(document) = read_document(alloc, bytes)? else {\n", "Err(SchemaFault::Memory)")),
     "commands_find_no_memory": (TEXTS, gives_up("crates/command_lines/src/read.rt", "    match Json::from_slice(alloc, line) {\n", "Err(CommandFault::Memory)")),
     "insertions_find_no_memory": (RUNS, gives_up("crates/multi_index/src/container.rt", "        self.put(None, row)\n", "Err(Refused {\n                why: Why::Memory,\n                row: Some(row),\n            })")),
     "nodes_find_no_memory": (INDICES, gives_up(SHELF, "        let block = Block {\n            age: self.added,\n", "Err(NoRoom { value })")),
+}
+
+# How the program ends where an accept was refused, where its journal is not put at its path, and at a mismatch.
+OF_SERVERS = {
+    "refused_accept_loses_the_journal": (ACCEPTS, [(SERVE, KEEPS_NO_ACCEPT, "        End::Listen => {\n            drop(shared);\n            drop(passes);\n            Err(Fault::Listen)\n        }\n")]),
+    "refused_accept_ends_well": (ACCEPTS, [(SERVE, DONE, "    let Done { shared, passes, end } = done;\n    let end = if end == End::Listen { End::Fine } else { end };\n    keep_done(rt, Done { shared, passes, end }, &mut journal)\n")]),
+    "refused_accept_is_passed_over": (ACCEPTS, [(ON, NO_ACCEPT, "        return None;\n")]),
+    "whole_file_that_is_not_put_goes": (PATHS, [(BESIDE, RENAME, "        let put = fs::rename(&files, name.as_str(), path);\n        if put.is_err() {\n            let _ = fs::remove_file(&files, name.as_str());\n        }\n        put\n")]),
+    "mismatch_has_no_text": (MISMATCHES, [(FAULT, TOLD, "        if self.status() != 4 {\n    " + TOLD + "        }\n")]),
+    "mismatch_begins_the_journal_again": (MISMATCHES, [(SERVE, MISMATCH, "        End::Mismatch => {\n            drop(shared);\n            drop(passes);\n            if let Some(Journal { path, begun, line: _line }) = journal.take() {\n                if let Ok(made) = rt.make(path, begun) {\n                    let _ = rt.put(path, made);\n                }\n            }\n            Err(Fault::Mismatch)\n        }\n")]),
+    "ungathered_journal_begins_again": (MISMATCHES, [(SERVE, "    let told = Fault::from(fault.why);\n", "    let told = Fault::from(fault.why);\n    if told.status() == 4 {\n        if let Some(Journal { path, begun, line: _line }) = journal.take() {\n            if let Ok(made) = rt.make(path, begun) {\n                let _ = rt.put(path, made);\n            }\n        }\n    }\n")]),
 }
 
 # A store's end that leaves out records. Their blocks are freed all the same, as the clauses ask.
@@ -95,4 +127,4 @@ OF_ENDS = {
     "ends_skip_the_first_record": (INDICES, [(SHELF, NEXT, NEXT + "            if newest.is_none() {\n                std::mem::forget(block);\n            } else {\n                drop(block);\n            }\n")]),
 }
 
-PLANTS = {**{name: (GATES, changes) for name, changes in {**OF_GATES, **OF_SERVICES}.items()}, **OF_REFUSALS, **OF_ENDS}
+PLANTS = {**{name: (GATES, changes) for name, changes in {**OF_GATES, **OF_SERVICES}.items()}, **OF_REFUSALS, **OF_SERVERS, **OF_ENDS}

@@ -5,11 +5,14 @@
 //! however the threads take turns.
 #![tactic(auto)]
 
+mod beside;
 mod counted;
 mod ends;
 mod flag;
 mod held;
 mod locked;
+mod long;
+mod many;
 mod meeting;
 mod noted;
 mod report;
@@ -17,11 +20,15 @@ mod served;
 mod service;
 mod start;
 mod step;
+mod wide;
 
+use beside::tell_beside;
 use counted::tell_counted;
 use ends::tell_ends;
 use held::tell_called;
 use locked::tell_locked;
+use long::tell_long;
+use many::tell_many;
 use noted::tell_noted;
 use report::Report;
 use served::tell_served;
@@ -29,6 +36,7 @@ use start::Start;
 use std::io;
 use std::io::Write;
 use step::tell_step;
+use wide::tell_wide;
 
 fn main(rt: HostRuntime) -> io::Result<()> {
     let start = Start::read(&rt, rt.alloc())?;
@@ -40,5 +48,9 @@ fn main(rt: HostRuntime) -> io::Result<()> {
     tell_served(&rt, &start, &mut report)?;
     tell_counted(&rt, &start, &mut report)?;
     tell_ends(&rt, &start, &mut report)?;
+    tell_wide(&rt, &start, &mut report)?;
+    tell_beside(&rt, &start, &mut report)?;
+    tell_long(&rt, &start, &mut report)?;
+    tell_many(&rt, &start, &mut report)?;
     io::writer(&rt).write_all(report.bytes())
 }

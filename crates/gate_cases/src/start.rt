@@ -14,7 +14,7 @@ use table_reply::Out;
 #[derive(Drop)]
 pub struct Start {
     pub alloc: Global,
-    schema: Vec<u8>,
+    pub schema: Vec<u8>,
 }
 
 /// What a call with a line is answered. (The command is read last, so that nothing has to let go of it.)
