@@ -15,7 +15,7 @@ def blanked(text):
     """The text with its comments, strings and characters blank, each place as before."""
     comment = r"//[^\n]*|/\*.*?\*/"
     string = r'(?<!\w)b?r(#*)".*?"\1|"(?:\\.|[^"\\])*"'
-    char = r"(?<![\w'])'(?:\\(?:x[0-9a-fA-F]{2}|u\{[^}]*\}|.)|[^'\\\n])'"
+    char = r"(?<![\w'])b?'(?:\\(?:x[0-9a-fA-F]{2}|u\{[^}]*\}|.)|[^'\\\n])'"
     return re.sub(f"(?s){comment}|{string}|{char}", lambda it: re.sub(r"[^\n]", " ", it[0]), text)
 
 

@@ -59,6 +59,8 @@ class Link:
 class Program(Link):
     """The program that runs for this shell alone."""
 
+    is_shared = False
+
     def __init__(self, program, schema):
         words = [program, "run", *(["--schema", schema] if schema else [])]
         # (Ctrl-C in the terminal is for the shell)
@@ -78,7 +80,9 @@ class Program(Link):
 
 
 class Connection(Link):
-    """A connection to a serving program."""
+    """A connection to a serving program, whose tables others may change."""
+
+    is_shared = True
 
     def __init__(self, address):
         self.client = Client(address)

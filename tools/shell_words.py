@@ -147,6 +147,8 @@ def missing(said, table):
     if any(it in said for it in may):
         needed, may = needed + may, []
     may += sorted(MORE_KEYS.get(op, ()))
+    if table and "add" in may and not columns_left(said, "add", table):
+        may.remove("add")
     if op == "add_index" and "kind" in said:
         needed += ["key"] * (said["kind"] not in SEQUENCES)
         may = ["unique"] * (said["kind"] not in SEQUENCES)
@@ -196,17 +198,23 @@ def of_member(name, said, tables, table):
 # Rows, keys and lists of columns.
 
 
+def columns_left(said, name, table):
+    """The columns that may stand in a row, in `set` or in `add`, where the other of these two has none twice."""
+    others = {it for other in ("set", "add") if other != name and isinstance(said.get(other), dict) for it in said[other]} if name != "r" else set()
+    return [it for it, column in table.columns.items() if it not in others and (name != "add" or column.cell == "int")]
+
+
 def of_row(at, said, name, table):
     """The columns of a row, and their cells."""
-    others = {it for other in ("set", "add") if other != name and isinstance(said.get(other), dict) for it in said[other]} if name != "r" else set()
-    left = [it for it, column in table.columns.items() if it not in at.members and it not in others and (name != "add" or column.cell == "int")]
+    left = [it for it in columns_left(said, name, table) if it not in at.members]
     if at.wants == "key":
         return [(f'"{it}"', f":{begin_of_cell(table.columns[it])}") for it in left]
     if at.wants == "comma":
         next_ones = [(f',"{it}":', begin_of_cell(table.columns[it])) for it in left]
         return (next_ones[:1] or [("}", "")]) if name == "r" else [("}", ""), *next_ones]
     column = table.columns.get(at.key)
-    return cells_of(column) if at.wants == "value" and column else []
+    # (a null is no term, though a cell that is null may get one)
+    return cells_of(column) if at.wants == "value" and column and name != "add" else []
 
 
 def begin_of_cell(column):
