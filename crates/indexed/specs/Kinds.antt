@@ -1,5 +1,5 @@
 -- What declared indices are.
-use Rattle.std.specs.Prelude.{ℕ, Bool, true, false, not, cond, ◌&&◌, List, length, nat_le, slice_get}
+use Rattle.std.specs.Prelude.{ℕ, Bool, true, false, not, cond, ◌&&◌, List, length, nat_le, nat_lt, slice_get}
 use Rattle.std.specs.List.{list_all}
 use Rattle.std.specs.Option.{option_map_or}
 use Rattle.container_model.specs.declared.handle.Kind.{Kind}
@@ -7,6 +7,7 @@ use Rattle.container_model.specs.declared.handle.Kind.TheVariants.{Sequenced, Ra
 use Rattle.container_model.specs.declared.handle.Spec.{Spec}
 use Rattle.container_model.specs.State.{has_key_kind}
 use Rattle.field_keys.specs.declared.index.Index.{Index}
+use Rattle.field_keys.specs.Fields.{part_of}
 
 abbrev pub sequenced : Spec
 sequenced = record { kind = Sequenced; unique = false }
@@ -43,3 +44,11 @@ is_index index = cond (has_key_kind index.0.kind) (nat_le 1 (length index.1.now)
 -- whether a container can have the indices: there are one to eight
 abbrev pub are_valid : List Index → Bool
 are_valid indices = nat_le 1 (length indices) && (nat_le (length indices) 8 && list_all is_index indices)
+
+-- whether each part of a key is one of so many fields
+abbrev pub has_fields : ℕ → Index → Bool
+has_fields count index = list_all (λ part. nat_lt (part_of part).column count) index.1.now
+
+-- whether the parts of all keys are
+abbrev pub have_fields : ℕ → List Index → Bool
+have_fields count indices = list_all (has_fields count) indices

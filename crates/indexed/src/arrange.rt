@@ -1,5 +1,5 @@
 //! New orders of a sequence.
-ghost use Rattle.std.specs.Prelude.{◌≡◌, ◌⊎◌, IfErr, IsTrue, None, OnErr, OnOk, Some, unwrap_or};
+ghost use Rattle.std.specs.Prelude.{◌≡◌, ◌⊎◌, ◌<◌, IfErr, IsTrue, None, OnErr, OnOk, Some, length, unwrap_or};
 ghost use Rattle.container_model.specs.State.{is_sequence_kind};
 ghost use Rattle.container_model.specs.Sequence.{rearrange_refusal, sequence_refusal, with_list, with_reversed, with_sorted};
 ghost use Rattle.multi_index.specs.Rearranged.{is_after_memory};
@@ -14,6 +14,7 @@ impl<R: Fields + Drop> Indexed<R> {
     /// Turns the order of a sequence round. `Spent` alone refuses, and then nothing is changed. O(records).
     pub fn reverse(&mut self, number: usize) -> Result<(), Why>
         requires kind { IsTrue (is_sequence_kind (kind_of R.indices number)) }
+        requires within { number < length R.indices }
         ensures allowed { OnOk result (sequence_refusal self.old number ≡ None) }
         ensures ok { OnOk result (self.new ≡ with_reversed self.old number) }
         ensures why { IfErr result (λ why. Some why ≡ sequence_refusal self.old number) }
@@ -29,6 +30,7 @@ impl<R: Fields + Drop> Indexed<R> {
     /// `Memory`. It takes memory for a few words for each record. O(n log n).
     pub fn sort<O: RowOrder<R>>(&mut self, number: usize, order: &O) -> Result<(), Why>
         requires kind { IsTrue (is_sequence_kind (kind_of R.indices number)) }
+        requires within { number < length R.indices }
         ensures allowed { OnOk result (sequence_refusal self.old number ≡ None) }
         ensures ok { OnOk result (self.new ≡ with_sorted (O.comparison order.now) self.old number) }
 
@@ -48,6 +50,7 @@ impl<R: Fields + Drop> Indexed<R> {
     /// for each record, and may be refused it before `Order` or `Spent` is seen. O(n log n).
     pub fn rearrange(&mut self, number: usize, handles: &[Handle]) -> Result<(), Why>
         requires kind { IsTrue (is_sequence_kind (kind_of R.indices number)) }
+        requires within { number < length R.indices }
         ensures allowed { OnOk result (rearrange_refusal self.old number handles.now ≡ None) }
         ensures ok { OnOk result (self.new ≡ with_list self.old number handles.now) }
         ensures why { IfErr result

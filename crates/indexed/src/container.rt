@@ -4,7 +4,7 @@ ghost use Rattle.container_model.specs.State.{empty_with_most, row_of};
 ghost use Rattle.container_model.specs.Insert.{insert_refusal, new_handle, with_inserted};
 ghost use Rattle.container_model.specs.Change.{erase_refusal, with_erased};
 ghost use Rattle.field_keys.specs.Indices.{declared_keys, declared_specs};
-ghost use Rattle.indexed.specs.Kinds.{are_valid};
+ghost use Rattle.indexed.specs.Kinds.{are_valid, have_fields};
 ghost use Rattle.indexed.specs.Orders.{by_key};
 
 use crate::view::View;
@@ -32,10 +32,12 @@ impl<R: Fields + Drop> Model for Indexed<R> {
 }
 
 impl<R: Fields + Drop> Indexed<R> {
-    /// A container without records, for at most `max`, under the indices that they declare. O(indices).
+    /// A container without records, for at most `max`, under the indices that they declare. Each part of a key names a field
+    /// that every record has. O(indices).
     pub fn new(alloc: Global, indices: &'static [Index], max: u32) -> Result<Indexed<R>, AllocError>
         requires declared { declared_specs indices.now ≡ R.indices }
         requires valid { IsTrue (are_valid indices.now) }
+        requires fields { (row : R) → IsTrue (have_fields (length (R.row_of row)) indices.now) }
         ensures { IfOk result (λ made. made ≡ empty_with_most (length R.indices)
             (declared_keys indices.now) R.indices max 0) }
     {

@@ -1,5 +1,5 @@
 //! Places in a sequence.
-ghost use Rattle.std.specs.Prelude.{◌≡◌, IfErr, IfOk, IsTrue, None, OnErr, OnOk, Some, unwrap_or};
+ghost use Rattle.std.specs.Prelude.{◌≡◌, ◌<◌, IfErr, IfOk, IsTrue, None, OnErr, OnOk, Some, length, unwrap_or};
 ghost use Rattle.container_model.specs.State.{is_sequence_kind};
 ghost use Rattle.container_model.specs.Insert.{insert_at_refusal, new_handle, with_inserted};
 ghost use Rattle.container_model.specs.Sequence.{relocate_refusal, with_relocated};
@@ -16,6 +16,7 @@ impl<R: Fields + Drop> Indexed<R> {
     /// comes before what `insert` refuses. O(log n) for each index, but O(n) in the sequence.
     pub fn insert_at(&mut self, number: usize, place: u64, row: R) -> Result<Handle, Refused<R>>
         requires kind { IsTrue (is_sequence_kind (kind_of R.indices number)) }
+        requires within { number < length R.indices }
         ensures handle { IfOk result (λ handle. handle ≡ new_handle self.old) }
         ensures allowed { OnOk result
             (insert_at_refusal (by_key R.row_of) self.old number place row ≡ None) }
@@ -36,6 +37,7 @@ impl<R: Fields + Drop> Indexed<R> {
     /// O(the distance of the place from the nearer end), in a sequence with places O(the records between both places).
     pub fn relocate(&mut self, number: usize, place: u64, handle: Handle) -> Result<(), Why>
         requires kind { IsTrue (is_sequence_kind (kind_of R.indices number)) }
+        requires within { number < length R.indices }
         ensures allowed { OnOk result (relocate_refusal self.old number place handle ≡ None) }
         ensures ok { OnOk result (self.new ≡ with_relocated self.old number place handle) }
         ensures why { IfErr result (λ why. Some why ≡
