@@ -23,7 +23,8 @@ FAULTS = {
     "none",
     "starts empty", "a torn line is carried out", "a torn line stays", "a torn line is not told", "a whole line goes with a torn one",
     "zeros are a line", "a bad line is passed over", "lines are counted from 0", "the wrong file is told", "a log is cut before all are read",
-    "two keepers at once", "any schema will do", "an old socket keeps it out", "appends what was sent", "appends reads", "appends refused writes",
+    "two keepers at once", "any schema will do", "a declaration is its bytes", "an old socket keeps it out", "appends what was sent", "appends reads",
+    "appends refused writes",
     "answers before it appends", "answers before it syncs", "answers while another syncs", "never syncs", "its folder is never synced",
     "goes on after a failed append", "tells no file", "ends with status 0", "nobody is idle", "busy ones are idle", "half a line is carried out",
     "a connection too many is closed", "a worker ends with its connection", "a failed accept ends a worker", "appends without its lock",
@@ -279,6 +280,17 @@ class Log:
             stop(0 if has_fault("ends with status 0") else 5, "log\n" if has_fault("tells no file") else f"log: {self.path}\n")
 
 
+def declared(text):
+    """The tables that a schema file declares, with what it leaves out; none where it is none."""
+    try:
+        tables = tomllib.loads(text.decode())["table"]
+    except (KeyError, ValueError):
+        return None
+    columns = lambda table: [{"null": False, **it} for it in table["column"]]
+    indices = lambda table: [{"unique": False, **it} for it in table["index"]]
+    return [{"max": 2**32 - 1, **it, "column": columns(it), "index": indices(it)} for it in tables]
+
+
 class Keeper:
     """The tables of a schema with their logs."""
 
@@ -333,9 +345,11 @@ class Keeper:
         if not os.path.exists(beside):
             with open(beside, "w", encoding="utf-8") as file:
                 file.write(schema)
-        with open(beside, encoding="utf-8") as file:
-            if tomllib.loads(file.read()) != tomllib.loads(schema) and not has_fault("any schema will do"):
-                raise Stop(3, f"schema: other: {beside}\n")
+        with open(beside, "rb") as file:
+            found = file.read()
+        meant = (lambda it: it) if has_fault("a declaration is its bytes") else declared
+        if meant(found) != meant(schema.encode()) and not has_fault("any schema will do"):
+            raise Stop(3, f"schema: other: {beside}\n")
 
     def answer(self, line):
         """The answer to a line, behind what it leaves in its table and its log."""

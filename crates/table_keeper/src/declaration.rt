@@ -1,44 +1,58 @@
 //! The declaration of a table, as the text of a schema file.
 
-use key_extract::{KeySpec, Part, Text};
+use key_extract::{KeySpec, Part};
+use schema_file::read_schema;
 use std::alloc::{AllocError, Global};
-use table_reply::{Out, OutOfRoom};
-use table_schema::{CellKind, Column, IndexSpec, TableSpec, kind_text};
+use table_schema::{CellKind, Column, IndexSpec, SchemaFault, TableSpec, kind_text};
+use toml::{Table, Value, toml};
 
-/// Appends the text of a schema file that declares this table alone.
-pub(crate) fn write_table(
-    alloc: Global,
-    table: &TableSpec,
-    out: &mut Out,
-) -> Result<(), OutOfRoom> {
-    out.try_push_all(&["[[table]]\nname = \"", table.name(), "\"\nmax = "])?;
-    let max = format!(in alloc; "{}", table.max()).map_err(|_| OutOfRoom)?;
-    out.try_push_all(&[max.as_str(), "\ncolumn = [\n"])?;
-    for column in table.columns() {
-        write_column(column, out)?;
-    }
-    out.try_push(b"]\nindex = [\n")?;
-    for index in table.indices() {
-        write_index(table.columns(), index, out)?;
-    }
-    out.try_push(b"]\n")
+/// The text of a schema file that declares this table alone.
+pub(crate) fn text_of(alloc: Global, table: &TableSpec) -> Result<String, AllocError> {
+    let document = document(alloc, table)?;
+    toml::table_to_string(alloc, &document).map_err(|_| AllocError)
 }
 
-// A column's line.
-fn write_column(column: &Column, out: &mut Out) -> Result<(), OutOfRoom> {
-    write_name(&column.name, out)?;
-    out.try_push_all(&[
-        "\", cell = \"",
-        cell_text(column.cell),
-        "\", null = ",
-        truth(column.null),
-        "},\n",
-    ])
+/// Whether the bytes are a schema file that declares this table alone, however it is laid out.
+pub(crate) fn declares(alloc: Global, bytes: &[u8], table: &TableSpec) -> Result<bool, AllocError> {
+    match read_schema(alloc, bytes) {
+        Ok(schema) => match schema.tables() {
+            [found] => Ok(text_of(alloc, found)?.as_str() == text_of(alloc, table)?.as_str()),
+            _ => Ok(false),
+        },
+        Err(SchemaFault::Memory) => Err(AllocError),
+        Err(_) => Ok(false),
+    }
 }
 
-// How a column's or an index's line begins.
-fn write_name(name: &Text, out: &mut Out) -> Result<(), OutOfRoom> {
-    out.try_push_all(&["  {name = \"", name.as_str()])
+// The schema file of this table.
+fn document(alloc: Global, table: &TableSpec) -> Result<Table, AllocError> {
+    let columns = columns_of(alloc, table.columns())?;
+    let indices = indices_of(alloc, table)?;
+    toml!(in alloc;
+        [[table]]
+        name = (table.name())
+        max = (table.max())
+        column = (columns)
+        index = (indices)
+    )
+    .map_err(|_| AllocError)
+}
+
+fn columns_of(alloc: Global, columns: &[Column]) -> Result<Value, AllocError> {
+    let mut all = Vec::with_capacity(alloc, columns.len())?;
+    for column in columns {
+        all.push(Value::Table(column_of(alloc, column)?))?;
+    }
+    Ok(Value::Array(all))
+}
+
+fn column_of(alloc: Global, column: &Column) -> Result<Table, AllocError> {
+    toml!(in alloc;
+        name = (column.name.as_str())
+        cell = (cell_text(column.cell))
+        null = (column.null)
+    )
+    .map_err(|_| AllocError)
 }
 
 // The name of a cell's type.
@@ -50,47 +64,44 @@ fn cell_text(cell: CellKind) -> &'static str {
     }
 }
 
-// An index's line.
-fn write_index(columns: &[Column], index: &IndexSpec, out: &mut Out) -> Result<(), OutOfRoom> {
-    write_name(&index.name, out)?;
-    out.try_push_all(&[
-        "\", kind = \"",
-        kind_text(index.kind),
-        "\", unique = ",
-        truth(index.unique),
-    ])?;
+fn indices_of(alloc: Global, table: &TableSpec) -> Result<Value, AllocError> {
+    let mut all = Vec::with_capacity(alloc, table.indices().len())?;
+    for index in table.indices() {
+        all.push(Value::Table(index_of(alloc, table.columns(), index)?))?;
+    }
+    Ok(Value::Array(all))
+}
+
+fn index_of(alloc: Global, columns: &[Column], index: &IndexSpec) -> Result<Table, AllocError> {
+    let mut table = toml!(in alloc;
+        name = (index.name.as_str())
+        kind = (kind_text(index.kind))
+        unique = (index.unique)
+    )
+    .map_err(|_| AllocError)?;
     if let Some(key) = &index.key {
-        write_key(columns, key, out)?;
+        table.insert(
+            String::from_str(alloc, "key")?,
+            key_of(alloc, columns, key)?,
+        )?;
     }
-    out.try_push(b"},\n")
+    Ok(table)
 }
 
-// The parts of a key.
-fn write_key(columns: &[Column], key: &KeySpec, out: &mut Out) -> Result<(), OutOfRoom> {
-    out.try_push(b", key = [")?;
-    let mut before = "";
+fn key_of(alloc: Global, columns: &[Column], key: &KeySpec) -> Result<Value, AllocError> {
+    let mut parts = Vec::with_capacity(alloc, key.parts().len())?;
     for part in key.parts() {
-        write_part(columns, part, before, out)?;
-        before = ", ";
+        parts.push(Value::String(part_of(alloc, columns, part)?))?;
     }
-    out.try_push(b"]")
+    Ok(Value::Array(parts))
 }
 
-// A part of a key.
-fn write_part(
-    columns: &[Column],
-    part: &Part,
-    before: &str,
-    out: &mut Out,
-) -> Result<(), OutOfRoom> {
+// A part of a key: the name of its column, with a `-` before it where it falls.
+fn part_of(alloc: Global, columns: &[Column], part: &Part) -> Result<String, AllocError> {
     let sign = if part.falling { "-" } else { "" };
     let name = match columns.get(part.column) {
         Some(column) => column.name.as_str(),
         None => "",
     };
-    out.try_push_all(&[before, "\"", sign, name, "\""])
-}
-
-fn truth(is: bool) -> &'static str {
-    if is { "true" } else { "false" }
+    format!(in alloc; "{sign}{name}")
 }

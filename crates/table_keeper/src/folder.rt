@@ -1,13 +1,11 @@
 //! The folder of the logs.
 
-use crate::declaration::write_table;
+use crate::declaration::{declares, text_of};
 use crate::fault::Fault;
-use std::alloc::Global;
 use std::fs::{File, OpenOptions, TryLockError};
 use std::io::{ErrorKind, Read, Write};
 use std::time::Duration;
 use std::{fs, io, thread};
-use table_reply::Out;
 use table_schema::{Schema, TableSpec};
 
 /// How often a lock is tried, 20 milliseconds apart.
@@ -60,10 +58,12 @@ impl Folder {
     // Whether the table's declaration is there. Another one is refused.
     fn check_table(&self, rt: &HostRuntime, table: &TableSpec) -> Result<bool, Fault> {
         let name = self.declaration_of(rt.alloc(), table.name())?;
-        let wanted = text_of(rt.alloc(), table)?;
         match fs::read(rt, name.as_str()) {
-            Ok(found) if found.as_slice() == wanted.bytes() => Ok(true),
-            Ok(_) => Err(Fault::Declared(name)),
+            Ok(found) => if declares(rt.alloc(), found.as_slice(), table)? {
+                Ok(true)
+            } else {
+                Err(Fault::Declared(name))
+            },
             Err(error) if error.kind() == ErrorKind::NotFound => Ok(false),
             Err(error) => Err(Fault::of_file(&error, name)),
         }
@@ -92,18 +92,11 @@ impl Folder {
         let name = self.declaration_of(rt.alloc(), table.name())?;
         let text = text_of(rt.alloc(), table)?;
         let part = format!(in rt.alloc(); "{name}.part")?;
-        match put(rt, part.as_str(), name.as_str(), text.bytes()) {
+        match put(rt, part.as_str(), name.as_str(), text.as_bytes()) {
             Ok(()) => Ok(()),
             Err(error) => Err(Fault::of_file(&error, name)),
         }
     }
-}
-
-// The text of a table's declaration.
-fn text_of(alloc: Global, table: &TableSpec) -> Result<Out, Fault> {
-    let mut text = Out::new(alloc).map_err(|_| Fault::Memory)?;
-    write_table(alloc, table, &mut text).map_err(|_| Fault::Memory)?;
-    Ok(text)
 }
 
 // Locks a file. A program that was killed has its lock for a moment longer, so it is tried again for a second.
