@@ -12,7 +12,7 @@ use Rattle.std.proofs.lemmas.Cmp.{on_total, alike_right, tied_back, tied_itself}
 use Rattle.std.proofs.lemmas.List.{length-map, length-set, length_push, map-set, get_or-set_same, get_or-set_other}
 use Rattle.std.proofs.lemmas.Bool.{cases_eq}
 use Rattle.std.proofs.lemmas.List.Edits.{insert_end}
-use Rattle.std.proofs.lemmas.List.Sorted.{length_permutation, IsPermutation-map, IsPermutation-sym, IsPermutation-trans}
+use Rattle.std.proofs.lemmas.List.Sorted.{length_permutation, IsPermutation-map, IsPermutation-refl, IsPermutation-sym, IsPermutation-trans}
 use Rattle.std.proofs.lemmas.Map.Keys.{IsDistinct-IsPermutation}
 use Rattle.list_model.specs.Order.{EachPair, IsInOrder}
 use Rattle.list_model.specs.Place.{not_above, insert_sorted, sorted_onto, stable_sorted}
@@ -52,7 +52,7 @@ use Rattle.index_set.proofs.Building.{members_all}
 use Rattle.slot_table.specs.Slots.{item_at, with_item}
 use Rattle.linked_set.specs.LeadsTo.{LeadsTo}
 use Rattle.linked_set.specs.Linked.{handle_of, nodes_in, entries_in, handles_in, IsKnown}
-use Rattle.linked_set.specs.Restored.{AreApart, HasMembers, IsListed, HasEachKeyOnce, IsUnfit, IsMisfit, unfit_of, misfit_of, spec_at}
+use Rattle.linked_set.specs.Restored.{AreApart, FailsAt, HasMembers, IsListed, HasEachKeyOnce, IsUnfit, IsMisfit, unfit_of, misfit_of, spec_at, standing}
 use Rattle.linked_set.specs.Seen.{IsLinked}
 use Rattle.linked_set.specs.declared.fill.Unfit.{Unfit}
 use Rattle.linked_set.specs.declared.fill.Unfit.TheVariants as unfit
@@ -217,11 +217,11 @@ module _ {R : Type 0} (entries : List (Entry R)) (list : List Handle) (slots : A
 
 -- ---- the list of an index that is filled
 
--- nodes that an index is to be filled with: their handles are these, each record's once, and in a hashed index they are by age
+-- nodes that an index is to be filled with: their handles are these, each record's once, but in a hashed index they are by age
 pub record AreTold {E R : Type 0} (set : Parts (Entry R) (ByRow E)) (index : ℕ) (list : List Handle) (ns : List Node) : Type 0 where
   pub members : HasMembers (entries_in (contents_of set)) list
   pub nodes : AllByRecursion (IsNodeOf (store_of set)) ns
-  pub handles : map (handle_of (record_of (store_of set))) ns ≡ list
+  pub handles : is_hashed_kind (spec_at (specs_of set) index).kind ≡ false → map (handle_of (record_of (store_of set))) ns ≡ list
   pub aged : IsTrue (is_hashed_kind (spec_at (specs_of set) index).kind) → ns ≡ nodes_in (contents_of set)
 
 module _ {E R : Type 0} {has_key : E → ℕ → Bool} {order_of : E → ℕ → R → R → Ordering} {marks : E → ℕ → R → Marks} (set : Parts (Entry R) (ByRow E)) (slots : List (Option Node)) (linked : IsLinked has_key order_of marks set slots)
@@ -260,40 +260,53 @@ module _ {E R : Type 0} {has_key : E → ℕ → Bool} {order_of : E → ℕ →
   all_known : AllByRecursion (IsKnown (record_of s) entries) (nodes_in (contents s))
   all_known = known_nodes (nodes_in (contents s)) (nodes_held s linked.sound.nodes)
 
+  abbrev own : List Handle
+  own = map (λ e. e.handle) entries
+
   -- the nodes are all
   moved : IsPermutation ns (nodes_in (contents s))
-  moved =
-      let f = handle_of (record_of s) in
-      let own = map (λ e. e.handle) entries in
-      IsPermutation-unmap f (λ h. item_at slots h.slot) ns (nodes_in (contents s))
-      (All-map (IsNodeOf s) _ (λ n at. linked.leads.node_at n at) ns t.nodes)
-      (All-map (IsNodeOf s) _ (λ n at. linked.leads.node_at n at) (nodes_in (contents s)) (nodes_held s linked.sound.nodes))
-      (subst (λ l. IsPermutation (map f ns) l) (handles_by_age s linked.sound.nodes) (subst (λ l. IsPermutation l own) (sym t.handles) (IsPermutation-sym own list t.members)))
-
-  pub nodes_distinct : IsDistinct ns
-  nodes_distinct = IsDistinct_moved (nodes_in (contents s)) ns (IsPermutation-sym ns (nodes_in (contents s)) moved) (distinct_by_age (age_of s) (nodes_in (contents s)) (nodes_rise s linked.sound.nodes))
-
-  abbrev settled : List Handle
-  settled = cond (is_sorted_kind spec.kind) (stable_sorted (compare_of order entries) list) list
-
-  by_key : map (handle_of (record_of s)) (stable_sorted compare ns) ≡ stable_sorted (compare_of order entries) list
-  by_key =
-      map-stable_sorted (handle_of (record_of s)) (IsKnown (record_of s) entries) compare (compare_of order entries) (by_handles (record_of s) entries order) ns (known_nodes ns t.nodes)
-      ∙ ap (stable_sorted (compare_of order entries)) t.handles
-
-  -- the handles of the nodes that are filled in
-  filled_handles : map (handle_of (record_of s)) filled ≡ settled
-  filled_handles = by_kind spec.kind t.aged
+  moved = by_age (is_hashed_kind spec.kind) refl
     where
       f : Node → Handle
       f = handle_of (record_of s)
 
-      by_kind : (kind : Kind) → (IsTrue (is_hashed_kind kind) → ns ≡ nodes_in (contents s)) → map f (entered_all (age_of s) compare kind [] ns) ≡ cond (is_sorted_kind kind) (stable_sorted (compare_of order entries) list) list
-      by_kind Sequenced h = ap (map f) (sequenced_in_turn (age_of s) compare ns) ∙ t.handles
-      by_kind Random h = ap (map f) (random_in_turn (age_of s) compare ns) ∙ t.handles
-      by_kind Ordered h = ap (map f) (ordered (age_of s) compare [] ns) ∙ by_key
-      by_kind Ranked h = ap (map f) (ranked (age_of s) compare [] ns) ∙ by_key
-      by_kind Hashed h = ap (map f) (hashed_in_turn (age_of s) compare ns (subst (AreByAge (age_of s)) (sym (h refl)) (nodes_rise s linked.sound.nodes))) ∙ t.handles
+      by_age : (b : Bool) → is_hashed_kind spec.kind ≡ b → IsPermutation ns (nodes_in (contents s))
+      by_age true hashed = subst (IsPermutation ns) (t.aged hashed) (IsPermutation-refl ns)
+      by_age false other =
+          IsPermutation-unmap f (λ h. item_at slots h.slot) ns (nodes_in (contents s))
+          (All-map (IsNodeOf s) _ (λ n at. linked.leads.node_at n at) ns t.nodes)
+          (All-map (IsNodeOf s) _ (λ n at. linked.leads.node_at n at) (nodes_in (contents s)) (nodes_held s linked.sound.nodes))
+          (subst (λ l. IsPermutation (map f ns) l) (handles_by_age s linked.sound.nodes) (subst (λ l. IsPermutation l own) (sym (t.handles other)) (IsPermutation-sym own list t.members)))
+
+  pub nodes_distinct : IsDistinct ns
+  nodes_distinct = IsDistinct_moved (nodes_in (contents s)) ns (IsPermutation-sym ns (nodes_in (contents s)) moved) (distinct_by_age (age_of s) (nodes_in (contents s)) (nodes_rise s linked.sound.nodes))
+
+  abbrev sorted_list : List Handle
+  sorted_list = stable_sorted (compare_of order entries) list
+
+  abbrev settled : List Handle
+  settled = standing spec.kind sorted_list own list
+
+  by_key : map (handle_of (record_of s)) ns ≡ list → map (handle_of (record_of s)) (stable_sorted compare ns) ≡ sorted_list
+  by_key named =
+      map-stable_sorted (handle_of (record_of s)) (IsKnown (record_of s) entries) compare (compare_of order entries) (by_handles (record_of s) entries order) ns (known_nodes ns t.nodes)
+      ∙ ap (stable_sorted (compare_of order entries)) named
+
+  -- the handles of the nodes that are filled in
+  filled_handles : map (handle_of (record_of s)) filled ≡ settled
+  filled_handles = by_kind spec.kind t.handles t.aged
+    where
+      f : Node → Handle
+      f = handle_of (record_of s)
+
+      by_kind : (kind : Kind) → (is_hashed_kind kind ≡ false → map f ns ≡ list) → (IsTrue (is_hashed_kind kind) → ns ≡ nodes_in (contents s)) → map f (entered_all (age_of s) compare kind [] ns) ≡ standing kind sorted_list own list
+      by_kind Sequenced named aged = ap (map f) (sequenced_in_turn (age_of s) compare ns) ∙ named refl
+      by_kind Random named aged = ap (map f) (random_in_turn (age_of s) compare ns) ∙ named refl
+      by_kind Ordered named aged = ap (map f) (ordered (age_of s) compare [] ns) ∙ by_key (named refl)
+      by_kind Ranked named aged = ap (map f) (ranked (age_of s) compare [] ns) ∙ by_key (named refl)
+      by_kind Hashed named aged =
+          ap (map f) (hashed_in_turn (age_of s) compare ns (subst (AreByAge (age_of s)) (sym (aged refl)) (nodes_rise s linked.sound.nodes)) ∙ aged refl)
+          ∙ sym (handles_by_age s linked.sound.nodes)
 
   -- no clash is seen where the records have one key each
   unclashed : HasEachKeyOnce entries order spec list → clash compare spec.unique ns ≡ None
@@ -308,13 +321,16 @@ module _ {E R : Type 0} {has_key : E → ℕ → Bool} {order_of : E → ℕ →
   -- why nodes are refused
   pub refused : (why : NoIndex) → IsCause (Unit {0}) (clash compare spec.unique ns) why → IsUnfit entries order spec list (unfit_of why)
   refused no.Columns is = absurd (is tt)
-  refused (no.Clash first second) is = λ once. (let bad = sym (unclashed once) ∙ is.1 in cc)
+  refused (no.Clash first second) is = (t.members, λ once. (let bad = sym (unclashed once) ∙ is.1 in cc))
   refused no.Memory is = tt
 
-  -- a list that is in order where its index sorts is the one that is made of it
-  as_settled : (b : Bool) → (IsTrue b → IsInOrder (compare_of order entries) list) → list ≡ cond b (stable_sorted (compare_of order entries) list) list
-  as_settled true in_order = sym (sorted_as_it_is (compare_of order entries) list (in_order refl))
-  as_settled false in_order = refl
+  -- a list that is in order where its index sorts, and by age where it hashes, is the one that is made of it
+  as_settled : (kind : Kind) → (IsTrue (is_sorted_kind kind) → IsInOrder (compare_of order entries) list) → (IsTrue (is_hashed_kind kind) → list ≡ own) → list ≡ standing kind sorted_list own list
+  as_settled Sequenced in_order by_age = refl
+  as_settled Random in_order by_age = refl
+  as_settled Ordered in_order by_age = sym (sorted_as_it_is (compare_of order entries) list (in_order refl))
+  as_settled Ranked in_order by_age = sym (sorted_as_it_is (compare_of order entries) list (in_order refl))
+  as_settled Hashed in_order by_age = by_age refl
 
   -- ---- the set in which it is filled
 
@@ -334,38 +350,61 @@ module _ {E R : Type 0} {has_key : E → ℕ → Bool} {order_of : E → ℕ →
     found_is : found ≡ settled
     found_is = (λ i. map (handle_of (records_kept s (store_of made) kept i)) (list_is i)) ∙ filled_handles
 
-    -- a list that does not stand there was not in order
-    pub out_of_order : list ≢ found → ¬ IsListed entries order spec list
-    out_of_order other fits = other (as_settled (is_sorted_kind spec.kind) fits.in_order ∙ sym found_is)
+    -- what the index keeps of the list
+    abbrev kept_list : List Handle
+    kept_list = standing (spec_at (specs_of made) index).kind found (map (λ e. e.handle) (entries_in (contents_of made))) list
 
-    module _ (in_place : IsTrue (is_sorted_kind (spec_at (specs_of made) index).kind) → list ≡ found) where
-      in_order : IsTrue (is_sorted_kind spec.kind) → IsInOrder (compare_of order entries) list
-      in_order sorted =
-          let sorted_list = in_place (subst (λ ds. IsTrue (is_sorted_kind (spec_at ds index).kind)) (sym same.specs) sorted) ∙ found_is ∙ ap (λ b. cond b (stable_sorted (compare_of order entries) list) list) sorted in
-          subst (IsInOrder (compare_of order entries)) (sym sorted_list) (IsInOrder-stable_sorted (compare_of order entries) (on_total (λ g. row_of entries g) (options_total (sorted_total sorted))) list)
+    kept_is : kept_list ≡ settled
+    kept_is = (λ i. standing (spec_at (same.specs i) index).kind found (map (λ e. e.handle) (entries_in (kept i))) list) ∙ by_kind spec.kind found_is
+      where
+        by_kind : (kind : Kind) → found ≡ standing kind sorted_list own list → standing kind found own list ≡ standing kind sorted_list own list
+        by_kind Sequenced e = refl
+        by_kind Random e = refl
+        by_kind Ordered e = e
+        by_kind Ranked e = e
+        by_kind Hashed e = refl
+
+    -- a list that does not stand there was not in order
+    pub out_of_order : ¬ (list ≡ kept_list) → ¬ IsListed entries order spec list
+    out_of_order other fits = other (as_settled spec.kind fits.in_order fits.by_stamp ∙ sym kept_is)
+
+    -- a unique index has each key once
+    pub each_key_once : IsUniqueExcept (order_by_row order_of) made None → HasEachKeyOnce entries order spec list
+    unfolding contents
+    each_key_once unique once =
+        let lists_one : length (lists_of made) ≡ length (specs_of made) = ap length filled_in ∙ (length-set (lists_of set) index filled ∙ (one ∙ ap length (sym same.specs))) in
+        let here = unique_at (order_by_row order_of (keys_of made)) (record_of (store_of made)) None (specs_of made) (lists_of made) lists_one unique index none (omega (arith, within, ap length same.specs))
+        (subst (λ ds. IsTrue (spec_at ds index).unique) (sym same.specs) once) in
+        let apart = subst (λ (f : Node → Node → Ordering). EachPair (λ m n. is_eq (f m n) ≡ false) filled) (λ i. order_at (records_kept s (store_of made) kept i) (order_by_row order_of (same.keys i) index)) (subst (EachPair _) list_is here) in
+        let all = IsPermutation-trans filled ns (nodes_in (contents s)) (IsPermutation-sym ns filled (members_all (age_of s) compare spec.kind ns)) moved in
+        rows_differ (record_of s) entries order (nodes_in (contents s)) all_known (differ_moved compare (unique_total once) filled (nodes_in (contents s)) all apart)
+
+    module _ (in_place : list ≡ kept_list) where
+      stands : list ≡ settled
+      stands = in_place ∙ kept_is
+
+      in_order : (kind : Kind) → list ≡ standing kind sorted_list own list → (IsTrue (is_sorted_kind kind) → IsTotalOrder order) → IsTrue (is_sorted_kind kind) → IsInOrder (compare_of order entries) list
+      in_order kind is total sorted =
+          subst (IsInOrder (compare_of order entries)) (sym (is ∙ ap (λ b. cond b sorted_list (cond (is_hashed_kind kind) own list)) sorted))
+          (IsInOrder-stable_sorted (compare_of order entries) (on_total (λ g. row_of entries g) (options_total (total sorted))) list)
+
+      by_stamp : (kind : Kind) → list ≡ standing kind sorted_list own list → IsTrue (is_hashed_kind kind) → list ≡ own
+      by_stamp Sequenced is hashed = cc
+      by_stamp Random is hashed = cc
+      by_stamp Ordered is hashed = cc
+      by_stamp Ranked is hashed = cc
+      by_stamp Hashed is hashed = is
 
       pub handles_filled : handles_in (record_of (store_of made)) (lists_of made) ≡ slice_set (handles_in (record_of s) (lists_of set)) index list
       handles_filled =
           handles_kept s (store_of made) (lists_of made) kept
           ∙ ap (handles_in (record_of s)) filled_in
           ∙ map-set (map (handle_of (record_of s))) (lists_of set) index filled
-          ∙ ap (slice_set (handles_in (record_of s) (lists_of set)) index) (filled_handles ∙ sym (as_settled (is_sorted_kind spec.kind) in_order))
+          ∙ ap (slice_set (handles_in (record_of s) (lists_of set)) index) (filled_handles ∙ sym stands)
 
       -- and one that does is that of an index
       pub fitting : IsUniqueExcept (order_by_row order_of) made None → IsIndex order entries spec list
-      unfolding contents
-      fitting unique = record {
-        members = t.members;
-        in_order = in_order;
-        by_stamp = λ hashed. sym t.handles ∙ ap (map (handle_of (record_of s))) (t.aged hashed) ∙ sym (handles_by_age s linked.sound.nodes);
-        unique = λ once.
-            let lists_one : length (lists_of made) ≡ length (specs_of made) = ap length filled_in ∙ (length-set (lists_of set) index filled ∙ (one ∙ ap length (sym same.specs))) in
-            let here = unique_at (order_by_row order_of (keys_of made)) (record_of (store_of made)) None (specs_of made) (lists_of made) lists_one unique index none (omega (arith, within, ap length same.specs))
-            (subst (λ ds. IsTrue (spec_at ds index).unique) (sym same.specs) once) in
-            let apart = subst (λ (f : Node → Node → Ordering). EachPair (λ m n. is_eq (f m n) ≡ false) filled) (λ i. order_at (records_kept s (store_of made) kept i) (order_by_row order_of (same.keys i) index)) (subst (EachPair _) list_is here) in
-            let all = IsPermutation-trans filled ns (nodes_in (contents s)) (IsPermutation-sym ns filled (members_all (age_of s) compare spec.kind ns)) moved in
-            rows_differ (record_of s) entries order (nodes_in (contents s)) all_known (differ_moved compare (unique_total once) filled (nodes_in (contents s)) all apart);
-      }
+      fitting unique = record { members = t.members; in_order = in_order spec.kind stands sorted_total; by_stamp = by_stamp spec.kind stands; unique = each_key_once unique }
 
 -- ---- results
 
@@ -485,19 +524,24 @@ module _ {E R : Type 0} {has_key : E → ℕ → Bool} {order : E → ℕ → R 
       let e : j ≡ 0 + j = omega arith in
       subst (λ k. IsIndex (order (keys_of old).keys k) (entries_in (contents_of old)) (spec_at (specs_of old) j) (list_at lists j)) e (h.fits j (omega (arith, lt, all, one))))
 
-pub unfit_misfit : {R : Type 0} (es : List (Entry R)) (order : ℕ → R → R → Ordering) (specs : List Spec) (lists : List (List Handle)) (index : ℕ) (why : Unfit) → index < length specs → IsUnfit es (order index) (spec_at specs index) (list_at lists index) why → IsMisfit es order specs lists (misfit_of why index)
-unfit_misfit es order specs lists index unfit.Memory lt h = tt
-unfit_misfit es order specs lists index unfit.Members lt h = (lt, h)
-unfit_misfit es order specs lists index unfit.Order lt h = (lt, h)
-unfit_misfit es order specs lists index unfit.Clash lt h = (lt, h)
+pub unfit_misfit : {R : Type 0} (es : List (Entry R)) (order : ℕ → R → R → Ordering) (specs : List Spec) (lists : List (List Handle)) (index : ℕ) (why : Unfit) → FailsAt es order specs lists index why → IsMisfit es order specs lists (misfit_of why index)
+unfit_misfit es order specs lists index unfit.Memory h = tt
+unfit_misfit es order specs lists index unfit.Members h = h
+unfit_misfit es order specs lists index unfit.Clash h = h
+unfit_misfit es order specs lists index unfit.Order h = h
 
 module _ {E R : Type 0} {has_key : E → ℕ → Bool} {order : E → ℕ → R → R → Ordering} {marks : E → ℕ → R → Marks} (slots : List (Option Node)) (old set : Parts (Entry R) (ByRow E)) (lists : List (List Handle)) (index : ℕ) (h : AreFilled has_key order marks slots old set lists index) (one : length lists ≡ length (specs_of old)) where
   -- what does not fit the next index does not fit all
   pub misfit_next : (list : List Handle) (why : Unfit) → index < length lists → list ≡ list_at lists index → IsUnfit (entries_in (contents_of set)) (order (keys_of set).keys index) (spec_at (specs_of set) index) list why →
       IsMisfit (entries_in (contents_of old)) (order (keys_of old).keys) (specs_of old) lists (misfit_of why index)
   misfit_next list why within is unfit =
-      unfit_misfit (entries_in (contents_of old)) (order (keys_of old).keys) (specs_of old) lists index why (omega (arith, within, one))
-      (subst (λ l. IsUnfit (entries_in (contents_of old)) (order (keys_of old).keys index) (spec_at (specs_of old) index) l why) is
-      (subst (λ es. IsUnfit (entries_in es) (order (keys_of old).keys index) (spec_at (specs_of old) index) list why) h.contents
-      (subst (λ ds. IsUnfit (entries_in (contents_of set)) (order (keys_of old).keys index) (spec_at ds index) list why) h.same.specs
-      (subst (λ (k : ByRow E). IsUnfit (entries_in (contents_of set)) (order k.keys index) (spec_at (specs_of set) index) list why) h.same.keys unfit))))
+      unfit_misfit (entries_in (contents_of old)) (order (keys_of old).keys) (specs_of old) lists index why
+      (record {
+        apart = subst (λ es. AreApart (entries_in es)) h.contents h.linked.apart;
+        within = omega (arith, within, one);
+        before = h.fits;
+        here = subst (λ l. IsUnfit (entries_in (contents_of old)) (order (keys_of old).keys index) (spec_at (specs_of old) index) l why) is
+            (subst (λ es. IsUnfit (entries_in es) (order (keys_of old).keys index) (spec_at (specs_of old) index) list why) h.contents
+            (subst (λ ds. IsUnfit (entries_in (contents_of set)) (order (keys_of old).keys index) (spec_at ds index) list why) h.same.specs
+            (subst (λ (k : ByRow E). IsUnfit (entries_in (contents_of set)) (order k.keys index) (spec_at (specs_of set) index) list why) h.same.keys unfit)));
+      })

@@ -1,19 +1,20 @@
 -- What keeps records and orders from being those of a container.
-use Rattle.std.specs.Prelude.{◌≡◌, ℕ, ◌<◌, ◌==◌, false, List, length, map, slice_index_or, IsTrue, IsPermutation}
+use Rattle.std.specs.Prelude.{◌≡◌, ℕ, ◌<◌, ◌==◌, false, List, length, map, slice_index_or, cond, IsTrue, IsPermutation}
 use Rattle.std.specs.Ordering.{is_eq}
 use Rattle.std.specs.declared.cmp.Ordering.{Ordering}
 use Rattle.list_model.specs.Order.{EachPair, IsInOrder}
 use Rattle.container_model.specs.declared.handle.Handle.{Handle}
 use Rattle.container_model.specs.declared.handle.Entry.{Entry}
 use Rattle.container_model.specs.declared.handle.Spec.{Spec}
+use Rattle.container_model.specs.declared.handle.Kind.{Kind}
 use Rattle.container_model.specs.declared.handle.Kind.TheVariants.{Sequenced}
-use Rattle.container_model.specs.State.{State, compare_of, is_sorted_kind, is_hashed_kind, list_at}
+use Rattle.container_model.specs.State.{State, IsIndex, compare_of, is_sorted_kind, is_hashed_kind, list_at}
 use Rattle.index_set.specs.declared.build.NoIndex.{NoIndex}
 use Rattle.index_set.specs.declared.build.NoIndex.TheVariants as no
 use Rattle.linked_set.specs.declared.fill.Unfit.{Unfit}
 use Rattle.linked_set.specs.declared.fill.Unfit.TheVariants as unfit
 use Rattle.linked_set.specs.declared.restoring.Misfit.{Misfit}
-use Rattle.linked_set.specs.declared.restoring.Misfit.TheVariants.{Memory, Slots, Members, Order, Clash}
+use Rattle.linked_set.specs.declared.restoring.Misfit.TheVariants.{Memory, Slots, Members, Clash, Order}
 
 -- what an index is to be
 abbrev pub spec_at : List Spec → ℕ → Spec
@@ -31,6 +32,11 @@ misfit_of unfit.Memory index = Memory
 misfit_of unfit.Members index = Members index
 misfit_of unfit.Order index = Order index
 misfit_of unfit.Clash index = Clash index
+
+-- the list of an index of this kind, where one that is in order has this list, one that is hashed the list by age, and a
+-- sequence any
+abbrev pub standing : {X : Type 0} → Kind → (listed aged list : X) → X
+standing kind listed aged list = cond (is_sorted_kind kind) listed (cond (is_hashed_kind kind) aged list)
 
 -- the container of these parts
 abbrev pub restored : {E R : Type 0} → ℕ → ℕ → ℕ → E → List Spec → List (Entry R) → List (List Handle) → State E R
@@ -55,17 +61,25 @@ module _ {R : Type 0} (entries : List (Entry R)) where
     abbrev pub HasEachKeyOnce : Type 0
     HasEachKeyOnce = IsTrue spec.unique → EachPair (λ a b. is_eq (order a.row b.row) ≡ false) entries
 
-    -- why the list is not the one of an index
+    -- the first cause why the list is not the one of an index
     abbrev pub IsUnfit : Unfit → Type 0
     IsUnfit unfit.Memory = Unit {0}
     IsUnfit unfit.Members = ¬ HasMembers list
-    IsUnfit unfit.Order = ¬ IsListed
-    IsUnfit unfit.Clash = ¬ HasEachKeyOnce
+    IsUnfit unfit.Clash = HasMembers list × ¬ HasEachKeyOnce
+    IsUnfit unfit.Order = HasMembers list × HasEachKeyOnce × ¬ IsListed
 
-  -- why the records and the lists are not those of a container
-  abbrev pub IsMisfit : (ℕ → R → R → Ordering) → List Spec → List (List Handle) → Misfit → Type 0
-  IsMisfit order specs lists Memory = Unit {0}
-  IsMisfit order specs lists Slots = ¬ AreApart
-  IsMisfit order specs lists (Members i) = i < length specs × ¬ HasMembers (list_at lists i)
-  IsMisfit order specs lists (Order i) = i < length specs × ¬ IsListed (order i) (spec_at specs i) (list_at lists i)
-  IsMisfit order specs lists (Clash i) = i < length specs × ¬ HasEachKeyOnce (order i) (spec_at specs i) (list_at lists i)
+  module _ (order : ℕ → R → R → Ordering) (specs : List Spec) (lists : List (List Handle)) where
+    -- the records lie apart, the lists before this one are those of their indices, and this is the first cause why it is not
+    pub record FailsAt (index : ℕ) (why : Unfit) : Type 0 where
+      pub apart : AreApart
+      pub within : index < length specs
+      pub before : (j : ℕ) → j < index → IsIndex (order j) entries (spec_at specs j) (list_at lists j)
+      pub here : IsUnfit (order index) (spec_at specs index) (list_at lists index) why
+
+    -- the first cause why the records and the lists are not those of a container
+    abbrev pub IsMisfit : Misfit → Type 0
+    IsMisfit Memory = Unit {0}
+    IsMisfit Slots = ¬ AreApart
+    IsMisfit (Members i) = FailsAt i unfit.Members
+    IsMisfit (Clash i) = FailsAt i unfit.Clash
+    IsMisfit (Order i) = FailsAt i unfit.Order

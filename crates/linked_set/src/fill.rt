@@ -1,15 +1,13 @@
 //! An index whose records stand as they are told to.
 ghost use Rattle.any_index.specs.Keyed.{marks_of};
-ghost use Rattle.std.specs.Prelude.{◌≡◌, ◌≢◌, ◌↔◌, ◌<◌, IfOk, IfErr, IsTrue, OnOk, false, length, map, slice_set, true};
+ghost use Rattle.std.specs.Prelude.{◌≡◌, ◌↔◌, ◌<◌, IfOk, IfErr, IsTrue, OnOk, false, length, map, slice_set, true};
 ghost use Rattle.std.specs.List.{AllByRecursion};
-ghost use Rattle.std.specs.declared.cmp.Ordering.{Ordering};
-ghost use Rattle.container_model.specs.declared.handle.Spec.{Spec};
-ghost use Rattle.container_model.specs.State.{IsIndex, is_hashed_kind, is_sorted_kind};
+ghost use Rattle.container_model.specs.State.{IsIndex, is_hashed_kind};
 ghost use Rattle.node_store.specs.Store.{IsNodeOf};
 ghost use Rattle.index_set.specs.Set.{store_of, keys_of, specs_of, contents, record_of, list_of, lists_of, IsSound, IsOfSame};
 ghost use Rattle.index_set.specs.ByRow.{has_by_row};
 ghost use Rattle.linked_set.specs.Linked.{handle_of, entries_in, handles_in, nodes_in};
-ghost use Rattle.linked_set.specs.Restored.{HasMembers, IsUnfit, spec_at, unfit_of};
+ghost use Rattle.linked_set.specs.Restored.{HasMembers, IsUnfit, spec_at, standing, unfit_of};
 ghost use Rattle.linked_set.specs.Seen.{IsLinked};
 
 use crate::rearrange::{all_live, has_each_once, nodes_of};
@@ -28,10 +26,10 @@ pub enum Unfit {
     Memory,
     /// It has not each record's handle once.
     Members,
-    /// It goes against the key, or in a hashed index against the order of insertion.
-    Order,
     /// The index is unique, and two records have one key.
     Clash,
+    /// It goes against the key, or in a hashed index against the order of insertion.
+    Order,
 }
 
 // Whether two orders are one.
@@ -49,94 +47,52 @@ fn are_same(given: &[Handle], listed: &[Handle]) -> bool
     true
 }
 
-// The nodes of an order that has each record's handle once.
-fn named_nodes<R, E: Extract<R>>(
+// Whether an order has each record's handle once.
+fn has_members<R, E: Extract<R>>(
     alloc: Global,
     set: &Filling<Entry<R>, ByRow<E>>,
     slots: &SlotTable<Node>,
     order: &[Handle],
-) -> Result<Vec<Node>, Unfit>
+) -> Result<bool, AllocError>
     requires { IsLinked E.has_key E.order_of (marks_of E.Extract) set.now slots.now.items }
-    ensures members { OnOk result (HasMembers (entries_in (contents set.now)) order.now) }
-    ensures nodes { IfOk result (λ nodes. AllByRecursion (IsNodeOf (store_of set.now))
-        nodes.items) }
-    ensures handles { IfOk result (λ nodes. map (handle_of (record_of set.now)) nodes.items ≡
-        order.now) }
-    ensures cause { IfErr result (λ why. (compare : R → R → Ordering) (spec : Spec) →
-        IsUnfit (entries_in (contents set.now)) compare spec order.now why) }
+    ensures { IfOk result (λ has. (has ≡ true) ↔ HasMembers (entries_in (contents set.now)) order.now) }
 {
     if !all_live(set, slots, order) {
-        return Err(Unfit::Members);
+        return Ok(false);
     }
-    let Ok(each_once) = has_each_once(alloc, set, slots, order) else {
-        return Err(Unfit::Memory);
-    };
-    if !each_once {
-        return Err(Unfit::Members);
-    }
-    let Ok(nodes) = nodes_of(alloc, set, slots, order) else {
-        return Err(Unfit::Memory);
-    };
-    Ok(nodes)
+    has_each_once(alloc, set, slots, order)
 }
 
-// The nodes of all records by age, where that is the order.
-fn aged_nodes<R, E: Extract<R>>(
-    alloc: Global,
-    set: &Filling<Entry<R>, ByRow<E>>,
-    order: &[Handle],
-) -> Result<Vec<Node>, Unfit>
-    requires { IsSound (has_by_row E.has_key) set.now }
-    ensures listed { OnOk result
-        (order.now ≡ map (λ e. e.handle) (entries_in (contents set.now))) }
-    ensures nodes { IfOk result (λ nodes. nodes.items ≡ nodes_in (contents set.now)) }
-    ensures cause { IfErr result (λ why. (compare : R → R → Ordering) (spec : Spec) →
-        IsTrue (is_hashed_kind spec.kind) →
-        IsUnfit (entries_in (contents set.now)) compare spec order.now why) }
-{
-    let Ok(handles) = by_age(alloc, set) else {
-        return Err(Unfit::Memory);
-    };
-    if !are_same(order, &handles) {
-        return Err(Unfit::Order);
-    }
-    let Ok(nodes) = by_age(alloc, set) else {
-        return Err(Unfit::Memory);
-    };
-    Ok(nodes)
-}
-
-// The nodes in the order of their handles, which has each record's once, and in a hashed index is that of insertion.
+// The nodes that an index is filled with: those of an order that has each record's handle once, and in a hashed index
+// those of all records by age.
 fn ordered_nodes<R, E: Extract<R>>(
     alloc: Global,
     set: &Filling<Entry<R>, ByRow<E>>,
     slots: &SlotTable<Node>,
     index: usize,
     order: &[Handle],
-) -> Result<Vec<Node>, Unfit>
+) -> Result<Vec<Node>, AllocError>
     requires linked { IsLinked E.has_key E.order_of (marks_of E.Extract) set.now slots.now.items }
     requires index { index < length (specs_of set.now) }
-    ensures members { OnOk result (HasMembers (entries_in (contents set.now)) order.now) }
+    requires members { HasMembers (entries_in (contents set.now)) order.now }
     ensures nodes { IfOk result (λ nodes. AllByRecursion (IsNodeOf (store_of set.now))
         nodes.items) }
-    ensures handles { IfOk result (λ nodes. map (handle_of (record_of set.now)) nodes.items ≡
-        order.now) }
+    ensures handles { IfOk result (λ nodes.
+        is_hashed_kind (spec_at (specs_of set.now) index).kind ≡ false →
+        map (handle_of (record_of set.now)) nodes.items ≡ order.now) }
     ensures aged { IfOk result (λ nodes.
         IsTrue (is_hashed_kind (spec_at (specs_of set.now) index).kind) →
         nodes.items ≡ nodes_in (contents set.now)) }
-    ensures cause { IfErr result (λ why. (compare : R → R → Ordering) →
-        IsUnfit (entries_in (contents set.now)) compare (spec_at (specs_of set.now) index)
-        order.now why) }
 {
     match set.specs()[index].kind {
-        Kind::Hashed => aged_nodes(alloc, set, order),
+        Kind::Hashed => by_age(alloc, set),
         Kind::Sequenced | Kind::Random | Kind::Ordered | Kind::Ranked => {
-            named_nodes(alloc, set, slots, order)
+            nodes_of(alloc, set, slots, order)
         }
     }
 }
 
-// Whether the list of an index that is in order is this one; the others are not asked.
+// Whether an index that was filled lists the records in this order. A sequence does.
 fn is_in_place<R, E: Extract<R>>(
     alloc: Global,
     set: &Filling<Entry<R>, ByRow<E>>,
@@ -145,18 +101,20 @@ fn is_in_place<R, E: Extract<R>>(
 ) -> Result<bool, AllocError>
     requires sound { IsSound (has_by_row E.has_key) set.now }
     requires index { index < length (specs_of set.now) }
-    ensures yes { IfOk result (λ same. same ≡ true →
-        IsTrue (is_sorted_kind (spec_at (specs_of set.now) index).kind) →
-        order.now ≡ map (handle_of (record_of set.now)) (list_of set.now index)) }
-    ensures no { IfOk result (λ same. same ≡ false →
-        order.now ≢ map (handle_of (record_of set.now)) (list_of set.now index)) }
+    ensures { IfOk result (λ same. (same ≡ true) ↔ (order.now ≡ standing (spec_at (specs_of set.now) index).kind
+        (map (handle_of (record_of set.now)) (list_of set.now index))
+        (map (λ e. e.handle) (entries_in (contents set.now))) order.now)) }
 {
     match set.specs()[index].kind {
         Kind::Ordered | Kind::Ranked => {
             let handles = in_order(alloc, set, index)?;
             Ok(are_same(order, &handles))
         }
-        Kind::Sequenced | Kind::Random | Kind::Hashed => Ok(true),
+        Kind::Hashed => {
+            let handles = by_age(alloc, set)?;
+            Ok(are_same(order, &handles))
+        }
+        Kind::Sequenced | Kind::Random => Ok(true),
     }
 }
 
@@ -171,7 +129,7 @@ fn told(why: NoIndex) -> Unfit
 }
 
 /// The set with all its records in an index, in this order. Where the order is not that of such an index, or where memory is
-/// refused, the set is dropped. It takes memory for a number and a node for each record, and what the index itself takes.
+/// refused, the set is dropped; the causes come in the order of `Unfit`. It takes memory for a number and a node for each record, and what the index itself takes.
 /// O(n log n).
 pub(crate) fn filled<R: Drop, E: Extract<R> + Drop>(
     alloc: Global,
@@ -193,9 +151,14 @@ pub(crate) fn filled<R: Drop, E: Extract<R> + Drop>(
     ensures cause { IfErr result (IsUnfit (entries_in (contents set))
         (E.order_of (keys_of set).keys index) (spec_at (specs_of set) index) order.now) }
 {
-    let nodes = match ordered_nodes(alloc, &set, slots, index, order) {
-        Ok(nodes) => nodes,
-        Err(why) => return Err(why),
+    let Ok(has_members) = has_members(alloc, &set, slots, order) else {
+        return Err(Unfit::Memory);
+    };
+    if !has_members {
+        return Err(Unfit::Members);
+    }
+    let Ok(nodes) = ordered_nodes(alloc, &set, slots, index, order) else {
+        return Err(Unfit::Memory);
     };
     let made = match set.filled(index, &nodes) {
         Ok(made) => made,

@@ -34,12 +34,12 @@ pub enum Misfit {
     /// The order of this index has not each record's handle once.
     #[error("the order of index {0} does not have each record's handle once")]
     Members(usize),
-    /// The order of this index goes against its key, or in a hashed index against the order of insertion.
-    #[error("the order of index {0} is not by its key, or in a hashed index not that of insertion")]
-    Order(usize),
     /// This index is unique, and two records have one key.
     #[error("two records have one key in the unique index {0}")]
     Clash(usize),
+    /// The order of this index goes against its key, or in a hashed index against the order of insertion.
+    #[error("the order of index {0} is not by its key, or in a hashed index not that of insertion")]
+    Order(usize),
 }
 
 // What lies in a slot.
@@ -97,8 +97,8 @@ fn told(why: Unfit, index: usize) -> Misfit
     match why {
         Unfit::Memory => Misfit::Memory,
         Unfit::Members => Misfit::Members(index),
-        Unfit::Order => Misfit::Order(index),
         Unfit::Clash => Misfit::Clash(index),
+        Unfit::Order => Misfit::Order(index),
     }
 }
 
@@ -133,8 +133,8 @@ fn fill_all<R: Drop, E: Extract<R> + Drop>(
 }
 
 /// A set of these records under indices in these orders, one for each index, and the slots that lead to their nodes. What is
-/// given is tried: `Slots`, `Members`, `Order` and `Clash` tell what it is not, the first index before the others. It moves the
-/// records, and takes memory for slots up to the greatest that is named. O(n log n) for each index, and O(slots log slots).
+/// given is tried: the first cause of `Misfit` tells what it is not, and all causes of an index come before those of a later
+/// one. It moves the records, and takes memory for slots up to the greatest that is named. O(n log n) for each index, and O(slots log slots).
 pub(crate) fn restore<R: Drop, E: Extract<R> + Drop>(
     alloc: Global,
     specs: Vec<Spec>,

@@ -12,9 +12,9 @@ use key_extract::Extract;
 use std::alloc::Global;
 
 impl<R: Drop, E: Extract<R> + Drop> LinkedSet<R, E> {
-    /// These records under indices in these orders, one for each index. What is given is tried: `Slots`, `Members`, `Order` and
-    /// `Clash` tell what it is not, the first index before the others. It moves the records, and takes memory for slots up to
-    /// the greatest that is named. O(n log n) for each index, and O(slots log slots).
+    /// These records under indices in these orders, one for each index. What is given is tried: the first cause of `Misfit`
+    /// tells what it is not, and all causes of an index come before those of a later one. It moves the records, and takes
+    /// memory for slots up to the greatest that is named. O(n log n) for each index, and O(slots log slots).
     pub fn restore(
         alloc: Global,
         specs: Vec<Spec>,

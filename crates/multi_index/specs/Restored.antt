@@ -6,13 +6,15 @@ use Rattle.list_model.specs.Order.{EachPair}
 use Rattle.container_model.specs.declared.handle.Handle.{Handle}
 use Rattle.container_model.specs.declared.handle.Entry.{Entry}
 use Rattle.container_model.specs.declared.handle.Spec.{Spec}
-use Rattle.container_model.specs.State.{State, list_at}
+use Rattle.container_model.specs.State.{State}
+use Rattle.linked_set.specs.declared.fill.Unfit.{Unfit}
+use Rattle.linked_set.specs.declared.fill.Unfit.TheVariants as unfit
 use Rattle.linked_set.specs.declared.restoring.Misfit.{Misfit}
 use Rattle.linked_set.specs.declared.restoring.Misfit.TheVariants as misfit
-use Rattle.linked_set.specs.Restored.{AreApart, HasMembers, IsListed, HasEachKeyOnce, spec_at, restored}
+use Rattle.linked_set.specs.Restored.{AreApart, FailsAt, restored}
 use Rattle.multi_index.specs.declared.restore.Saved.{Saved}
 use Rattle.multi_index.specs.declared.restore.Unrestorable.{Unrestorable}
-use Rattle.multi_index.specs.declared.restore.Unrestorable.TheVariants.{Memory, Orders, Full, Stamps, Slots, Members, Order, Clash}
+use Rattle.multi_index.specs.declared.restore.Unrestorable.TheVariants.{Memory, Orders, Full, Stamps, Slots, Members, Clash, Order}
 
 -- the orders of the indices
 abbrev pub orders_of : {R : Type 0} → Saved R → List (List Handle)
@@ -40,13 +42,30 @@ unrestorable_of (misfit.Members i) = Members i
 unrestorable_of (misfit.Order i) = Order i
 unrestorable_of (misfit.Clash i) = Clash i
 
--- why what is told is not a container
-abbrev pub IsUnrestorable : {R : Type 0} → (ℕ → R → R → Ordering) → List Spec → ℕ → Saved R → Unrestorable → Type 0
-IsUnrestorable order specs max saved Memory = Unit {0}
-IsUnrestorable order specs max saved Orders = ¬ (length saved.orders.items ≡ length specs)
-IsUnrestorable order specs max saved Full = max < length saved.entries.items
-IsUnrestorable order specs max saved Stamps = ¬ AreStamped saved.entries.items saved.writes
-IsUnrestorable order specs max saved Slots = ¬ (AreApart saved.entries.items × AreWithin saved.entries.items max)
-IsUnrestorable order specs max saved (Members i) = i < length specs × ¬ HasMembers saved.entries.items (list_at (orders_of saved) i)
-IsUnrestorable order specs max saved (Order i) = i < length specs × ¬ IsListed saved.entries.items (order i) (spec_at specs i) (list_at (orders_of saved) i)
-IsUnrestorable order specs max saved (Clash i) = i < length specs × ¬ HasEachKeyOnce saved.entries.items (order i) (spec_at specs i) (list_at (orders_of saved) i)
+module _ {R : Type 0} (order : ℕ → R → R → Ordering) (specs : List Spec) (max : ℕ) (saved : Saved R) where
+  -- there is an order for each index, and room for the records
+  pub record HasRoom : Type 0 where
+    pub one_each : length saved.orders.items ≡ length specs
+    pub few : length saved.entries.items ≤ max
+
+  -- the records' numbers are those of writes, too
+  pub record HasStamps : Type 0 where
+    pub room : HasRoom
+    pub stamped : AreStamped saved.entries.items saved.writes
+
+  -- the records lie in slots that there may be, and from an index on the orders are not those of such records
+  pub record FailsFrom (index : ℕ) (why : Unfit) : Type 0 where
+    pub stamps : HasStamps
+    pub slots : AreWithin saved.entries.items max
+    pub fails : FailsAt saved.entries.items order specs (orders_of saved) index why
+
+  -- the first cause why what is told is not a container
+  abbrev pub IsUnrestorable : Unrestorable → Type 0
+  IsUnrestorable Memory = Unit {0}
+  IsUnrestorable Orders = ¬ (length saved.orders.items ≡ length specs)
+  IsUnrestorable Full = (length saved.orders.items ≡ length specs) × (max < length saved.entries.items)
+  IsUnrestorable Stamps = HasRoom × ¬ AreStamped saved.entries.items saved.writes
+  IsUnrestorable Slots = HasStamps × ¬ (AreApart saved.entries.items × AreWithin saved.entries.items max)
+  IsUnrestorable (Members i) = FailsFrom i unfit.Members
+  IsUnrestorable (Clash i) = FailsFrom i unfit.Clash
+  IsUnrestorable (Order i) = FailsFrom i unfit.Order

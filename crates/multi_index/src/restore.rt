@@ -42,12 +42,12 @@ pub enum Unrestorable {
     /// The order of this index has not each record's handle once.
     #[error("the order of index {0} does not have each record's handle once")]
     Members(usize),
-    /// The order of this index goes against its key, or in a hashed index against the order of insertion.
-    #[error("the order of index {0} is not by its key, or in a hashed index not that of insertion")]
-    Order(usize),
     /// This index is unique, and two records have one key.
     #[error("two records have one key in the unique index {0}")]
     Clash(usize),
+    /// The order of this index goes against its key, or in a hashed index against the order of insertion.
+    #[error("the order of index {0} is not by its key, or in a hashed index not that of insertion")]
+    Order(usize),
 }
 
 // Whether the records' numbers are those of writes, and rise.
@@ -89,16 +89,17 @@ fn told(why: Misfit) -> Unrestorable
         Misfit::Memory => Unrestorable::Memory,
         Misfit::Slots => Unrestorable::Slots,
         Misfit::Members(index) => Unrestorable::Members(index),
-        Misfit::Order(index) => Unrestorable::Order(index),
         Misfit::Clash(index) => Unrestorable::Clash(index),
+        Misfit::Order(index) => Unrestorable::Order(index),
     }
 }
 
 impl<R: Drop, E: Extract<R> + Drop> MultiIndex<R, E> {
     /// The container that was saved: of the same records with the same handles, in the same order in each index, and with the
     /// same number of the last write. What is told is tried, as it may come from a file: what is not what such a container
-    /// holds is refused, in the order in which the causes stand in `Unrestorable`. The records are moved. It takes memory for
-    /// slots up to the greatest that is named, which is below `max`. O(n log n) for each index.
+    /// holds is refused by its first cause, in the order in which the causes stand in `Unrestorable`; all causes of an index
+    /// come before those of a later one. The records are moved. It takes memory for slots up to the greatest that is named,
+    /// which is below `max`. O(n log n) for each index.
     pub fn restore(
         alloc: Global,
         specs: Vec<Spec>,

@@ -8,7 +8,7 @@ use Rattle.container_model.specs.State.{AreIndices, IsIndex, list_at}
 use Rattle.linked_set.specs.Restored.{AreApart, spec_at}
 use Rattle.multi_index.specs.declared.restore.Saved.{Saved}
 use Rattle.multi_index.specs.declared.restore.Unrestorable.{Unrestorable}
-use Rattle.multi_index.specs.declared.restore.Unrestorable.TheVariants.{Memory, Orders, Full, Stamps, Slots, Members, Order, Clash}
+use Rattle.multi_index.specs.declared.restore.Unrestorable.TheVariants.{Memory, Orders, Full, Stamps, Slots, Members, Clash, Order}
 use Rattle.multi_index.specs.Restored.{AreStamped, AreWithin, IsUnrestorable, orders_of}
 
 from_zero : (n : ℕ) → 0 + n ≡ n
@@ -45,11 +45,11 @@ module _ {R : Type 0} (order : ℕ → R → R → Ordering) (specs : List Spec)
       (why : Unrestorable) → IsUnrestorable order specs max saved why → why ≡ Memory
   only_memory n few stamped apart within kept Memory h = refl
   only_memory n few stamped apart within kept Orders h = absurd (h (sym n ∙ as_many order all 0 specs (orders_of saved) kept))
-  only_memory n few stamped apart within kept Full h = absurd (omega (arith, h, few))
-  only_memory n few stamped apart within kept Stamps h = absurd (h stamped)
-  only_memory n few stamped apart within kept Slots h = absurd (h (apart, within))
-  only_memory n few stamped apart within kept (Members i) h = absurd (h.1 (each_index order all i specs (orders_of saved) h.0 kept).members)
+  only_memory n few stamped apart within kept Full h = absurd (omega (arith, h.1, few))
+  only_memory n few stamped apart within kept Stamps h = absurd (h.1 stamped)
+  only_memory n few stamped apart within kept Slots h = absurd (h.1 (apart, within))
+  only_memory n few stamped apart within kept (Members i) h = absurd (h.fails.here (each_index order all i specs (orders_of saved) h.fails.within kept).members)
+  only_memory n few stamped apart within kept (Clash i) h = absurd (h.fails.here.1 (each_index order all i specs (orders_of saved) h.fails.within kept).unique)
   only_memory n few stamped apart within kept (Order i) h =
-      let index = each_index order all i specs (orders_of saved) h.0 kept in
-      absurd (h.1 (record { in_order = index.in_order; by_stamp = index.by_stamp }))
-  only_memory n few stamped apart within kept (Clash i) h = absurd (h.1 (each_index order all i specs (orders_of saved) h.0 kept).unique)
+      let index = each_index order all i specs (orders_of saved) h.fails.within kept in
+      absurd (h.fails.here.2 (record { in_order = index.in_order; by_stamp = index.by_stamp }))
