@@ -11,38 +11,40 @@ use Rattle.table_engine.specs.declared.stopped.Stopped.TheVariants as stops
 use Rattle.logged_tables.specs.declared.fault.OverAt.{OverAt}
 use Rattle.logged_tables.specs.declared.fault.ServeFault.{ServeFault}
 use Rattle.logged_tables.specs.declared.fault.ServeFault.TheVariants as faults
+use Rattle.logged_tables.specs.Found.{IsUnsynced}
 use Rattle.logged_tables.specs.Ends.{EndsAs, failed_sink, whole_sink}
 
-pub ends_well : (P Q : Type 0) (served : Result (Unit {0}) (Stopped OverAt)) (end : Result (Unit {0}) ServeFault) → EndsAs served end → (P → Q) → OnOk served P → OnOk end Q
-ends_well P Q (Ok x) end e f h = subst (λ r. OnOk r Q) (sym e) (f h)
-ends_well P Q (Err stops.Read) end e f h = subst (λ r. OnOk r Q) (sym e) tt
-ends_well P Q (Err stops.Memory) end e f h = subst (λ r. OnOk r Q) (sym e) tt
-ends_well P Q (Err (stops.Refused at)) end e f h = subst (λ r. OnOk r Q) (sym e) tt
-ends_well P Q (Err stops.Write) end (inl e) f h = subst (λ r. OnOk r Q) (sym e) tt
-ends_well P Q (Err stops.Write) end (inr e) f h = subst (λ r. OnOk r Q) (sym e.1) tt
+pub ends_well : (names : List (List ℕ)) (P Q : Type 0) (served : Result (Unit {0}) (Stopped OverAt)) (end : Result (Unit {0}) ServeFault) → EndsAs names served end → (P → Q) → OnOk served P → OnOk end Q
+ends_well names P Q (Ok x) end e f h = subst (λ r. OnOk r Q) (sym e) (f h)
+ends_well names P Q (Err stops.Read) end e f h = subst (λ r. OnOk r Q) (sym e) tt
+ends_well names P Q (Err stops.Memory) end e f h = subst (λ r. OnOk r Q) (sym e) tt
+ends_well names P Q (Err (stops.Refused at)) end e f h = subst (λ r. OnOk r Q) (sym e) tt
+ends_well names P Q (Err stops.Write) end (inl e) f h = subst (λ r. OnOk r Q) (sym e) tt
+ends_well names P Q (Err stops.Write) end (inr e) f h = subst (λ r. OnOk r Q) (sym e.1) tt
 
-pub was_unread : (served : Result (Unit {0}) (Stopped OverAt)) (end : Result (Unit {0}) ServeFault) → EndsAs served end → end ≡ Err faults.Read → served ≡ Err stops.Read
-was_unread (Ok x) end e is = absurd (cc)
-was_unread (Err stops.Read) end e is = refl
-was_unread (Err stops.Memory) end e is = absurd (cc)
-was_unread (Err (stops.Refused at)) end e is = absurd (cc)
-was_unread (Err stops.Write) end (inl e) is = absurd (cc)
-was_unread (Err stops.Write) end (inr e) is = let same = e.1 in absurd (cc)
+pub was_unread : (names : List (List ℕ)) (served : Result (Unit {0}) (Stopped OverAt)) (end : Result (Unit {0}) ServeFault) → EndsAs names served end → end ≡ Err faults.Read → served ≡ Err stops.Read
+was_unread names (Ok x) end e is = absurd (cc)
+was_unread names (Err stops.Read) end e is = refl
+was_unread names (Err stops.Memory) end e is = absurd (cc)
+was_unread names (Err (stops.Refused at)) end e is = absurd (cc)
+was_unread names (Err stops.Write) end (inl e) is = absurd (cc)
+was_unread names (Err stops.Write) end (inr e) is = let same = e.1 in absurd (cc)
 
-pub was_unwritten : (served : Result (Unit {0}) (Stopped OverAt)) (end : Result (Unit {0}) ServeFault) → EndsAs served end → end ≡ Err faults.Write → served ≡ Err stops.Write
-was_unwritten (Ok x) end e is = absurd (cc)
-was_unwritten (Err stops.Read) end e is = absurd (cc)
-was_unwritten (Err stops.Memory) end e is = absurd (cc)
-was_unwritten (Err (stops.Refused at)) end e is = absurd (cc)
-was_unwritten (Err stops.Write) end e is = refl
+pub was_unwritten : (names : List (List ℕ)) (served : Result (Unit {0}) (Stopped OverAt)) (end : Result (Unit {0}) ServeFault) → EndsAs names served end → end ≡ Err faults.Write → served ≡ Err stops.Write
+was_unwritten names (Ok x) end e is = absurd (cc)
+was_unwritten names (Err stops.Read) end e is = absurd (cc)
+was_unwritten names (Err stops.Memory) end e is = absurd (cc)
+was_unwritten names (Err (stops.Refused at)) end e is = absurd (cc)
+was_unwritten names (Err stops.Write) end e is = refl
 
-pub was_over : (served : Result (Unit {0}) (Stopped OverAt)) (end : Result (Unit {0}) ServeFault) (at : OverAt) → EndsAs served end → end ≡ Err (faults.Over at)
-    → (served ≡ Err stops.Write) ⊎ (served ≡ Err (stops.Refused at))
-was_over (Ok x) end at e is = absurd (cc)
-was_over (Err stops.Read) end at e is = absurd (cc)
-was_over (Err stops.Memory) end at e is = absurd (cc)
-was_over (Err (stops.Refused other)) end at e is = let same : other ≡ at = cc in inr (ap (λ a. Err (stops.Refused a)) same)
-was_over (Err stops.Write) end at e is = inl refl
+pub was_over : (names : List (List ℕ)) (served : Result (Unit {0}) (Stopped OverAt)) (end : Result (Unit {0}) ServeFault) (at : OverAt) → EndsAs names served end → end ≡ Err (faults.Over at)
+    → (IsUnsynced names at × (served ≡ Err stops.Write)) ⊎ (served ≡ Err (stops.Refused at))
+was_over names (Ok x) end at e is = absurd (cc)
+was_over names (Err stops.Read) end at e is = absurd (cc)
+was_over names (Err stops.Memory) end at e is = absurd (cc)
+was_over names (Err (stops.Refused other)) end at e is = let same : other ≡ at = cc in inr (ap (λ a. Err (stops.Refused a)) same)
+was_over names (Err stops.Write) end at (inl e) is = absurd (cc)
+was_over names (Err stops.Write) end at (inr (other, e, found)) is = let same : other ≡ at = cc in inl (subst (λ a. IsUnsynced names a) same found, refl)
 
 -- ---- the same outcomes of a writer within another
 

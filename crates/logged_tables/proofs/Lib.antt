@@ -1,4 +1,5 @@
 pub mod Hears
 pub mod Ends
 pub mod Marks
+pub mod Orders
 pub mod Calls

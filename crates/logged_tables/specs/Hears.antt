@@ -11,7 +11,8 @@ use Rattle.table_reply.specs.Answer.{answer_text, fault}
 use Rattle.table_reply.specs.declared.fault.Fault.{Fault}
 use Rattle.table_reply.specs.declared.fault.Fault.TheVariants as faults
 use Rattle.table_step.specs.Step.{memory_line}
-use Rattle.table_log.specs.Logged.{IsKept, LogData, Stops}
+use Rattle.table_log.specs.Logged.{LogData, Stops}
+use Rattle.logged_tables.specs.Found.{IsFound}
 use Rattle.logged_tables.specs.Standing.{Carries}
 use Rattle.logged_tables.specs.declared.fault.OverAt.{OverAt}
 use Rattle.logged_tables.specs.declared.syncing.Syncing.{Syncing}
@@ -25,24 +26,25 @@ pub record SeatData : Type 0 where
 abbrev pub place_of : List (List ℕ) → List ℕ → Option ℕ
 place_of names name = position (λ other. bytes_eq other name) names
 
--- The table of the name that a command has, as it was found under its lock: it is what its log leaves, and the log is not over.
--- The command is carried out on it, so that the log it leaves has an accepted write before the answer is told.
-pub record HearsTable (command : Command) (text : List ℕ) : Type 0 where
+-- The table of this number, as it was found under its lock: it has the name that the command has, it is what its log leaves, and the
+-- log is not over. The command is carried out on it, so that the log it leaves has an accepted write before the answer is told.
+pub record HearsTable (names : List (List ℕ)) (place : ℕ) (command : Command) (text : List ℕ) : Type 0 where
+  pub number : ℕ
   pub old : LogData
   pub new : LogData
-  pub kept : IsKept old
+  pub found : IsFound names place number old
   pub named : old.table.shape.name ≡ table_in command
   pub works : old.is_over ≡ false
   pub carried : Carries old command [] text new
 
 -- where a table has the name, and where none has
-abbrev pub HearsAt : Option ℕ → Command → List ℕ → Type 0
-HearsAt (Some place) command text = HearsTable command text
-HearsAt None command text = text ≡ answer_text (fault faults.Table)
+abbrev pub HearsAt : List (List ℕ) → Option ℕ → Command → List ℕ → Type 0
+HearsAt names (Some place) command text = HearsTable names place command text
+HearsAt names None command text = text ≡ answer_text (fault faults.Table)
 
 -- the same, or the memory line
 abbrev pub HearsCommand : List (List ℕ) → Command → List ℕ → Type 0
-HearsCommand names command text = (text ≡ memory_line) ⊎ HearsAt (place_of names (table_in command)) command text
+HearsCommand names command text = (text ≡ memory_line) ⊎ HearsAt names (place_of names (table_in command)) command text
 
 -- what is told of a line that is no command
 abbrev pub unread : CommandFault → Fault
@@ -65,9 +67,10 @@ HearsText names line text = (text ≡ memory_line) ⊎ HearsMeaning names (meani
 -- not be appended.
 pub record IsOver (names : List (List ℕ)) (command : Command) (at : OverAt) : Type 0 where
   pub place : place_of names (table_in command) ≡ Some at.table
+  pub number : ℕ
   pub old : LogData
   pub new : LogData
-  pub kept : IsKept old
+  pub found : IsFound names at.table number old
   pub named : old.table.shape.name ≡ table_in command
   pub stopped : Stops old command new
 

@@ -1,3 +1,4 @@
 pub mod Standing
+pub mod Found
 pub mod Hears
 pub mod Ends

@@ -9,6 +9,12 @@ pub struct OverAt {
     pub table: usize,
 }
 
+/// Marks stand still: the log of a table is over, or what stands behind its lock is not that table, which never is so.
+#[derive(Clone, Copy, Debug, PartialEq, Eq)]
+pub(crate) struct Unsettled {
+    pub(crate) over: Option<OverAt>,
+}
+
 /// Why a stream was not served to its end.
 #[derive(Clone, Copy, Debug, PartialEq, Eq, Error)]
 pub enum ServeFault {

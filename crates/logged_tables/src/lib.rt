@@ -3,6 +3,8 @@
 
 mod fault;
 mod lock;
+mod numbered;
+mod peer;
 mod seat;
 mod serve;
 mod standing;

@@ -1,66 +1,103 @@
 //! A table with its log, behind a lock.
 
+use crate::numbered::Numbered;
 use std::sync::{Condvar, Mutex, MutexGuard, Wait};
 use table_log::{Disk, LoggedTable};
 
-/// A table with its log behind a lock. A sync may let the calls go first that wait for the lock, and makes sure of theirs too.
+/// A table with its log behind a lock. A sync may let the calls go first that came before it, and makes sure of theirs too.
 #[derive(Drop)]
 pub(crate) struct TableLock<D: Disk> {
-    table: Mutex<LoggedTable<D>>,
-    // How many wait for the lock.
-    waiting: Mutex<usize>,
-    none_waits: Condvar,
+    table: Mutex<Numbered<D>>,
+    queue: Mutex<Queue>,
+    moves: Condvar,
+}
+
+// Who wants the lock.
+#[derive(Drop)]
+struct Queue {
+    // How many came for it.
+    came: u64,
+    // How many of them have had it.
+    went: u64,
+    // The least count of those that went for which somebody waits.
+    awaited: u64,
+}
+
+impl Queue {
+    // Whether fewer went than these. Then they are waited for.
+    fn awaits(&mut self, count: u64) -> bool {
+        let waits = self.went < count;
+        if waits {
+            self.awaited = self.awaited.min(count);
+        }
+        waits
+    }
+
+    // One more went. Says whether somebody waits for that.
+    fn step(&mut self) -> bool {
+        self.went = self.went.saturating_add(1);
+        let reached = self.awaited <= self.went;
+        if reached {
+            self.awaited = u64::MAX;
+        }
+        reached
+    }
 }
 
 impl<D: Disk> TableLock<D> {
-    /// The table behind a lock.
-    pub(crate) fn new(table: LoggedTable<D>) -> TableLock<D> {
+    /// The table of this number behind a lock.
+    pub(crate) fn new(number: usize, log: LoggedTable<D>) -> TableLock<D> {
         TableLock {
-            table: Mutex::new(table),
-            waiting: Mutex::new(0),
-            none_waits: Condvar::new(),
+            table: Mutex::new(Numbered { number, log }),
+            queue: Mutex::new(Queue {
+                came: 0,
+                went: 0,
+                awaited: u64::MAX,
+            }),
+            moves: Condvar::new(),
         }
     }
 
     /// Locks the table.
-    pub(crate) fn lock(&self, rt: &impl Wait) -> MutexGuard<'_, LoggedTable<D>> {
+    pub(crate) fn lock(&self, rt: &impl Wait) -> MutexGuard<'_, Numbered<D>> {
         self.begin(rt);
         let table = self.table.lock(rt);
         self.end(rt);
         table
     }
 
-    /// Locks the table once nobody else waits for that.
-    pub(crate) fn lock_last(&self, rt: &impl Wait) -> MutexGuard<'_, LoggedTable<D>> {
-        let waiting = self
-            .none_waits
-            .wait_while(rt, self.waiting.lock(rt), |waiting| *waiting > 0);
-        drop(waiting);
+    /// Locks the table once as many have had it as came before. Who comes later is not waited for.
+    pub(crate) fn lock_behind(&self, rt: &impl Wait) -> MutexGuard<'_, Numbered<D>> {
+        let queue = self.queue.lock(rt);
+        let before = queue.came;
+        let queue = self
+            .moves
+            .wait_while(rt, queue, |queue| queue.awaits(before));
+        drop(queue);
         self.table.lock(rt)
     }
 
-    /// The table.
-    pub(crate) fn into_table(self) -> LoggedTable<D> {
+    /// The table, and its number.
+    pub(crate) fn into_table(self) -> Numbered<D> {
         let TableLock {
             table,
-            waiting: _,
-            none_waits: _,
+            queue: _,
+            moves: _,
         } = self;
         table.into_inner()
     }
 
-    // One more waits for the lock.
+    // One more comes for the lock.
     fn begin(&self, rt: &impl Wait) {
-        let mut waiting = self.waiting.lock(rt);
-        *waiting = waiting.saturating_add(1);
+        let mut queue = self.queue.lock(rt);
+        queue.came = queue.came.saturating_add(1);
     }
 
-    // One has the lock.
+    // One has it.
     fn end(&self, rt: &impl Wait) {
-        let mut waiting = self.waiting.lock(rt);
-        *waiting = waiting.saturating_sub(1);
-        if *waiting == 0 {
-            self.none_waits.notify_all();
+        let reached = self.queue.lock(rt).step();
+        if reached {
+            self.moves.notify_all();
         }
     }
 }

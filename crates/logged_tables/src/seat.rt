@@ -1,13 +1,16 @@
 //! The place of a session.
 
-ghost use Rattle.std.specs.Prelude.{◌≡◌, ◌<◌, ◌++◌, false, List, ℕ, None, Some, All, IfErr, IfOk, OnErr, OnOk, length, slice_get, slice_set};
+ghost use Rattle.std.specs.Prelude.{◌≡◌, ◌<◌, ◌++◌, false, List, ℕ, None, Some, All, IfErr, IfOk, IfSome, OnErr, OnOk, length, slice_get, slice_set};
 ghost use Rattle.command_lines.specs.Fits.{CommandFits};
 ghost use Rattle.table_reply.specs.Ready.{IsBehind};
-ghost use Rattle.table_log.specs.Logged.{IsKept, Stops};
+ghost use Rattle.table_log.specs.Logged.{Stops};
+ghost use Rattle.table_log.specs.declared.logged.Mark.{Mark};
+ghost use Rattle.logged_tables.specs.Found.{AreCovered, IsCovered, IsFound, IsUnsynced};
 ghost use Rattle.logged_tables.specs.Hears.{HearsCommand, IsOver};
 ghost use Rattle.logged_tables.specs.Standing.{Carries, marked};
 
-use crate::fault::OverAt;
+use crate::fault::{OverAt, Unsettled};
+use crate::numbered::Numbered;
 use crate::standing::Standing;
 use crate::syncing::Syncing;
 use crate::tables::LoggedTables;
@@ -15,7 +18,7 @@ use std::alloc::{AllocError, Global};
 use std::marker::Model;
 use std::sync::{Mutex, MutexGuard, Wait};
 use table_cmd::Command;
-use table_log::{Disk, LoggedTable, Over};
+use table_log::{Disk, Over};
 use table_reply::{Fault, Ready, Told};
 use table_step::{refuse, refuse_memory};
 
@@ -26,7 +29,6 @@ pub struct Seat<'a, D: Disk, T: Wait> {
     pub(crate) rt: &'a T,
     syncing: Syncing,
     standing: Mutex<Standing>,
-    over: Mutex<Option<OverAt>>,
 }
 
 impl<'a, D: Disk, T: Wait> Model for Seat<'a, D, T> {
@@ -53,7 +55,6 @@ impl<'a, D: Disk, T: Wait> Seat<'a, D, T> {
             rt,
             syncing,
             standing: Mutex::new(standing),
-            over: Mutex::new(None),
         })
     }
 
@@ -68,20 +69,15 @@ impl<'a, D: Disk, T: Wait> Seat<'a, D, T> {
         self.standing.lock(self.rt)
     }
 
-    // Keeps that a table's log was over when bytes were to go to the peer.
-    pub(crate) fn keep(&self, at: OverAt) {
-        *self.over.lock(self.rt) = Some(at);
-    }
-
-    // Forgets what stands, and what was over.
-    pub(crate) fn begin(&self) {
-        self.standing.lock(self.rt).forget();
-        *self.over.lock(self.rt) = None;
-    }
-
-    // The table whose log was over when bytes were to go to the peer.
-    pub(crate) fn over(&self) -> Option<OverAt> {
-        *self.over.lock(self.rt)
+    // The table whose log is over, and was when bytes were to go to the peer.
+    pub(crate) fn over(&self) -> Option<OverAt>
+        ensures { IfSome result (λ at. IsUnsynced self.now.names at) }
+    {
+        let mut standing = self.standing.lock(self.rt);
+        match self.settle_all(&mut standing) {
+            Ok(()) => None,
+            Err(unsettled) => unsettled.over,
+        }
     }
 
     // Carries out a command under the lock of the table that it names, and appends the line of its answer, or else the memory
@@ -101,12 +97,12 @@ impl<'a, D: Disk, T: Wait> Seat<'a, D, T> {
         let Some(lock) = tables.at(place) else {
             return refuse_memory(out).with(Ok(()));
         };
-        let mut table = lock.lock(self.rt);
+        let mut held = lock.lock(self.rt);
         // They always fit, but of what a lock holds only its type is known.
-        if table.name() != command.table() || place >= standing.len() {
+        if !tables.is_at(place, &held) || place >= standing.len() {
             return refuse_memory(out).with(Ok(()));
         }
-        let Told { what, out } = self.carry_out(&mut standing, &mut table, place, command, out);
+        let Told { what, out } = self.carry_out(&mut standing, &mut held, place, command, out);
         match what {
             Ok(()) => Told { what: Ok(()), out },
             Err(Over) => Told {
@@ -120,54 +116,60 @@ impl<'a, D: Disk, T: Wait> Seat<'a, D, T> {
     fn carry_out<'o>(
         &self,
         standing: &mut Standing,
-        table: &mut LoggedTable<D>,
+        held: &mut Numbered<D>,
         place: usize,
         command: &Command,
         out: Ready<'o>,
     ) -> Told<'o, Result<(), Over>>
         requires fits { CommandFits command.now }
         requires place { place < length standing.old }
-        requires named { slice_get self.now.names place ≡ Some table.old.table.shape.name }
-        ensures answered { OnOk result.what ((table.old.is_over ≡ false) × Carries table.old command.now out.entry.out.now.bytes result.out.now.bytes table.new) }
-        ensures marked { OnOk result.what (standing.new ≡ marked self.now.syncing place table.new standing.old) }
-        ensures stopped { OnErr result.what ((result.out.now ≡ out.entry.out.now) × (standing.new ≡ standing.old) × Stops table.old command.now table.new) }
-        ensures stands { IsKept table.old }
+        requires found { IsFound self.now.names place held.old.number held.old.log }
+        ensures answered { OnOk result.what ((held.old.log.is_over ≡ false) × Carries held.old.log command.now out.entry.out.now.bytes result.out.now.bytes held.new.log) }
+        ensures marked { OnOk result.what (standing.new ≡ marked self.now.syncing place held.new.log standing.old) }
+        ensures stopped { OnErr result.what ((result.out.now ≡ out.entry.out.now) × (standing.new ≡ standing.old) × Stops held.old.log command.now held.new.log) }
         ensures behind { IsBehind out.entry result }
     {
-        standing.call(table, place, self.syncing, command, out)
+        standing.call(&mut held.log, place, self.syncing, command, out)
     }
 
     // Sees to it that no mark stands of a table.
-    fn settle(&self, standing: &mut Standing, place: usize) -> Result<(), OverAt>
+    fn settle(&self, standing: &mut Standing, place: usize) -> Result<(), Unsettled>
         requires { place < length standing.old }
         ensures taken { OnOk result (standing.new ≡ slice_set standing.old place None) }
+        ensures covered { OnOk result ((mark : Mark) → slice_get standing.old place ≡ Some (Some mark) → IsCovered self.now.names place mark) }
         ensures count { length standing.new ≡ length standing.old }
+        ensures over { IfErr result (λ unsettled. IfSome unsettled.over (λ at. IsUnsynced self.now.names at)) }
     {
         if !standing.stands(place) {
             return Ok(());
         }
         let tables = self.tables;
         let Some(lock) = tables.at(place) else {
-            return Err(OverAt { table: place });
+            return Err(Unsettled { over: None });
         };
         // What others append meanwhile is synced too, and they need no sync of their own.
-        let mut table = lock.lock_last(self.rt);
-        // It always has this name, but of what a lock holds only its type is known.
-        let is_there = tables.is_named(place, table.name());
-        if !is_there || standing.settle(tables, &mut table, place).is_err() {
-            return Err(OverAt { table: place });
+        let mut held = lock.lock_behind(self.rt);
+        if !tables.is_at(place, &held) {
+            return Err(Unsettled { over: None });
         }
-        Ok(())
+        match standing.settle(tables, &mut held.log, place) {
+            Ok(()) => Ok(()),
+            Err(Over) => Err(Unsettled {
+                over: Some(OverAt { table: place }),
+            }),
+        }
     }
 
-    // Sees to it that no mark stands.
-    pub(crate) fn settle_all(&self, standing: &mut Standing) -> Result<(), OverAt>
-        ensures { OnOk result (All (λ mark. mark ≡ None) standing.new) }
+    // Sees to it that no mark stands: the log of each table with a mark is synced so far.
+    pub(crate) fn settle_all(&self, standing: &mut Standing) -> Result<(), Unsettled>
+        ensures none { OnOk result (All (λ mark. mark ≡ None) standing.new) }
+        ensures covered { OnOk result (AreCovered self.now.names standing.old) }
+        ensures over { IfErr result (λ unsettled. IfSome unsettled.over (λ at. IsUnsynced self.now.names at)) }
     {
         for place in 0..standing.len() {
             match self.settle(standing, place) {
                 Ok(()) => {}
-                Err(at) => return Err(at),
+                Err(unsettled) => return Err(unsettled),
             }
         }
         Ok(())

@@ -4,9 +4,11 @@ ghost use Rattle.std.specs.Prelude.{◌≡◌, ◌⊎◌, Err, OnOk};
 ghost use Rattle.table_engine.specs.Outcomes.{IsRefused, IsServed, IsUnread, IsUnwritten};
 ghost use Rattle.table_engine.specs.Whole.{lines_of};
 ghost use Rattle.logged_tables.specs.Ends.{EndsAs, failed_sink, whole_sink};
+ghost use Rattle.logged_tables.specs.Found.{IsUnsynced};
 ghost use Rattle.logged_tables.specs.Hears.{HearsEnded, HearsFront, HearsLines, StopsNext};
 
 use crate::fault::{OverAt, ServeFault};
+use crate::peer::Peer;
 use crate::seat::Seat;
 use crate::synced::Synced;
 use command_lines::{CommandFault, read_command};
@@ -71,7 +73,8 @@ impl<'a, D: Disk, T: Wait> Seat<'a, D, T> {
     ///
     /// It ends where the reader tells its end. A fault is answered only where a read or a write failed in the call, as many reads
     /// were made as `ServeFault` says, or a log is over. At `Read` all lines that were completed are answered, at `Write` and
-    /// `Over` a front of the answers to what was carried out is written. It waits for its reader, its writer, and the tables.
+    /// `Over` a front of the answers to what was carried out is written. What an earlier stream of the seat left unsynced is synced
+    /// before a byte of this one is written. It waits for its reader, its writer, and the tables.
     pub fn serve<R: Read, W: Write>(&self, source: &mut Source<R>, writer: W) -> Served<W>
         ensures served { OnOk result.end (IsServed R.remaining W.contents source.old source.new (whole_sink writer) (whole_sink result.writer)
             (λ bytes text. HearsLines self.now.names (lines_of bytes) text)) }
@@ -80,15 +83,14 @@ impl<'a, D: Disk, T: Wait> Seat<'a, D, T> {
         ensures write { result.end ≡ Err ServeFault.Write → IsUnwritten R.remaining W.contents source.old source.new (whole_sink writer) (failed_sink result.writer)
             (λ bytes text. HearsFront self.now.names bytes text) }
         ensures over { (at : OverAt) → result.end ≡ Err (ServeFault.Over at) →
-            IsUnwritten R.remaining W.contents source.old source.new (whole_sink writer) (failed_sink result.writer) (λ bytes text. HearsFront self.now.names bytes text)
+            (IsUnsynced self.now.names at × IsUnwritten R.remaining W.contents source.old source.new (whole_sink writer) (failed_sink result.writer) (λ bytes text. HearsFront self.now.names bytes text))
             ⊎ IsRefused R.remaining W.contents source.old source.new (whole_sink writer) (whole_sink result.writer) (λ bytes text. StopsNext self.now.names bytes text at) }
         ensures memory { result.end ≡ Err ServeFault.Memory → (source.new ≡ source.old) × (result.writer ≡ writer) }
     {
-        self.begin();
         let mut cutter = LineCutter::new();
         let mut sink = Sink::new(Synced {
             seat: self,
-            inner: writer,
+            peer: Peer::new(writer),
         });
         let served = serve_lines(
             self.alloc(),
@@ -106,7 +108,7 @@ impl<'a, D: Disk, T: Wait> Seat<'a, D, T> {
 
     // How a stream ended.
     fn end_of(&self, served: Result<(), Stopped<OverAt>>) -> Result<(), ServeFault>
-        ensures { EndsAs served result }
+        ensures { EndsAs self.now.names served result }
     {
         match served {
             Ok(()) => Ok(()),

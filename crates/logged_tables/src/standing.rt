@@ -130,13 +130,6 @@ impl Standing {
         self.marks[place] = None;
         Ok(())
     }
-
-    /// Forgets all marks. O(tables).
-    pub(crate) fn forget(&mut self)
-        ensures { self.new ≡ replicate (length self.old) None }
-    {
-        self.marks.fill(None);
-    }
 }
 
 // Appends the line of an answer. One of more than 512 bytes may find no room: then it is the memory line.

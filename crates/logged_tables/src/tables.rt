@@ -1,16 +1,18 @@
 //! Tables with their logs, each behind a lock of its own.
 
-ghost use Rattle.std.specs.Prelude.{◌≡◌, ◌≤◌, ◌<◌, IfErr, IfNone, IfOk, IfSome, IsTrue, Some, length, map, slice_get, vec_len};
+ghost use Rattle.std.specs.Prelude.{◌≡◌, ◌≤◌, ◌<◌, IfErr, IfNone, IfOk, IfSome, IsTrue, OnOk, Some, length, map, slice_get, vec_len};
+ghost use Rattle.logged_tables.specs.Found.{AreSynced, IsFound, IsSynced};
 ghost use Rattle.logged_tables.specs.Hears.{place_of};
 
 use crate::fault::OverAt;
 use crate::lock::TableLock;
+use crate::numbered::Numbered;
 use crate::syncing::sync_to;
 use key_extract::Text;
 use std::alloc::{AllocError, Global};
 use std::marker::Model;
 use std::sync::Wait;
-use table_log::{Disk, LoggedTable};
+use table_log::{Disk, LoggedTable, Over};
 
 /// Tables with their logs, each behind a lock of its own, which several sessions call. A clause sees their names.
 #[derive(Drop)]
@@ -41,6 +43,27 @@ fn names_of<D: Disk>(alloc: Global, tables: &[LoggedTable<D>]) -> Result<Vec<Tex
     Ok(names)
 }
 
+// The name of the table of a number.
+fn name_at(names: &[Text], place: usize) -> Option<&str>
+    ensures some { IfSome result (λ name. slice_get names.now place ≡ Some name.now) }
+    ensures none { IfNone result (length names.now ≤ place) }
+{
+    match names.get(place) {
+        Some(name) => Some(name.as_str()),
+        None => None,
+    }
+}
+
+// Whether the table of a number has this name.
+fn is_named(names: &[Text], place: usize, name: &str) -> bool
+    ensures { IsTrue result → slice_get names.now place ≡ Some name.now }
+{
+    match name_at(names, place) {
+        Some(known) => known == name,
+        None => false,
+    }
+}
+
 impl<D: Disk> LoggedTables<D> {
     /// Puts tables behind locks. They are numbered from 0, as they stand in the list. O(tables).
     pub fn new(alloc: Global, tables: Vec<LoggedTable<D>>) -> Result<LoggedTables<D>, AllocError>
@@ -49,7 +72,8 @@ impl<D: Disk> LoggedTables<D> {
         let names = names_of(alloc, &tables)?;
         let mut locks = Vec::with_capacity(alloc, tables.len())?;
         for table in tables {
-            locks.push(TableLock::new(table))?;
+            let number = locks.len();
+            locks.push(TableLock::new(number, table))?;
         }
         Ok(LoggedTables {
             alloc,
@@ -70,10 +94,7 @@ impl<D: Disk> LoggedTables<D> {
         ensures some { IfSome result (λ name. slice_get self.now table ≡ Some name.now) }
         ensures none { IfNone result (length self.now ≤ table) }
     {
-        match self.names.get(table) {
-            Some(name) => Some(name.as_str()),
-            None => None,
-        }
+        name_at(&self.names, table)
     }
 
     // The number of the first table of a name.
@@ -83,14 +104,16 @@ impl<D: Disk> LoggedTables<D> {
         self.names.iter().position(|other| other.as_str() == name)
     }
 
-    /// Whether the table of a number has this name.
-    pub(crate) fn is_named(&self, place: usize, name: &str) -> bool
-        ensures { IsTrue result → slice_get self.now place ≡ Some name.now }
+    /// Whether this, which a lock holds, is the table of a number. It always is, but of what a lock holds only its type is known.
+    pub(crate) fn is_at(&self, place: usize, held: &Numbered<D>) -> bool
+        ensures { IsTrue result → IsFound self.now place held.now.number held.now.log }
     {
-        match self.name(place) {
-            Some(known) => known == name,
-            None => false,
+        // Its mark says that it is what its log leaves.
+        let _mark = held.log.mark();
+        if held.number != place {
+            return false;
         }
+        is_named(&self.names, place, held.log.name())
     }
 
     // The lock of the table of a number.
@@ -106,31 +129,49 @@ impl<D: Disk> LoggedTables<D> {
     /// Syncs each log that has bytes that are not synced. All are tried, and the first table whose log is over is told. It waits
     /// for each table. O(tables), and what the disks take.
     pub fn sync_all(&self, rt: &impl Wait) -> Result<(), OverAt>
-        ensures { IfErr result (λ at. at.table < length self.now) }
+        ensures synced { OnOk result (AreSynced self.now) }
+        ensures over { IfErr result (λ at. at.table < length self.now) }
     {
         let mut first = Ok(());
         for (place, lock) in self.locks.iter().enumerate() {
-            let mut table = lock.lock(rt);
-            let mark = table.mark();
-            if sync_to(&mut table, mark).is_err() && first.is_ok() {
-                first = Err(OverAt { table: place });
-            }
+            let mut held = lock.lock(rt);
+            first = first.and(self.sync_one(&mut held, place));
         }
         first
     }
 
+    // Syncs the log of the table of this number, which is lent.
+    fn sync_one(&self, held: &mut Numbered<D>, place: usize) -> Result<(), OverAt>
+        ensures synced { OnOk result (IsSynced self.now place) }
+        ensures over { IfErr result (λ at. at.table ≡ place) }
+    {
+        if !self.is_at(place, held) {
+            return Err(OverAt { table: place });
+        }
+        let mark = held.log.mark();
+        match sync_to(&mut held.log, mark) {
+            Ok(()) => Ok(()),
+            Err(Over) => Err(OverAt { table: place }),
+        }
+    }
+
     /// The tables, out of their locks and in the order of their numbers. O(tables).
     pub fn into_tables(self, alloc: Global) -> Result<Vec<LoggedTable<D>>, AllocError>
-        ensures { IfOk result (λ tables. vec_len tables ≡ length self) }
+        ensures { IfOk result (λ tables. map (λ t. t.table.shape.name) tables.items ≡ self) }
     {
         let LoggedTables {
             alloc: _,
-            names: _,
+            names,
             locks,
         } = self;
         let mut tables = Vec::with_capacity(alloc, locks.len())?;
         for lock in locks {
-            tables.push(lock.into_table())?;
+            let Numbered { number, log } = lock.into_table();
+            // It always is the table of this number, but of what a lock held only its type is known.
+            if number != tables.len() || !is_named(&names, number, log.name()) {
+                return Err(AllocError);
+            }
+            tables.push(log)?;
         }
         Ok(tables)
     }

@@ -1,5 +1,6 @@
-use Rattle.std.specs.Prelude.{◌<◌, IfErr, length}
+use Rattle.std.specs.Prelude.{◌<◌, ℕ, IfErr, OnOk, length}
+use Rattle.logged_tables.specs.Found.{IsSynced}
 use Rattle.logged_tables.proofs.tables.LoggedTables.sync_all.Given as goal
 
 abbrev pub invariant-loop-place : goal.invariant-loop-place
-invariant-loop-place g l = IfErr l.first (λ at. at.table < length l.lock-items)
+invariant-loop-place g l = IfErr l.first (λ at. at.table < length l.lock-items) × OnOk l.first ((p : ℕ) → p < l.place → IsSynced l.self p)
