@@ -12,11 +12,10 @@ use Rattle.shared_tables.specs.Call.{CellData, is_known, pass_after, regress_of,
 use Rattle.shared_tables.specs.declared.fault.CallFault.{CallFault}
 use Rattle.shared_tables.specs.declared.fault.CallFault.TheVariants.{Stranger, Regressed}
 
--- What a clause sees of tables behind locks: with them, what they were as they went into their locks.
+-- what a clause sees of tables behind locks
 pub record SharedData : Type 0 where
   pub schema : List TableShape
   pub workers : ℕ
-  pub begun : List CellData
 
 -- the place of the first table of a name
 abbrev pub table_at : List TableShape → List ℕ → Option ℕ

@@ -4,6 +4,7 @@ use Rattle.table_schema.specs.Shape.{TableShape}
 use Rattle.shared_tables.specs.Journal.{EntryData, IsLegal}
 use Rattle.shared_tables.specs.Pass.{PassData}
 use Rattle.shared_tables.specs.Call.{CellData}
+use Rattle.shared_tables.specs.Hears.{SharedData}
 use Rattle.shared_tables.specs.Gathered.{FirstFailure, SessionAgrees}
 use Rattle.shared_tables.specs.declared.fault.GatherWhy.{GatherWhy}
 use Rattle.shared_tables.specs.declared.fault.GatherWhy.TheVariants as whys
@@ -52,11 +53,11 @@ FirstMismatch cells passes None = All (AllAgree passes) cells
 FirstMismatch cells passes (Some at) = FirstAt cells passes at.0 at.1
 
 -- of some legal journals of the tables, it is the first table and session where they do not agree
-pub record MismatchAt (schema : List TableShape) (workers : ℕ) (passes : List PassData) (place : ℕ) (number : ℕ) : Type 0 where
+pub record MismatchAt (shared : SharedData) (passes : List PassData) (place : ℕ) (number : ℕ) : Type 0 where
   pub journals : List (List EntryData)
-  pub journals_are : AreJournals schema workers journals
-  pub first : FirstAt (cells_of schema workers journals) passes place number
+  pub journals_are : AreJournals shared.schema shared.workers journals
+  pub first : FirstAt (cells_of shared.schema shared.workers journals) passes place number
 
-abbrev pub Mismatches : List TableShape → ℕ → List PassData → GatherWhy → Type 0
-Mismatches schema workers passes whys.Memory = Unit {0}
-Mismatches schema workers passes (whys.Mismatch table session) = MismatchAt schema workers passes table session
+abbrev pub Mismatches : SharedData → List PassData → GatherWhy → Type 0
+Mismatches shared passes whys.Memory = Unit {0}
+Mismatches shared passes (whys.Mismatch table session) = MismatchAt shared passes table session

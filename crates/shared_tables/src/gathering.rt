@@ -30,8 +30,8 @@ pub fn gather<G: Gate + Drop>(
 ) -> Result<Journals, GatherFault<G>>
     ensures schema { IfOk result (λ journals. journals.schema ≡ shared.schema) }
     ensures gathered { IfOk result (λ journals. Gathered journals.schema shared.workers journals.tables passes.items) }
-    ensures back { IfErr result (λ fault. (fault.shared.schema ≡ shared.schema) × (fault.shared.workers ≡ shared.workers) × (fault.passes.items ≡ passes.items)) }
-    ensures mismatch { IfErr result (λ fault. Mismatches shared.schema shared.workers passes.items fault.why) }
+    ensures back { IfErr result (λ fault. (fault.shared ≡ shared) × (fault.passes.items ≡ passes.items)) }
+    ensures mismatch { IfErr result (λ fault. Mismatches shared passes.items fault.why) }
 {
     let mut opened = shared.open();
     match opened.fault(alloc, &passes) {
@@ -54,7 +54,7 @@ impl<G: Gate + Drop> GatherFault<G> {
         ensures memory { IfOk result (λ _. self.why ≡ GatherWhy.Memory) }
         ensures schema { IfOk result (λ journals. journals.schema ≡ self.shared.schema) }
         ensures legal { IfOk result (λ journals. AreJournals journals.schema self.shared.workers journals.tables) }
-        ensures back { IfErr result (λ fault. (fault.shared.schema ≡ self.shared.schema) × (fault.shared.workers ≡ self.shared.workers) × (fault.passes.items ≡ self.passes.items) × (fault.why ≡ self.why)) }
+        ensures back { IfErr result (λ fault. (fault.shared ≡ self.shared) × (fault.passes.items ≡ self.passes.items) × (fault.why ≡ self.why)) }
     {
         if self.why != GatherWhy::Memory {
             return Err(self);

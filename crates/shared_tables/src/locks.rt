@@ -5,25 +5,23 @@ ghost use Rattle.std.specs.Prelude.{◌≡◌, ◌+◌, ◌<◌, ◌≤◌, IfOk
 
 use std::alloc::{AllocError, Global};
 use std::marker::Model;
-use std::snapshot::Snapshot;
 use std::sync::Mutex;
 
-/// Values, each behind a lock of its own, with the room for them out of their locks. A clause sees the values that went in.
+/// Values, each behind a lock of its own, with the room for them out of their locks. A clause sees how many they are.
 #[derive(Drop)]
 pub(crate) struct Locked<T: Drop> {
     locks: Vec<Mutex<T>>,
     room: Vec<T>,
-    begun: Snapshot<Vec<T>>,
 }
 
 impl<T: Drop> Model for Locked<T> {
-    ghost use Rattle.std.specs.Prelude.{◌≡◌, ◌≤◌, List, length, vec_len, vec_capacity};
+    ghost use Rattle.std.specs.Prelude.{◌≡◌, ◌≤◌, ℕ, length, vec_len, vec_capacity};
 
-    ghost Value = { List T };
+    ghost Value = { ℕ };
 
-    ghost view = { λ l. l.begun.value.items };
+    ghost view = { λ l. length l.locks.items };
 
-    ghost invariant = { λ l. (vec_len l.room ≡ 0) × (vec_len l.locks ≤ vec_capacity l.room) × (vec_len l.locks ≡ length l.begun.value.items) };
+    ghost invariant = { λ l. (vec_len l.room ≡ 0) × (vec_len l.locks ≤ vec_capacity l.room) };
 }
 
 /// Values out of their locks, in the order of these, with the room for them back in locks.
@@ -72,7 +70,7 @@ fn lock_all<T: Drop>(values: &mut Vec<T>, locks: &mut Vec<Mutex<T>>)
 impl<T: Drop> Locked<T> {
     /// Puts values behind locks. O(values).
     pub(crate) fn new(alloc: Global, values: Vec<T>) -> Result<Locked<T>, AllocError>
-        ensures { IfOk result (λ locked. locked ≡ values.items) }
+        ensures { IfOk result (λ locked. locked ≡ length values.items) }
     {
         let opened = Opened {
             room: Vec::with_capacity(alloc, values.len())?,
@@ -83,19 +81,18 @@ impl<T: Drop> Locked<T> {
 
     /// The lock of the value at a place. O(1).
     pub(crate) fn at(&self, place: usize) -> &Mutex<T>
-        requires { place < length self.now }
+        requires { place < self.now }
     {
         &self.locks[place]
     }
 
     /// The values, out of their locks and in the order of these. Takes no memory. O(values).
     pub(crate) fn open(self) -> Opened<T>
-        ensures { length result ≡ length self }
+        ensures { length result ≡ self }
     {
         let Locked {
             mut locks,
             mut room,
-            begun: _,
         } = self;
         open_all(&mut locks, &mut room);
         Opened {
@@ -115,18 +112,16 @@ impl<T: Drop> Opened<T> {
 
     /// The values, behind locks again and in the same order. Takes no memory. O(values).
     pub(crate) fn lock(self) -> Locked<T>
-        ensures { result ≡ self }
+        ensures { result ≡ length self }
     {
         let Opened {
             mut values,
             mut room,
         } = self;
-        let begun = Snapshot::of(&values);
         lock_all(&mut values, &mut room);
         Locked {
             locks: room,
             room: values,
-            begun,
         }
     }
 

@@ -66,13 +66,13 @@ impl<G: Gate> Model for Shared<G> {
 
     ghost Value = { SharedData };
 
-    ghost view = { λ s. record { schema = s.schema; workers = s.workers; begun = s.tables } };
+    ghost view = { λ s. record { schema = s.schema; workers = s.workers } };
 
-    ghost invariant = { λ s. (length s.tables ≡ length s.schema) × (vec_len s.journals ≡ 0) × (length s.schema ≤ vec_capacity s.journals) };
+    ghost invariant = { λ s. (s.tables ≡ length s.schema) × (vec_len s.journals ≡ 0) × (length s.schema ≤ vec_capacity s.journals) };
 }
 
 impl<G: Gate + Drop> Shared<G> {
-    /// Empty tables of the schema with empty journals, and a pass for each session, which are numbered from 0.
+    /// Empty tables of the schema, and a pass for each session, which are numbered from 0.
     /// O(sessions · tables), and what it costs to make the tables.
     pub fn new(
         alloc: Global,
@@ -80,7 +80,7 @@ impl<G: Gate + Drop> Shared<G> {
         workers: u32,
         gate: G,
     ) -> Result<(Shared<G>, Vec<Pass>), AllocError>
-        ensures shared { IfOk result (λ made. made.0 ≡ record { schema = schema; workers = workers; begun = fresh_cells schema workers }) }
+        ensures shared { IfOk result (λ made. made.0 ≡ record { schema = schema; workers = workers }) }
         ensures passes { IfOk result (λ made. made.1.items ≡ fresh_passes (length schema) workers) }
     {
         let cells = fresh_cells(alloc, &schema, workers)?;

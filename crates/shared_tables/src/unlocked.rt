@@ -71,7 +71,7 @@ fn fault_of(
 ) -> Option<GatherWhy>
     requires { length cells.now ≡ length specs.now }
     ensures none { IfNone result (Gathered specs.now workers (map (λ cell. cell.journal) cells.now) passes.now) }
-    ensures some { IfSome result (λ why. Mismatches specs.now workers passes.now why) }
+    ensures some { IfSome result (λ why. Mismatches (record { schema = specs.now; workers = workers }) passes.now why) }
 {
     // They always are, but of what a lock held only its type is known.
     if !are_of(cells, specs, workers) {
@@ -99,7 +99,7 @@ fn journals_of(mut cells: Vec<TableCell>, mut journals: Vec<Vec<Entry>>) -> Vec<
 impl<G: Gate + Drop> Unlocked<G> {
     /// Puts the tables behind their locks again. Takes no memory. O(tables).
     pub(crate) fn lock(self) -> Shared<G>
-        ensures { result ≡ record { schema = self.schema; workers = self.workers; begun = self.cells } }
+        ensures { result ≡ record { schema = self.schema; workers = self.workers } }
     {
         let Unlocked {
             alloc,
@@ -125,7 +125,7 @@ impl<G: Gate + Drop> Unlocked<G> {
     pub(crate) fn fault(&mut self, alloc: Global, passes: &[Pass]) -> Option<GatherWhy>
         ensures same { (self.new.schema ≡ self.old.schema) × (self.new.workers ≡ self.old.workers) × (self.new.cells ≡ self.old.cells) }
         ensures none { IfNone result (Gathered self.old.schema self.old.workers (map (λ cell. cell.journal) self.old.cells) passes.now) }
-        ensures some { IfSome result (λ why. Mismatches self.old.schema self.old.workers passes.now why) }
+        ensures some { IfSome result (λ why. Mismatches (record { schema = self.old.schema; workers = self.old.workers }) passes.now why) }
     {
         fault_of(
             alloc,
