@@ -1,4 +1,5 @@
 pub mod Cells
+pub mod Glued
 pub mod Room
 pub mod Short
 pub mod Texts

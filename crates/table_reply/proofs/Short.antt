@@ -1,31 +1,38 @@
 -- How long the lines are that answer a write, a look-up and a fault.
-use Rattle.std.proofs.Common.{◌≡◌, ℕ, ◌+◌, ◌<◌, ◌≤◌, ◌^◌, List, [], ◌∷◌, Option, Some, None, length, codes, decimal, arith, length-append}
+use Rattle.std.proofs.Common.{◌≡◌, ℕ, ◌+◌, ◌<◌, ◌≤◌, ◌^◌, List, [], ◌∷◌, ◌++◌, Option, Some, None, length, codes, decimal, refl, ap, ap₂, subst, arith, length-append}
+use Rattle.std.specs.Prelude.{⊤}
 use Rattle.std.specs.Option.{IfSome}
 use Rattle.std.proofs.lemmas.Fmt.{length-decimal-le}
+use Rattle.json.specs.Print.{escape, quoted}
+use Rattle.json.proofs.Printed.Strings.{escape_byte_plain}
+use Rattle.serde_json.specs.Written.{compact_text}
 use Rattle.container_model.specs.declared.handle.Handle.{Handle}
 use Rattle.table_reply.specs.declared.fault.Fault.{Fault}
 use Rattle.table_reply.specs.declared.fault.Fault.TheVariants.{Line, Json, Command, Table, Index, Kind, Row, Key, Definition, Handle as StaleHandle, Place, Order, Overflow, Full, Spent, Memory}
 use Rattle.table_reply.specs.Buffer.{joined}
 use Rattle.table_reply.specs.Spelling.{HandleFits, spelling}
-use Rattle.table_reply.specs.Answer.{handle_text, handle_or_null, blocked_text, answer_text, done, found, counted, after, banned, erased, clash, fault}
+use Rattle.table_reply.specs.Answer.{handle_data, fault_name, answer_text, done, found, counted, after, banned, erased, clash, fault}
+use Rattle.table_reply.specs.Pieces.{handle_text, blocked_front, blocked_rest, clash_rest}
+use Rattle.table_reply.proofs.Glued.{quoted_spelling, done_glue, done_glued, found_glue, found_glued, after_glue, after_glued, counted_glue, counted_glued, fault_glue, fault_glued, banned_glued, erased_glued, clash_glued}
 
-pub fault_is_short : (f : Fault) → length (answer_text (fault f)) ≤ 256
-fault_is_short Line = omega arith
-fault_is_short Json = omega arith
-fault_is_short Command = omega arith
-fault_is_short Table = omega arith
-fault_is_short Index = omega arith
-fault_is_short Kind = omega arith
-fault_is_short Row = omega arith
-fault_is_short Key = omega arith
-fault_is_short Definition = omega arith
-fault_is_short StaleHandle = omega arith
-fault_is_short Place = omega arith
-fault_is_short Order = omega arith
-fault_is_short Overflow = omega arith
-fault_is_short Full = omega arith
-fault_is_short Spent = omega arith
-fault_is_short Memory = omega arith
+-- the names of faults
+name_is_short : (f : Fault) → length (fault_name f) ≤ 10
+name_is_short Line = omega arith
+name_is_short Json = omega arith
+name_is_short Command = omega arith
+name_is_short Table = omega arith
+name_is_short Index = omega arith
+name_is_short Kind = omega arith
+name_is_short Row = omega arith
+name_is_short Key = omega arith
+name_is_short Definition = omega arith
+name_is_short StaleHandle = omega arith
+name_is_short Place = omega arith
+name_is_short Order = omega arith
+name_is_short Overflow = omega arith
+name_is_short Full = omega arith
+name_is_short Spent = omega arith
+name_is_short Memory = omega arith
 
 -- the length, text by text
 length-joined : (t : List ℕ) (ts : List (List ℕ)) → length (joined (t ∷ ts)) ≡ length t + length (joined ts)
@@ -47,37 +54,47 @@ spelling_is_short h fits =
     omega (arith, length-joined (decimal h.slot) stamp, length-joined (decimal h.stamp) [])
 
 handle_is_short : (h : Handle) → HandleFits h → length (handle_text h) ≤ 33
-unfolding handle_text
 handle_is_short h fits =
     let s = spelling_is_short h fits in
-    omega (arith, length-joined (spelling h) (codes "\"" ∷ []))
+    let e = ap length (quoted_spelling h fits) in
+    omega (arith, e, length-append (spelling h) (34 ∷ []))
 
-handle_or_null_is_short : (h : Option Handle) → IfSome h HandleFits → length (handle_or_null h) ≤ 33
-unfolding handle_or_null
+handle_or_null_is_short : (h : Option Handle) → IfSome h HandleFits → length (compact_text (handle_data h)) ≤ 33
 handle_or_null_is_short None fits = omega arith
 handle_or_null_is_short (Some h) fits = handle_is_short h fits
+
+-- a line that is glued
+glued_is_short : (glued text : List ℕ) → glued ≡ text → length glued ≤ 256 → length text ≤ 256
+glued_is_short glued text e short = subst (λ t. length t ≤ 256) e short
+
+pub fault_is_short : (f : Fault) → length (answer_text (fault f)) ≤ 256
+fault_is_short f =
+    let name = name_is_short f in
+    glued_is_short (fault_glue (fault_name f)) _ (fault_glued f) (omega (arith, length-joined (fault_name f) (codes "\"}\n" ∷ [])))
 
 pub done_is_short : (at : ℕ) → at < 2 ^ 64 → length (answer_text (done at)) ≤ 256
 done_is_short at fits =
     let last = codes ",\"ok\":true}\n" ∷ [] in
     let a = number_is_short at fits in
-    omega (arith, length-joined (decimal at) last)
+    glued_is_short (done_glue (decimal at)) _ (done_glued at) (omega (arith, length-joined (decimal at) last))
 
 pub found_is_short : (at : ℕ) (h : Option Handle) → at < 2 ^ 64 → IfSome h HandleFits → length (answer_text (found at h)) ≤ 256
 found_is_short at h fits handle_fits =
+    let handle = compact_text (handle_data h) in
     let last = codes ",\"ok\":true}\n" ∷ [] in
-    let next = codes ",\"h\":" ∷ handle_or_null h ∷ last in
+    let next = codes ",\"h\":" ∷ handle ∷ last in
     let a = number_is_short at fits in
     let b = handle_or_null_is_short h handle_fits in
-    omega (arith, length-joined (decimal at) next, length-joined (handle_or_null h) last)
+    glued_is_short (found_glue (decimal at) handle) _ (found_glued at h) (omega (arith, length-joined (decimal at) next, length-joined handle last))
 
 pub after_is_short : (at : ℕ) (next : Option Handle) → at < 2 ^ 64 → IfSome next HandleFits → length (answer_text (after at next)) ≤ 256
 after_is_short at next fits handle_fits =
+    let handle = compact_text (handle_data next) in
     let last = codes ",\"ok\":true}\n" ∷ [] in
-    let rest = codes ",\"next\":" ∷ handle_or_null next ∷ last in
+    let rest = codes ",\"next\":" ∷ handle ∷ last in
     let a = number_is_short at fits in
     let b = handle_or_null_is_short next handle_fits in
-    omega (arith, length-joined (decimal at) rest, length-joined (handle_or_null next) last)
+    glued_is_short (after_glue (decimal at) handle) _ (after_glued at next) (omega (arith, length-joined (decimal at) rest, length-joined handle last))
 
 pub counted_is_short : (at number : ℕ) → at < 2 ^ 64 → number < 2 ^ 64 → length (answer_text (counted at number)) ≤ 256
 counted_is_short at number fits number_fits =
@@ -85,31 +102,57 @@ counted_is_short at number fits number_fits =
     let next = codes ",\"n\":" ∷ decimal number ∷ last in
     let a = number_is_short at fits in
     let b = number_is_short number number_fits in
-    omega (arith, length-joined (decimal at) next, length-joined (decimal number) last)
+    glued_is_short (counted_glue (decimal at) (decimal number)) _ (counted_glued at number) (omega (arith, length-joined (decimal at) next, length-joined (decimal number) last))
 
-blocked_is_short : (word : List ℕ) (at : ℕ) (index : List ℕ) (by : Handle) → length word ≤ 6 → at < 2 ^ 64 → length index ≤ 32 → HandleFits by → length (blocked_text word at index by) ≤ 256
-blocked_is_short word at index by word_fits fits name_fits handle_fits =
-    let last = codes "}\n" ∷ [] in
-    let handle = codes "\",\"h\":" ∷ handle_text by ∷ last in
-    let outcome = codes "\",\"err\":\"" ∷ word ∷ handle in
-    let name = codes ",\"by\":\"" ∷ index ∷ outcome in
+-- ---- lines with the name of an index
+
+-- a name that needs no escape
+abbrev pub IsPlain : List ℕ → Type 0
+IsPlain [] = ⊤
+IsPlain (b ∷ bs) = (32 ≤ b) × (b ≡ 34 → ⊥) × (b ≡ 92 → ⊥) × IsPlain bs
+
+escape_plain : (name : List ℕ) → IsPlain name → escape name ≡ name
+escape_plain [] h = refl
+escape_plain (b ∷ bs) h = ap₂ (λ (x xs : List ℕ). x ++ xs) (escape_byte_plain b h.1 h.2 h.0) (escape_plain bs h.3)
+
+name_in_quotes_is_short : (name : List ℕ) → length name ≤ 32 → IsPlain name → length (quoted name) ≤ 34
+name_in_quotes_is_short name fits plain =
+    let e = ap length (escape_plain name plain) in
+    omega (arith, e, length-append (escape name) (34 ∷ []))
+
+blocked_front_is_short : (at : ℕ) → at < 2 ^ 64 → length (blocked_front at) ≤ 32
+blocked_front_is_short at fits =
     let a = number_is_short at fits in
+    omega (arith, length-joined (decimal at) (codes ",\"by\":" ∷ []))
+
+blocked_rest_is_short : (word : List ℕ) (by : Handle) → length word ≤ 6 → HandleFits by → length (blocked_rest word by) ≤ 61
+blocked_rest_is_short word by word_fits handle_fits =
+    let last = codes "}\n" ∷ [] in
     let b = handle_is_short by handle_fits in
-    omega (arith, length-joined (decimal at) name, length-joined index outcome, length-joined word handle, length-joined (handle_text by) last)
+    omega (arith, length-joined word (codes "\",\"h\":" ∷ handle_text by ∷ last), length-joined (handle_text by) last)
 
-pub banned_is_short : (at : ℕ) (index : List ℕ) (by : Handle) → at < 2 ^ 64 → length index ≤ 32 → HandleFits by → length (answer_text (banned at index by)) ≤ 256
-banned_is_short at index by = blocked_is_short (codes "banned") at index by (omega arith)
-
-pub erased_is_short : (at : ℕ) (index : List ℕ) (by : Handle) → at < 2 ^ 64 → length index ≤ 32 → HandleFits by → length (answer_text (erased at index by)) ≤ 256
-erased_is_short at index by = blocked_is_short (codes "erased") at index by (omega arith)
-
-pub clash_is_short : (at : ℕ) (index : List ℕ) (first second : Handle) → at < 2 ^ 64 → length index ≤ 32 → HandleFits first → HandleFits second → length (answer_text (clash at index first second)) ≤ 256
-clash_is_short at index first second fits name_fits first_fits second_fits =
+clash_rest_is_short : (one other : Handle) → HandleFits one → HandleFits other → length (clash_rest one other) ≤ 97
+clash_rest_is_short one other one_fits other_fits =
     let last = codes "}\n" ∷ [] in
-    let younger = codes ",\"h2\":" ∷ handle_text second ∷ last in
-    let handles = codes "\",\"err\":\"clash\",\"h\":" ∷ handle_text first ∷ younger in
-    let name = codes ",\"by\":\"" ∷ index ∷ handles in
-    let a = number_is_short at fits in
-    let b = handle_is_short first first_fits in
-    let c = handle_is_short second second_fits in
-    omega (arith, length-joined (decimal at) name, length-joined index handles, length-joined (handle_text first) younger, length-joined (handle_text second) last)
+    let younger = codes ",\"h2\":" ∷ handle_text other ∷ last in
+    let a = handle_is_short one one_fits in
+    let b = handle_is_short other other_fits in
+    omega (arith, length-joined (handle_text one) younger, length-joined (handle_text other) last)
+
+-- the three pieces of such a line
+three_are_short : (front name rest : List ℕ) → length front ≤ 32 → length name ≤ 34 → length rest ≤ 97 → length (front ++ (name ++ rest)) ≤ 256
+three_are_short front name rest a b c = omega (arith, length-append front (name ++ rest), length-append name rest)
+
+pub banned_is_short : (at : ℕ) (index : List ℕ) (by : Handle) → at < 2 ^ 64 → length index ≤ 32 → IsPlain index → HandleFits by → length (answer_text (banned at index by)) ≤ 256
+banned_is_short at index by fits name_fits plain handle_fits =
+    let rest = blocked_rest_is_short (codes "banned") by (omega arith) handle_fits in
+    glued_is_short _ _ (banned_glued at index by) (three_are_short (blocked_front at) (quoted index) (blocked_rest (codes "banned") by) (blocked_front_is_short at fits) (name_in_quotes_is_short index name_fits plain) (omega (arith, rest)))
+
+pub erased_is_short : (at : ℕ) (index : List ℕ) (by : Handle) → at < 2 ^ 64 → length index ≤ 32 → IsPlain index → HandleFits by → length (answer_text (erased at index by)) ≤ 256
+erased_is_short at index by fits name_fits plain handle_fits =
+    let rest = blocked_rest_is_short (codes "erased") by (omega arith) handle_fits in
+    glued_is_short _ _ (erased_glued at index by) (three_are_short (blocked_front at) (quoted index) (blocked_rest (codes "erased") by) (blocked_front_is_short at fits) (name_in_quotes_is_short index name_fits plain) (omega (arith, rest)))
+
+pub clash_is_short : (at : ℕ) (index : List ℕ) (one other : Handle) → at < 2 ^ 64 → length index ≤ 32 → IsPlain index → HandleFits one → HandleFits other → length (answer_text (clash at index one other)) ≤ 256
+clash_is_short at index one other fits name_fits plain one_fits other_fits =
+    glued_is_short _ _ (clash_glued at index one other) (three_are_short (blocked_front at) (quoted index) (clash_rest one other) (blocked_front_is_short at fits) (name_in_quotes_is_short index name_fits plain) (clash_rest_is_short one other one_fits other_fits))

@@ -1,8 +1,8 @@
 -- What is answered to a command, and the line that says it.
-use Rattle.std.specs.Prelude.{ℕ, List, [], ◌∷◌, ◌++◌, Bool, true, false, Option, Some, None, codes, decimal, map, slice_get}
-use Rattle.serde_json.specs.Data.{Data, null, boolean, number, string, object, Members, no_members, member}
+use Rattle.std.specs.Prelude.{ℕ, List, [], ◌∷◌, ◌++◌, true, Option, Some, None, codes, map, slice_get}
+use Rattle.serde_json.specs.Data.{Data, null, boolean, number, string, array, object, unsigned, Items, no_items, item, Members, no_members, member}
 use Rattle.serde_json.specs.Find.{of_integer}
-use Rattle.serde_json.specs.Written.{compact_text, comma_if}
+use Rattle.serde_json.specs.Written.{compact_text}
 use Rattle.container_model.specs.declared.handle.Handle.{Handle}
 use Rattle.key_extract.specs.declared.cell.Cell.{Cell}
 use Rattle.key_extract.specs.declared.cell.Cell.TheVariants as cells
@@ -12,7 +12,6 @@ use Rattle.table_reply.specs.declared.reply.Heading.{Heading}
 use Rattle.table_reply.specs.declared.reply.Record.{Record}
 use Rattle.table_reply.specs.declared.reply.Reply.{Reply}
 use Rattle.table_reply.specs.declared.reply.Reply.TheVariants as replies
-use Rattle.table_reply.specs.Buffer.{joined}
 use Rattle.table_reply.specs.Spelling.{spelling}
 
 -- a cell under the name of its column, which the row may lack
@@ -80,14 +79,10 @@ fault_name faults.Full = codes "full"
 fault_name faults.Spent = codes "spent"
 fault_name faults.Memory = codes "memory"
 
--- a handle as a JSON text
-unfoldable pub handle_text : Handle → List ℕ
-handle_text h = joined (codes "\"" ∷ spelling h ∷ codes "\"" ∷ [])
-
--- a handle, or null
-unfoldable pub handle_or_null : Option Handle → List ℕ
-handle_or_null None = codes "null"
-handle_or_null (Some h) = handle_text h
+-- a handle; null for the end, and where nothing is found
+abbrev pub handle_data : Option Handle → Data
+handle_data None = null
+handle_data (Some h) = string (spelling h)
 
 -- a cell as JSON; a missing one is null
 abbrev pub data_of : Option Cell → Data
@@ -106,41 +101,41 @@ row_members (n ∷ ns) = member n.name (data_of n.cell) (row_members ns)
 abbrev pub row_data : List Named → Data
 row_data ns = object (row_members ns)
 
--- a record's text up to its row
-abbrev pub record_front : Handle → List ℕ
-record_front h = joined (codes "{\"h\":" ∷ handle_text h ∷ codes ",\"r\":" ∷ [])
+-- a record: its handle and its row
+abbrev pub listed_data : Listed → Data
+listed_data l = object (member (codes "h") (handle_data (Some l.handle)) (member (codes "r") (row_data l.row) no_members))
 
--- a shown record's line up to its row
-abbrev pub shown_front : ℕ → Handle → List ℕ
-shown_front at h = joined (codes "{\"at\":" ∷ decimal at ∷ codes ",\"h\":" ∷ handle_text h ∷ codes ",\"ok\":true,\"r\":" ∷ [])
+-- records in their order
+abbrev pub listed_items : List Listed → Items
+listed_items [] = no_items
+listed_items (l ∷ ls) = item (listed_data l) (listed_items ls)
 
--- a list's line up to its first record
-abbrev pub listed_front : ℕ → List ℕ
-listed_front at = joined (codes "{\"at\":" ∷ decimal at ∷ codes ",\"ok\":true,\"rs\":[" ∷ [])
+-- the write number, and the members after it
+abbrev pub at_member : ℕ → Members → Members
+at_member at ms = member (codes "at") (number (unsigned at)) ms
 
--- a record as a JSON object: its handle and its row
-abbrev pub listed_text : Listed → List ℕ
-listed_text l = joined (codes "{\"h\":" ∷ handle_text l.handle ∷ codes ",\"r\":" ∷ compact_text (row_data l.row) ∷ codes "}" ∷ [])
+-- that the command is carried out, and the members after it
+abbrev pub ok_member : Members → Members
+ok_member ms = member (codes "ok") (boolean true) ms
 
--- the records with commas between, and the bracket that closes the array
-abbrev pub listed_texts : Bool → List Listed → List ℕ
-listed_texts later [] = codes "]"
-listed_texts later (l ∷ ls) = comma_if later ++ (listed_text l ++ listed_texts true ls)
+-- the members where other records stand in the way: the index, what comes of that, and the records
+abbrev pub blocked_members : List ℕ → List ℕ → Members → Members
+blocked_members index word ms = member (codes "by") (string index) (member (codes "err") (string word) ms)
 
--- the line where another record stands in the way: what comes of that, the index, and the other record
-abbrev pub blocked_text : List ℕ → ℕ → List ℕ → Handle → List ℕ
-blocked_text word at index by = joined (codes "{\"at\":" ∷ decimal at ∷ codes ",\"by\":\"" ∷ index ∷ codes "\",\"err\":\"" ∷ word ∷ codes "\",\"h\":" ∷ handle_text by ∷ codes "}\n" ∷ [])
+-- an answer as a JSON value, its members in ascending order of their names
+abbrev pub answer_data : Answer → Data
+answer_data (done at) = object (at_member at (ok_member no_members))
+answer_data (found at h) = object (at_member at (member (codes "h") (handle_data h) (ok_member no_members)))
+answer_data (counted at n) = object (at_member at (member (codes "n") (number (unsigned n)) (ok_member no_members)))
+answer_data (after at next) = object (at_member at (member (codes "next") (handle_data next) (ok_member no_members)))
+answer_data (shown at l) = object (at_member at (member (codes "h") (handle_data (Some l.handle)) (ok_member (member (codes "r") (row_data l.row) no_members))))
+answer_data (banned at index by) = object (at_member at (blocked_members index (codes "banned") (member (codes "h") (handle_data (Some by)) no_members)))
+answer_data (erased at index by) = object (at_member at (blocked_members index (codes "erased") (member (codes "h") (handle_data (Some by)) no_members)))
+answer_data (clash at index first second) =
+    object (at_member at (blocked_members index (codes "clash") (member (codes "h") (handle_data (Some first)) (member (codes "h2") (handle_data (Some second)) no_members))))
+answer_data (listed at ls) = object (at_member at (ok_member (member (codes "rs") (array (listed_items ls)) no_members)))
+answer_data (fault f) = object (member (codes "err") (string (fault_name f)) no_members)
 
 -- the line of an answer, with its newline
 abbrev pub answer_text : Answer → List ℕ
-answer_text (done at) = joined (codes "{\"at\":" ∷ decimal at ∷ codes ",\"ok\":true}\n" ∷ [])
-answer_text (found at h) = joined (codes "{\"at\":" ∷ decimal at ∷ codes ",\"h\":" ∷ handle_or_null h ∷ codes ",\"ok\":true}\n" ∷ [])
-answer_text (counted at n) = joined (codes "{\"at\":" ∷ decimal at ∷ codes ",\"n\":" ∷ decimal n ∷ codes ",\"ok\":true}\n" ∷ [])
-answer_text (after at next) = joined (codes "{\"at\":" ∷ decimal at ∷ codes ",\"next\":" ∷ handle_or_null next ∷ codes ",\"ok\":true}\n" ∷ [])
-answer_text (shown at l) = joined (codes "{\"at\":" ∷ decimal at ∷ codes ",\"h\":" ∷ handle_text l.handle ∷ codes ",\"ok\":true,\"r\":" ∷ compact_text (row_data l.row) ∷ codes "}\n" ∷ [])
-answer_text (banned at index by) = blocked_text (codes "banned") at index by
-answer_text (erased at index by) = blocked_text (codes "erased") at index by
-answer_text (clash at index first second) =
-    joined (codes "{\"at\":" ∷ decimal at ∷ codes ",\"by\":\"" ∷ index ∷ codes "\",\"err\":\"clash\",\"h\":" ∷ handle_text first ∷ codes ",\"h2\":" ∷ handle_text second ∷ codes "}\n" ∷ [])
-answer_text (listed at ls) = joined (codes "{\"at\":" ∷ decimal at ∷ codes ",\"ok\":true,\"rs\":[" ∷ listed_texts false ls ∷ codes "}\n" ∷ [])
-answer_text (fault f) = joined (codes "{\"err\":\"" ∷ fault_name f ∷ codes "\"}\n" ∷ [])
+answer_text a = compact_text (answer_data a) ++ codes "\n"

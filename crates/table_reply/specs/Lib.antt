@@ -1,4 +1,5 @@
 pub mod Spelling
 pub mod Buffer
 pub mod Answer
+pub mod Pieces
 pub mod Ready

@@ -16,4 +16,4 @@ pub use key_extract::{Cell, Row, Text};
 pub use out::{Out, OutOfRoom, READY_ROOM};
 pub use quote::push_quoted;
 pub use ready::{Ready, Told};
-pub use reply::{Heading, Record, Reply, write_reply};
+pub use reply::{Heading, Record, Reply, memory_line, write_reply};

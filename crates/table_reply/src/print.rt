@@ -1,11 +1,12 @@
 //! The texts of replies.
 
-ghost use Rattle.std.specs.Prelude.{◌≡◌, ◌∷◌, ◌++◌, map, false, slice_get};
+ghost use Rattle.std.specs.Prelude.{◌≡◌, ◌∷◌, ◌++◌, codes, map, false, slice_get};
 ghost use Rattle.std.specs.Option.{option_copied};
 ghost use Rattle.json.specs.Print.{quoted};
-ghost use Rattle.serde_json.specs.Written.{compact_text, comma_if};
+ghost use Rattle.serde_json.specs.Written.{compact_text, items_text, comma_if};
 ghost use Rattle.table_reply.specs.Buffer.{Adds, AddsWhole};
-ghost use Rattle.table_reply.specs.Answer.{done, found, counted, after, shown, banned, erased, blocked_text, clash, fault, listed, shown_front, answer_text, handle_text, handle_or_null, data_of, row_data, named, listed_of, listed_text, listed_texts, listed_front, record_front};
+ghost use Rattle.table_reply.specs.Answer.{done, found, counted, after, shown, banned, erased, clash, fault, listed, answer_text, handle_data, data_of, row_data, named, listed_of, listed_data, listed_items};
+ghost use Rattle.table_reply.specs.Pieces.{handle_text, record_front, shown_front, listed_front, blocked_front, blocked_rest, clash_rest};
 
 use crate::fault::Fault;
 use crate::handle::{SPELLING_LEN, spelling};
@@ -21,7 +22,7 @@ use key_extract::Cell;
 const HANDLE_LEN: usize = SPELLING_LEN + 2;
 
 /// The text of a handle.
-#[tactic(auto, unfolding(crate::specs::Answer::handle_text))]
+#[tactic(auto, using(crate::proofs::Glued::quoted_spelling))]
 fn handle_text(handle: Handle) -> ArrayString<HANDLE_LEN>
     ensures { result.bytes ≡ handle_text handle }
 {
@@ -32,9 +33,8 @@ fn handle_text(handle: Handle) -> ArrayString<HANDLE_LEN>
     text
 }
 
-#[tactic(auto, unfolding(crate::specs::Answer::handle_or_null))]
 fn handle_or_null(handle: Option<Handle>) -> ArrayString<HANDLE_LEN>
-    ensures { result.bytes ≡ handle_or_null handle }
+    ensures { result.bytes ≡ compact_text (handle_data handle) }
 {
     match handle {
         Some(handle) => handle_text(handle),
@@ -90,6 +90,19 @@ pub(crate) fn push_counted(out: &mut Out, at: u64, number: u64) -> Result<(), Ou
     ])
 }
 
+fn push_blocked_front(out: &mut Out, at: u64) -> Result<(), OutOfRoom>
+    ensures { AddsWhole result out.old out.new (blocked_front at) }
+{
+    out.try_push_all(&["{\"at\":", Buffer::new().format(at), ",\"by\":"])
+}
+
+fn push_blocked_rest(out: &mut Out, word: &str, by: Handle) -> Result<(), OutOfRoom>
+    ensures { AddsWhole result out.old out.new (blocked_rest word.now by) }
+{
+    let by = handle_text(by);
+    out.try_push_all(&[",\"err\":\"", word, "\",\"h\":", by.as_str(), "}\n"])
+}
+
 fn push_blocked(
     out: &mut Out,
     word: &str,
@@ -97,32 +110,51 @@ fn push_blocked(
     index: &str,
     by: Handle,
 ) -> Result<(), OutOfRoom>
-    ensures { AddsWhole result out.old out.new (blocked_text word.now at index.now by) }
+    ensures { Adds result out.old out.new (blocked_front at ++ (quoted index.now ++ blocked_rest word.now by)) }
 {
-    let by = handle_text(by);
-    out.try_push_all(&[
-        "{\"at\":",
-        Buffer::new().format(at),
-        ",\"by\":\"",
-        index,
-        "\",\"err\":\"",
-        word,
-        "\",\"h\":",
-        by.as_str(),
-        "}\n",
-    ])
+    push_blocked_front(out, at)?;
+    push_quoted(out, index)?;
+    push_blocked_rest(out, word, by)
 }
 
 pub(crate) fn push_banned(out: &mut Out, at: u64, index: &str, by: Handle) -> Result<(), OutOfRoom>
-    ensures { AddsWhole result out.old out.new (answer_text (banned at index.now by)) }
+    ensures { Adds result out.old out.new (answer_text (banned at index.now by)) }
 {
     push_blocked(out, "banned", at, index, by)
 }
 
 pub(crate) fn push_erased(out: &mut Out, at: u64, index: &str, by: Handle) -> Result<(), OutOfRoom>
-    ensures { AddsWhole result out.old out.new (answer_text (erased at index.now by)) }
+    ensures { Adds result out.old out.new (answer_text (erased at index.now by)) }
 {
     push_blocked(out, "erased", at, index, by)
+}
+
+fn push_clash_rest(out: &mut Out, first: Handle, second: Handle) -> Result<(), OutOfRoom>
+    ensures { AddsWhole result out.old out.new (clash_rest first second) }
+{
+    let first = handle_text(first);
+    let second = handle_text(second);
+    out.try_push_all(&[
+        ",\"err\":\"clash\",\"h\":",
+        first.as_str(),
+        ",\"h2\":",
+        second.as_str(),
+        "}\n",
+    ])
+}
+
+fn push_clashing(
+    out: &mut Out,
+    at: u64,
+    index: &str,
+    first: Handle,
+    second: Handle,
+) -> Result<(), OutOfRoom>
+    ensures { Adds result out.old out.new (blocked_front at ++ (quoted index.now ++ clash_rest first second)) }
+{
+    push_blocked_front(out, at)?;
+    push_quoted(out, index)?;
+    push_clash_rest(out, first, second)
 }
 
 pub(crate) fn push_clash(
@@ -132,21 +164,9 @@ pub(crate) fn push_clash(
     first: Handle,
     second: Handle,
 ) -> Result<(), OutOfRoom>
-    ensures { AddsWhole result out.old out.new (answer_text (clash at index.now first second)) }
+    ensures { Adds result out.old out.new (answer_text (clash at index.now first second)) }
 {
-    let first = handle_text(first);
-    let second = handle_text(second);
-    out.try_push_all(&[
-        "{\"at\":",
-        Buffer::new().format(at),
-        ",\"by\":\"",
-        index,
-        "\",\"err\":\"clash\",\"h\":",
-        first.as_str(),
-        ",\"h2\":",
-        second.as_str(),
-        "}\n",
-    ])
+    push_clashing(out, at, index, first, second)
 }
 
 pub(crate) fn push_fault(out: &mut Out, why: Fault) -> Result<(), OutOfRoom>
@@ -173,13 +193,24 @@ pub(crate) fn push_listed(
 ) -> Result<(), OutOfRoom>
     ensures { Adds result out.old out.new (answer_text (listed at (map (listed_of headings.now) records.now))) }
 {
+    push_listed_pieces(out, at, headings, records)
+}
+
+fn push_listed_pieces(
+    out: &mut Out,
+    at: u64,
+    headings: &[Heading],
+    records: &[Record],
+) -> Result<(), OutOfRoom>
+    ensures { Adds result out.old out.new (listed_front at ++ (items_text false (listed_items (map (listed_of headings.now) records.now)) ++ codes "}\n")) }
+{
     push_listed_front(out, at)?;
     push_records(out, headings, records)?;
     out.try_push(b"}\n")
 }
 
 fn push_records(out: &mut Out, headings: &[Heading], records: &[Record]) -> Result<(), OutOfRoom>
-    ensures { Adds result out.old out.new (listed_texts false (map (listed_of headings.now) records.now)) }
+    ensures { Adds result out.old out.new (items_text false (listed_items (map (listed_of headings.now) records.now))) }
 {
     let mut later = false;
     for shown in records {
@@ -201,7 +232,7 @@ fn push_next_record(
     headings: &[Heading],
     shown: &Record,
 ) -> Result<(), OutOfRoom>
-    ensures { Adds result out.old out.new (comma_if later ++ listed_text (listed_of headings.now shown.now)) }
+    ensures { Adds result out.old out.new (comma_if later ++ compact_text (listed_data (listed_of headings.now shown.now))) }
 {
     push_comma(out, later)?;
     push_record(out, headings, shown)
@@ -215,7 +246,17 @@ fn push_record_front(out: &mut Out, handle: Handle) -> Result<(), OutOfRoom>
 }
 
 fn push_record(out: &mut Out, headings: &[Heading], shown: &Record) -> Result<(), OutOfRoom>
-    ensures { Adds result out.old out.new (listed_text (listed_of headings.now shown.now)) }
+    ensures { Adds result out.old out.new (compact_text (listed_data (listed_of headings.now shown.now))) }
+{
+    push_record_pieces(out, headings, shown)
+}
+
+fn push_record_pieces(
+    out: &mut Out,
+    headings: &[Heading],
+    shown: &Record,
+) -> Result<(), OutOfRoom>
+    ensures { Adds result out.old out.new (record_front shown.now.handle ++ (compact_text (row_data (named headings.now shown.now.row.now)) ++ codes "}")) }
 {
     push_record_front(out, shown.handle)?;
     push_row(out, headings, shown.row.cells())?;
@@ -242,6 +283,17 @@ pub(crate) fn push_shown(
     one: &Record,
 ) -> Result<(), OutOfRoom>
     ensures { Adds result out.old out.new (answer_text (shown at (listed_of headings.now one.now))) }
+{
+    push_shown_pieces(out, at, headings, one)
+}
+
+fn push_shown_pieces(
+    out: &mut Out,
+    at: u64,
+    headings: &[Heading],
+    one: &Record,
+) -> Result<(), OutOfRoom>
+    ensures { Adds result out.old out.new (shown_front at one.now.handle ++ (compact_text (row_data (named headings.now one.now.row.now)) ++ codes "}\n")) }
 {
     push_shown_front(out, at, one.handle)?;
     push_row(out, headings, one.row.cells())?;

@@ -1,7 +1,9 @@
 //! What is answered to a command.
 
+ghost use Rattle.std.specs.Prelude.{◌≡◌, ◌≤◌, length};
 ghost use Rattle.table_reply.specs.Buffer.{Adds, AddsWhole};
-ghost use Rattle.table_reply.specs.Answer.{answer, answer_text};
+ghost use Rattle.table_reply.specs.Answer.{answer, answer_text, fault};
+ghost use Rattle.table_reply.specs.declared.fault.Fault.TheVariants as faults;
 
 use crate::fault::Fault;
 use crate::out::{Out, OutOfRoom};
@@ -58,21 +60,19 @@ pub enum Reply<'a> {
         headings: &'a [Heading],
         record: Record<'a>,
     },
-    /// A unique index has a record with the new key. The index's name is printed as it stands: it must need no escape.
+    /// A unique index has a record with the new key.
     Banned {
         at: u64,
         index: &'a str,
         by: Handle,
     },
-    /// A changed record went, since a unique index has another record with its new key. The index's name is printed as it
-    /// stands: it must need no escape.
+    /// A changed record went, since a unique index has another record with its new key.
     Erased {
         at: u64,
         index: &'a str,
         by: Handle,
     },
-    /// Two records would have one key at a new unique index: the first of them, and the younger one. The index's name is
-    /// printed as it stands: it must need no escape.
+    /// Two records would have one key at a new unique index: the first of them, and the younger one.
     Clash {
         at: u64,
         index: &'a str,
@@ -87,6 +87,15 @@ pub enum Reply<'a> {
     },
     /// Nothing but the name of the fault.
     Fault(Fault),
+}
+
+/// The line where memory is refused, with its newline. O(1).
+#[tactic(auto, unfolding(json::specs::Print::escape_byte))]
+pub fn memory_line() -> &'static [u8]
+    ensures text { result.now ≡ answer_text (fault faults.Memory) }
+    ensures short { length result.now ≤ 256 }
+{
+    b"{\"err\":\"memory\"}\n"
 }
 
 /// Appends the line of a reply, with its newline. At an `Err` nothing is appended: memory was refused, and the room

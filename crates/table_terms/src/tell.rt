@@ -8,10 +8,7 @@ ghost use Rattle.table_terms.specs.Step.{Answers};
 ghost use Rattle.table_terms.specs.Telling.{IsTold, Tells};
 
 use crate::outcome::Outcome;
-use table_reply::{Fault, Handle, READY_ROOM, Ready, Reply, Told, write_reply};
-
-/// The answer where memory is refused.
-const MEMORY_LINE: &[u8] = b"{\"err\":\"memory\"}\n";
+use table_reply::{Fault, Handle, READY_ROOM, Ready, Reply, Told, memory_line, write_reply};
 
 // Appends the line of a reply, or else the memory line.
 fn tell<'o>(outcome: Outcome, reply: &Reply, out: Ready<'o>) -> Told<'o, Outcome>
@@ -23,7 +20,7 @@ fn tell<'o>(outcome: Outcome, reply: &Reply, out: Ready<'o>) -> Told<'o, Outcome
     if write_reply(reply, out).is_ok() {
         return Told { what: outcome, out };
     }
-    out.push(MEMORY_LINE);
+    out.push(memory_line());
     Told {
         what: Outcome::Memory,
         out,
@@ -83,7 +80,7 @@ pub fn refuse_memory<'o>(out: Ready<'o>) -> Told<'o, Outcome>
     ensures { Tells out.entry result Outcome.Memory (fault faults.Memory) }
 {
     let Ready { out } = out;
-    out.push(MEMORY_LINE);
+    out.push(memory_line());
     Told {
         what: Outcome::Memory,
         out,

@@ -1,6 +1,8 @@
-use Rattle.std.proofs.Common.{sym, ◌∙◌}
+use Rattle.std.proofs.Common.{subst}
+use Rattle.table_reply.specs.Buffer.{Adds}
+use Rattle.table_reply.proofs.Glued.{clash_glued}
 use Rattle.table_reply.proofs.print.push_clash.Goals as goal
 
 pub returns : goal.returns
 returns c =
-    rw (sym (c.as_str.ensures.value ∙ c.handle_text-first.ensures)) (rw (sym (c.as_str-2.ensures.value ∙ c.handle_text-second.ensures)) (rw (sym c.format.ensures.text) c.try_push_all.ensures))
+    subst (Adds c.push_clashing.result c.args.out.now c.push_clashing.new.out) (clash_glued c.args.at c.args.index.now c.args.first c.args.second) c.push_clashing.ensures

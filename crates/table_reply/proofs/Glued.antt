@@ -1,0 +1,110 @@
+-- Glued pieces are the compact texts of answers.
+use Rattle.std.proofs.Common.{◌≡◌, ℕ, List, [], ◌∷◌, ◌++◌, Option, false, codes, decimal, refl, ap, ap₂, ◌∙◌, arith, append_assoc}
+use Rattle.std.specs.Str.Parse.{AllDigits}
+use Rattle.std.proofs.lemmas.Fmt.{decimal_is_IsNumeral}
+use Rattle.std.proofs.lemmas.Str.Parse.{digit_from_value}
+use Rattle.json.specs.Print.{escape, escape_byte, quoted}
+use Rattle.json.proofs.Printed.Strings.{escape_byte_plain}
+use Rattle.serde_json.specs.Written.{compact_text, items_text}
+use Rattle.container_model.specs.declared.handle.Handle.{Handle}
+use Rattle.table_reply.specs.declared.fault.Fault.{Fault}
+use Rattle.table_reply.specs.declared.fault.Fault.TheVariants as faults
+use Rattle.table_reply.specs.Buffer.{joined}
+use Rattle.table_reply.specs.Spelling.{HandleFits, spelling}
+use Rattle.table_reply.specs.Answer.{Listed, answer_text, done, found, counted, after, shown, banned, erased, clash, listed, fault, fault_name, handle_data, row_data, listed_data, listed_items}
+use Rattle.table_reply.specs.Pieces.{record_front, shown_front, listed_front, blocked_front, blocked_rest, clash_rest}
+
+-- ---- digits and handles need no escape
+
+digits_plain : (ds rest : List ℕ) → AllDigits 10 ds → escape (ds ++ rest) ≡ ds ++ escape rest
+digits_plain [] rest h = refl
+digits_plain (d ∷ ds) rest h =
+    let here = digit_from_value d h.0 in
+    ap₂ (λ x xs. x ++ xs) (escape_byte_plain d (λ e. omega (arith, here)) (λ e. omega (arith, here)) (omega (arith, here))) (digits_plain ds rest h.1)
+
+spelling_plain : (h : Handle) → HandleFits h → escape (spelling h) ≡ spelling h
+unfolding spelling escape_byte
+spelling_plain h fits =
+    digits_plain (decimal h.slot) (58 ∷ (decimal h.stamp ++ [])) (decimal_is_IsNumeral h.slot (omega (arith, fits.0))).0.1
+    ∙ ap (λ s. decimal h.slot ++ 58 ∷ s) (digits_plain (decimal h.stamp) [] (decimal_is_IsNumeral h.stamp fits.1).0.1)
+
+pub quoted_spelling : (h : Handle) → HandleFits h → quoted (spelling h) ≡ 34 ∷ (spelling h ++ 34 ∷ [])
+quoted_spelling h fits = ap (λ s. 34 ∷ (s ++ 34 ∷ [])) (spelling_plain h fits)
+
+-- ---- lines of fixed pieces, from the texts between them
+
+abbrev pub done_glue : List ℕ → List ℕ
+done_glue at = joined (codes "{\"at\":" ∷ at ∷ codes ",\"ok\":true}\n" ∷ [])
+
+abbrev pub found_glue : List ℕ → List ℕ → List ℕ
+found_glue at h = joined (codes "{\"at\":" ∷ at ∷ codes ",\"h\":" ∷ h ∷ codes ",\"ok\":true}\n" ∷ [])
+
+abbrev pub after_glue : List ℕ → List ℕ → List ℕ
+after_glue at next = joined (codes "{\"at\":" ∷ at ∷ codes ",\"next\":" ∷ next ∷ codes ",\"ok\":true}\n" ∷ [])
+
+abbrev pub counted_glue : List ℕ → List ℕ → List ℕ
+counted_glue at n = joined (codes "{\"at\":" ∷ at ∷ codes ",\"n\":" ∷ n ∷ codes ",\"ok\":true}\n" ∷ [])
+
+abbrev pub fault_glue : List ℕ → List ℕ
+fault_glue name = joined (codes "{\"err\":\"" ∷ name ∷ codes "\"}\n" ∷ [])
+
+pub done_glued : (at : ℕ) → done_glue (decimal at) ≡ answer_text (done at)
+unfolding escape_byte
+done_glued at = simp append_assoc
+
+pub found_glued : (at : ℕ) (h : Option Handle) → found_glue (decimal at) (compact_text (handle_data h)) ≡ answer_text (found at h)
+unfolding escape_byte
+found_glued at h = simp append_assoc
+
+pub after_glued : (at : ℕ) (next : Option Handle) → after_glue (decimal at) (compact_text (handle_data next)) ≡ answer_text (after at next)
+unfolding escape_byte
+after_glued at next = simp append_assoc
+
+pub counted_glued : (at n : ℕ) → counted_glue (decimal at) (decimal n) ≡ answer_text (counted at n)
+unfolding escape_byte
+counted_glued at n = simp append_assoc
+
+pub fault_glued : (f : Fault) → fault_glue (fault_name f) ≡ answer_text (fault f)
+unfolding escape_byte
+fault_glued faults.Line = refl
+fault_glued faults.Json = refl
+fault_glued faults.Command = refl
+fault_glued faults.Table = refl
+fault_glued faults.Index = refl
+fault_glued faults.Kind = refl
+fault_glued faults.Row = refl
+fault_glued faults.Key = refl
+fault_glued faults.Definition = refl
+fault_glued faults.Handle = refl
+fault_glued faults.Place = refl
+fault_glued faults.Order = refl
+fault_glued faults.Overflow = refl
+fault_glued faults.Full = refl
+fault_glued faults.Spent = refl
+fault_glued faults.Memory = refl
+
+-- ---- lines with a name or with rows
+
+pub banned_glued : (at : ℕ) (index : List ℕ) (by : Handle) → blocked_front at ++ (quoted index ++ blocked_rest (codes "banned") by) ≡ answer_text (banned at index by)
+unfolding escape_byte
+banned_glued at index by = simp append_assoc
+
+pub erased_glued : (at : ℕ) (index : List ℕ) (by : Handle) → blocked_front at ++ (quoted index ++ blocked_rest (codes "erased") by) ≡ answer_text (erased at index by)
+unfolding escape_byte
+erased_glued at index by = simp append_assoc
+
+pub clash_glued : (at : ℕ) (index : List ℕ) (one other : Handle) → blocked_front at ++ (quoted index ++ clash_rest one other) ≡ answer_text (clash at index one other)
+unfolding escape_byte
+clash_glued at index one other = simp append_assoc
+
+pub record_glued : (l : Listed) → record_front l.handle ++ (compact_text (row_data l.row) ++ codes "}") ≡ compact_text (listed_data l)
+unfolding escape_byte
+record_glued l = simp append_assoc
+
+pub shown_glued : (at : ℕ) (l : Listed) → shown_front at l.handle ++ (compact_text (row_data l.row) ++ codes "}\n") ≡ answer_text (shown at l)
+unfolding escape_byte
+shown_glued at l = simp append_assoc
+
+pub listed_glued : (at : ℕ) (ls : List Listed) → listed_front at ++ (items_text false (listed_items ls) ++ codes "}\n") ≡ answer_text (listed at ls)
+unfolding escape_byte
+listed_glued at ls = simp append_assoc
