@@ -251,11 +251,7 @@ fn push_record(out: &mut Out, headings: &[Heading], shown: &Record) -> Result<()
     push_record_pieces(out, headings, shown)
 }
 
-fn push_record_pieces(
-    out: &mut Out,
-    headings: &[Heading],
-    shown: &Record,
-) -> Result<(), OutOfRoom>
+fn push_record_pieces(out: &mut Out, headings: &[Heading], shown: &Record) -> Result<(), OutOfRoom>
     ensures { Adds result out.old out.new (record_front shown.now.handle ++ (compact_text (row_data (named headings.now shown.now.row.now)) ++ codes "}")) }
 {
     push_record_front(out, shown.handle)?;

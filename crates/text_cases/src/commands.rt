@@ -2,6 +2,7 @@
 //! it says so; and where a copy of the command is another command, or the last one before it is the same though its text is not.
 
 use crate::buffers::new_out;
+use crate::printed::is_printed;
 use command_lines::{CommandFault, read_command};
 use command_text::{Command, Out, write_command};
 use std::alloc::{AllocError, Global};
@@ -78,6 +79,9 @@ fn tell_text(
     report: &mut Vec<u8>,
 ) -> Result<(), AllocError> {
     report.extend_from_slice(text)?;
+    if !is_printed(alloc, text) {
+        report.extend_from_slice(b" is printed otherwise")?;
+    }
     if !stays(alloc, text) {
         report.extend_from_slice(b" is written otherwise")?;
     }

@@ -1,11 +1,12 @@
 //! Prints what texts mean, and how values are written: standard input has the cases of each part below a line
 //! `====== PART`, which is printed above what the part says to them. The parts are `keys`, `replies`, `commands`, `schemas` and
-//! `tables`.
+//! `tables`. Where `serde_json` prints an answer or a canonical text otherwise than it stands, that is said behind it.
 #![tactic(auto)]
 
 mod buffers;
 mod commands;
 mod keys;
+mod printed;
 mod replies;
 mod schemas;
 mod scripts;

@@ -1,6 +1,7 @@
 //! Replies of each form at the ends of their ranges, all faults, rows under headings, and a buffer's states.
 
 use crate::buffers::new_out;
+use crate::printed::is_line_printed;
 use std::alloc::{AllocError, Global};
 use std::io;
 use std::io::Write;
@@ -94,6 +95,7 @@ enum Value {
     Int(i64),
     Text(&'static str),
     Bool(bool),
+    Null,
 }
 
 const PLAIN: [Value; 2] = [Value::Int(1), Value::Text("a")];
@@ -101,6 +103,21 @@ const PLAIN: [Value; 2] = [Value::Int(1), Value::Text("a")];
 const ESCAPED: [Value; 2] = [
     Value::Int(-5),
     Value::Text("\"\\/\n\r\t\u{8}\u{c}\u{1}\u{1f}\u{7f}\u{e9}"),
+];
+
+// Each byte that has no letter.
+const CONTROLS: [Value; 2] = [
+    Value::Int(i64::MIN),
+    Value::Text(
+        "\u{0}\u{1}\u{2}\u{3}\u{4}\u{5}\u{6}\u{7}\u{8}\u{9}\u{a}\u{b}\u{c}\u{d}\u{e}\u{f}\u{10}\u{11}\u{12}\u{13}\u{14}\u{15}\u{16}\u{17}\u{18}\u{19}\u{1a}\u{1b}\u{1c}\u{1d}\u{1e}\u{1f}",
+    ),
+];
+
+const NULL: [Value; 2] = [Value::Null, Value::Text("null")];
+
+const BEYOND_ASCII: [Value; 2] = [
+    Value::Null,
+    Value::Text("\u{80}\u{7ff}\u{20ac}\u{ffff}\u{1f600}\u{10ffff}"),
 ];
 
 const WIDE: [Value; 3] = [Value::Bool(true), Value::Bool(false), Value::Int(i64::MIN)];
@@ -122,22 +139,30 @@ fn push(out: &mut Out, text: &str) -> Result<(), AllocError> {
     out.try_push(text.as_bytes()).map_err(|_| AllocError)
 }
 
-fn push_reply(out: &mut Out, reply: &Reply) -> Result<(), AllocError> {
-    write_reply(reply, out).map_err(|_| AllocError)
+// The line of a reply, and a line where `serde_json` prints it otherwise.
+fn push_reply(alloc: Global, out: &mut Out, reply: &Reply) -> Result<(), AllocError> {
+    let start = out.bytes().len();
+    write_reply(reply, out).map_err(|_| AllocError)?;
+    let line = out.bytes().get(start..).unwrap_or(&[]);
+    if is_line_printed(alloc, line) {
+        return Ok(());
+    }
+    push(out, "is printed otherwise\n")
 }
 
-fn push_fault(out: &mut Out, fault: Fault) -> Result<(), AllocError> {
+fn push_fault(alloc: Global, out: &mut Out, fault: Fault) -> Result<(), AllocError> {
     push(out, fault.name())?;
     push(out, " ")?;
-    push_reply(out, &Reply::Fault(fault))
+    push_reply(alloc, out, &Reply::Fault(fault))
 }
 
-fn push_replies(out: &mut Out) -> Result<(), AllocError> {
+fn push_replies(alloc: Global, out: &mut Out) -> Result<(), AllocError> {
     push(out, "=== replies\n")?;
     for reply in REPLIES {
-        push_reply(out, &reply)?;
+        push_reply(alloc, out, &reply)?;
     }
     push_reply(
+        alloc,
         out,
         &Reply::Listed {
             at: 7,
@@ -146,7 +171,7 @@ fn push_replies(out: &mut Out) -> Result<(), AllocError> {
         },
     )?;
     for fault in FAULTS {
-        push_fault(out, fault)?;
+        push_fault(alloc, out, fault)?;
     }
     Ok(())
 }
@@ -156,6 +181,7 @@ fn cell(alloc: Global, value: Value) -> Result<Cell, AllocError> {
         Value::Int(number) => Cell::Int(number),
         Value::Text(text) => Cell::Text(Text::copy_of(alloc, text)?),
         Value::Bool(truth) => Cell::Bool(truth),
+        Value::Null => Cell::Null,
     })
 }
 
@@ -187,6 +213,7 @@ fn push_listed(
 ) -> Result<(), AllocError> {
     let headings = headings(alloc, columns)?;
     push_reply(
+        alloc,
         out,
         &Reply::Listed {
             at: 2,
@@ -207,6 +234,9 @@ fn push_rows(alloc: Global, out: &mut Out) -> Result<(), AllocError> {
     let plain = row(alloc, &PLAIN)?;
     let escaped = row(alloc, &ESCAPED)?;
     let wide = row(alloc, &WIDE)?;
+    let controls = row(alloc, &CONTROLS)?;
+    let null = row(alloc, &NULL)?;
+    let beyond = row(alloc, &BEYOND_ASCII)?;
     let records = [
         Record {
             handle: Handle { slot: 1, stamp: 2 },
@@ -219,6 +249,18 @@ fn push_rows(alloc: Global, out: &mut Out) -> Result<(), AllocError> {
         Record {
             handle: Handle { slot: 2, stamp: 9 },
             row: &wide,
+        },
+        Record {
+            handle: Handle { slot: 3, stamp: 4 },
+            row: &controls,
+        },
+        Record {
+            handle: Handle { slot: 4, stamp: 5 },
+            row: &null,
+        },
+        Record {
+            handle: LAST,
+            row: &beyond,
         },
     ];
     push_lists(alloc, out, &records)
@@ -233,6 +275,7 @@ fn push_shown(
 ) -> Result<(), AllocError> {
     let headings = headings(alloc, columns)?;
     push_reply(
+        alloc,
         out,
         &Reply::Shown {
             at,
@@ -289,7 +332,7 @@ fn push_states(alloc: Global, report: &mut Out) -> Result<(), AllocError> {
 pub(crate) fn tell(rt: &HostRuntime) -> io::Result<()> {
     let alloc = rt.alloc();
     let mut out = new_out(alloc)?;
-    push_replies(&mut out)?;
+    push_replies(alloc, &mut out)?;
     push_rows(alloc, &mut out)?;
     push_records(alloc, &mut out)?;
     push_states(alloc, &mut out)?;

@@ -2,6 +2,7 @@
 
 use crate::buffers::new_out;
 use crate::commands::{name_of, written};
+use crate::printed::is_line_printed;
 use command_lines::{CommandFault, read_command};
 use std::alloc::{AllocError, Global};
 use table_cmd::Command;
@@ -23,10 +24,19 @@ fn kind_of(outcome: Outcome) -> &'static str {
 }
 
 // Adds what was told.
-fn tell(outcome: Outcome, out: &Out, report: &mut Vec<u8>) -> Result<(), AllocError> {
+fn tell(
+    alloc: Global,
+    outcome: Outcome,
+    out: &Out,
+    report: &mut Vec<u8>,
+) -> Result<(), AllocError> {
     report.extend_from_slice(kind_of(outcome).as_bytes())?;
     report.extend_from_slice(b" ")?;
-    report.extend_from_slice(out.bytes())
+    report.extend_from_slice(out.bytes())?;
+    if is_line_printed(alloc, out.bytes()) {
+        return Ok(());
+    }
+    report.extend_from_slice(b"is printed otherwise\n")
 }
 
 // Adds a fault as it is told without a table.
@@ -34,14 +44,14 @@ fn tell_refused(alloc: Global, fault: Fault, report: &mut Vec<u8>) -> Result<(),
     let mut out = new_out(alloc)?;
     let Ok(ready) = out.emptied();
     let outcome = refuse(fault, ready).end();
-    tell(outcome, &out, report)
+    tell(alloc, outcome, &out, report)
 }
 
 fn tell_memory(alloc: Global, report: &mut Vec<u8>) -> Result<(), AllocError> {
     let mut out = new_out(alloc)?;
     let Ok(ready) = out.emptied();
     let outcome = refuse_memory(ready).end();
-    tell(outcome, &out, report)
+    tell(alloc, outcome, &out, report)
 }
 
 /// Adds each fault as it is told without a table.
@@ -65,7 +75,7 @@ fn tell_step(
         return Ok(false);
     }
     report.extend_from_slice(b"  ")?;
-    tell(outcome, &out, report)?;
+    tell(alloc, outcome, &out, report)?;
     Ok(true)
 }
 

@@ -1,0 +1,23 @@
+//! Whether lines stand as `serde_json` prints what it reads of them.
+
+use serde_json::Value;
+use std::alloc::Global;
+
+/// Whether `serde_json` prints a text again as it stands.
+pub(crate) fn is_printed(alloc: Global, text: &[u8]) -> bool {
+    let Ok(value) = Value::from_slice(alloc, text) else {
+        return false;
+    };
+    match value.to_vec(alloc) {
+        Ok(printed) => printed.as_slice() == text,
+        Err(_) => false,
+    }
+}
+
+/// The same of a line with its newline.
+pub(crate) fn is_line_printed(alloc: Global, line: &[u8]) -> bool {
+    match line {
+        [text @ .., b'\n'] => is_printed(alloc, text),
+        _ => false,
+    }
+}
