@@ -1,14 +1,16 @@
 -- Steps from what was told.
-use Rattle.std.proofs.Common.{◌≡◌, ◌⊎◌, ℕ, ◌++◌, inl, inr, List, Option, Some, None, sym, subst, refl, ◌∙◌}
+use Rattle.std.proofs.Common.{◌≡◌, ◌⊎◌, ℕ, ◌+◌, ◌≤◌, ◌++◌, inl, inr, List, Option, Some, None, length, ap, sym, subst, refl, ◌∙◌, arith, length-append}
 use Rattle.std.specs.Prelude.{unwrap_or}
 use Rattle.container_model.specs.declared.refusal.Why.{Why}
 use Rattle.container_model.specs.declared.refusal.Why.TheVariants as whys
 use Rattle.container_model.specs.State.{State}
 use Rattle.table_reply.specs.Answer.{Answer}
+use Rattle.table_reply.specs.declared.fault.Fault.TheVariants as faults
+use Rattle.table_reply.proofs.Short.{fault_is_short}
 use Rattle.table_schema.specs.Shape.{TableShape}
 use Rattle.table_terms.specs.declared.outcome.Outcome.{Outcome}
 use Rattle.table_terms.specs.declared.outcome.Outcome.TheVariants as outcomes
-use Rattle.table_terms.specs.Step.{Answers, Step, Steps, changed, memory_line, refusal_answer, refused_by, reindexed, told}
+use Rattle.table_terms.specs.Step.{Answers, IsShort, Step, Steps, changed, memory_line, refusal_answer, refused_by, reindexed, told}
 use Rattle.table_terms.specs.Table.{Cells, Keys, TableState}
 
 module _ (outcome : Outcome) (before after : List ℕ) (t : TableState) where
@@ -43,3 +45,12 @@ module _ (outcome : Outcome) (before after : List ℕ) (t : TableState) where
       (subst (λ o. Steps o before after t t (reindexed t names (Some why) answer new)) (sym told_it.0) (record { kind = refl; line = told_it.1; table = refl }))
   steps_not_reindexed names refusal answer new why (inl is) (inr no_memory) memory = steps_memory (reindexed t names refusal answer new) no_memory.0 no_memory.1
   steps_not_reindexed names refusal answer new why (inr is) answers memory = out_of_memory (reindexed t names refusal answer new) _ (memory is) answers
+
+line_is_short : (before after line : List ℕ) → after ≡ before ++ line → length line ≤ 256 → length after ≤ length before + 256
+line_is_short before after line e short = let l = ap length e in omega (arith, length-append before line)
+
+-- what is told of a read is short where it is the memory line
+pub read_is_short : (outcome : Outcome) (before after : List ℕ) (answer : Answer) → Answers outcome before after outcomes.Read answer → IsShort outcome before after
+read_is_short outcome before after answer (inl told_it) = subst (λ o. IsShort o before after) (sym told_it.0) tt
+read_is_short outcome before after answer (inr no_memory) =
+    subst (λ o. IsShort o before after) (sym no_memory.0) (line_is_short before after memory_line no_memory.1 (fault_is_short faults.Memory))
