@@ -49,23 +49,23 @@ abbrev pub fault_glue : List ℕ → List ℕ
 fault_glue name = joined (codes "{\"err\":\"" ∷ name ∷ codes "\"}\n" ∷ [])
 
 pub done_glued : (at : ℕ) → done_glue (decimal at) ≡ answer_text (done at)
-unfolding escape_byte
+unfolding answer_text escape_byte
 done_glued at = simp append_assoc
 
 pub found_glued : (at : ℕ) (h : Option Handle) → found_glue (decimal at) (compact_text (handle_data h)) ≡ answer_text (found at h)
-unfolding escape_byte
+unfolding answer_text escape_byte
 found_glued at h = simp append_assoc
 
 pub after_glued : (at : ℕ) (next : Option Handle) → after_glue (decimal at) (compact_text (handle_data next)) ≡ answer_text (after at next)
-unfolding escape_byte
+unfolding answer_text escape_byte
 after_glued at next = simp append_assoc
 
 pub counted_glued : (at n : ℕ) → counted_glue (decimal at) (decimal n) ≡ answer_text (counted at n)
-unfolding escape_byte
+unfolding answer_text escape_byte
 counted_glued at n = simp append_assoc
 
 pub fault_glued : (f : Fault) → fault_glue (fault_name f) ≡ answer_text (fault f)
-unfolding escape_byte
+unfolding answer_text escape_byte
 fault_glued faults.Line = refl
 fault_glued faults.Json = refl
 fault_glued faults.Command = refl
@@ -86,15 +86,15 @@ fault_glued faults.Memory = refl
 -- ---- lines with a name or with rows
 
 pub banned_glued : (at : ℕ) (index : List ℕ) (by : Handle) → blocked_front at ++ (quoted index ++ blocked_rest (codes "banned") by) ≡ answer_text (banned at index by)
-unfolding escape_byte
+unfolding answer_text escape_byte
 banned_glued at index by = simp append_assoc
 
 pub erased_glued : (at : ℕ) (index : List ℕ) (by : Handle) → blocked_front at ++ (quoted index ++ blocked_rest (codes "erased") by) ≡ answer_text (erased at index by)
-unfolding escape_byte
+unfolding answer_text escape_byte
 erased_glued at index by = simp append_assoc
 
 pub clash_glued : (at : ℕ) (index : List ℕ) (one other : Handle) → blocked_front at ++ (quoted index ++ clash_rest one other) ≡ answer_text (clash at index one other)
-unfolding escape_byte
+unfolding answer_text escape_byte
 clash_glued at index one other = simp append_assoc
 
 pub record_glued : (l : Listed) → record_front l.handle ++ (compact_text (row_data l.row) ++ codes "}") ≡ compact_text (listed_data l)
@@ -102,9 +102,9 @@ unfolding escape_byte
 record_glued l = simp append_assoc
 
 pub shown_glued : (at : ℕ) (l : Listed) → shown_front at l.handle ++ (compact_text (row_data l.row) ++ codes "}\n") ≡ answer_text (shown at l)
-unfolding escape_byte
+unfolding answer_text escape_byte
 shown_glued at l = simp append_assoc
 
 pub listed_glued : (at : ℕ) (ls : List Listed) → listed_front at ++ (items_text false (listed_items ls) ++ codes "}\n") ≡ answer_text (listed at ls)
-unfolding escape_byte
+unfolding answer_text escape_byte
 listed_glued at ls = simp append_assoc

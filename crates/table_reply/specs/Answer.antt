@@ -137,5 +137,5 @@ answer_data (listed at ls) = object (at_member at (ok_member (member (codes "rs"
 answer_data (fault f) = object (member (codes "err") (string (fault_name f)) no_members)
 
 -- the line of an answer, with its newline
-abbrev pub answer_text : Answer → List ℕ
+unfoldable pub answer_text : Answer → List ℕ
 answer_text a = compact_text (answer_data a) ++ codes "\n"

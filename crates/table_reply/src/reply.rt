@@ -90,7 +90,7 @@ pub enum Reply<'a> {
 }
 
 /// The line where memory is refused, with its newline. O(1).
-#[tactic(auto, unfolding(json::specs::Print::escape_byte))]
+#[tactic(auto, unfolding(crate::specs::Answer::answer_text, json::specs::Print::escape_byte))]
 pub fn memory_line() -> &'static [u8]
     ensures text { result.now ≡ answer_text (fault faults.Memory) }
     ensures short { length result.now ≤ 256 }
