@@ -1,18 +1,18 @@
 -- Glued pieces are the compact texts of answers.
-use Rattle.std.proofs.Common.{◌≡◌, ℕ, List, [], ◌∷◌, ◌++◌, Option, false, codes, decimal, refl, ap, ap₂, ◌∙◌, arith, append_assoc}
+use Rattle.std.proofs.Common.{◌≡◌, ℕ, List, [], ◌∷◌, ◌++◌, Option, codes, decimal, refl, ap, ap₂, ◌∙◌, arith, append_assoc}
 use Rattle.std.specs.Str.Parse.{AllDigits}
 use Rattle.std.proofs.lemmas.Fmt.{decimal_is_IsNumeral}
 use Rattle.std.proofs.lemmas.Str.Parse.{digit_from_value}
 use Rattle.json.specs.Print.{escape, escape_byte, quoted}
 use Rattle.json.proofs.Printed.Strings.{escape_byte_plain}
-use Rattle.serde_json.specs.Written.{compact_text, items_text}
+use Rattle.serde_json.specs.Written.{compact_text}
 use Rattle.container_model.specs.declared.handle.Handle.{Handle}
 use Rattle.table_reply.specs.declared.fault.Fault.{Fault}
 use Rattle.table_reply.specs.declared.fault.Fault.TheVariants as faults
 use Rattle.table_reply.specs.Buffer.{joined}
 use Rattle.table_reply.specs.Spelling.{HandleFits, spelling}
-use Rattle.table_reply.specs.Answer.{Listed, answer_text, done, found, counted, after, shown, banned, erased, clash, listed, fault, fault_name, handle_data, row_data, listed_data, listed_items}
-use Rattle.table_reply.specs.Pieces.{record_front, shown_front, listed_front, blocked_front, blocked_rest, clash_rest}
+use Rattle.table_reply.specs.Answer.{answer_text, done, found, counted, after, banned, erased, clash, fault, fault_name, handle_data}
+use Rattle.table_reply.specs.Pieces.{blocked_front, blocked_rest, clash_rest}
 
 -- ---- digits and handles need no escape
 
@@ -83,7 +83,7 @@ fault_glued faults.Full = refl
 fault_glued faults.Spent = refl
 fault_glued faults.Memory = refl
 
--- ---- lines with a name or with rows
+-- ---- lines with a name
 
 pub banned_glued : (at : ℕ) (index : List ℕ) (by : Handle) → blocked_front at ++ (quoted index ++ blocked_rest (codes "banned") by) ≡ answer_text (banned at index by)
 unfolding answer_text escape_byte
@@ -96,15 +96,3 @@ erased_glued at index by = simp append_assoc
 pub clash_glued : (at : ℕ) (index : List ℕ) (one other : Handle) → blocked_front at ++ (quoted index ++ clash_rest one other) ≡ answer_text (clash at index one other)
 unfolding answer_text escape_byte
 clash_glued at index one other = simp append_assoc
-
-pub record_glued : (l : Listed) → record_front l.handle ++ (compact_text (row_data l.row) ++ codes "}") ≡ compact_text (listed_data l)
-unfolding escape_byte
-record_glued l = simp append_assoc
-
-pub shown_glued : (at : ℕ) (l : Listed) → shown_front at l.handle ++ (compact_text (row_data l.row) ++ codes "}\n") ≡ answer_text (shown at l)
-unfolding answer_text escape_byte
-shown_glued at l = simp append_assoc
-
-pub listed_glued : (at : ℕ) (ls : List Listed) → listed_front at ++ (items_text false (listed_items ls) ++ codes "}\n") ≡ answer_text (listed at ls)
-unfolding answer_text escape_byte
-listed_glued at ls = simp append_assoc

@@ -1,5 +1,6 @@
 pub mod Cells
 pub mod Glued
+pub mod Printed
 pub mod Room
 pub mod Short
 pub mod Texts

@@ -1,6 +1,6 @@
 -- A text that is appended piece by piece.
 use Rattle.std.proofs.Common.{◌≡◌, ℕ, ◌+◌, ◌<◌, ◌≤◌, List, [], ◌++◌, length, Result, Ok, Err, refl, sym, ap, ◌∙◌, arith, length-append, append_assoc, append-nil, subst}
-use Rattle.table_reply.specs.Buffer.{Buffer, Adds, AddsWhole, AddsText, AddsFront}
+use Rattle.table_reply.specs.Buffer.{Buffer, Adds, AddsWhole, AddsOrNot, AddsText, AddsFront}
 
 -- The pieces so far are in the buffer, and the rest of the text is still to come.
 pub record Midway (old now : Buffer) (rest text : List ℕ) : Type 0 where
@@ -57,6 +57,11 @@ finish (Err d) old now new piece text m a = stop old now new piece [] text (wide
 pub whole : {T E : Type 0} (r : Result T E) (old new : Buffer) (text : List ℕ) → AddsWhole r old new text → Adds r old new text
 whole (Ok x) old new text a = a
 whole (Err d) old new text a = let q = a.1 in ([], a.0 ∙ sym (append-nil old.bytes), omega arith, a.2)
+
+-- and more than appended or not
+pub or_not : {T E : Type 0} (r : Result T E) (old new : Buffer) (text : List ℕ) → AddsWhole r old new text → AddsOrNot r old new text
+or_not (Ok x) old new text a = a
+or_not (Err d) old new text a = (a.0, a.1)
 
 -- a first piece, where memory is refused
 pub refused : (old new : Buffer) (piece rest text : List ℕ) → (new.bytes ≡ old.bytes) × (old.room ≤ new.room) × (old.room < length piece) → piece ++ rest ≡ text → AddsFront old new text

@@ -136,6 +136,19 @@ answer_data (clash at index first second) =
 answer_data (listed at ls) = object (at_member at (ok_member (member (codes "rs") (array (listed_items ls)) no_members)))
 answer_data (fault f) = object (member (codes "err") (string (fault_name f)) no_members)
 
+-- whether an answer shows a record
+abbrev pub has_record : Answer → Bool
+has_record (done at) = false
+has_record (found at h) = false
+has_record (counted at n) = false
+has_record (after at next) = false
+has_record (shown at l) = true
+has_record (banned at index by) = false
+has_record (erased at index by) = false
+has_record (clash at index first second) = false
+has_record (listed at ls) = true
+has_record (fault f) = false
+
 -- the line of an answer, with its newline
 unfoldable pub answer_text : Answer → List ℕ
 answer_text a = compact_text (answer_data a) ++ codes "\n"

@@ -3,3 +3,4 @@ pub mod Buffer
 pub mod Answer
 pub mod Pieces
 pub mod Ready
+pub mod Printed

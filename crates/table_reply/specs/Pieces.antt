@@ -9,18 +9,6 @@ use Rattle.table_reply.specs.Spelling.{spelling}
 abbrev pub handle_text : Handle → List ℕ
 handle_text h = quoted (spelling h)
 
--- a record's text up to its row
-abbrev pub record_front : Handle → List ℕ
-record_front h = joined (codes "{\"h\":" ∷ handle_text h ∷ codes ",\"r\":" ∷ [])
-
--- a shown record's line up to its row
-abbrev pub shown_front : ℕ → Handle → List ℕ
-shown_front at h = joined (codes "{\"at\":" ∷ decimal at ∷ codes ",\"h\":" ∷ handle_text h ∷ codes ",\"ok\":true,\"r\":" ∷ [])
-
--- a list's line up to its first record
-abbrev pub listed_front : ℕ → List ℕ
-listed_front at = joined (codes "{\"at\":" ∷ decimal at ∷ codes ",\"ok\":true,\"rs\":[" ∷ [])
-
 -- the line where other records stand in the way, up to the index's name
 abbrev pub blocked_front : ℕ → List ℕ
 blocked_front at = joined (codes "{\"at\":" ∷ decimal at ∷ codes ",\"by\":" ∷ [])

@@ -7,6 +7,7 @@ mod out;
 mod print;
 mod quote;
 mod ready;
+mod records;
 mod reply;
 
 pub use container_model::Handle;

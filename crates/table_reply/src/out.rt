@@ -4,6 +4,7 @@ ghost use Rattle.std.specs.Prelude.{◌≡◌, ◌+◌, ◌≤◌, ◌++◌, [],
 ghost use Rattle.table_reply.specs.Buffer.{Keeps, MakesRoom, AddsWhole, texts};
 
 use crate::ready::Ready;
+use json::Writer;
 use std::alloc::Global;
 use std::convert::Infallible;
 use std::marker::Model;
@@ -11,6 +12,9 @@ use thiserror::Error;
 
 /// The room, in bytes, that each answer to a write, and each fault, can count on.
 pub const READY_ROOM: usize = 512;
+
+/// The room, in bytes, of a line with records before it grows.
+const LINE_ROOM: usize = 512;
 
 /// A growth of the buffer was refused.
 #[derive(Clone, Copy, Debug, PartialEq, Eq, Error)]
@@ -21,6 +25,7 @@ pub struct OutOfRoom;
 #[derive(Debug, Drop)]
 pub struct Out {
     buffer: Vec<u8>,
+    alloc: Global,
 }
 
 impl Model for Out {
@@ -44,7 +49,15 @@ impl Out {
         ensures { IfOk result (λ out. (out.bytes ≡ []) × (READY_ROOM ≤ out.room)) }
     {
         let buffer = Vec::with_capacity(alloc, READY_ROOM).map_err(|_| OutOfRoom)?;
-        Ok(Out { buffer })
+        Ok(Out { buffer, alloc })
+    }
+
+    // A line of its own, for what is printed token by token. O(1).
+    pub(crate) fn new_line(&self) -> Result<Writer, OutOfRoom>
+        ensures { IfOk result (λ line. (line.before ≡ []) × (line.tokens ≡ [])) }
+    {
+        let text = Vec::with_capacity(self.alloc, LINE_ROOM).map_err(|_| OutOfRoom)?;
+        Ok(Writer::new(text))
     }
 
     /// What waits to be written out. O(1).

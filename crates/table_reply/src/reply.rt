@@ -1,16 +1,17 @@
 //! What is answered to a command.
 
-ghost use Rattle.std.specs.Prelude.{◌≡◌, ◌≤◌, length};
-ghost use Rattle.table_reply.specs.Buffer.{Adds, AddsWhole};
-ghost use Rattle.table_reply.specs.Answer.{answer, answer_text, fault};
+ghost use Rattle.std.specs.Prelude.{◌≡◌, ◌≤◌, length, false};
+ghost use Rattle.table_reply.specs.Buffer.{AddsOrNot, AddsWhole};
+ghost use Rattle.table_reply.specs.Answer.{answer, answer_text, fault, has_record};
 ghost use Rattle.table_reply.specs.declared.fault.Fault.TheVariants as faults;
 
 use crate::fault::Fault;
 use crate::out::{Out, OutOfRoom};
 use crate::print::{
     push_after, push_banned, push_clash, push_counted, push_done, push_erased, push_fault,
-    push_found, push_listed, push_shown,
+    push_found,
 };
+use crate::records::{push_listed, push_shown};
 use container_model::Handle;
 use key_extract::{Row, Text};
 
@@ -98,21 +99,12 @@ pub fn memory_line() -> &'static [u8]
     b"{\"err\":\"memory\"}\n"
 }
 
-/// Appends the line of a reply, with its newline. At an `Err` nothing is appended: memory was refused, and the room
-/// was less than the line. O(length of the line).
+/// Appends the line of a reply, with its newline. At an `Err` nothing is appended: memory was refused. A reply without a
+/// record is refused only where the room was less than the line. O(length of the line).
+#[tactic(auto, using(crate::proofs::Room::or_not))]
 pub fn write_reply(reply: &Reply, out: &mut Out) -> Result<(), OutOfRoom>
-    ensures { AddsWhole result out.old out.new (answer_text (answer reply.now)) }
-{
-    let start = out.bytes().len();
-    if let Err(error) = push_reply(reply, out) {
-        out.truncate(start);
-        return Err(error);
-    }
-    Ok(())
-}
-
-fn push_reply(reply: &Reply, out: &mut Out) -> Result<(), OutOfRoom>
-    ensures { Adds result out.old out.new (answer_text (answer reply.now)) }
+    ensures line { AddsOrNot result out.old out.new (answer_text (answer reply.now)) }
+    ensures short { has_record (answer reply.now) ≡ false → AddsWhole result out.old out.new (answer_text (answer reply.now)) }
 {
     match *reply {
         Reply::Done { at } => push_done(out, at),

@@ -1,7 +1,7 @@
 //! Answers that are appended, or the memory line in their place.
 
-ghost use Rattle.std.specs.Prelude.{◌≡◌, ◌≤◌, ◌++◌, length};
-ghost use Rattle.table_reply.specs.Answer.{answer, answer_text, counted, done, fault, after};
+ghost use Rattle.std.specs.Prelude.{◌≡◌, ◌≤◌, ◌++◌, length, false};
+ghost use Rattle.table_reply.specs.Answer.{answer, answer_text, has_record, counted, done, fault, after};
 ghost use Rattle.table_reply.specs.Ready.{IsBehind};
 ghost use Rattle.table_reply.specs.declared.fault.Fault.TheVariants as faults;
 ghost use Rattle.table_terms.specs.Step.{Answers};
@@ -13,7 +13,7 @@ use table_reply::{Fault, Handle, READY_ROOM, Ready, Reply, Told, memory_line, wr
 // Appends the line of a reply, or else the memory line.
 fn tell<'o>(outcome: Outcome, reply: &Reply, out: Ready<'o>) -> Told<'o, Outcome>
     ensures line { Answers result.what out.entry.out.now.bytes result.out.now.bytes outcome (answer reply.now) }
-    ensures fits { length (answer_text (answer reply.now)) ≤ READY_ROOM → (result.what ≡ outcome) × (result.out.now.bytes ≡ out.entry.out.now.bytes ++ answer_text (answer reply.now)) }
+    ensures fits { has_record (answer reply.now) ≡ false → length (answer_text (answer reply.now)) ≤ READY_ROOM → (result.what ≡ outcome) × (result.out.now.bytes ≡ out.entry.out.now.bytes ++ answer_text (answer reply.now)) }
     ensures behind { IsBehind out.entry result }
 {
     let Ready { out } = out;
@@ -27,9 +27,9 @@ fn tell<'o>(outcome: Outcome, reply: &Reply, out: Ready<'o>) -> Told<'o, Outcome
     }
 }
 
-/// Appends the line of a reply that has at most 256 bytes, which takes no memory. O(1).
+/// Appends the line of a reply without a record that has at most 256 bytes, which takes no memory. O(1).
 pub fn tell_short<'o>(outcome: Outcome, reply: &Reply, out: Ready<'o>) -> Told<'o, Outcome>
-    requires { length (answer_text (answer reply.now)) ≤ 256 }
+    requires { (has_record (answer reply.now) ≡ false) × (length (answer_text (answer reply.now)) ≤ 256) }
     ensures { Tells out.entry result outcome (answer reply.now) }
 {
     tell(outcome, reply, out)

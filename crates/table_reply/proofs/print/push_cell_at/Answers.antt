@@ -1,6 +1,0 @@
-use Rattle.table_reply.proofs.Cells.{slice_get_item}
-use Rattle.table_reply.proofs.print.push_cell_at.Goals as goal
-
-pub returns : goal.returns
-returns c =
-    rw (← slice_get_item c.args.cells.now c.args.place c.get.result c.get.ensures.lookup) c.push_cell.ensures
