@@ -6,4 +6,4 @@ use Rattle.table_reply.proofs.records.push_listed.Goals as goal
 pub returns : goal.returns
 unfolding answer_text
 returns c =
-    printed c.print_listed-printed.result c.push_line.result c.args.out.now c.push_line.new.out c.new_line-line.result c.print_listed-printed.new.line (answer_data (listed c.args.at (map (listed_of c.args.headings.now) c.args.records.now))) c.in-Ok-new_line.line c.print_listed-printed.ensures c.push_line.ensures
+    printed c.print_listed-printed.result c.push_line.result c.args.out.now c.push_line.new.out c.in_ok-line.line c.print_listed-printed.new.line (answer_data (listed c.args.at (map (listed_of c.args.headings.now) c.args.records.now))) c.in_ok-line.ensures c.print_listed-printed.ensures c.push_line.ensures
