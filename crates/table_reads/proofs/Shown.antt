@@ -11,8 +11,8 @@ use Rattle.container_model.specs.declared.handle.Spec.{Spec}
 use Rattle.container_model.specs.State.{State, AreIndices, IsState, list_at, row_of}
 use Rattle.container_model.specs.Find.{is_live}
 use Rattle.container_model.proofs.Found.{all_found}
-use Rattle.table_reply.specs.declared.reply.Heading.{Heading}
-use Rattle.table_reply.specs.declared.reply.Record.{Record}
+use Rattle.table_reply.specs.declared.records.Heading.{Heading}
+use Rattle.table_reply.specs.declared.records.Record.{Record}
 use Rattle.table_reply.specs.Answer.{Listed, listed_of, named}
 use Rattle.table_records.specs.Headings.{headings_of}
 use Rattle.table_reads.specs.Reads.{listed_handle}

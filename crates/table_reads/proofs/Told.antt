@@ -14,8 +14,8 @@ use Rattle.table_reads.proofs.Bounded.{range_live}
 use Rattle.table_reads.proofs.Shown.{all_live, listed_is}
 use Rattle.table_records.specs.Headings.{headings_of}
 use Rattle.table_reply.specs.Answer.{listed, listed_of}
-use Rattle.table_reply.specs.declared.reply.Heading.{Heading}
-use Rattle.table_reply.specs.declared.reply.Record.{Record}
+use Rattle.table_reply.specs.declared.records.Heading.{Heading}
+use Rattle.table_reply.specs.declared.records.Record.{Record}
 use Rattle.table_terms.proofs.Steps.{steps_told}
 use Rattle.table_terms.specs.declared.outcome.Outcome.{Outcome}
 use Rattle.table_terms.specs.declared.outcome.Outcome.TheVariants as outcomes

@@ -3,7 +3,7 @@ use Rattle.std.specs.Prelude.{List, [], map, unwrap_or}
 use Rattle.container_model.specs.declared.handle.Handle.{Handle}
 use Rattle.container_model.specs.declared.handle.Entry.{Entry}
 use Rattle.container_model.specs.State.{row_of}
-use Rattle.table_reply.specs.declared.reply.Record.{Record}
+use Rattle.table_reply.specs.declared.records.Record.{Record}
 use Rattle.table_terms.specs.Table.{Cells}
 
 -- the records of handles

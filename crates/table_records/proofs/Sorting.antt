@@ -5,7 +5,7 @@ use Rattle.std.specs.Ordering.{nat_cmp}
 use Rattle.std.specs.Cmp.Lexicographic.{slice_cmp}
 use Rattle.std.proofs.lemmas.List.{at_drop_more}
 use Rattle.list_model.specs.Place.{not_above, insert_sorted, sorted_onto}
-use Rattle.table_reply.specs.declared.reply.Heading.{Heading}
+use Rattle.table_reply.specs.declared.records.Heading.{Heading}
 use Rattle.table_schema.specs.declared.column.Column.{Column}
 use Rattle.table_records.specs.Headings.{heading_cmp, numbered}
 

@@ -1,7 +1,7 @@
 -- What a table keeps besides its records.
 use Rattle.std.specs.Prelude.{◌≡◌, List}
 use Rattle.container_model.specs.State.{State}
-use Rattle.table_reply.specs.declared.reply.Heading.{Heading}
+use Rattle.table_reply.specs.declared.records.Heading.{Heading}
 use Rattle.table_schema.specs.Shape.{TableShape}
 use Rattle.table_records.specs.Headings.{headings_of}
 use Rattle.table_terms.specs.Table.{Cells, Keys, keys_of, specs_of}

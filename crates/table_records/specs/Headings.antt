@@ -4,7 +4,7 @@ use Rattle.std.specs.Ordering.{nat_cmp}
 use Rattle.std.specs.Cmp.Lexicographic.{slice_cmp}
 use Rattle.std.specs.declared.cmp.Ordering.{Ordering}
 use Rattle.list_model.specs.Place.{stable_sorted}
-use Rattle.table_reply.specs.declared.reply.Heading.{Heading}
+use Rattle.table_reply.specs.declared.records.Heading.{Heading}
 use Rattle.table_schema.specs.declared.column.Column.{Column}
 
 -- the columns with their places in a row, from this place on

@@ -1,5 +1,8 @@
 -- Glued pieces are the compact texts of answers.
-use Rattle.std.proofs.Common.{◌≡◌, ℕ, List, [], ◌∷◌, ◌++◌, Option, codes, decimal, refl, ap, ap₂, ◌∙◌, arith, append_assoc}
+use Rattle.std.proofs.Common.{◌≡◌, ℕ, List, [], ◌∷◌, ◌++◌, Option, codes, decimal, IsTrue, refl, sym, ap, ap₂, ◌∙◌, arith, append_assoc}
+use Rattle.std.specs.List.{list_all}
+use Rattle.std.proofs.lemmas.Bool.{and_parts}
+use Rattle.std.proofs.lemmas.Bool.Decides.{nat_tests}
 use Rattle.std.specs.Str.Parse.{AllDigits}
 use Rattle.std.proofs.lemmas.Fmt.{decimal_is_IsNumeral}
 use Rattle.std.proofs.lemmas.Str.Parse.{digit_from_value}
@@ -12,7 +15,8 @@ use Rattle.table_reply.specs.declared.fault.Fault.TheVariants as faults
 use Rattle.table_reply.specs.Buffer.{joined}
 use Rattle.table_reply.specs.Spelling.{HandleFits, spelling}
 use Rattle.table_reply.specs.Answer.{answer_text, done, found, counted, after, banned, erased, clash, fault, fault_name, handle_data}
-use Rattle.table_reply.specs.Pieces.{blocked_front, blocked_rest, clash_rest}
+use Rattle.table_reply.specs.Pieces.{blocked_glue, handle_text}
+use Rattle.table_reply.specs.Plain.{is_plain}
 
 -- ---- digits and handles need no escape
 
@@ -85,14 +89,25 @@ fault_glued faults.Memory = refl
 
 -- ---- lines with a name
 
-pub banned_glued : (at : ℕ) (index : List ℕ) (by : Handle) → blocked_front at ++ (quoted index ++ blocked_rest (codes "banned") by) ≡ answer_text (banned at index by)
-unfolding answer_text escape_byte
-banned_glued at index by = simp append_assoc
+abbrev pub clash_glue : List ℕ → List ℕ → List ℕ → List ℕ → List ℕ
+clash_glue at index one other = joined (codes "{\"at\":" ∷ at ∷ codes ",\"by\":\"" ∷ index ∷ codes "\",\"err\":\"clash\",\"h\":" ∷ one ∷ codes ",\"h2\":" ∷ other ∷ codes "}\n" ∷ [])
 
-pub erased_glued : (at : ℕ) (index : List ℕ) (by : Handle) → blocked_front at ++ (quoted index ++ blocked_rest (codes "erased") by) ≡ answer_text (erased at index by)
-unfolding answer_text escape_byte
-erased_glued at index by = simp append_assoc
+-- a plain text needs no escape
+pub escape_plain : (text : List ℕ) → IsTrue (list_all is_plain text) → escape text ≡ text
+escape_plain [] h = refl
+escape_plain (b ∷ bs) h =
+    let parts = and_parts (is_plain b) (list_all is_plain bs) h in
+    let here = parts.0 in
+    ap₂ (λ (x xs : List ℕ). x ++ xs) (escape_byte_plain b (λ e. grind (arith, nat_tests)) (λ e. grind (arith, nat_tests)) (grind (arith, nat_tests))) (escape_plain bs parts.1)
 
-pub clash_glued : (at : ℕ) (index : List ℕ) (one other : Handle) → blocked_front at ++ (quoted index ++ clash_rest one other) ≡ answer_text (clash at index one other)
+pub banned_glued : (at : ℕ) (index : List ℕ) (by : Handle) → IsTrue (list_all is_plain index) → blocked_glue (decimal at) index (codes "banned") (handle_text by) ≡ answer_text (banned at index by)
 unfolding answer_text escape_byte
-clash_glued at index one other = simp append_assoc
+banned_glued at index by plain = ap (λ name. blocked_glue (decimal at) name (codes "banned") (handle_text by)) (sym (escape_plain index plain)) ∙ simp append_assoc
+
+pub erased_glued : (at : ℕ) (index : List ℕ) (by : Handle) → IsTrue (list_all is_plain index) → blocked_glue (decimal at) index (codes "erased") (handle_text by) ≡ answer_text (erased at index by)
+unfolding answer_text escape_byte
+erased_glued at index by plain = ap (λ name. blocked_glue (decimal at) name (codes "erased") (handle_text by)) (sym (escape_plain index plain)) ∙ simp append_assoc
+
+pub clash_glued : (at : ℕ) (index : List ℕ) (one other : Handle) → IsTrue (list_all is_plain index) → clash_glue (decimal at) index (handle_text one) (handle_text other) ≡ answer_text (clash at index one other)
+unfolding answer_text escape_byte
+clash_glued at index one other plain = ap (λ name. clash_glue (decimal at) name (handle_text one) (handle_text other)) (sym (escape_plain index plain)) ∙ simp append_assoc

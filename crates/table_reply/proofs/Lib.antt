@@ -3,5 +3,4 @@ pub mod Glued
 pub mod Printed
 pub mod Room
 pub mod Short
-pub mod Texts
 mod Rows

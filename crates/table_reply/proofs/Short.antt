@@ -1,10 +1,8 @@
 -- How long the lines are that answer a write, a look-up and a fault.
-use Rattle.std.proofs.Common.{◌≡◌, ℕ, ◌+◌, ◌<◌, ◌≤◌, ◌^◌, List, [], ◌∷◌, ◌++◌, Option, Some, None, length, codes, decimal, refl, ap, ap₂, subst, arith, length-append}
-use Rattle.std.specs.Prelude.{⊤}
+use Rattle.std.proofs.Common.{◌≡◌, ℕ, ◌+◌, ◌<◌, ◌≤◌, ◌^◌, List, [], ◌∷◌, ◌++◌, Option, Some, None, length, codes, decimal, IsTrue, ap, subst, arith, length-append}
+use Rattle.std.specs.List.{list_all}
 use Rattle.std.specs.Option.{IfSome}
 use Rattle.std.proofs.lemmas.Fmt.{length-decimal-le}
-use Rattle.json.specs.Print.{escape, quoted}
-use Rattle.json.proofs.Printed.Strings.{escape_byte_plain}
 use Rattle.serde_json.specs.Written.{compact_text}
 use Rattle.container_model.specs.declared.handle.Handle.{Handle}
 use Rattle.table_reply.specs.declared.fault.Fault.{Fault}
@@ -12,8 +10,9 @@ use Rattle.table_reply.specs.declared.fault.Fault.TheVariants.{Line, Json, Comma
 use Rattle.table_reply.specs.Buffer.{joined}
 use Rattle.table_reply.specs.Spelling.{HandleFits, spelling}
 use Rattle.table_reply.specs.Answer.{handle_data, fault_name, answer_text, done, found, counted, after, banned, erased, clash, fault}
-use Rattle.table_reply.specs.Pieces.{handle_text, blocked_front, blocked_rest, clash_rest}
-use Rattle.table_reply.proofs.Glued.{quoted_spelling, done_glue, done_glued, found_glue, found_glued, after_glue, after_glued, counted_glue, counted_glued, fault_glue, fault_glued, banned_glued, erased_glued, clash_glued}
+use Rattle.table_reply.specs.Pieces.{blocked_glue, handle_text}
+use Rattle.table_reply.specs.Plain.{is_plain}
+use Rattle.table_reply.proofs.Glued.{quoted_spelling, done_glue, done_glued, found_glue, found_glued, after_glue, after_glued, counted_glue, counted_glued, fault_glue, fault_glued, banned_glued, erased_glued, clash_glue, clash_glued}
 
 -- the names of faults
 name_is_short : (f : Fault) → length (fault_name f) ≤ 10
@@ -106,53 +105,32 @@ counted_is_short at number fits number_fits =
 
 -- ---- lines with the name of an index
 
--- a name that needs no escape
-abbrev pub IsPlain : List ℕ → Type 0
-IsPlain [] = ⊤
-IsPlain (b ∷ bs) = (32 ≤ b) × (b ≡ 34 → ⊥) × (b ≡ 92 → ⊥) × IsPlain bs
-
-escape_plain : (name : List ℕ) → IsPlain name → escape name ≡ name
-escape_plain [] h = refl
-escape_plain (b ∷ bs) h = ap₂ (λ (x xs : List ℕ). x ++ xs) (escape_byte_plain b h.1 h.2 h.0) (escape_plain bs h.3)
-
-name_in_quotes_is_short : (name : List ℕ) → length name ≤ 32 → IsPlain name → length (quoted name) ≤ 34
-name_in_quotes_is_short name fits plain =
-    let e = ap length (escape_plain name plain) in
-    omega (arith, e, length-append (escape name) (34 ∷ []))
-
-blocked_front_is_short : (at : ℕ) → at < 2 ^ 64 → length (blocked_front at) ≤ 32
-blocked_front_is_short at fits =
-    let a = number_is_short at fits in
-    omega (arith, length-joined (decimal at) (codes ",\"by\":" ∷ []))
-
-blocked_rest_is_short : (word : List ℕ) (by : Handle) → length word ≤ 6 → HandleFits by → length (blocked_rest word by) ≤ 61
-blocked_rest_is_short word by word_fits handle_fits =
+blocked_glue_is_short : (at : ℕ) (index word : List ℕ) (by : Handle) → at < 2 ^ 64 → length index ≤ 32 → length word ≤ 6 → HandleFits by → length (blocked_glue (decimal at) index word (handle_text by)) ≤ 256
+blocked_glue_is_short at index word by fits name_fits word_fits handle_fits =
     let last = codes "}\n" ∷ [] in
+    let stands = codes "\",\"h\":" ∷ handle_text by ∷ last in
+    let cause = codes "\",\"err\":\"" ∷ word ∷ stands in
+    let name = codes ",\"by\":\"" ∷ index ∷ cause in
+    let a = number_is_short at fits in
     let b = handle_is_short by handle_fits in
-    omega (arith, length-joined word (codes "\",\"h\":" ∷ handle_text by ∷ last), length-joined (handle_text by) last)
+    omega (arith, length-joined (decimal at) name, length-joined index cause, length-joined word stands, length-joined (handle_text by) last)
 
-clash_rest_is_short : (one other : Handle) → HandleFits one → HandleFits other → length (clash_rest one other) ≤ 97
-clash_rest_is_short one other one_fits other_fits =
+pub banned_is_short : (at : ℕ) (index : List ℕ) (by : Handle) → at < 2 ^ 64 → length index ≤ 32 → IsTrue (list_all is_plain index) → HandleFits by → length (answer_text (banned at index by)) ≤ 256
+banned_is_short at index by fits name_fits plain handle_fits =
+    glued_is_short _ _ (banned_glued at index by plain) (blocked_glue_is_short at index (codes "banned") by fits name_fits (omega arith) handle_fits)
+
+pub erased_is_short : (at : ℕ) (index : List ℕ) (by : Handle) → at < 2 ^ 64 → length index ≤ 32 → IsTrue (list_all is_plain index) → HandleFits by → length (answer_text (erased at index by)) ≤ 256
+erased_is_short at index by fits name_fits plain handle_fits =
+    glued_is_short _ _ (erased_glued at index by plain) (blocked_glue_is_short at index (codes "erased") by fits name_fits (omega arith) handle_fits)
+
+pub clash_is_short : (at : ℕ) (index : List ℕ) (one other : Handle) → at < 2 ^ 64 → length index ≤ 32 → IsTrue (list_all is_plain index) → HandleFits one → HandleFits other → length (answer_text (clash at index one other)) ≤ 256
+clash_is_short at index one other fits name_fits plain one_fits other_fits =
     let last = codes "}\n" ∷ [] in
     let younger = codes ",\"h2\":" ∷ handle_text other ∷ last in
-    let a = handle_is_short one one_fits in
-    let b = handle_is_short other other_fits in
-    omega (arith, length-joined (handle_text one) younger, length-joined (handle_text other) last)
-
--- the three pieces of such a line
-three_are_short : (front name rest : List ℕ) → length front ≤ 32 → length name ≤ 34 → length rest ≤ 97 → length (front ++ (name ++ rest)) ≤ 256
-three_are_short front name rest a b c = omega (arith, length-append front (name ++ rest), length-append name rest)
-
-pub banned_is_short : (at : ℕ) (index : List ℕ) (by : Handle) → at < 2 ^ 64 → length index ≤ 32 → IsPlain index → HandleFits by → length (answer_text (banned at index by)) ≤ 256
-banned_is_short at index by fits name_fits plain handle_fits =
-    let rest = blocked_rest_is_short (codes "banned") by (omega arith) handle_fits in
-    glued_is_short _ _ (banned_glued at index by) (three_are_short (blocked_front at) (quoted index) (blocked_rest (codes "banned") by) (blocked_front_is_short at fits) (name_in_quotes_is_short index name_fits plain) (omega (arith, rest)))
-
-pub erased_is_short : (at : ℕ) (index : List ℕ) (by : Handle) → at < 2 ^ 64 → length index ≤ 32 → IsPlain index → HandleFits by → length (answer_text (erased at index by)) ≤ 256
-erased_is_short at index by fits name_fits plain handle_fits =
-    let rest = blocked_rest_is_short (codes "erased") by (omega arith) handle_fits in
-    glued_is_short _ _ (erased_glued at index by) (three_are_short (blocked_front at) (quoted index) (blocked_rest (codes "erased") by) (blocked_front_is_short at fits) (name_in_quotes_is_short index name_fits plain) (omega (arith, rest)))
-
-pub clash_is_short : (at : ℕ) (index : List ℕ) (one other : Handle) → at < 2 ^ 64 → length index ≤ 32 → IsPlain index → HandleFits one → HandleFits other → length (answer_text (clash at index one other)) ≤ 256
-clash_is_short at index one other fits name_fits plain one_fits other_fits =
-    glued_is_short _ _ (clash_glued at index one other) (three_are_short (blocked_front at) (quoted index) (clash_rest one other) (blocked_front_is_short at fits) (name_in_quotes_is_short index name_fits plain) (clash_rest_is_short one other one_fits other_fits))
+    let older = codes "\",\"err\":\"clash\",\"h\":" ∷ handle_text one ∷ younger in
+    let name = codes ",\"by\":\"" ∷ index ∷ older in
+    let a = number_is_short at fits in
+    let b = handle_is_short one one_fits in
+    let c = handle_is_short other other_fits in
+    glued_is_short (clash_glue (decimal at) index (handle_text one) (handle_text other)) _ (clash_glued at index one other plain)
+    (omega (arith, length-joined (decimal at) name, length-joined index older, length-joined (handle_text one) younger, length-joined (handle_text other) last))

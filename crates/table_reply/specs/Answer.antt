@@ -1,5 +1,5 @@
 -- What is answered to a command, and the line that says it.
-use Rattle.std.specs.Prelude.{ℕ, List, [], ◌∷◌, ◌++◌, Bool, true, false, Option, Some, None, codes, map, slice_get}
+use Rattle.std.specs.Prelude.{ℕ, List, [], ◌∷◌, ◌++◌, true, Option, Some, None, codes, map, slice_get}
 use Rattle.serde_json.specs.Data.{Data, null, boolean, number, string, array, object, unsigned, Items, no_items, item, Members, no_members, member}
 use Rattle.serde_json.specs.Find.{of_integer}
 use Rattle.serde_json.specs.Written.{compact_text}
@@ -8,8 +8,8 @@ use Rattle.key_extract.specs.declared.cell.Cell.{Cell}
 use Rattle.key_extract.specs.declared.cell.Cell.TheVariants as cells
 use Rattle.table_reply.specs.declared.fault.Fault.{Fault}
 use Rattle.table_reply.specs.declared.fault.Fault.TheVariants as faults
-use Rattle.table_reply.specs.declared.reply.Heading.{Heading}
-use Rattle.table_reply.specs.declared.reply.Record.{Record}
+use Rattle.table_reply.specs.declared.records.Heading.{Heading}
+use Rattle.table_reply.specs.declared.records.Record.{Record}
 use Rattle.table_reply.specs.declared.reply.Reply.{Reply}
 use Rattle.table_reply.specs.declared.reply.Reply.TheVariants as replies
 use Rattle.table_reply.specs.Spelling.{spelling}
@@ -53,11 +53,9 @@ answer (replies.Done at) = done at
 answer (replies.Found at h) = found at h
 answer (replies.Counted at n) = counted at n
 answer (replies.Next at next) = after at next
-answer (replies.Shown at headings r) = shown at (listed_of headings.now r)
-answer (replies.Banned at index by) = banned at index.now by
-answer (replies.Erased at index by) = erased at index.now by
-answer (replies.Clash at index first second) = clash at index.now first second
-answer (replies.Listed at headings records) = listed at (map (listed_of headings.now) records.now)
+answer (replies.Banned at index by) = banned at index by
+answer (replies.Erased at index by) = erased at index by
+answer (replies.Clash at index first second) = clash at index first second
 answer (replies.Fault f) = fault f
 
 -- the name of a fault
@@ -135,19 +133,6 @@ answer_data (clash at index first second) =
     object (at_member at (blocked_members index (codes "clash") (member (codes "h") (handle_data (Some first)) (member (codes "h2") (handle_data (Some second)) no_members))))
 answer_data (listed at ls) = object (at_member at (ok_member (member (codes "rs") (array (listed_items ls)) no_members)))
 answer_data (fault f) = object (member (codes "err") (string (fault_name f)) no_members)
-
--- whether an answer shows a record
-abbrev pub has_record : Answer → Bool
-has_record (done at) = false
-has_record (found at h) = false
-has_record (counted at n) = false
-has_record (after at next) = false
-has_record (shown at l) = true
-has_record (banned at index by) = false
-has_record (erased at index by) = false
-has_record (clash at index first second) = false
-has_record (listed at ls) = true
-has_record (fault f) = false
 
 -- the line of an answer, with its newline
 unfoldable pub answer_text : Answer → List ℕ

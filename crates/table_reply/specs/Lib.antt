@@ -4,3 +4,4 @@ pub mod Answer
 pub mod Pieces
 pub mod Ready
 pub mod Printed
+pub mod Plain

@@ -1,16 +1,17 @@
 //! The texts of replies without a record.
 
-ghost use Rattle.std.specs.Prelude.{◌≡◌, ◌++◌};
-ghost use Rattle.json.specs.Print.{quoted};
+ghost use Rattle.std.specs.Prelude.{◌≡◌, IsTrue, decimal};
+ghost use Rattle.std.specs.List.{list_all};
 ghost use Rattle.serde_json.specs.Written.{compact_text};
-ghost use Rattle.table_reply.specs.Buffer.{Adds, AddsWhole};
+ghost use Rattle.table_reply.specs.Buffer.{AddsWhole};
 ghost use Rattle.table_reply.specs.Answer.{done, found, counted, after, banned, erased, clash, fault, answer_text, handle_data};
-ghost use Rattle.table_reply.specs.Pieces.{handle_text, blocked_front, blocked_rest, clash_rest};
+ghost use Rattle.table_reply.specs.Pieces.{blocked_glue, handle_text};
+ghost use Rattle.table_reply.specs.Plain.{is_plain};
 
 use crate::fault::Fault;
 use crate::handle::{SPELLING_LEN, spelling};
 use crate::out::{Out, OutOfRoom};
-use crate::quote::push_quoted;
+use crate::plain::PlainText;
 use arrayvec::ArrayString;
 use container_model::Handle;
 use itoa::Buffer;
@@ -87,117 +88,74 @@ pub(crate) fn push_counted(out: &mut Out, at: u64, number: u64) -> Result<(), Ou
     ])
 }
 
-fn push_blocked_front(out: &mut Out, at: u64) -> Result<(), OutOfRoom>
-    ensures { AddsWhole result out.old out.new (blocked_front at) }
-{
-    out.try_push_all(&["{\"at\":", Buffer::new().format(at), ",\"by\":"])
-}
-
-fn push_blocked_rest(out: &mut Out, word: &str, by: Handle) -> Result<(), OutOfRoom>
-    ensures { AddsWhole result out.old out.new (blocked_rest word.now by) }
-{
-    let by = handle_text(by);
-    out.try_push_all(&[",\"err\":\"", word, "\",\"h\":", by.as_str(), "}\n"])
-}
-
 fn push_blocked(
     out: &mut Out,
     word: &str,
     at: u64,
-    index: &str,
+    index: &PlainText,
     by: Handle,
 ) -> Result<(), OutOfRoom>
-    ensures { AddsWhole result out.old out.new (blocked_front at ++ (quoted index.now ++ blocked_rest word.now by)) }
+    ensures text { AddsWhole result out.old out.new (blocked_glue (decimal at) index.now word.now (handle_text by)) }
+    ensures plain { IsTrue (list_all is_plain index.now) }
 {
-    let start = out.bytes().len();
-    if let Err(error) = push_blocked_pieces(out, word, at, index, by) {
-        out.truncate(start);
-        return Err(error);
-    }
-    Ok(())
+    let by = handle_text(by);
+    out.try_push_all(&[
+        "{\"at\":",
+        Buffer::new().format(at),
+        ",\"by\":\"",
+        index.as_str(),
+        "\",\"err\":\"",
+        word,
+        "\",\"h\":",
+        by.as_str(),
+        "}\n",
+    ])
 }
 
-fn push_blocked_pieces(
+pub(crate) fn push_banned(
     out: &mut Out,
-    word: &str,
     at: u64,
-    index: &str,
+    index: &PlainText,
     by: Handle,
 ) -> Result<(), OutOfRoom>
-    ensures { Adds result out.old out.new (blocked_front at ++ (quoted index.now ++ blocked_rest word.now by)) }
-{
-    push_blocked_front(out, at)?;
-    push_quoted(out, index)?;
-    push_blocked_rest(out, word, by)
-}
-
-pub(crate) fn push_banned(out: &mut Out, at: u64, index: &str, by: Handle) -> Result<(), OutOfRoom>
     ensures { AddsWhole result out.old out.new (answer_text (banned at index.now by)) }
 {
     push_blocked(out, "banned", at, index, by)
 }
 
-pub(crate) fn push_erased(out: &mut Out, at: u64, index: &str, by: Handle) -> Result<(), OutOfRoom>
+pub(crate) fn push_erased(
+    out: &mut Out,
+    at: u64,
+    index: &PlainText,
+    by: Handle,
+) -> Result<(), OutOfRoom>
     ensures { AddsWhole result out.old out.new (answer_text (erased at index.now by)) }
 {
     push_blocked(out, "erased", at, index, by)
 }
 
-fn push_clash_rest(out: &mut Out, first: Handle, second: Handle) -> Result<(), OutOfRoom>
-    ensures { AddsWhole result out.old out.new (clash_rest first second) }
-{
-    let first = handle_text(first);
-    let second = handle_text(second);
-    out.try_push_all(&[
-        ",\"err\":\"clash\",\"h\":",
-        first.as_str(),
-        ",\"h2\":",
-        second.as_str(),
-        "}\n",
-    ])
-}
-
-fn push_clashing(
-    out: &mut Out,
-    at: u64,
-    index: &str,
-    first: Handle,
-    second: Handle,
-) -> Result<(), OutOfRoom>
-    ensures { AddsWhole result out.old out.new (blocked_front at ++ (quoted index.now ++ clash_rest first second)) }
-{
-    let start = out.bytes().len();
-    if let Err(error) = push_clash_pieces(out, at, index, first, second) {
-        out.truncate(start);
-        return Err(error);
-    }
-    Ok(())
-}
-
-fn push_clash_pieces(
-    out: &mut Out,
-    at: u64,
-    index: &str,
-    first: Handle,
-    second: Handle,
-) -> Result<(), OutOfRoom>
-    ensures { Adds result out.old out.new (blocked_front at ++ (quoted index.now ++ clash_rest first second)) }
-{
-    push_blocked_front(out, at)?;
-    push_quoted(out, index)?;
-    push_clash_rest(out, first, second)
-}
-
 pub(crate) fn push_clash(
     out: &mut Out,
     at: u64,
-    index: &str,
+    index: &PlainText,
     first: Handle,
     second: Handle,
 ) -> Result<(), OutOfRoom>
     ensures { AddsWhole result out.old out.new (answer_text (clash at index.now first second)) }
 {
-    push_clashing(out, at, index, first, second)
+    let first = handle_text(first);
+    let second = handle_text(second);
+    out.try_push_all(&[
+        "{\"at\":",
+        Buffer::new().format(at),
+        ",\"by\":\"",
+        index.as_str(),
+        "\",\"err\":\"clash\",\"h\":",
+        first.as_str(),
+        ",\"h2\":",
+        second.as_str(),
+        "}\n",
+    ])
 }
 
 pub(crate) fn push_fault(out: &mut Out, why: Fault) -> Result<(), OutOfRoom>

@@ -9,32 +9,50 @@ ghost use Rattle.table_reply.specs.Printed.{AddsPrinted, Prints, data_tokens, li
 
 use crate::handle::spelling;
 use crate::out::{Out, OutOfRoom};
-use crate::reply::{Heading, Record};
 use container_model::Handle;
 use json::Writer;
-use key_extract::Cell;
+use key_extract::{Cell, Row, Text};
 use std::alloc::AllocError;
 
-/// Appends the line of a record that is shown. O(length of the line).
-pub(crate) fn push_shown(
-    out: &mut Out,
+/// A column of an answer's rows: its name, and the place of its cell in a row.
+#[derive(Drop)]
+pub struct Heading {
+    /// The name, as it is printed.
+    pub name: Text,
+    /// The place of the cell, from 0. Where a row has none there, it prints as null.
+    pub place: usize,
+}
+
+/// A record that an answer shows.
+#[derive(Clone, Copy)]
+pub struct Record<'a> {
+    /// The record's name.
+    pub handle: Handle,
+    /// Its cells.
+    pub row: &'a Row,
+}
+
+/// Appends the line of a record that a read found, with its newline, where the table's write number is `at`. Its row shows
+/// the cells of the headings in their order. At an `Err` nothing is appended: memory was refused. O(length of the line).
+pub fn write_record(
     at: u64,
     headings: &[Heading],
-    one: &Record,
+    record: &Record,
+    out: &mut Out,
 ) -> Result<(), OutOfRoom>
-    ensures { AddsOrNot result out.old out.new (answer_text (shown at (listed_of headings.now one.now))) }
+    ensures { AddsOrNot result out.old out.new (answer_text (shown at (listed_of headings.now record.now))) }
 {
     let mut line = out.new_line()?;
-    let printed = print_shown(&mut line, at, headings, one);
+    let printed = print_shown(&mut line, at, headings, record);
     push_line(out, line, printed)
 }
 
-/// Appends the line of records. O(length of the line).
-pub(crate) fn push_listed(
-    out: &mut Out,
+/// The same of the records that a read found. O(length of the line).
+pub fn write_records(
     at: u64,
     headings: &[Heading],
     records: &[Record],
+    out: &mut Out,
 ) -> Result<(), OutOfRoom>
     ensures { AddsOrNot result out.old out.new (answer_text (listed at (map (listed_of headings.now) records.now))) }
 {

@@ -1,40 +1,21 @@
 //! What is answered to a command.
 
-ghost use Rattle.std.specs.Prelude.{◌≡◌, ◌≤◌, length, false};
-ghost use Rattle.table_reply.specs.Buffer.{AddsOrNot, AddsWhole};
-ghost use Rattle.table_reply.specs.Answer.{answer, answer_text, fault, has_record};
+ghost use Rattle.std.specs.Prelude.{◌≡◌, ◌≤◌, length};
+ghost use Rattle.table_reply.specs.Buffer.{AddsWhole};
+ghost use Rattle.table_reply.specs.Answer.{answer, answer_text, fault};
 ghost use Rattle.table_reply.specs.declared.fault.Fault.TheVariants as faults;
 
 use crate::fault::Fault;
 use crate::out::{Out, OutOfRoom};
+use crate::plain::PlainText;
 use crate::print::{
     push_after, push_banned, push_clash, push_counted, push_done, push_erased, push_fault,
     push_found,
 };
-use crate::records::{push_listed, push_shown};
 use container_model::Handle;
-use key_extract::{Row, Text};
-
-/// A column of an answer's rows: its name, and the place of its cell in a row.
-#[derive(Drop)]
-pub struct Heading {
-    /// The name, as it is printed.
-    pub name: Text,
-    /// The place of the cell, from 0. Where a row has none there, it prints as null.
-    pub place: usize,
-}
-
-/// A record that an answer shows.
-#[derive(Clone, Copy)]
-pub struct Record<'a> {
-    /// The record's name.
-    pub handle: Handle,
-    /// Its cells.
-    pub row: &'a Row,
-}
 
 /// What is answered to a command. `at` is the table's write number after it.
-#[derive(Clone, Copy)]
+#[derive(Drop)]
 pub enum Reply<'a> {
     /// That a write is carried out.
     Done {
@@ -55,36 +36,24 @@ pub enum Reply<'a> {
         at: u64,
         next: Option<Handle>,
     },
-    /// A record, whose row shows the cells of the headings in their order.
-    Shown {
-        at: u64,
-        headings: &'a [Heading],
-        record: Record<'a>,
-    },
     /// A unique index has a record with the new key.
     Banned {
         at: u64,
-        index: &'a str,
+        index: PlainText<'a>,
         by: Handle,
     },
     /// A changed record went, since a unique index has another record with its new key.
     Erased {
         at: u64,
-        index: &'a str,
+        index: PlainText<'a>,
         by: Handle,
     },
     /// Two records would have one key at a new unique index: the first of them, and the younger one.
     Clash {
         at: u64,
-        index: &'a str,
+        index: PlainText<'a>,
         first: Handle,
         second: Handle,
-    },
-    /// Records, whose rows show the cells of the headings in their order.
-    Listed {
-        at: u64,
-        headings: &'a [Heading],
-        records: &'a [Record<'a>],
     },
     /// Nothing but the name of the fault.
     Fault(Fault),
@@ -99,36 +68,24 @@ pub fn memory_line() -> &'static [u8]
     b"{\"err\":\"memory\"}\n"
 }
 
-/// Appends the line of a reply, with its newline. At an `Err` nothing is appended: memory was refused. A reply without a
-/// record is refused only where the room was less than the line. O(length of the line).
-#[tactic(auto, using(crate::proofs::Room::or_not))]
+/// Appends the line of a reply, with its newline. At an `Err` nothing is appended: memory was refused, and the room was
+/// less than the line. O(length of the line).
 pub fn write_reply(reply: &Reply, out: &mut Out) -> Result<(), OutOfRoom>
-    ensures line { AddsOrNot result out.old out.new (answer_text (answer reply.now)) }
-    ensures short { has_record (answer reply.now) ≡ false → AddsWhole result out.old out.new (answer_text (answer reply.now)) }
+    ensures { AddsWhole result out.old out.new (answer_text (answer reply.now)) }
 {
-    match *reply {
-        Reply::Done { at } => push_done(out, at),
-        Reply::Found { at, handle } => push_found(out, at, handle),
-        Reply::Counted { at, number } => push_counted(out, at, number),
-        Reply::Next { at, next } => push_after(out, at, next),
-        Reply::Shown {
-            at,
-            headings,
-            record,
-        } => push_shown(out, at, headings, &record),
-        Reply::Banned { at, index, by } => push_banned(out, at, index, by),
-        Reply::Erased { at, index, by } => push_erased(out, at, index, by),
+    match reply {
+        Reply::Done { at } => push_done(out, *at),
+        Reply::Found { at, handle } => push_found(out, *at, *handle),
+        Reply::Counted { at, number } => push_counted(out, *at, *number),
+        Reply::Next { at, next } => push_after(out, *at, *next),
+        Reply::Banned { at, index, by } => push_banned(out, *at, index, *by),
+        Reply::Erased { at, index, by } => push_erased(out, *at, index, *by),
         Reply::Clash {
             at,
             index,
             first,
             second,
-        } => push_clash(out, at, index, first, second),
-        Reply::Listed {
-            at,
-            headings,
-            records,
-        } => push_listed(out, at, headings, records),
-        Reply::Fault(fault) => push_fault(out, fault),
+        } => push_clash(out, *at, index, *first, *second),
+        Reply::Fault(fault) => push_fault(out, *fault),
     }
 }

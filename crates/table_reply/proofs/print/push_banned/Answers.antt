@@ -5,4 +5,4 @@ use Rattle.table_reply.proofs.print.push_banned.Goals as goal
 
 pub returns : goal.returns
 returns c =
-    subst (AddsWhole c.push_blocked.result c.args.out.now c.push_blocked.new.out) (banned_glued c.args.at c.args.index.now c.args.by) c.push_blocked.ensures
+    subst (AddsWhole c.push_blocked.result c.args.out.now c.push_blocked.new.out) (banned_glued c.args.at c.args.index.now c.args.by c.push_blocked.ensures.plain) c.push_blocked.ensures.text

@@ -1,7 +1,7 @@
 use Rattle.std.proofs.Common.{map}
 use Rattle.table_reply.specs.Answer.{answer_data, answer_text, listed, listed_of}
 use Rattle.table_reply.proofs.Printed.{printed}
-use Rattle.table_reply.proofs.records.push_listed.Goals as goal
+use Rattle.table_reply.proofs.records.write_records.Goals as goal
 
 pub returns : goal.returns
 unfolding answer_text
