@@ -1,4 +1,3 @@
-pub mod Texts
 pub mod Compact
 pub mod Sound
 pub mod Back

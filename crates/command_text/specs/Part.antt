@@ -1,9 +1,7 @@
 -- For private clauses: the parts that are printed, as JSON.
-use Rattle.std.specs.Prelude.{ℕ, List, ◌++◌, ◌∷◌, Bool, true, Option, option_map, map}
+use Rattle.std.specs.Prelude.{ℕ, List, true, Option, option_map, map}
 use denote.Ref.{Bor}
-use Rattle.json.specs.Print.{quoted}
 use Rattle.serde_json.specs.Data.{Data, null, boolean, string, object}
-use Rattle.serde_json.specs.Written.{compact_text, comma_if}
 use Rattle.command_text.specs.declared.part.Part.{Part}
 use Rattle.command_text.specs.declared.part.Part.TheVariants as kinds
 use Rattle.command_text.specs.Text.{count_data, handle_data, handles_data, names_data, key_data, fields_data, members_of}
@@ -27,7 +25,3 @@ named_data p = (p.0.now, option_map part_data p.1)
 -- the object of the parts that are there
 abbrev pub parts_data : List (Bor (List ℕ) × Option Part) → Data
 parts_data ps = object (members_of (map named_data ps))
-
--- a member of an object: a comma where one came before it, the name and the value
-abbrev pub member_text : Bool → List ℕ → Data → List ℕ
-member_text later name d = comma_if later ++ (quoted name ++ 58 ∷ compact_text d)

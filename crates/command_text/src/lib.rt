@@ -10,5 +10,4 @@ mod write;
 
 pub use meaning::text_meaning;
 pub use table_cmd::Command;
-pub use table_reply::{Out, OutOfRoom};
 pub use write::write_command;

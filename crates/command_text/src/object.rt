@@ -1,31 +1,33 @@
 //! Objects of the parts that are there.
 
-ghost use Rattle.table_reply.specs.Buffer.{Adds};
-ghost use Rattle.serde_json.specs.Written.{compact_text};
-ghost use Rattle.command_text.specs.Part.{part_data, parts_data, member_text};
+ghost use Rattle.std.specs.Prelude.{◌∷◌};
+ghost use Rattle.json.specs.Token.{key};
+ghost use Rattle.table_reply.specs.Printed.{Prints, data_tokens};
+ghost use Rattle.command_text.specs.Part.{part_data, parts_data};
 
-use crate::part::{Part, push_part};
-use crate::print::push_label;
-use table_reply::{Out, OutOfRoom};
+use crate::part::{Part, print_part};
+use json::Writer;
+use std::alloc::AllocError;
 
 // The keys come in the order given.
-pub(crate) fn push_object(out: &mut Out, parts: &[(&str, Option<Part>)]) -> Result<(), OutOfRoom>
-    ensures { Adds result out.old out.new (compact_text (parts_data parts.now)) }
+pub(crate) fn print_object(
+    line: &mut Writer,
+    parts: &[(&str, Option<Part>)],
+) -> Result<(), AllocError>
+    ensures { Prints result line.old line.new (data_tokens (parts_data parts.now)) }
 {
-    let mut later = false;
-    out.try_push(b"{")?;
+    line.begin_object()?;
     for (key, part) in parts {
         if let Some(part) = part {
-            push_member(out, later, key, *part)?;
-            later = true;
+            print_member(line, key, *part)?;
         }
     }
-    out.try_push(b"}")
+    line.end_object()
 }
 
-fn push_member(out: &mut Out, later: bool, key: &str, part: Part) -> Result<(), OutOfRoom>
-    ensures { Adds result out.old out.new (member_text later key.now (part_data part.entry)) }
+fn print_member(line: &mut Writer, name: &str, part: Part) -> Result<(), AllocError>
+    ensures { Prints result line.old line.new (key name.now ∷ data_tokens (part_data part.entry)) }
 {
-    push_label(out, later, key)?;
-    push_part(out, part)
+    line.key(name)?;
+    print_part(line, part)
 }

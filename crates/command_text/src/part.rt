@@ -1,13 +1,13 @@
 //! The parts of a command's text.
 
-ghost use Rattle.table_reply.specs.Buffer.{Adds};
-ghost use Rattle.serde_json.specs.Written.{compact_text};
+ghost use Rattle.table_reply.specs.Printed.{Prints, data_tokens};
 ghost use Rattle.command_text.specs.Part.{part_data};
 
-use crate::print::{push_count, push_fields, push_handle, push_handles, push_key, push_names};
+use crate::print::{print_fields, print_handle, print_handles, print_key, print_names};
+use json::Writer;
 use key_extract::Text;
+use std::alloc::AllocError;
 use table_cmd::{Field, HandleText, Value};
-use table_reply::{Out, OutOfRoom, push_quoted};
 
 /// What stands under a key of a command.
 #[derive(Clone, Copy)]
@@ -26,18 +26,18 @@ pub(crate) enum Part<'a> {
     Fields(&'a [Field]),
 }
 
-pub(crate) fn push_part(out: &mut Out, part: Part) -> Result<(), OutOfRoom>
-    ensures { Adds result out.old out.new (compact_text (part_data part.entry)) }
+pub(crate) fn print_part(line: &mut Writer, part: Part) -> Result<(), AllocError>
+    ensures { Prints result line.old line.new (data_tokens (part_data part.entry)) }
 {
     match part {
-        Part::Null => out.try_push(b"null"),
-        Part::True => out.try_push(b"true"),
-        Part::Count(number) => push_count(out, number),
-        Part::Text(text) => push_quoted(out, text),
-        Part::Handle(handle) => push_handle(out, handle),
-        Part::Handles(handles) => push_handles(out, handles),
-        Part::Names(names) => push_names(out, names),
-        Part::Key(values) => push_key(out, values),
-        Part::Fields(fields) => push_fields(out, fields),
+        Part::Null => line.null(),
+        Part::True => line.boolean(true),
+        Part::Count(number) => line.u64(number),
+        Part::Text(text) => line.string(text),
+        Part::Handle(handle) => print_handle(line, handle),
+        Part::Handles(handles) => print_handles(line, handles),
+        Part::Names(names) => print_names(line, names),
+        Part::Key(values) => print_key(line, values),
+        Part::Fields(fields) => print_fields(line, fields),
     }
 }

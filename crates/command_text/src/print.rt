@@ -1,131 +1,88 @@
-//! The texts of values.
+//! The values of a command, by the writer that `serde_json` prints with.
 
-ghost use Rattle.std.specs.Prelude.{◌∷◌, ◌++◌, []};
-ghost use Rattle.json.specs.Print.{quoted};
-ghost use Rattle.serde_json.specs.Written.{compact_text, comma_if};
-ghost use Rattle.table_reply.specs.Buffer.{Adds};
-ghost use Rattle.command_text.specs.Text.{count_data, handle_data, handles_data, names_data, key_data, fields_data, value_data};
-ghost use Rattle.command_text.specs.Part.{member_text};
+ghost use Rattle.std.specs.Prelude.{◌∷◌, []};
+ghost use Rattle.json.specs.Token.{begin_array, end_array, key};
+ghost use Rattle.command_text.specs.Text.{handle_data, handles_data, names_data, key_data, fields_data, value_data};
+ghost use Rattle.table_reply.specs.Printed.{Prints, data_tokens};
 
-use itoa::Buffer;
+use json::Writer;
 use key_extract::{Cell, Text};
+use std::alloc::AllocError;
 use table_cmd::{Field, HandleText, Value};
-use table_reply::{Out, OutOfRoom, push_quoted, spelling};
+use table_reply::spelling;
 
-pub(crate) fn push_count(out: &mut Out, number: u64) -> Result<(), OutOfRoom>
-    ensures { Adds result out.old out.new (compact_text (count_data number)) }
-{
-    out.try_push(Buffer::new().format(number).as_bytes())
-}
-
-pub(crate) fn push_handle(out: &mut Out, handle: HandleText) -> Result<(), OutOfRoom>
-    ensures { Adds result out.old out.new (compact_text (handle_data handle)) }
+pub(crate) fn print_handle(line: &mut Writer, handle: HandleText) -> Result<(), AllocError>
+    ensures { Prints result line.old line.new (data_tokens (handle_data handle)) }
 {
     match handle {
-        HandleText::Handle(handle) => push_quoted(out, spelling(handle).as_str()),
-        HandleText::Bad => push_quoted(out, ""),
+        HandleText::Handle(handle) => line.string(spelling(handle).as_str()),
+        HandleText::Bad => line.string(""),
     }
 }
 
-fn push_comma(out: &mut Out, later: bool) -> Result<(), OutOfRoom>
-    ensures { Adds result out.old out.new (comma_if later) }
+pub(crate) fn print_handles(line: &mut Writer, handles: &[HandleText]) -> Result<(), AllocError>
+    ensures { Prints result line.old line.new (data_tokens (handles_data handles.now)) }
 {
-    if later { out.try_push(b",") } else { Ok(()) }
-}
-
-pub(crate) fn push_handles(out: &mut Out, handles: &[HandleText]) -> Result<(), OutOfRoom>
-    ensures { Adds result out.old out.new (compact_text (handles_data handles.now)) }
-{
-    let mut later = false;
-    out.try_push(b"[")?;
+    line.begin_array()?;
     for handle in handles {
-        push_next_handle(out, later, handle)?;
-        later = true;
+        print_handle(line, *handle)?;
     }
-    out.try_push(b"]")
+    line.end_array()
 }
 
-fn push_next_handle(out: &mut Out, later: bool, handle: &HandleText) -> Result<(), OutOfRoom>
-    ensures { Adds result out.old out.new (comma_if later ++ compact_text (handle_data handle.now)) }
+pub(crate) fn print_names(line: &mut Writer, names: &[Text]) -> Result<(), AllocError>
+    ensures { Prints result line.old line.new (data_tokens (names_data names.now)) }
 {
-    push_comma(out, later)?;
-    push_handle(out, *handle)
-}
-
-pub(crate) fn push_names(out: &mut Out, names: &[Text]) -> Result<(), OutOfRoom>
-    ensures { Adds result out.old out.new (compact_text (names_data names.now)) }
-{
-    let mut later = false;
-    out.try_push(b"[")?;
+    line.begin_array()?;
     for name in names {
-        push_next_name(out, later, name)?;
-        later = true;
+        line.string(name.as_str())?;
     }
-    out.try_push(b"]")
+    line.end_array()
 }
 
-fn push_next_name(out: &mut Out, later: bool, name: &Text) -> Result<(), OutOfRoom>
-    ensures { Adds result out.old out.new (comma_if later ++ quoted name.now) }
+pub(crate) fn print_key(line: &mut Writer, values: &[Value]) -> Result<(), AllocError>
+    ensures { Prints result line.old line.new (data_tokens (key_data values.now)) }
 {
-    push_comma(out, later)?;
-    push_quoted(out, name.as_str())
-}
-
-pub(crate) fn push_key(out: &mut Out, values: &[Value]) -> Result<(), OutOfRoom>
-    ensures { Adds result out.old out.new (compact_text (key_data values.now)) }
-{
-    let mut later = false;
-    out.try_push(b"[")?;
+    line.begin_array()?;
     for value in values {
-        push_next_value(out, later, value)?;
-        later = true;
+        print_value(line, value)?;
     }
-    out.try_push(b"]")
+    line.end_array()
 }
 
-fn push_next_value(out: &mut Out, later: bool, value: &Value) -> Result<(), OutOfRoom>
-    ensures { Adds result out.old out.new (comma_if later ++ compact_text (value_data value.now)) }
+pub(crate) fn print_fields(line: &mut Writer, fields: &[Field]) -> Result<(), AllocError>
+    ensures { Prints result line.old line.new (data_tokens (fields_data fields.now)) }
 {
-    push_comma(out, later)?;
-    push_value(out, value)
-}
-
-pub(crate) fn push_fields(out: &mut Out, fields: &[Field]) -> Result<(), OutOfRoom>
-    ensures { Adds result out.old out.new (compact_text (fields_data fields.now)) }
-{
-    let mut later = false;
-    out.try_push(b"{")?;
+    line.begin_object()?;
     for field in fields {
-        push_field(out, later, field)?;
-        later = true;
+        print_field(line, field)?;
     }
-    out.try_push(b"}")
+    line.end_object()
 }
 
-fn push_field(out: &mut Out, later: bool, field: &Field) -> Result<(), OutOfRoom>
-    ensures { Adds result out.old out.new (member_text later field.now.name (value_data field.now.value)) }
+fn print_field(line: &mut Writer, field: &Field) -> Result<(), AllocError>
+    ensures { Prints result line.old line.new (key field.now.name ∷ data_tokens (value_data field.now.value)) }
 {
-    push_label(out, later, field.name.as_str())?;
-    push_value(out, &field.value)
+    line.key(field.name.as_str())?;
+    print_value(line, &field.value)
 }
 
-pub(crate) fn push_label(out: &mut Out, later: bool, name: &str) -> Result<(), OutOfRoom>
-    ensures { Adds result out.old out.new (comma_if later ++ (quoted name.now ++ 58 ∷ [])) }
-{
-    push_comma(out, later)?;
-    push_quoted(out, name)?;
-    out.try_push(b":")
-}
-
-fn push_value(out: &mut Out, value: &Value) -> Result<(), OutOfRoom>
-    ensures { Adds result out.old out.new (compact_text (value_data value.now)) }
+fn print_value(line: &mut Writer, value: &Value) -> Result<(), AllocError>
+    ensures { Prints result line.old line.new (data_tokens (value_data value.now)) }
 {
     match value {
-        Value::Cell(Cell::Null) => out.try_push(b"null"),
-        Value::Cell(Cell::Int(number)) => { out.try_push(Buffer::new().format(*number).as_bytes()) }
-        Value::Cell(Cell::Text(text)) => push_quoted(out, text.as_str()),
-        Value::Cell(Cell::Bool(true)) => out.try_push(b"true"),
-        Value::Cell(Cell::Bool(false)) => out.try_push(b"false"),
-        Value::Other => out.try_push(b"[]"),
+        Value::Cell(Cell::Null) => line.null(),
+        Value::Cell(Cell::Int(number)) => line.i64(*number),
+        Value::Cell(Cell::Text(text)) => line.string(text.as_str()),
+        Value::Cell(Cell::Bool(truth)) => line.boolean(*truth),
+        Value::Other => print_nothing(line),
     }
+}
+
+// An array of nothing.
+fn print_nothing(line: &mut Writer) -> Result<(), AllocError>
+    ensures { Prints result line.old line.new (begin_array ∷ end_array ∷ []) }
+{
+    line.begin_array()?;
+    line.end_array()
 }

@@ -1,37 +1,38 @@
 //! Writes a command.
 
-ghost use Rattle.table_reply.specs.Buffer.{Adds, AddsWhole};
-ghost use Rattle.command_text.specs.Text.{command_text};
+ghost use Rattle.std.specs.Prelude.{◌≡◌, IfOk};
+ghost use Rattle.table_reply.specs.Printed.{Prints, data_tokens};
+ghost use Rattle.command_text.specs.Text.{command_data, command_text};
 
-use crate::object::push_object;
+use crate::object::print_object;
 use crate::part::Part;
 use crate::parts::{
     add_of, by_of, columns_of, handle_of, handles_of, high_excluded_of, high_included_of, index_of,
     key_of, low_excluded_of, low_included_of, new_kind_of, nth_of, op_name, place_of, rollback_of,
     row_of, set_of, unique_of,
 };
+use json::Writer;
+use std::alloc::{AllocError, Global};
 use table_cmd::Command;
-use table_reply::{Out, OutOfRoom};
 
-/// Appends the canonical text of a command, without a newline. At an `Err` nothing is appended: memory was refused,
-/// and the room was less than the text. O(length of the text).
-pub fn write_command(command: &Command, out: &mut Out) -> Result<(), OutOfRoom>
-    ensures { AddsWhole result out.old out.new (command_text command.now) }
+/// How many bytes a text has room for at first.
+const ROOM: usize = 128;
+
+/// The canonical text of a command, without a newline, in memory of its own. O(length of the text).
+pub fn write_command(alloc: Global, command: &Command) -> Result<Vec<u8>, AllocError>
+    ensures { IfOk result (λ text. text.items ≡ command_text command.now) }
 {
-    let start = out.bytes().len();
-    if let Err(error) = push_command(command, out) {
-        out.truncate(start);
-        return Err(error);
-    }
-    Ok(())
+    let mut line = Writer::new(Vec::with_capacity(alloc, ROOM)?);
+    print_command(&mut line, command)?;
+    Ok(line.into_inner())
 }
 
 // The keys stand in ascending order.
-fn push_command(command: &Command, out: &mut Out) -> Result<(), OutOfRoom>
-    ensures { Adds result out.old out.new (command_text command.now) }
+fn print_command(line: &mut Writer, command: &Command) -> Result<(), AllocError>
+    ensures { Prints result line.old line.new (data_tokens (command_data command.now)) }
 {
-    push_object(
-        out,
+    print_object(
+        line,
         &[
             ("add", add_of(command)),
             ("by", by_of(command)),
