@@ -1,5 +1,5 @@
 -- The indices of a table, as the schema declares them and as the container has them.
-use Rattle.std.proofs.Common.{◌≡◌, ℕ, zero, suc, ◌≤◌, List, [], ◌∷◌, length, map, Some, ap, ◌∙◌, arith}
+use Rattle.std.proofs.Common.{refl, ◌≡◌, ℕ, zero, suc, ◌≤◌, List, [], ◌∷◌, length, map, Some, ap, ◌∙◌, arith}
 use Rattle.std.specs.Prelude.{slice_get, unwrap_or, option_map, IsTrue, bytes_eq}
 use Rattle.std.specs.List.{list_all}
 use Rattle.std.specs.Option.{option_map_or}
@@ -12,7 +12,7 @@ use Rattle.container_model.specs.State.{State}
 use Rattle.key_extract.specs.Keys.{key_at, parts_at}
 use Rattle.table_schema.specs.declared.column.IndexSpec.{IndexSpec}
 use Rattle.table_schema.specs.Shape.{TableShape}
-use Rattle.table_reply.proofs.Short.{IsPlain}
+use Rattle.table_reply.specs.Plain.{is_plain}
 use Rattle.table_schema.specs.Valid.{IsValidTable, is_within, is_name, is_name_byte, are_distinct}
 use Rattle.table_schema.proofs.Facts.{name_is_short}
 use Rattle.table_terms.specs.Table.{Cells, Keys, keys_of, spec_of, specs_of}
@@ -45,19 +45,20 @@ index_name_is_short shape valid number =
     names_are_short shape.indices (and_parts (list_all is_name names) (are_distinct bytes_eq names) valid.index_names).0 number
 
 -- and need no escape
-name_is_plain : (name : List ℕ) → IsTrue (list_all is_name_byte name) → IsPlain name
-name_is_plain [] h = tt
+name_is_plain : (name : List ℕ) → IsTrue (list_all is_name_byte name) → IsTrue (list_all is_plain name)
+name_is_plain [] h = refl
 name_is_plain (b ∷ bs) h =
     let parts = and_parts (is_name_byte b) (list_all is_name_byte bs) h in
     let here = parts.0 in
-    (grind (arith, nat_tests), λ e. grind (arith, nat_tests), λ e. grind (arith, nat_tests), name_is_plain bs parts.1)
+    let rest = name_is_plain bs parts.1 in
+    grind (arith, nat_tests)
 
-names_are_plain : (indices : List IndexSpec) → IsTrue (list_all is_name (map (λ i. i.name) indices)) → (number : ℕ) → IsPlain (option_map_or (λ i. i.name) (slice_get indices number) [])
-names_are_plain [] h number = tt
+names_are_plain : (indices : List IndexSpec) → IsTrue (list_all is_name (map (λ i. i.name) indices)) → (number : ℕ) → IsTrue (list_all is_plain (option_map_or (λ i. i.name) (slice_get indices number) []))
+names_are_plain [] h number = refl
 names_are_plain (x ∷ xs) h zero = name_is_plain x.name (and_parts (is_within 1 32 (length x.name)) (list_all is_name_byte x.name) (and_parts (is_name x.name) (list_all is_name (map (λ i. i.name) xs)) h).0).1
 names_are_plain (x ∷ xs) h (suc number) = names_are_plain xs (and_parts (is_name x.name) (list_all is_name (map (λ i. i.name) xs)) h).1 number
 
-pub index_name_is_plain : (shape : TableShape) → IsValidTable shape → (number : ℕ) → IsPlain (option_map_or (λ i. i.name) (slice_get shape.indices number) [])
+pub index_name_is_plain : (shape : TableShape) → IsValidTable shape → (number : ℕ) → IsTrue (list_all is_plain (option_map_or (λ i. i.name) (slice_get shape.indices number) []))
 index_name_is_plain shape valid number =
     let names = map (λ i. i.name) shape.indices in
     names_are_plain shape.indices (and_parts (list_all is_name names) (are_distinct bytes_eq names) valid.index_names).0 number

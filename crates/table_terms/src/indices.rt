@@ -1,12 +1,14 @@
 //! The index that a command names.
 
-ghost use Rattle.std.specs.Prelude.{◌≡◌, ◌<◌, ◌-◌, [], IfOk, IfSome, length, slice_get};
+ghost use Rattle.std.specs.Prelude.{◌≡◌, ◌<◌, ◌-◌, [], IfOk, IfSome, IsTrue, length, slice_get};
+ghost use Rattle.std.specs.List.{list_all};
 ghost use Rattle.std.specs.Option.{option_map_or};
+ghost use Rattle.table_reply.specs.Plain.{is_plain};
 ghost use Rattle.table_schema.specs.Valid.{IsValidTable};
 ghost use Rattle.table_terms.specs.Words.{index_at, index_named};
 
 use crate::kinds::Kinds;
-use table_reply::Fault;
+use table_reply::{Fault, PlainText};
 use table_schema::{IndexSpec, TableSpec};
 
 // The number of the index of a name.
@@ -33,9 +35,9 @@ pub fn index_named(indices: &[IndexSpec], kinds: Kinds, name: &str) -> Result<us
     }
 }
 
-/// The name of the index of a number.
+// The name of the index of a number; an empty one where there is none.
 #[tactic(auto, using(std::proofs::lemmas::Option::slice_get_past))]
-pub(crate) fn index_name(spec: &TableSpec, index: usize) -> &str
+fn name_at(spec: &TableSpec, index: usize) -> &str
     ensures name { result.now ≡ option_map_or (λ i. i.name) (slice_get spec.now.indices index) [] }
     ensures valid { IsValidTable spec.now }
 {
@@ -47,11 +49,24 @@ pub(crate) fn index_name(spec: &TableSpec, index: usize) -> &str
     }
 }
 
+/// The name of the index of a number.
+pub(crate) fn index_name(spec: &TableSpec, index: usize) -> PlainText<'_>
+    ensures name { result ≡ option_map_or (λ i. i.name) (slice_get spec.now.indices index) [] }
+    ensures plain { IsTrue (list_all is_plain result) }
+    ensures valid { IsValidTable spec.now }
+{
+    match PlainText::new(name_at(spec, index)) {
+        Some(name) => name,
+        None => unreachable!(),
+    }
+}
+
 /// The name of the last index.
 #[tactic(auto, using(table_schema::proofs::Facts::within_low))]
-pub(crate) fn last_index_name(spec: &TableSpec) -> &str
-    ensures name { result.now ≡ option_map_or (λ i. i.name)
+pub(crate) fn last_index_name(spec: &TableSpec) -> PlainText<'_>
+    ensures name { result ≡ option_map_or (λ i. i.name)
         (slice_get spec.now.indices (length spec.now.indices - 1)) [] }
+    ensures plain { IsTrue (list_all is_plain result) }
     ensures valid { IsValidTable spec.now }
 {
     index_name(spec, spec.indices().len() - 1)

@@ -22,5 +22,8 @@ pub use kinds::Kinds;
 pub use new_key::keyed_row;
 pub use outcome::Outcome;
 pub use refusal::{tell_lost, tell_why};
-pub use tell::{refuse, refuse_memory, tell_done, tell_erased, tell_next, tell_read, tell_short};
+pub use tell::{
+    refuse, refuse_memory, tell_done, tell_erased, tell_next, tell_read, tell_record, tell_records,
+    tell_short,
+};
 pub use values::{can_hold, row_from};

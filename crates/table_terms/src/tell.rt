@@ -1,19 +1,22 @@
 //! Answers that are appended, or the memory line in their place.
 
-ghost use Rattle.std.specs.Prelude.{◌≡◌, ◌≤◌, ◌++◌, length, false};
-ghost use Rattle.table_reply.specs.Answer.{answer, answer_text, has_record, counted, done, fault, after};
+ghost use Rattle.std.specs.Prelude.{◌≡◌, ◌≤◌, ◌++◌, length, map};
+ghost use Rattle.table_reply.specs.Answer.{answer, answer_text, counted, done, fault, after, listed, listed_of, shown};
 ghost use Rattle.table_reply.specs.Ready.{IsBehind};
 ghost use Rattle.table_reply.specs.declared.fault.Fault.TheVariants as faults;
 ghost use Rattle.table_terms.specs.Step.{Answers};
 ghost use Rattle.table_terms.specs.Telling.{IsTold, Tells};
 
 use crate::outcome::Outcome;
-use table_reply::{Fault, Handle, READY_ROOM, Ready, Reply, Told, memory_line, write_reply};
+use table_reply::{
+    Fault, Handle, Heading, READY_ROOM, Ready, Record, Reply, Told, memory_line, write_record,
+    write_records, write_reply,
+};
 
 // Appends the line of a reply, or else the memory line.
 fn tell<'o>(outcome: Outcome, reply: &Reply, out: Ready<'o>) -> Told<'o, Outcome>
     ensures line { Answers result.what out.entry.out.now.bytes result.out.now.bytes outcome (answer reply.now) }
-    ensures fits { has_record (answer reply.now) ≡ false → length (answer_text (answer reply.now)) ≤ READY_ROOM → (result.what ≡ outcome) × (result.out.now.bytes ≡ out.entry.out.now.bytes ++ answer_text (answer reply.now)) }
+    ensures fits { length (answer_text (answer reply.now)) ≤ READY_ROOM → (result.what ≡ outcome) × (result.out.now.bytes ≡ out.entry.out.now.bytes ++ answer_text (answer reply.now)) }
     ensures behind { IsBehind out.entry result }
 {
     let Ready { out } = out;
@@ -27,9 +30,9 @@ fn tell<'o>(outcome: Outcome, reply: &Reply, out: Ready<'o>) -> Told<'o, Outcome
     }
 }
 
-/// Appends the line of a reply without a record that has at most 256 bytes, which takes no memory. O(1).
+/// Appends the line of a reply that has at most 256 bytes, which takes no memory. O(1).
 pub fn tell_short<'o>(outcome: Outcome, reply: &Reply, out: Ready<'o>) -> Told<'o, Outcome>
-    requires { (has_record (answer reply.now) ≡ false) × (length (answer_text (answer reply.now)) ≤ 256) }
+    requires { length (answer_text (answer reply.now)) ≤ 256 }
     ensures { Tells out.entry result outcome (answer reply.now) }
 {
     tell(outcome, reply, out)
@@ -65,6 +68,54 @@ pub fn tell_read<'o>(reply: &Reply, out: Ready<'o>) -> Told<'o, Outcome>
     ensures told { IsTold out.entry result }
 {
     tell(Outcome::Read, reply, out)
+}
+
+/// Appends the line that answers a read with a record, or else the memory line. O(length of the line).
+pub fn tell_record<'o>(
+    at: u64,
+    headings: &[Heading],
+    record: &Record,
+    out: Ready<'o>,
+) -> Told<'o, Outcome>
+    ensures line { Answers result.what out.entry.out.now.bytes result.out.now.bytes Outcome.Read (shown at (listed_of headings.now record.now)) }
+    ensures told { IsTold out.entry result }
+{
+    let Ready { out } = out;
+    if write_record(at, headings, record, out).is_ok() {
+        return Told {
+            what: Outcome::Read,
+            out,
+        };
+    }
+    out.push(memory_line());
+    Told {
+        what: Outcome::Memory,
+        out,
+    }
+}
+
+/// The same for records. O(length of the line).
+pub fn tell_records<'o>(
+    at: u64,
+    headings: &[Heading],
+    records: &[Record],
+    out: Ready<'o>,
+) -> Told<'o, Outcome>
+    ensures line { Answers result.what out.entry.out.now.bytes result.out.now.bytes Outcome.Read (listed at (map (listed_of headings.now) records.now)) }
+    ensures told { IsTold out.entry result }
+{
+    let Ready { out } = out;
+    if write_records(at, headings, records, out).is_ok() {
+        return Told {
+            what: Outcome::Read,
+            out,
+        };
+    }
+    out.push(memory_line());
+    Told {
+        what: Outcome::Memory,
+        out,
+    }
 }
 
 /// Appends the line of a fault, which takes no memory. O(1).

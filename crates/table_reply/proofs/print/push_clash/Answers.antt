@@ -1,4 +1,4 @@
-use Rattle.std.proofs.Common.{ap, ap₂, decimal, subst, ◌∙◌}
+use Rattle.std.proofs.Common.{ap₂, decimal, subst, ◌∙◌}
 use Rattle.table_reply.specs.Buffer.{AddsWhole}
 use Rattle.table_reply.proofs.Glued.{clash_glue, clash_glued}
 use Rattle.table_reply.proofs.print.push_clash.Goals as goal

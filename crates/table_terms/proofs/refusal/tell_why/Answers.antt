@@ -1,20 +1,20 @@
-use Rattle.std.proofs.Common.{◌≤◌, ◌-◌, length, refl, sym, subst, inl, arith, rules}
-use Rattle.table_reply.proofs.Short.{IsPlain, banned_is_short, clash_is_short}
-use Rattle.table_terms.proofs.Declared.{index_name_is_short, index_name_is_plain}
+use Rattle.std.proofs.Common.{◌≤◌, ◌-◌, length, sym, subst, inl, arith, rules}
+use Rattle.table_reply.proofs.Short.{banned_is_short, clash_is_short}
+use Rattle.table_terms.proofs.Declared.{index_name_is_short}
 use Rattle.table_terms.proofs.refusal.tell_why.Goals as goal
 
 pub tell_short-requires : goal.tell_short-requires
 tell_short-requires c =
-    (refl, banned_is_short c.args.at c.index_name.result.now c.in-Banned.by (omega arith)
+    banned_is_short c.args.at c.index_name.result c.in-Banned.by (omega arith)
     (subst (λ n. length n ≤ 32) (sym c.index_name.ensures.name) (index_name_is_short c.args.spec.now c.index_name.ensures.valid c.in-Banned.index))
-    (subst IsPlain (sym c.index_name.ensures.name) (index_name_is_plain c.args.spec.now c.index_name.ensures.valid c.in-Banned.index)) (search rules))
+    c.index_name.ensures.plain (search rules)
 
 pub tell_short-requires-in-Clash : goal.tell_short-requires-in-Clash
 tell_short-requires-in-Clash c =
     let shape = c.args.spec.now in
-    (refl, clash_is_short c.args.at c.last_index_name.result.now c.in-Clash.first c.in-Clash.second (omega arith)
+    clash_is_short c.args.at c.last_index_name.result c.in-Clash.first c.in-Clash.second (omega arith)
     (subst (λ n. length n ≤ 32) (sym c.last_index_name.ensures.name) (index_name_is_short shape c.last_index_name.ensures.valid (length shape.indices - 1)))
-    (subst IsPlain (sym c.last_index_name.ensures.name) (index_name_is_plain shape c.last_index_name.ensures.valid (length shape.indices - 1))) (search rules) (search rules))
+    c.last_index_name.ensures.plain (search rules) (search rules)
 
 pub returns-in-Kind-clause-line : goal.returns-in-Kind-clause-line
 returns-in-Kind-clause-line c = λ t shape writes. rw c.in-Kind.is (inl (c.refuse.ensures.kind, c.refuse.ensures.text))
