@@ -15,7 +15,7 @@ use multi_index::MultiIndex;
 use std::alloc::{AllocError, Global};
 use table_records::{Records, tell_refusal};
 use table_reply::{Ready, Record, Reply, Told};
-use table_terms::{Outcome, refuse, refuse_memory, tell_read};
+use table_terms::{Outcome, refuse, refuse_memory, tell_read, tell_record, tell_records};
 
 /// Appends the line that tells what a read found, or why it found nothing, or the memory line.
 pub(crate) fn tell<'o>(
@@ -35,26 +35,12 @@ pub(crate) fn tell<'o>(
     match read {
         Ok(Found::Number(number)) => tell_read(&Reply::Counted { at, number }, out),
         Ok(Found::Position(handle)) => tell_read(&Reply::Found { at, handle }, out),
-        Ok(Found::Record(record)) => tell_read(
-            &Reply::Shown {
-                at,
-                headings,
-                record,
-            },
-            out,
-        ),
+        Ok(Found::Record(record)) => tell_record(at, headings, &record, out),
         Ok(Found::Records(handles)) => {
             let Ok(records) = shown(alloc, container, &handles) else {
                 return refuse_memory(out);
             };
-            tell_read(
-                &Reply::Listed {
-                    at,
-                    headings,
-                    records: &records,
-                },
-                out,
-            )
+            tell_records(at, headings, &records, out)
         }
         Err(Refusal::Fault(why)) => refuse(why, out),
         Err(Refusal::Why(why)) => tell_refusal(records, why, out),

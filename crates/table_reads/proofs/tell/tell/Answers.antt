@@ -15,5 +15,5 @@ returns-in-Ok-clause-answer c step reads =
     ap shown_entries c.deref-in-Ok-Records.ensures.value ∙ (c.in-Ok.ensures
     ∙ (ap (λ s. entries_of s.entries c.deref.result.now) c.container-container.ensures.value ∙ ap (entries_of t.records.entries) c.deref.ensures.value)) in
     let number = c.writes-at.ensures.number ∙ ap (λ s. s.writes) c.container-container.ensures.value in
-    steps_listed c.tell_read-in-Ok-Records.result.what c.args.out.out.now.bytes c.tell_read-in-Ok-Records.result.out.now.bytes t step c.headings-headings.result.now c.deref-in-Ok-Records.result.now handles.items c.writes-at.result
-    found.1 c.headings-headings.ensures shown number c.tell_read-in-Ok-Records.ensures.line
+    steps_listed c.tell_records.result.what c.args.out.out.now.bytes c.tell_records.result.out.now.bytes t step c.headings-headings.result.now c.deref-in-Ok-Records.result.now handles.items c.writes-at.result
+    found.1 c.headings-headings.ensures shown number c.tell_records.ensures.line
