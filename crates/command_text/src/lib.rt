@@ -10,4 +10,5 @@ mod write;
 
 pub use meaning::text_meaning;
 pub use table_cmd::Command;
-pub use write::write_command;
+pub use table_reply::{Out, OutOfRoom};
+pub use write::{canonical_text, write_command};

@@ -1,6 +1,7 @@
 //! Writes a command.
 
 ghost use Rattle.std.specs.Prelude.{◌≡◌, IfOk};
+ghost use Rattle.table_reply.specs.Buffer.{AddsOrNot};
 ghost use Rattle.table_reply.specs.Printed.{Prints, data_tokens};
 ghost use Rattle.command_text.specs.Text.{command_data, command_text};
 
@@ -14,17 +15,29 @@ use crate::parts::{
 use json::Writer;
 use std::alloc::{AllocError, Global};
 use table_cmd::Command;
+use table_reply::{Out, OutOfRoom};
 
 /// How many bytes a text has room for at first.
 const ROOM: usize = 128;
 
 /// The canonical text of a command, without a newline, in memory of its own. O(length of the text).
-pub fn write_command(alloc: Global, command: &Command) -> Result<Vec<u8>, AllocError>
+pub fn canonical_text(alloc: Global, command: &Command) -> Result<Vec<u8>, AllocError>
     ensures { IfOk result (λ text. text.items ≡ command_text command.now) }
 {
     let mut line = Writer::new(Vec::with_capacity(alloc, ROOM)?);
     print_command(&mut line, command)?;
     Ok(line.into_inner())
+}
+
+/// Appends the canonical text of a command, without a newline. At an `Err` nothing is appended: memory was refused.
+/// O(length of the text).
+pub fn write_command(alloc: Global, command: &Command, out: &mut Out) -> Result<(), OutOfRoom>
+    ensures { AddsOrNot result out.old out.new (command_text command.now) }
+{
+    match canonical_text(alloc, command) {
+        Ok(text) => out.try_push(&text),
+        Err(_) => Err(OutOfRoom),
+    }
 }
 
 // The keys stand in ascending order.

@@ -30,6 +30,7 @@ pub struct LoggedTable<D: Disk> {
     disk: D,
     line: Out,
     is_over: bool,
+    alloc: Global,
 }
 
 impl<D: Disk> Model for LoggedTable<D> {
@@ -56,11 +57,11 @@ pub struct Mark {
 }
 
 // Puts the line of a write into a buffer, in place of what stands there.
-fn set_line(command: &Command, line: &mut Out) -> Result<(), OutOfRoom>
+fn set_line(alloc: Global, command: &Command, line: &mut Out) -> Result<(), OutOfRoom>
     ensures { OnOk result (line.new.bytes ≡ log_line command.now) }
 {
     line.clear();
-    write_command(command, line)?;
+    write_command(alloc, command, line)?;
     line.try_push(b"\n")
 }
 
@@ -123,6 +124,7 @@ fn open_from<D: Disk>(
                 disk,
                 line,
                 is_over: false,
+                alloc,
             },
             torn: prepared.torn,
         }),
@@ -204,7 +206,7 @@ impl<D: Disk> LoggedTable<D> {
                 out,
             };
         }
-        if set_line(command, &mut self.line).is_err() {
+        if set_line(self.alloc, command, &mut self.line).is_err() {
             let Told { what: _, out } = refuse_memory(out);
             return Told { what: Ok(()), out };
         }
@@ -293,6 +295,7 @@ impl<D: Disk> LoggedTable<D> {
             disk: kept,
             line: _,
             is_over: _,
+            alloc: _,
         } = self;
         kept
     }

@@ -6,6 +6,7 @@ ghost use Rattle.table_state.specs.Writing.{Putting, gathered, failures_of_state
 
 use crate::fault::StateWhy;
 use command_text::write_command;
+use std::alloc::Global;
 use table_cmd::Command;
 use table_log::Disk;
 use table_reply::Out;
@@ -14,13 +15,18 @@ use table_reply::Out;
 const MANY: usize = 65_536;
 
 /// Puts the line of a command behind what is gathered, and all of that on the disk once it is long.
-pub(crate) fn put<D: Disk>(disk: &mut D, lines: &mut Out, command: Command) -> Result<(), StateWhy>
+pub(crate) fn put<D: Disk>(
+    alloc: Global,
+    disk: &mut D,
+    lines: &mut Out,
+    command: Command,
+) -> Result<(), StateWhy>
     ensures puts { Putting result (gathered (D.contents disk.old) (D.size disk.old) lines.old.bytes) (gathered (D.contents disk.new) (D.size disk.new) lines.new.bytes)
         (line_of command) }
     ensures synced { D.synced disk.new ≡ D.synced disk.old }
     ensures failures { D.failures disk.new ≡ failures_of_state result (D.failures disk.old) }
 {
-    let written = write_command(&command, lines);
+    let written = write_command(alloc, &command, lines);
     drop(command);
     written?;
     lines.try_push(b"\n")?;

@@ -36,6 +36,7 @@ pub(crate) struct Source {
     /// Its number, from 1.
     pub(crate) number: u64,
     text: Out,
+    alloc: Global,
 }
 
 impl Source {
@@ -53,6 +54,7 @@ impl Source {
             line: Vec::new(alloc),
             number: 0,
             text: Out::new(alloc).map_err(|_| AllocError)?,
+            alloc,
         })
     }
 
@@ -171,7 +173,7 @@ impl Source {
         ensures differs { self.old.line.items ++ codes "\n" ≡ line_of command → IfErr result IsInterruption }
     {
         self.text.clear();
-        let written = write_command(&command, &mut self.text);
+        let written = write_command(self.alloc, &command, &mut self.text);
         drop(command);
         written?;
         if self.text.bytes() == self.line.as_slice() {

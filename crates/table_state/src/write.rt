@@ -31,7 +31,7 @@ fn put_count<D: Disk>(
     ensures synced { D.synced disk.new ≡ D.synced disk.old }
     ensures failures { D.failures disk.new ≡ failures_of_state result (D.failures disk.old) }
 {
-    put(disk, lines, count_command(alloc, spec, name, count)?)
+    put(alloc, disk, lines, count_command(alloc, spec, name, count)?)
 }
 
 // Puts the names of the columns.
@@ -46,7 +46,7 @@ fn put_columns<D: Disk>(
     ensures synced { D.synced disk.new ≡ D.synced disk.old }
     ensures failures { D.failures disk.new ≡ failures_of_state result (D.failures disk.old) }
 {
-    put(disk, lines, columns_command(alloc, spec)?)
+    put(alloc, disk, lines, columns_command(alloc, spec)?)
 }
 
 // Puts the numbers of a table and its columns.
@@ -83,7 +83,7 @@ fn put_index<D: Disk>(
     ensures synced { D.synced disk.new ≡ D.synced disk.old }
     ensures failures { D.failures disk.new ≡ failures_of_state result (D.failures disk.old) }
 {
-    put(disk, lines, index_command(alloc, spec, index)?)
+    put(alloc, disk, lines, index_command(alloc, spec, index)?)
 }
 
 // Puts the indices that a table has.
@@ -125,7 +125,7 @@ fn put_record<D: Disk>(
         unreachable!();
     };
     let command = record_command(alloc, records.spec(), handle, row.cells())?;
-    put(disk, lines, command)
+    put(alloc, disk, lines, command)
 }
 
 // The handles of the records, in the order of their insertion. No two records lie in one slot.
@@ -176,7 +176,7 @@ fn put_order<D: Disk>(
         return Err(StateWhy::Memory);
     };
     let command = order_command(alloc, spec, spec.indices()[index].name.as_str(), &handles)?;
-    put(disk, lines, command)
+    put(alloc, disk, lines, command)
 }
 
 // Puts the orders of the indices.

@@ -3,7 +3,7 @@ use Rattle.json.specs.Print.{print}
 use Rattle.serde_json.proofs.Texts.{print-outline}
 use Rattle.table_reply.specs.Printed.{data_tokens}
 use Rattle.command_text.specs.Text.{command_data}
-use Rattle.command_text.proofs.write.write_command.Goals as goal
+use Rattle.command_text.proofs.write.canonical_text.Goals as goal
 
 pub returns : goal.returns
 returns c =
