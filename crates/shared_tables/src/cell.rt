@@ -6,6 +6,7 @@ ghost use Rattle.table_reply.specs.Ready.{IsBehind};
 ghost use Rattle.shared_tables.specs.Journal.{IsLegal, own};
 ghost use Rattle.shared_tables.specs.Call.{PassTold, TrackTold, fault_of, fault_in};
 
+use crate::canonical::Canonical;
 use crate::entry::Entry;
 use crate::fault::CallFault;
 use crate::line::{KEPT, first_bytes};
@@ -48,8 +49,8 @@ impl Model for TableCell {
 
 // A command that may become a write: once for the journal, and once for the pass.
 struct Twins {
-    journal: Arc<Command>,
-    pass: Arc<Command>,
+    journal: Arc<Canonical>,
+    pass: Arc<Canonical>,
 }
 
 // Makes room for one more write in a journal and in what a session knows of it, and for its answer.
@@ -72,12 +73,11 @@ fn prepare(
         drop(command);
         return None;
     }
-    let command = Arc::new(*room.allocator(), command).ok()?;
-    let twin = Arc::try_clone(&command).ok()?;
-    Some(Twins {
-        journal: command,
-        pass: twin,
-    })
+    let alloc = *room.allocator();
+    let canonical = Canonical::new(alloc, command).ok()?;
+    let journal = Arc::new(alloc, canonical).ok()?;
+    let pass = Arc::try_clone(&journal).ok()?;
+    Some(Twins { journal, pass })
 }
 
 // Puts an accepted write at the end of a journal, for which there is room, and counts it.
@@ -85,7 +85,7 @@ fn append(
     journal: &mut Vec<Entry>,
     tally: &mut Tally,
     session: u32,
-    command: Arc<Command>,
+    command: Arc<Canonical>,
     room: &mut Vec<u8>,
     answer: &[u8],
 )
@@ -249,7 +249,7 @@ impl TableCell {
             pass: twin,
         } = twins;
         let start = out.out.bytes().len();
-        let told = self.table.step(&command, out);
+        let told = self.table.step(command.command(), out);
         let outcome = told.what;
         if let Outcome::Memory = outcome {
             return told;

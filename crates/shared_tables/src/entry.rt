@@ -2,7 +2,9 @@
 
 ghost use Rattle.std.specs.Prelude.{◌≡◌};
 ghost use Rattle.shared_tables.specs.Stored.{line_bytes};
+ghost use Rattle.shared_tables.specs.Text.{entry_line};
 
+use crate::canonical::Canonical;
 use crate::stored::Line;
 use std::marker::Model;
 use std::sync::Arc;
@@ -13,7 +15,7 @@ use table_cmd::Command;
 pub struct Entry {
     pub(crate) session: u32,
     pub(crate) serial: u64,
-    pub(crate) command: Arc<Command>,
+    pub(crate) command: Arc<Canonical>,
     pub(crate) answer: Line,
 }
 
@@ -45,7 +47,14 @@ impl Entry {
     pub fn command(&self) -> &Command
         ensures { result.now ≡ self.now.command }
     {
-        &self.command
+        self.command.command()
+    }
+
+    /// The canonical text of the write, and a newline. O(1).
+    pub(crate) fn line(&self) -> &[u8]
+        ensures { result.now ≡ entry_line self.now }
+    {
+        self.command.line()
     }
 
     /// The line that was answered, with its newline. O(1).

@@ -1,16 +1,15 @@
 //! The journals of all tables.
 
-ghost use Rattle.std.specs.Prelude.{◌≡◌, ◌↔◌, [], Err, IsTrue, OnErr, OnOk, map};
+ghost use Rattle.std.specs.Prelude.{◌≡◌, Err, OnErr, OnOk, map};
 ghost use Rattle.std.specs.Io.KnownBytes.{Appends};
 ghost use Rattle.table_engine.specs.Devices.{AppendsFront, failures_after_stream};
-ghost use Rattle.shared_tables.specs.Text.{AppendsEntries, AppendsFitting, entries_in, journals_text, whole_room};
+ghost use Rattle.shared_tables.specs.Text.{journals_text};
 
 use crate::entry::Entry;
 use crate::write::write_journals;
 use std::io::Write;
 use std::marker::Model;
 use table_engine::{Sink, StreamFault};
-use table_reply::Out;
 use table_schema::Schema;
 
 /// The journal of each table of a schema, once no session calls them any more.
@@ -27,13 +26,6 @@ impl Model for Journals {
     ghost Value = { JournalsData };
 
     ghost view = { λ j. record { schema = j.schema; tables = map (λ entries. entries.items) j.tables.items } };
-}
-
-// Whether there is nothing to write.
-fn have_no_entry(journals: &[Vec<Entry>]) -> bool
-    ensures { IsTrue result ↔ (entries_in (map (λ entries. entries.items) journals.now) ≡ []) }
-{
-    journals.iter().all(|journal| journal.is_empty())
 }
 
 impl Journals {
@@ -54,37 +46,16 @@ impl Journals {
     /// Writes the canonical text of each entry's command and a newline, table after table in the order of the schema, each
     /// journal in its order. Run on empty tables of the schema, these lines make the tables that the journals tell of.
     ///
-    /// Each line is written by itself, and the writer is not flushed. `Write`: a write failed or took no byte, and a front of
-    /// the text is written. `Memory`: there was no room for a line, and the lines before it are written. `Read` is never
-    /// answered. O(tables + length of the text).
+    /// Each line is written by itself, and the writer is not flushed. It takes no memory. `Write`: a write failed or took no
+    /// byte, and a front of the text is written. `Read` and `Memory` are never answered. O(tables + length of the text).
     pub fn write<W: Write>(&self, sink: &mut Sink<W>) -> Result<(), StreamFault>
         ensures written { OnOk result (Appends (W.contents sink.old.inner) (W.contents sink.new.inner) (journals_text self.now.tables)) }
         ensures front { OnErr result (AppendsFront (W.contents sink.old.inner) (W.contents sink.new.inner) (journals_text self.now.tables)) }
         ensures no_read { result ≡ Err StreamFault.Read → ⊥ }
+        ensures no_memory { result ≡ Err StreamFault.Memory → ⊥ }
         ensures write_cause { sink.new.failures ≡ failures_after_stream result sink.old.failures }
-        ensures memory { result ≡ Err StreamFault.Memory → AppendsEntries (W.contents sink.old.inner) (W.contents sink.new.inner) (entries_in self.now.tables) }
     {
-        if have_no_entry(&self.tables) {
-            return Ok(());
-        }
-        let mut line = Out::new(*self.tables.allocator()).map_err(|_| StreamFault::Memory)?;
-        self.write_through(&mut line, sink)
-    }
-
-    /// As `write`, with a buffer of the caller's for the lines. It takes memory only for a line that is longer than the whole
-    /// room of the buffer, whose text is lost.
-    pub fn write_through<W: Write>(
-        &self,
-        line: &mut Out,
-        sink: &mut Sink<W>,
-    ) -> Result<(), StreamFault>
-        ensures written { OnOk result (Appends (W.contents sink.old.inner) (W.contents sink.new.inner) (journals_text self.now.tables)) }
-        ensures front { OnErr result (AppendsFront (W.contents sink.old.inner) (W.contents sink.new.inner) (journals_text self.now.tables)) }
-        ensures no_read { result ≡ Err StreamFault.Read → ⊥ }
-        ensures write_cause { sink.new.failures ≡ failures_after_stream result sink.old.failures }
-        ensures memory { result ≡ Err StreamFault.Memory → AppendsFitting (whole_room line.old) (W.contents sink.old.inner) (W.contents sink.new.inner) (entries_in self.now.tables) }
-    {
-        write_journals(&self.tables, line, sink)
+        write_journals(&self.tables, sink)
     }
 }
 
@@ -117,18 +88,14 @@ impl UncomparedJournals {
         self.journals.tables()
     }
 
-    /// Writes them as `Journals::write_through` does.
-    pub fn write_through<W: Write>(
-        &self,
-        line: &mut Out,
-        sink: &mut Sink<W>,
-    ) -> Result<(), StreamFault>
+    /// Writes them as `Journals::write` does.
+    pub fn write<W: Write>(&self, sink: &mut Sink<W>) -> Result<(), StreamFault>
         ensures written { OnOk result (Appends (W.contents sink.old.inner) (W.contents sink.new.inner) (journals_text self.now.tables)) }
         ensures front { OnErr result (AppendsFront (W.contents sink.old.inner) (W.contents sink.new.inner) (journals_text self.now.tables)) }
         ensures no_read { result ≡ Err StreamFault.Read → ⊥ }
+        ensures no_memory { result ≡ Err StreamFault.Memory → ⊥ }
         ensures write_cause { sink.new.failures ≡ failures_after_stream result sink.old.failures }
-        ensures memory { result ≡ Err StreamFault.Memory → AppendsFitting (whole_room line.old) (W.contents sink.old.inner) (W.contents sink.new.inner) (entries_in self.now.tables) }
     {
-        self.journals.write_through(line, sink)
+        self.journals.write(sink)
     }
 }

@@ -2,6 +2,7 @@
 //! writes, and for each session a pass that keeps what the session was told.
 #![tactic(auto)]
 
+mod canonical;
 mod cell;
 mod compare;
 mod entry;

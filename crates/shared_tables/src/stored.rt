@@ -3,6 +3,7 @@
 ghost use Rattle.std.specs.Prelude.{◌≡◌, ◌≤◌, length, vec_capacity};
 ghost use Rattle.shared_tables.specs.Stored.{line_bytes, asked_command};
 
+use crate::canonical::Canonical;
 use arrayvec::ArrayVec;
 use std::mem::replace;
 use std::sync::Arc;
@@ -47,7 +48,7 @@ impl Line {
 #[derive(Drop)]
 pub(crate) enum Asked {
     Own(Command),
-    Shared(Arc<Command>),
+    Shared(Arc<Canonical>),
 }
 
 impl Asked {
@@ -57,7 +58,7 @@ impl Asked {
     {
         match self {
             Asked::Own(command) => command,
-            Asked::Shared(command) => command,
+            Asked::Shared(canonical) => canonical.command(),
         }
     }
 }

@@ -4,17 +4,17 @@ ghost use Rattle.std.specs.Prelude.{◌≡◌, ◌+◌, ◌<◌, ◌≤◌, ◌�
 ghost use Rattle.shared_tables.specs.Journal.{last_number};
 ghost use Rattle.shared_tables.specs.Writes.{IsWithin, answered_of};
 
+use crate::canonical::Canonical;
 use crate::entry::Entry;
 use std::alloc::{AllocError, Global};
 use std::marker::Model;
 use std::sync::Arc;
-use table_cmd::Command;
 
 /// An accepted write: its number, the write, and where its answer stands among the bytes of all answers.
 #[derive(Drop)]
 pub(crate) struct Written {
     pub(crate) number: u64,
-    pub(crate) command: Arc<Command>,
+    pub(crate) command: Arc<Canonical>,
     pub(crate) start: usize,
     pub(crate) length: usize,
 }
@@ -50,7 +50,7 @@ impl Written {
         self.number > 0
             && self.number - 1 == before as u64
             && answer == entry.answer()
-            && self.command.is_same(entry.command())
+            && self.command.command().is_same(entry.command())
     }
 }
 
@@ -76,7 +76,7 @@ impl Writes {
     }
 
     /// Puts a write at the end, for which there is room.
-    pub(crate) fn push(&mut self, number: u64, command: Arc<Command>, answer: &[u8])
+    pub(crate) fn push(&mut self, number: u64, command: Arc<Canonical>, answer: &[u8])
         requires row { 0 < self.old.rows }
         requires bytes { length answer.now ≤ self.old.bytes }
         ensures { self.new.items ≡ self.old.items ++ record { number = number; command = command.value; answer = answer.now } ∷ [] }

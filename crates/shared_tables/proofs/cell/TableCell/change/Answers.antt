@@ -29,7 +29,7 @@ append-requires-clause-count c =
 pub invariant_of-self-in-Write : goal.invariant_of-self-in-Write
 invariant_of-self-in-Write c =
     let within : c.args.session < length c.self.inside.tallies.items = subst (λ (d : CellData). c.args.session < d.workers) (sym c.self.view_is) c.requires in
-    let asked : c.deref.result.now ≡ c.args.command = c.deref.ensures ∙ c.in-Some.ensures.command in
+    let asked : c.command.result.now ≡ c.args.command = c.command.ensures ∙ (c.deref.ensures ∙ c.in-Some.ensures.command) in
     let took = was_write c.step-told.result.what c.args.out.out.now.bytes c.step-told.result.out.now.bytes c.self.inside.table c.step-told.new.self (step_of c.self.inside.table c.args.command)
     (subst (λ (k : Command). Steps c.step-told.result.what c.args.out.out.now.bytes c.step-told.result.out.now.bytes c.self.inside.table c.step-told.new.self (step_of c.self.inside.table k)) asked c.step-told.ensures.answer) c.step-told.ensures.told.short c.in-Write.is in
     let entry : c.append.new.journal.items ≡ c.prepare.new.journal.items ++ entry_of c.args.session (c.index_mut-tally.result.now.count + 1) c.args.command c.first_bytes-line.result.now ∷ [] =
@@ -44,7 +44,7 @@ invariant_of-self-in-Write c =
 pub returns-in-Write-clause-answered : goal.returns-in-Write-clause-answered
 returns-in-Write-clause-answered c =
     let within : c.args.session < length c.self.inside.tallies.items = subst (λ (d : CellData). c.args.session < d.workers) (sym c.self.view_is) c.requires in
-    let asked : c.deref.result.now ≡ c.args.command = c.deref.ensures ∙ c.in-Some.ensures.command in
+    let asked : c.command.result.now ≡ c.args.command = c.command.ensures ∙ (c.deref.ensures ∙ c.in-Some.ensures.command) in
     let took = was_write c.step-told.result.what c.args.out.out.now.bytes c.step-told.result.out.now.bytes c.self.inside.table c.step-told.new.self (step_of c.self.inside.table c.args.command)
     (subst (λ (k : Command). Steps c.step-told.result.what c.args.out.out.now.bytes c.step-told.result.out.now.bytes c.self.inside.table c.step-told.new.self (step_of c.self.inside.table k)) asked c.step-told.ensures.answer) c.step-told.ensures.told.short c.in-Write.is in
     let entry : c.append.new.journal.items ≡ c.prepare.new.journal.items ++ entry_of c.args.session (c.index_mut-tally.result.now.count + 1) c.args.command c.first_bytes-line.result.now ∷ [] =
@@ -70,7 +70,7 @@ invariant_of-self-in_default-outcome-2 c =
 pub returns-clause-answered : goal.returns-clause-answered
 returns-clause-answered c =
     let step = step_of c.self.inside.table c.args.command in
-    let asked : c.deref.result.now ≡ c.args.command = c.deref.ensures ∙ c.in-Some.ensures.command in
+    let asked : c.command.result.now ≡ c.args.command = c.command.ensures ∙ (c.deref.ensures ∙ c.in-Some.ensures.command) in
     let steps = subst (λ (k : Command). Steps c.step-told.result.what c.args.out.out.now.bytes c.step-told.result.out.now.bytes c.self.inside.table c.step-told.new.self (step_of c.self.inside.table k)) asked c.step-told.ensures.answer in
     let read = was_read c.step-told.result.what c.args.out.out.now.bytes c.step-told.result.out.now.bytes c.self.inside.table c.step-told.new.self step
     steps c.in_default-outcome.not-Memory c.in_default-outcome-2.not-Write in

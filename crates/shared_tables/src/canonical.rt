@@ -1,0 +1,66 @@
+//! A command that may become a write, with its line in a journal.
+
+ghost use Rattle.std.specs.Prelude.{◌≡◌, ◌++◌, IfOk, codes};
+ghost use Rattle.command_text.specs.Text.{command_text};
+
+use command_text::canonical_text;
+use std::alloc::{AllocError, Global};
+use std::marker::Model;
+use table_cmd::Command;
+
+/// A command, and its canonical text with a newline: so its line is written with no memory.
+#[derive(Drop)]
+pub(crate) struct Canonical {
+    command: Command,
+    line: Vec<u8>,
+}
+
+impl Model for Canonical {
+    ghost use Rattle.std.specs.Prelude.{◌≡◌, ◌++◌, codes};
+    ghost use Rattle.command_text.specs.Text.{command_text};
+    ghost use Rattle.table_cmd.specs.declared.command.Command.{Command};
+
+    ghost Value = { Command };
+
+    ghost view = { λ c. c.command };
+
+    ghost invariant = { λ c. c.line.items ≡ command_text c.command ++ codes "\n" };
+}
+
+// The line of a command.
+fn line_of(alloc: Global, command: &Command) -> Result<Vec<u8>, AllocError>
+    ensures { IfOk result (λ line. line.items ≡ command_text command.now ++ codes "\n") }
+{
+    let mut line = canonical_text(alloc, command)?;
+    line.extend_from_slice(b"\n")?;
+    Ok(line)
+}
+
+impl Canonical {
+    /// The command with its line. O(length of the line).
+    pub(crate) fn new(alloc: Global, command: Command) -> Result<Canonical, AllocError>
+        ensures { IfOk result (λ canonical. canonical ≡ command) }
+    {
+        match line_of(alloc, &command) {
+            Ok(line) => Ok(Canonical { command, line }),
+            Err(error) => {
+                drop(command);
+                Err(error)
+            }
+        }
+    }
+
+    /// The command. O(1).
+    pub(crate) fn command(&self) -> &Command
+        ensures { result.now ≡ self.now }
+    {
+        &self.command
+    }
+
+    /// Its line. O(1).
+    pub(crate) fn line(&self) -> &[u8]
+        ensures { result.now ≡ command_text self.now ++ codes "\n" }
+    {
+        &self.line
+    }
+}
