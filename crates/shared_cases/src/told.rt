@@ -1,7 +1,6 @@
 //! What is told of calls and of journals.
 
 use crate::again::{answers_again, answers_of, text_of};
-use crate::buffers::new_out;
 use crate::report::Report;
 use command_lines::CommandFault;
 use shared_tables::{CallFault, Entry, GatherWhy, Journals, UncomparedJournals};
@@ -69,7 +68,7 @@ fn tell_journal(
     Ok(())
 }
 
-/// Adds how many entries each of the journals has, and their text, written through a buffer for one line.
+/// Adds how many entries each of the journals has, and their text.
 pub fn tell_uncompared(
     alloc: Global,
     journals: &UncomparedJournals,
@@ -81,8 +80,7 @@ pub fn tell_uncompared(
         report.text("\n")?;
     }
     let mut text = Vec::new(alloc);
-    let mut line = new_out(alloc)?;
-    match journals.write_through(&mut line, &mut Sink::new(&mut text)) {
+    match journals.write(&mut Sink::new(&mut text)) {
         Ok(()) => report.push(&text),
         Err(_) => Err(AllocError),
     }

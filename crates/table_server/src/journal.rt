@@ -1,5 +1,5 @@
 //! The file of the journals.
-ghost use Rattle.std.specs.Prelude.{◌≡◌, ◌≤◌, ℕ, List, IfErr, IfOk, IfSome, OnOk, Some, option_map};
+ghost use Rattle.std.specs.Prelude.{◌≡◌, ℕ, List, IfErr, IfOk, IfSome, OnOk, Some, option_map};
 ghost use Rattle.std.specs.Io.KnownBytes.{Appends};
 ghost use Rattle.shared_tables.specs.Text.{journals_text};
 ghost use Rattle.table_server.specs.Fault.{status_of};
@@ -8,47 +8,31 @@ ghost use Rattle.table_server.specs.Serving.{IsWritten};
 use crate::fault::Fault;
 use crate::opens::Makes;
 use shared_tables::{Journals, UncomparedJournals};
-use std::alloc::Global;
 use std::io::Write;
-use table_engine::{MAX_LINE, Sink, StreamFault};
-use table_reply::{Out, OutOfRoom};
+use table_engine::{Sink, StreamFault};
 
-/// The journal's path, what was begun for it, and a buffer with room for a line.
+/// The journal's path, and what was begun for it.
 #[derive(Drop)]
 pub(crate) struct Journal<'a, B> {
     pub(crate) path: &'a str,
     pub(crate) begun: B,
-    pub(crate) line: Out,
 }
 
-// A buffer with room for a line.
-fn new_line(alloc: Global) -> Result<Out, OutOfRoom>
-    ensures { IfOk result (λ line. 65537 ≤ line.room) }
-{
-    let mut line = Out::new(alloc)?;
-    line.reserve(MAX_LINE + 1)?;
-    Ok(line)
-}
-
-/// Tries the journal's path, if there is one, which is not that of the schema, and takes what memory its writing needs.
-pub(crate) fn begin<'a, R: AllocGlobal + Makes>(
+/// Tries the journal's path, if there is one, which is not that of the schema.
+pub(crate) fn begin<'a, R: Makes>(
     rt: &R,
     path: Option<&'a str>,
     schema: &str,
 ) -> Result<Option<Journal<'a, R::Begun>>, Fault>
     ensures path { IfOk result (λ journal. option_map (λ j. j.path.now) journal ≡ option_map (λ s. s.now) path.entry) }
     ensures begun { IfOk result (λ journal. IfSome journal (λ j. R.is_begun rt.now j.path.now j.begun)) }
-    ensures room { IfOk result (λ journal. IfSome journal (λ j. 65537 ≤ j.line.room)) }
     ensures fault { IfErr result (λ fault. status_of fault ≡ 1) }
 {
     let Some(path) = path else {
         return Ok(None);
     };
     let begun = rt.begin(path, schema).map_err(Fault::of_write)?;
-    match new_line(rt.alloc()) {
-        Ok(line) => Ok(Some(Journal { path, begun, line })),
-        Err(OutOfRoom) => Err(Fault::Memory),
-    }
+    Ok(Some(Journal { path, begun }))
 }
 
 /// Writes a text to the file for a path, and puts it there.
@@ -62,13 +46,9 @@ pub(crate) fn write<R: Makes, T: Text>(
         (Some journal.entry.path.now) (T.text text.now)) }
     ensures fault { IfErr result (λ fault. status_of fault ≡ 1) }
 {
-    let Journal {
-        path,
-        begun,
-        mut line,
-    } = journal;
+    let Journal { path, begun } = journal;
     let mut sink = Sink::new(rt.make(path, begun).map_err(Fault::of_write)?);
-    text.write_through(&mut line, &mut sink)?;
+    text.write(&mut sink)?;
     rt.put(path, sink.into_inner()).map_err(Fault::of_write)?;
     Ok(())
 }
@@ -78,31 +58,23 @@ pub(crate) trait Text {
     /// The text.
     ghost text: { Self → List ℕ };
 
-    /// Writes the text, over a buffer for the lines.
-    fn write_through<W: Write>(&self, line: &mut Out, sink: &mut Sink<W>) -> Result<(), StreamFault>
+    /// Writes the text. It takes no memory.
+    fn write<W: Write>(&self, sink: &mut Sink<W>) -> Result<(), StreamFault>
         ensures { OnOk result (Appends (W.contents sink.old.inner) (W.contents sink.new.inner) (text self.now)) };
 }
 
 impl Text for Journals {
     ghost text = { λ journals. journals_text journals.tables };
 
-    fn write_through<W: Write>(
-        &self,
-        line: &mut Out,
-        sink: &mut Sink<W>,
-    ) -> Result<(), StreamFault> {
-        Journals::write_through(self, line, sink)
+    fn write<W: Write>(&self, sink: &mut Sink<W>) -> Result<(), StreamFault> {
+        Journals::write(self, sink)
     }
 }
 
 impl Text for UncomparedJournals {
     ghost text = { λ journals. journals_text journals.tables };
 
-    fn write_through<W: Write>(
-        &self,
-        line: &mut Out,
-        sink: &mut Sink<W>,
-    ) -> Result<(), StreamFault> {
-        UncomparedJournals::write_through(self, line, sink)
+    fn write<W: Write>(&self, sink: &mut Sink<W>) -> Result<(), StreamFault> {
+        UncomparedJournals::write(self, sink)
     }
 }

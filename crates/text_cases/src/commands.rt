@@ -12,7 +12,7 @@ use std::io::Write;
 /// The canonical text of a command.
 pub(crate) fn written(alloc: Global, command: &Command) -> Result<Out, AllocError> {
     let mut text = new_out(alloc)?;
-    match write_command(command, &mut text) {
+    match write_command(alloc, command, &mut text) {
         Ok(()) => Ok(text),
         Err(_) => Err(AllocError),
     }

@@ -6,7 +6,8 @@ use std::alloc::{AllocError, Global};
 use std::io;
 use std::io::Write;
 use table_reply::{
-    Cell, Fault, Handle, Heading, Out, READY_ROOM, Record, Reply, Row, Text, write_reply,
+    Cell, Fault, Handle, Heading, Out, PlainText, READY_ROOM, Record, Reply, Row, Text,
+    write_record, write_records, write_reply,
 };
 
 const FIRST: Handle = Handle { slot: 0, stamp: 1 };
@@ -16,8 +17,8 @@ const LAST: Handle = Handle {
     stamp: u64::MAX,
 };
 
-// Replies of each form without rows; one has the longest name that an index may have.
-const REPLIES: [Reply<'static>; 14] = [
+// Replies of each form without a name.
+const REPLIES: [Reply<'static>; 10] = [
     Reply::Found {
         at: 1,
         handle: Some(FIRST),
@@ -46,28 +47,6 @@ const REPLIES: [Reply<'static>; 14] = [
         at: u64::MAX,
         next: Some(LAST),
     },
-    Reply::Banned {
-        at: 2,
-        index: "u",
-        by: FIRST,
-    },
-    Reply::Erased {
-        at: u64::MAX,
-        index: "a_name_of_32_letters_or_digits_0",
-        by: LAST,
-    },
-    Reply::Clash {
-        at: 3,
-        index: "k",
-        first: FIRST,
-        second: Handle { slot: 2, stamp: 3 },
-    },
-    Reply::Clash {
-        at: u64::MAX,
-        index: "a_name_of_32_letters_or_digits_0",
-        first: LAST,
-        second: FIRST,
-    },
 ];
 
 const FAULTS: [Fault; 16] = [
@@ -88,6 +67,12 @@ const FAULTS: [Fault; 16] = [
     Fault::Spent,
     Fault::Memory,
 ];
+
+// The longest name that an index may have.
+const LONGEST: &str = "a_name_of_32_letters_or_digits_0";
+
+// Texts that need an escape.
+const NOT_PLAIN: [&str; 5] = ["\"", "a\\", "\u{0}", "a\u{1f}b", "\n"];
 
 // A cell of a row.
 #[derive(Clone, Copy)]
@@ -139,15 +124,65 @@ fn push(out: &mut Out, text: &str) -> Result<(), AllocError> {
     out.try_push(text.as_bytes()).map_err(|_| AllocError)
 }
 
-// The line of a reply, and a line where `serde_json` prints it otherwise.
-fn push_reply(alloc: Global, out: &mut Out, reply: &Reply) -> Result<(), AllocError> {
-    let start = out.bytes().len();
-    write_reply(reply, out).map_err(|_| AllocError)?;
+// Adds a line where `serde_json` prints what stands from a place on otherwise.
+fn look_at_line(alloc: Global, out: &mut Out, start: usize) -> Result<(), AllocError> {
     let line = out.bytes().get(start..).unwrap_or(&[]);
     if is_line_printed(alloc, line) {
         return Ok(());
     }
     push(out, "is printed otherwise\n")
+}
+
+// The line of a reply.
+fn push_reply(alloc: Global, out: &mut Out, reply: &Reply) -> Result<(), AllocError> {
+    let start = out.bytes().len();
+    write_reply(reply, out).map_err(|_| AllocError)?;
+    look_at_line(alloc, out, start)
+}
+
+// A text that needs no escape.
+fn plain(text: &str) -> Result<PlainText<'_>, AllocError> {
+    PlainText::new(text).ok_or(AllocError)
+}
+
+// The lines of replies with the name of an index.
+fn push_named(alloc: Global, out: &mut Out) -> Result<(), AllocError> {
+    let banned = Reply::Banned {
+        at: 2,
+        index: plain("u")?,
+        by: FIRST,
+    };
+    push_reply(alloc, out, &banned)?;
+    let erased = Reply::Erased {
+        at: u64::MAX,
+        index: plain(LONGEST)?,
+        by: LAST,
+    };
+    push_reply(alloc, out, &erased)?;
+    let clash = Reply::Clash {
+        at: 3,
+        index: plain("k")?,
+        first: FIRST,
+        second: Handle { slot: 2, stamp: 3 },
+    };
+    push_reply(alloc, out, &clash)?;
+    let longest = Reply::Clash {
+        at: u64::MAX,
+        index: plain(LONGEST)?,
+        first: LAST,
+        second: FIRST,
+    };
+    push_reply(alloc, out, &longest)
+}
+
+// A line for each text that is taken for plain and is not.
+fn push_not_plain(out: &mut Out) -> Result<(), AllocError> {
+    for text in NOT_PLAIN {
+        if PlainText::new(text).is_some() {
+            push(out, "is taken for plain\n")?;
+        }
+    }
+    Ok(())
 }
 
 fn push_fault(alloc: Global, out: &mut Out, fault: Fault) -> Result<(), AllocError> {
@@ -158,18 +193,14 @@ fn push_fault(alloc: Global, out: &mut Out, fault: Fault) -> Result<(), AllocErr
 
 fn push_replies(alloc: Global, out: &mut Out) -> Result<(), AllocError> {
     push(out, "=== replies\n")?;
-    for reply in REPLIES {
-        push_reply(alloc, out, &reply)?;
+    for reply in &REPLIES {
+        push_reply(alloc, out, reply)?;
     }
-    push_reply(
-        alloc,
-        out,
-        &Reply::Listed {
-            at: 7,
-            headings: &[],
-            records: &[],
-        },
-    )?;
+    push_named(alloc, out)?;
+    push_not_plain(out)?;
+    let start = out.bytes().len();
+    write_records(7, &[], &[], out).map_err(|_| AllocError)?;
+    look_at_line(alloc, out, start)?;
     for fault in FAULTS {
         push_fault(alloc, out, fault)?;
     }
@@ -212,15 +243,9 @@ fn push_listed(
     records: &[Record],
 ) -> Result<(), AllocError> {
     let headings = headings(alloc, columns)?;
-    push_reply(
-        alloc,
-        out,
-        &Reply::Listed {
-            at: 2,
-            headings: &headings,
-            records,
-        },
-    )
+    let start = out.bytes().len();
+    write_records(2, &headings, records, out).map_err(|_| AllocError)?;
+    look_at_line(alloc, out, start)
 }
 
 fn push_lists(alloc: Global, out: &mut Out, records: &[Record]) -> Result<(), AllocError> {
@@ -274,15 +299,9 @@ fn push_shown(
     record: Record,
 ) -> Result<(), AllocError> {
     let headings = headings(alloc, columns)?;
-    push_reply(
-        alloc,
-        out,
-        &Reply::Shown {
-            at,
-            headings: &headings,
-            record,
-        },
-    )
+    let start = out.bytes().len();
+    write_record(at, &headings, &record, out).map_err(|_| AllocError)?;
+    look_at_line(alloc, out, start)
 }
 
 // One record below headings.
