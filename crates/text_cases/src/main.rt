@@ -1,6 +1,6 @@
 //! Prints what texts mean, and how values are written: standard input has the cases of each part below a line
-//! `====== PART`, which is printed above what the part says to them. The parts are `keys`, `replies`, `commands`, `schemas` and
-//! `tables`. Where `serde_json` prints an answer or a canonical text otherwise than it stands, that is said behind it.
+//! `====== PART`, which is printed above what the part says to them. The parts are `keys`, `replies`, `commands`, `schemas`,
+//! `tables` and `lines`, which are texts of JSON. Where `serde_json` prints an answer or a canonical text otherwise than it stands, that is said behind it.
 #![tactic(auto)]
 
 mod buffers;
@@ -22,14 +22,16 @@ enum Part {
     Commands,
     Schemas,
     Tables,
+    Lines,
 }
 
-const PARTS: [Part; 5] = [
+const PARTS: [Part; 6] = [
     Part::Keys,
     Part::Replies,
     Part::Commands,
     Part::Schemas,
     Part::Tables,
+    Part::Lines,
 ];
 
 impl Part {
@@ -40,6 +42,7 @@ impl Part {
             Part::Commands => "commands",
             Part::Schemas => "schemas",
             Part::Tables => "tables",
+            Part::Lines => "lines",
         }
     }
 }
@@ -75,6 +78,7 @@ fn tell(rt: &HostRuntime, section: &Section) -> io::Result<()> {
         Part::Commands => commands::tell(rt, &section.lines),
         Part::Schemas => schemas::tell(rt, &section.lines),
         Part::Tables => tables::tell(rt, &section.lines),
+        Part::Lines => printed::tell(rt, &section.lines),
     }
 }
 
