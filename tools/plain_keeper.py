@@ -33,6 +33,9 @@ FAULTS = {
     "a state loses an order", "a state loses its number", "a state has the schema's indices alone", "a state numbers handles anew",
     "a cut state is an empty table", "any state will do", "a half written state is read", "the old log runs on the new state", "an old log stays",
     "a half written state stays", "a log without its state is passed over", "a compact removes the log first", "a compact renames before it syncs",
+    "a missing log is made", "a state has no types", "an old log goes by its name", "a longer old log is passed over", "a log that is left is not told",
+    "a slow line is not idle", "answers a browser", "answers a browser in pieces", "ends at any word", "ends at a later request",
+    "all may open its files", "all may open its folder", "all may open its socket",
     "a failed compact ends with status 0", "a failed compact takes the log", "a second compact empties the state", "a refused compact takes the log",
 }
 
@@ -86,6 +89,26 @@ def sync_folder(folder):
     os.close(opened)
 
 
+def file_mode():
+    return 0o666 if has_fault("all may open its files") else 0o600
+
+
+def make(path, text):
+    """A file with this text."""
+    file = os.open(path, os.O_WRONLY | os.O_CREAT | os.O_TRUNC, file_mode())
+    append(file, text)
+    os.close(file)
+
+
+def begins_as_a_request(text):
+    """Whether a stream that begins with this text is a request of HTTP: begins with a method in capital letters, and a space."""
+    if has_fault("answers a browser"):
+        return False
+    if has_fault("ends at any word"):
+        return bool(re.match(rb"[A-Za-z]+ ", text))
+    return bool(re.match(rb"[A-Z]{3,} ", text))
+
+
 def remove(path):
     with contextlib.suppress(FileNotFoundError):
         os.remove(path)
@@ -133,7 +156,8 @@ class State:
                 return
             raise Stop(8, f"state: {path}: {2 if is_whole else 1}\n")
         name, columns, writes, lists = pickle.loads(spelled_by(spelled))
-        if (name, columns) != (self.table.name, self.table.columns) and not has_fault("any state will do"):
+        same = list(columns) == list(self.table.columns) if has_fault("a state has no types") else columns == self.table.columns
+        if (name != self.table.name or not same) and not has_fault("any state will do"):
             raise Stop(8, f"state: {path}: 1\n")
         self.table.lists, self.table.writes, self.number = lists, writes, writes
 
@@ -146,6 +170,25 @@ class State:
         found = [re.fullmatch(rf"{self.table.name}\.(0|[1-9]\d*)\.jsonl", it) for it in os.listdir(self.folder)]
         return [int(it.group(1)) for it in found if it]
 
+    def old_logs(self):
+        """The paths of the logs from before the state, each with the number of its last write, and whether it is whole."""
+        for number in [None, *(it for it in self.numbers() if it < self.number)]:
+            with contextlib.suppress(FileNotFoundError), open(self.log(number), "rb") as file:
+                text = file.read()
+                yield self.log(number), (number or 0) + text.count(b"\n"), text.endswith(b"\n") or not text
+
+    def refuse_longer(self):
+        """A log from before the state may not go on behind it."""
+        for path, last, _ in self.old_logs() if self.number is not None else ():
+            if last > self.number and not has_fault("a longer old log is passed over"):
+                raise Stop(8, f"state: too old for: {path}\n")
+
+    def refuse_missing(self):
+        """A table that is declared has a state or a log."""
+        is_declared = os.path.exists(f"{self.folder}/{self.table.name}.schema")
+        if self.number is None and is_declared and not os.path.lexists(self.log(None)) and not has_fault("a missing log is made"):
+            raise Stop(8, f"missing: {self.log(None)}\n")
+
     def refuse_later(self):
         for number in self.numbers():
             if (self.number is None or number > self.number) and not has_fault("a log without its state is passed over"):
@@ -157,8 +200,11 @@ class State:
             remove(self.draft)
         if self.number is None or has_fault("an old log stays"):
             return
-        for number in [None, *(it for it in self.numbers() if it < self.number)]:
-            remove(self.log(number))
+        for path, last, is_whole in list(self.old_logs()):
+            if last == self.number and is_whole or has_fault("an old log goes by its name"):
+                remove(path)
+            elif not has_fault("a log that is left is not told"):
+                os.write(2, f"left: {path}: it does not end with write {self.number}\n".encode())
 
     def put(self):
         """Writes the state in place of the one before, and an empty log."""
@@ -180,7 +226,7 @@ class State:
             raise Stop(0 if has_fault("a failed compact ends with status 0") else 9, f"compact: {self.draft}\n") from None
         try:
             sync_folder(self.folder)
-            open(self.log(number), "wb").close()
+            make(self.log(number), b"")
             sync_folder(self.folder)
         except OSError:
             raise Stop(1, f"device: file: {self.folder}\n") from None
@@ -188,7 +234,7 @@ class State:
         self.clean()
 
     def put_text(self):
-        file = os.open(self.draft, os.O_WRONLY | os.O_CREAT | os.O_TRUNC, 0o644)
+        file = os.open(self.draft, os.O_WRONLY | os.O_CREAT | os.O_TRUNC, file_mode())
         try:
             append(file, self.text())
             if has_fault("a compact renames before it syncs"):
@@ -208,12 +254,14 @@ class Log:
         self.state = State(folder, table)
         self.state.read()
         self.state.refuse_later()
+        self.state.refuse_longer()
+        self.state.refuse_missing()
         path = self.state.log(self.state.number)
         if has_fault("the old log runs on the new state") and os.path.exists(self.state.log(None)):
             path = self.state.log(None)
         self.path = f"{folder}/x.jsonl" if has_fault("the wrong file is told") else path
         try:
-            self.file = os.open(path, os.O_RDWR | os.O_CREAT | os.O_APPEND, 0o644)
+            self.file = os.open(path, os.O_RDWR | os.O_CREAT | os.O_APPEND, file_mode())
         except OSError:
             raise Stop(1, f"device: file: {self.path}\n") from None
         self.is_synced = True
@@ -312,6 +360,7 @@ class Keeper:
             raise Stop(1, "memory\n")
         for log in self.logs.values():
             log.cut()
+        self.declare(schema)
         try:
             sync_folder(self.folder)
         except OSError:
@@ -333,8 +382,8 @@ class Keeper:
         """Takes the folder, and compares the declaration beside the logs."""
         try:
             if not os.path.isdir(self.folder):
-                os.mkdir(self.folder)
-            self.lock = open(f"{self.folder}/lock", "w", encoding="utf-8")
+                os.mkdir(self.folder, 0o777 if has_fault("all may open its folder") else 0o700)
+            self.lock = os.open(f"{self.folder}/lock", os.O_RDWR | os.O_CREAT, file_mode())
             fcntl.flock(self.lock, fcntl.LOCK_EX | fcntl.LOCK_NB)
         except BlockingIOError:
             if not has_fault("two keepers at once"):
@@ -343,13 +392,18 @@ class Keeper:
             raise Stop(1, f"device: file: {self.folder}\n") from None
         beside = f"{self.folder}/{next(iter(self.machine.tables))}.schema"
         if not os.path.exists(beside):
-            with open(beside, "w", encoding="utf-8") as file:
-                file.write(schema)
+            return
         with open(beside, "rb") as file:
             found = file.read()
         meant = (lambda it: it) if has_fault("a declaration is its bytes") else declared
         if meant(found) != meant(schema.encode()) and not has_fault("any schema will do"):
             raise Stop(3, f"schema: other: {beside}\n")
+
+    def declare(self, schema):
+        """Writes the declarations that are not there."""
+        for name in self.machine.tables:
+            if not os.path.exists(f"{self.folder}/{name}.schema"):
+                make(f"{self.folder}/{name}.schema", schema.encode())
 
     def answer(self, line):
         """The answer to a line, behind what it leaves in its table and its log."""
@@ -386,13 +440,26 @@ class Keeper:
 
     def serve(self, connection):
         rest = b""
-        connection.settimeout(None if has_fault("nobody is idle") else self.given.idle or None)
-        begun = time.monotonic()
+        idle = None if has_fault("nobody is idle") else self.given.idle or None
+        connection.settimeout(idle)
+        begun = waits = time.monotonic()
+        is_first = True
         while piece := self.receive(connection, rest):
+            if begins_as_a_request(piece if has_fault("answers a browser in pieces") else rest + piece) and (is_first or has_fault("ends at a later request")):
+                return
             *lines, rest = (rest + piece).split(b"\n")
+            is_first = is_first and not lines
+            if not lines and idle and not has_fault("a slow line is not idle"):
+                left = idle - (time.monotonic() - waits)
+                if left <= 0:
+                    return
+                connection.settimeout(left)
+                continue
+            connection.settimeout(idle)
             answers = [self.answer(it) + b"\n" for it in lines if it.strip()]
             self.settle()
             connection.sendall(b"".join(answers))
+            waits = time.monotonic()
             if has_fault("busy ones are idle") and self.given.idle and time.monotonic() - begun > self.given.idle:
                 return
         if piece is not None and rest.strip():
@@ -437,6 +504,7 @@ def listening(address):
         listener.bind(place)
     except OSError:
         raise Stop(1, "device: listen\n") from None
+    os.chmod(place, 0o777 if has_fault("all may open its socket") else 0o700)
     listener.listen(128)
     return listener
 

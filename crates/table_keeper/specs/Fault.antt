@@ -9,7 +9,7 @@ use Rattle.program_words.specs.declared.asked.WordsFault.TheVariants as words
 use Rattle.table_schema.specs.declared.fault.SchemaFault.{SchemaFault}
 use Rattle.table_schema.specs.declared.fault.SchemaFault.TheVariants as schema
 use Rattle.table_keeper.specs.declared.fault.Fault.{Fault}
-use Rattle.table_keeper.specs.declared.fault.Fault.TheVariants.{Words, Address, File, Output, Listen, Memory, Schema, Taken, Log, Line, Declared, StateLine, State, Behind, Unwritten}
+use Rattle.table_keeper.specs.declared.fault.Fault.TheVariants.{Words, Address, File, Output, Listen, Memory, Schema, Taken, Log, Line, Declared, StateLine, State, Behind, Lacking, Missing, Unwritten}
 
 -- the exit status
 abbrev pub status_of : Fault → ℕ
@@ -27,6 +27,8 @@ status_of (Taken path) = 7
 status_of (StateLine path number) = 8
 status_of (State path) = 8
 status_of (Behind path) = 8
+status_of (Lacking path) = 8
+status_of (Missing path) = 8
 status_of (Unwritten path) = 9
 
 -- the fault of words that are not read

@@ -39,6 +39,10 @@ pub enum Fault {
     State(String),
     /// A log is behind a state that is not there. The path of the log.
     Behind(String),
+    /// A log has writes behind those of the state that it comes before. The path of the log.
+    Lacking(String),
+    /// A table is declared that has neither a state nor a log. The path of the log.
+    Missing(String),
     /// A state can't be written. The path.
     Unwritten(String),
 }
@@ -63,6 +67,8 @@ impl Fault {
             Fault::StateLine(path, number) => write!(faults, "state: {path}: {number}\n"),
             Fault::State(path) => write!(faults, "state: {path}\n"),
             Fault::Behind(path) => write!(faults, "state: none before: {path}\n"),
+            Fault::Lacking(path) => write!(faults, "state: too old for: {path}\n"),
+            Fault::Missing(path) => write!(faults, "missing: {path}\n"),
             Fault::Unwritten(path) => write!(faults, "compact: {path}\n"),
         };
         self.status()
@@ -79,7 +85,11 @@ impl Fault {
             Fault::Log(_) => 5,
             Fault::Line(_, _) => 6,
             Fault::Taken(_) => 7,
-            Fault::StateLine(_, _) | Fault::State(_) | Fault::Behind(_) => 8,
+            Fault::StateLine(_, _)
+            | Fault::State(_)
+            | Fault::Behind(_)
+            | Fault::Lacking(_)
+            | Fault::Missing(_) => 8,
             Fault::Unwritten(_) => 9,
         }
     }

@@ -2,11 +2,18 @@
 
 use crate::declaration::{declares, text_of};
 use crate::fault::Fault;
-use std::fs::{File, OpenOptions, TryLockError};
+use std::fs::{DirBuilder, File, OpenOptions, TryLockError};
 use std::io::{ErrorKind, Read, Write};
+use std::os::unix::fs::{DirBuilderExt, OpenOptionsExt};
 use std::time::Duration;
 use std::{fs, io, thread};
 use table_schema::{Schema, TableSpec};
+
+/// Who may read and write the files: their owner.
+pub(crate) const FILE_MODE: u32 = 0o600;
+
+/// Who may list and change the folder: its owner.
+const FOLDER_MODE: u32 = 0o700;
 
 /// How often a lock is tried, 20 milliseconds apart.
 const LOCK_TRIES: u32 = 50;
@@ -29,6 +36,7 @@ impl Folder {
             .read(true)
             .write(true)
             .create(true)
+            .mode(FILE_MODE)
             .open(rt, name.as_str());
         let lock = match opened {
             Ok(lock) => lock,
@@ -55,8 +63,8 @@ impl Folder {
         Ok(())
     }
 
-    // Whether the table's declaration is there. Another one is refused.
-    fn check_table(&self, rt: &HostRuntime, table: &TableSpec) -> Result<bool, Fault> {
+    /// Whether the table's declaration is there. Another one is refused.
+    pub(crate) fn check_table(&self, rt: &HostRuntime, table: &TableSpec) -> Result<bool, Fault> {
         let name = self.declaration_of(rt.alloc(), table.name())?;
         match fs::read(rt, name.as_str()) {
             Ok(found) => if declares(rt.alloc(), found.as_slice(), table)? {
@@ -69,8 +77,9 @@ impl Folder {
         }
     }
 
-    /// Writes the declarations that are not there, and syncs the folder.
+    /// Writes the declarations that are not there, and syncs the folder. The system has the names of their logs before.
     pub(crate) fn declare(&self, rt: &HostRuntime, schema: &Schema) -> Result<(), Fault> {
+        self.sync(rt)?;
         for table in schema.tables() {
             if !self.check_table(rt, table)? {
                 self.declare_table(rt, table)?;
@@ -116,7 +125,7 @@ fn make(rt: &HostRuntime, path: &str) -> io::Result<()> {
         Ok(found) if found.is_dir() => Ok(()),
         Ok(_) => Err(io::Error::from(ErrorKind::NotADirectory)),
         Err(error) if error.kind() == ErrorKind::NotFound => {
-            fs::create_dir(rt, path)?;
+            DirBuilder::new().mode(FOLDER_MODE).create(rt, path)?;
             let above = format!(in rt.alloc(); "{path}/..")?;
             let _ = sync_folder(rt, above.as_str());
             Ok(())
@@ -132,7 +141,12 @@ fn sync_folder(rt: &HostRuntime, path: &str) -> io::Result<()> {
 
 // Writes a file under another name, and puts it at its own once the system has it.
 fn put(rt: &HostRuntime, part: &str, name: &str, bytes: &[u8]) -> io::Result<()> {
-    let mut file = File::create(rt, part)?;
+    let mut file = OpenOptions::new()
+        .write(true)
+        .create(true)
+        .truncate(true)
+        .mode(FILE_MODE)
+        .open(rt, part)?;
     file.write_all(bytes)?;
     file.sync_all()?;
     fs::rename(rt, part, name)

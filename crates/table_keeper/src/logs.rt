@@ -1,13 +1,16 @@
 //! The states and the logs of a folder, and the tables that they leave.
 
 use crate::fault::Fault;
-use crate::folder::Folder;
+use crate::folder::{FILE_MODE, Folder};
+use crate::old_logs::refuse_longer;
 use crate::shown::Shown;
 use crate::states::read_base;
+use crate::typed::types_line;
 use file_disk::FileDisk;
-use std::fs::OpenOptions;
-use std::io;
+use std::fs::{File, OpenOptions};
 use std::io::ErrorKind;
+use std::os::unix::fs::OpenOptionsExt;
+use std::{fs, io};
 use table_log::{LoggedTable, OpenWhy, Opened};
 use table_schema::{Schema, TableSpec};
 
@@ -22,6 +25,8 @@ pub(crate) struct OpenLog {
     pub(crate) path: String,
     /// The write number of the state that the log is behind, where there is one.
     pub(crate) state: Option<u64>,
+    /// The types of the table's columns.
+    pub(crate) types: String,
 }
 
 // The same before what stands behind the log's last line is cut off.
@@ -30,6 +35,7 @@ struct Uncut {
     opened: Opened<LogDisk>,
     path: String,
     state: Option<u64>,
+    types: String,
 }
 
 /// Reads the states of a schema's tables, and opens the logs behind them, which are made where they are not there. Only once all are
@@ -52,12 +58,17 @@ pub(crate) fn open_logs(
 
 // Reads the state of a table, and opens the log behind it.
 fn open_log(rt: &HostRuntime, folder: &Folder, table: &TableSpec) -> Result<Uncut, Fault> {
-    let base = read_base(rt, folder, table)?;
+    let types = types_line(rt, table)?;
+    let base = read_base(rt, folder, table, types.as_str())?;
     let state = base
         .as_ref()
         .map(|base| base.records().container().writes());
     refuse_later(rt, folder, table.name(), state)?;
+    refuse_longer(rt, folder, table.name(), state)?;
     let path = folder.log_of(rt.alloc(), table.name(), state)?;
+    if state.is_none() && folder.check_table(rt, table)? && !is_there(rt, path.as_str()) {
+        return Err(Fault::Missing(path));
+    }
     let disk = match open_disk(rt, path.as_str()) {
         Ok(disk) => disk,
         Err(error) => return Err(Fault::of_file(&error, path)),
@@ -71,12 +82,21 @@ fn open_log(rt: &HostRuntime, folder: &Folder, table: &TableSpec) -> Result<Uncu
             opened,
             path,
             state,
+            types,
         }),
         Err(fault) => match fault.why {
             OpenWhy::Line(number) => Err(Fault::Line(path, number)),
             OpenWhy::Memory => Err(Fault::Memory),
             OpenWhy::Disk => Err(Fault::File(path)),
         },
+    }
+}
+
+// Whether a name is there.
+fn is_there(rt: &HostRuntime, path: &str) -> bool {
+    match fs::symlink_metadata(rt, path) {
+        Ok(_) => true,
+        Err(error) => error.kind() != ErrorKind::NotFound,
     }
 }
 
@@ -101,6 +121,7 @@ fn cut_log(rt: &HostRuntime, uncut: Uncut) -> Result<OpenLog, Fault> {
         opened,
         path,
         state,
+        types,
     } = uncut;
     let Opened { mut logged, torn } = opened;
     if logged.sync().is_err() {
@@ -113,26 +134,39 @@ fn cut_log(rt: &HostRuntime, uncut: Uncut) -> Result<OpenLog, Fault> {
         logged,
         path,
         state,
+        types,
     })
 }
 
 /// Opens the file of a log, which is made where it is not there.
 pub(crate) fn open_disk(rt: &HostRuntime, path: &str) -> io::Result<LogDisk> {
-    disk_of(
-        rt,
-        path,
-        OpenOptions::new().read(true).append(true).create(true),
-    )
+    let file = OpenOptions::new()
+        .read(true)
+        .append(true)
+        .create(true)
+        .mode(FILE_MODE)
+        .open(rt, path)?;
+    disk_behind(rt, file, path, 0)
 }
 
-/// The disk in the file of a path, opened so.
-pub(crate) fn disk_of(rt: &HostRuntime, path: &str, options: &OpenOptions) -> io::Result<LogDisk> {
-    let file = options.open(rt, path)?;
+/// Refuses what is no file, and tells how many bytes it has.
+pub(crate) fn is_file(file: &File) -> io::Result<u64> {
     let found = file.metadata()?;
-    if !found.is_file() {
-        return Err(io::Error::from(ErrorKind::InvalidInput));
+    if found.is_file() {
+        Ok(found.len())
+    } else {
+        Err(io::Error::from(ErrorKind::InvalidInput))
     }
-    let size = found.len();
+}
+
+/// The disk in a file, behind so many bytes.
+pub(crate) fn disk_behind(
+    rt: &HostRuntime,
+    file: File,
+    path: &str,
+    skipped: u64,
+) -> io::Result<LogDisk> {
+    let size = is_file(&file)?.saturating_sub(skipped);
     let path = String::from_str(rt.alloc(), path)?;
-    Ok(FileDisk::new(Shown::new(*rt, file, path, size), size))
+    Ok(FileDisk::new(Shown::new(*rt, file, path, skipped, size), size))
 }

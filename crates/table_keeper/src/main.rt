@@ -8,10 +8,14 @@ mod host;
 mod listen;
 mod logs;
 mod names;
+mod old_logs;
+mod patient;
 mod program;
+mod request;
 mod serve;
 mod shown;
 mod states;
+mod typed;
 
 use program::run;
 use std::process::ExitCode;

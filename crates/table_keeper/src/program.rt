@@ -101,6 +101,7 @@ fn behind_locks(rt: &HostRuntime, logs: Vec<OpenLog>) -> Result<Kept, Fault> {
             logged,
             path,
             state: _,
+            types: _,
         } = log;
         tables.push(logged)?;
         paths.push(path)?;

@@ -3,8 +3,9 @@ ghost use Rattle.std.specs.Prelude.{◌≤◌};
 
 use crate::fault::Fault;
 use crate::host::Host;
-use crate::listen::{Connection, Listening};
+use crate::listen::Listening;
 use crate::logs::LogDisk;
+use crate::patient::{Sending, Taking};
 use logged_tables::{LoggedTables, OverAt, Seat, ServeFault, Syncing};
 use std::alloc::Global;
 use std::sync::{Arc, Condvar, Mutex};
@@ -129,11 +130,9 @@ fn serve_next<R: Host>(rt: &R, served: &Served) -> bool {
     let Ok(seat) = Seat::new(rt.alloc(), &served.tables, rt, served.syncing) else {
         return false;
     };
-    let end = match &connection {
-        Connection::Unix(stream) => seat.serve(&mut Source::new(stream), stream).end,
-        Connection::Tcp(stream) => seat.serve(&mut Source::new(stream), stream).end,
-    };
-    match end {
+    let sending = Sending::new(rt, &connection, served.idle);
+    let taking = Taking::new(rt, &connection, served.idle);
+    match seat.serve(&mut Source::new(sending), taking).end {
         Ok(()) | Err(ServeFault::Read) | Err(ServeFault::Write) => true,
         Err(ServeFault::Memory) => false,
         Err(ServeFault::Over(at)) => {

@@ -15,6 +15,8 @@ pub(crate) struct Shown {
     rt: HostRuntime,
     file: File,
     path: String,
+    // How many bytes at the file's front are none of these.
+    skipped: u64,
     size: u64,
     last: Option<Instant>,
     settles: u64,
@@ -32,13 +34,14 @@ enum Cut {
 }
 
 impl Shown {
-    /// The file of a log, of so many bytes.
-    pub(crate) fn new(rt: HostRuntime, file: File, path: String, size: u64) -> Shown {
+    /// The bytes of a file that stand behind so many others, and so many they are.
+    pub(crate) fn new(rt: HostRuntime, file: File, path: String, skipped: u64, size: u64) -> Shown {
         let last = Instant::now(&rt).ok();
         Shown {
             rt,
             file,
             path,
+            skipped,
             size,
             last,
             settles: 0,
@@ -51,7 +54,7 @@ impl Shown {
         ensures { self.new.settles ≡ self.old.settles }
     {
         if let Cut::Waits(count) = self.cut {
-            self.file.set_len(count)?;
+            self.file.set_len(self.skipped.saturating_add(count))?;
             self.cut = Cut::Nothing;
         }
         self.file.sync_data()
@@ -73,6 +76,7 @@ impl Shown {
             rt,
             file: _,
             path,
+            skipped: _,
             size,
             last: _,
             settles: _,
@@ -91,7 +95,7 @@ impl LogFile for Shown {
 
     fn read_from(&mut self, at: u64, piece: &mut [u8]) -> io::Result<usize> {
         self.show(at);
-        self.file.read_at(piece, at)
+        self.file.read_at(piece, self.skipped.saturating_add(at))
     }
 
     fn write_behind(&mut self, bytes: &[u8]) -> io::Result<usize> {

@@ -1,11 +1,14 @@
 //! The states of a folder's tables.
 
 use crate::fault::Fault;
-use crate::folder::Folder;
-use crate::logs::{OpenLog, disk_of, open_disk};
+use crate::folder::{FILE_MODE, Folder};
+use crate::logs::{OpenLog, open_disk};
+use crate::old_logs::spent_logs;
+use crate::typed::{Typed, new_state, open_state};
 use std::fs;
 use std::fs::OpenOptions;
 use std::io::ErrorKind;
+use std::os::unix::fs::OpenOptionsExt;
 use table_schema::TableSpec;
 use table_state::{StateWhy, read_state, write_state};
 use table_step::Table;
@@ -15,16 +18,15 @@ pub(crate) fn read_base(
     rt: &HostRuntime,
     folder: &Folder,
     table: &TableSpec,
+    types: &str,
 ) -> Result<Option<Table>, Fault> {
     let path = folder.state_of(rt.alloc(), table.name())?;
-    let mut disk = match disk_of(rt, path.as_str(), OpenOptions::new().read(true)) {
-        Ok(disk) => disk,
-        Err(error) if error.kind() == ErrorKind::NotFound => return Ok(None),
-        Err(error) => return Err(Fault::of_file(&error, path)),
+    let Some(Typed { mut disk, lines }) = open_state(rt, path.as_str(), types)? else {
+        return Ok(None);
     };
     match read_state(rt.alloc(), table, &mut disk) {
         Ok(table) => Ok(Some(table)),
-        Err(StateWhy::Line(number)) => Err(Fault::StateLine(path, number)),
+        Err(StateWhy::Line(number)) => Err(Fault::StateLine(path, number.saturating_add(lines))),
         Err(StateWhy::Table) => Err(Fault::State(path)),
         Err(StateWhy::Memory) => Err(Fault::Memory),
         Err(StateWhy::Disk) => Err(Fault::File(path)),
@@ -49,7 +51,7 @@ fn compact_table(rt: &HostRuntime, folder: &Folder, log: &OpenLog) -> Result<(),
     }
     let draft = folder.draft_of(rt.alloc(), table.name())?;
     let state = folder.state_of(rt.alloc(), table.name())?;
-    if let Err(fault) = put_state(rt, table, draft.as_str(), state.as_str()) {
+    if let Err(fault) = put_state(rt, log, draft.as_str(), state.as_str()) {
         let _ = fs::remove_file(rt, draft.as_str());
         return Err(fault);
     }
@@ -60,8 +62,8 @@ fn compact_table(rt: &HostRuntime, folder: &Folder, log: &OpenLog) -> Result<(),
 }
 
 // Writes a state beside, and puts it at its own name once the system has it.
-fn put_state(rt: &HostRuntime, table: &Table, draft: &str, state: &str) -> Result<(), Fault> {
-    match write_draft(rt, table, draft) {
+fn put_state(rt: &HostRuntime, log: &OpenLog, draft: &str, state: &str) -> Result<(), Fault> {
+    match write_draft(rt, log, draft) {
         Ok(()) => {}
         Err(StateWhy::Memory) => return Err(Fault::Memory),
         Err(_) => return Err(Fault::Unwritten(String::from_str(rt.alloc(), draft)?)),
@@ -73,15 +75,19 @@ fn put_state(rt: &HostRuntime, table: &Table, draft: &str, state: &str) -> Resul
 }
 
 // Writes a state, and waits until the system has it.
-fn write_draft(rt: &HostRuntime, table: &Table, draft: &str) -> Result<(), StateWhy> {
+fn write_draft(rt: &HostRuntime, log: &OpenLog, draft: &str) -> Result<(), StateWhy> {
     let mut options = OpenOptions::new();
-    options.write(true).create(true).truncate(true);
-    let mut disk = match disk_of(rt, draft, &options) {
+    options
+        .write(true)
+        .create(true)
+        .truncate(true)
+        .mode(FILE_MODE);
+    let mut disk = match new_state(rt, draft, &options, log.types.as_str()) {
         Ok(disk) => disk,
         Err(error) if error.kind() == ErrorKind::OutOfMemory => return Err(StateWhy::Memory),
         Err(_) => return Err(StateWhy::Disk),
     };
-    write_state(rt.alloc(), table, &mut disk)
+    write_state(rt.alloc(), log.logged.table(), &mut disk)
 }
 
 // Makes an empty log.
@@ -92,7 +98,7 @@ fn make_log(rt: &HostRuntime, path: String) -> Result<(), Fault> {
     }
 }
 
-/// Removes what a compact left behind that did not come to its end: states that are half written, and logs before the states.
+/// Removes what a compact left behind that did not come to its end: states that are half written, and logs that end where the states do.
 pub(crate) fn clean(rt: &HostRuntime, folder: &Folder, logs: &[OpenLog]) -> Result<(), Fault> {
     for log in logs {
         clean_table(rt, folder, log.logged.name(), log.state)?;
@@ -111,11 +117,8 @@ fn clean_table(
     let Some(state) = state else {
         return Ok(());
     };
-    remove(rt, folder.log_of(rt.alloc(), table, None)?)?;
-    for number in folder.numbers_of(rt, table)? {
-        if number < state {
-            remove(rt, folder.log_of(rt.alloc(), table, Some(number))?)?;
-        }
+    for path in spent_logs(rt, folder, table, state)? {
+        remove(rt, path)?;
     }
     Ok(())
 }
