@@ -25,7 +25,8 @@ FAULTS = {
     "zeros are a line", "a bad line is passed over", "lines are counted from 0", "the wrong file is told", "a log is cut before all are read",
     "two keepers at once", "any schema will do", "a declaration is its bytes", "an old socket keeps it out", "appends what was sent", "appends reads",
     "appends refused writes",
-    "answers before it appends", "answers before it syncs", "answers while another syncs", "never syncs", "its folder is never synced",
+    "answers before it appends", "answers before it syncs", "answers while another syncs", "a commit waits for all", "never syncs",
+    "its folder is never synced",
     "goes on after a failed append", "tells no file", "ends with status 0", "nobody is idle", "busy ones are idle", "half a line is carried out",
     "a connection too many is closed", "a worker ends with its connection", "a failed accept ends a worker", "appends without its lock",
     "keeps each write", "a refused start empties a log", "a refused line is carried out", "a refused line has no answer",
@@ -34,7 +35,7 @@ FAULTS = {
     "a cut state is an empty table", "any state will do", "a half written state is read", "the old log runs on the new state", "an old log stays",
     "a half written state stays", "a log without its state is passed over", "a compact removes the log first", "a compact renames before it syncs",
     "a missing log is made", "a state has no types", "an old log goes by its name", "a longer old log is passed over", "a log that is left is not told",
-    "a slow line is not idle", "answers a browser", "answers a browser in pieces", "ends at any word", "ends at a later request",
+    "a slow line is not idle", "a slow taker is not idle", "takers of lines are idle", "answers a browser", "answers a browser in pieces", "ends at any word", "ends at a later request",
     "all may open its files", "all may open its folder", "all may open its socket",
     "a failed compact ends with status 0", "a failed compact takes the log", "a second compact empties the state", "a refused compact takes the log",
 }
@@ -251,6 +252,7 @@ class Log:
 
     def __init__(self, folder, table):
         self.name, self.table, self.lock, self.torn, self.kept = table.name, table, threading.Lock(), b"", []
+        self.waiting = set()
         self.state = State(folder, table)
         self.state.read()
         self.state.refuse_later()
@@ -310,10 +312,21 @@ class Log:
         self.is_synced = False
         change()
 
+    @contextlib.contextmanager
+    def locked(self):
+        """The lock for a line. Until it is there the line is among those that wait."""
+        line = object()
+        self.waiting.add(line)
+        with self.lock:
+            self.waiting.discard(line)
+            yield
+
     def sync(self):
         """Syncs what was appended, or waits for who does."""
         if has_fault("answers while another syncs") and self.lock.locked():
             return
+        while has_fault("a commit waits for all") and self.waiting:
+            time.sleep(0.0001)
         with self.lock:
             if self.is_synced or has_fault("never syncs"):
                 return
@@ -414,7 +427,7 @@ class Keeper:
             log = self.logs[read(line)["t"]]
         except (Fault, KeyError):
             return self.machine.answer(line)[0]
-        with log.lock:
+        with log.locked():
             answer, change = self.machine.answer(line)
             if has_fault("appends reads") and b'"size"' in line or has_fault("appends refused writes") and b'"banned"' in answer:
                 log.keep(line, lambda: None)
@@ -438,6 +451,17 @@ class Keeper:
                 self.answer(rest)
             return None
 
+    def send(self, connection, answers):
+        """Sends answers, each of which may take as long as an idle connection may be."""
+        if has_fault("takers of lines are idle"):
+            connection.sendall(b"".join(answers))
+            return
+        for answer in answers:
+            if not has_fault("a slow taker is not idle"):
+                connection.sendall(answer)
+            while has_fault("a slow taker is not idle") and answer:
+                answer = answer[connection.send(answer) :]
+
     def serve(self, connection):
         rest = b""
         idle = None if has_fault("nobody is idle") else self.given.idle or None
@@ -458,7 +482,7 @@ class Keeper:
             connection.settimeout(idle)
             answers = [self.answer(it) + b"\n" for it in lines if it.strip()]
             self.settle()
-            connection.sendall(b"".join(answers))
+            self.send(connection, answers)
             waits = time.monotonic()
             if has_fault("busy ones are idle") and self.given.idle and time.monotonic() - begun > self.given.idle:
                 return
