@@ -1,5 +1,5 @@
 //! A connection as a session reads and writes it: a line that takes too long ends it, and so does a request of HTTP.
-ghost use Rattle.std.specs.Prelude.{◌≡◌, ◌==◌, None, if◌then◌else◌};
+ghost use Rattle.std.specs.Prelude.{◌≡◌, ◌==◌, ◌≤◌, None, if◌then◌else◌};
 ghost use Rattle.std.specs.List.{list_any};
 
 use crate::listen::Connection;
@@ -8,6 +8,9 @@ use std::io;
 use std::io::{ErrorKind, Read, Write};
 use std::rt::Clock;
 use std::time::{Duration, Instant};
+
+/// How many bytes one call may send, where a line has a time: so many a Unix socket takes at once or none of them, and in time.
+const MOST_SENT: usize = 32_768;
 
 /// How long a whole line may take, one way.
 #[derive(Drop)]
@@ -43,6 +46,17 @@ impl LineClock {
             return Err(io::Error::from(ErrorKind::TimedOut));
         }
         Ok(Some(left))
+    }
+
+    // How many of so many bytes one call may send.
+    fn room(&self, count: usize) -> usize
+        ensures { result ≤ count }
+    {
+        if self.most.is_none() {
+            count
+        } else {
+            count.min(MOST_SENT)
+        }
     }
 
     // Takes what came or went. Says whether a line ended: what ends the next one was not waited for yet.
@@ -123,8 +137,9 @@ impl<'a, R: Clock + Drop> Write for Taking<'a, R> {
         if left.is_some() {
             self.connection.limit_writes(left)?;
         }
-        let count = self.connection.write(bytes)?;
-        let (taken, _) = bytes.split_at(count);
+        let (front, _) = bytes.split_at(self.clock.room(bytes.len()));
+        let count = self.connection.write(front)?;
+        let (taken, _) = front.split_at(count);
         if self.clock.take(taken) && left.is_some() {
             self.connection.limit_writes(self.clock.most)?;
         }

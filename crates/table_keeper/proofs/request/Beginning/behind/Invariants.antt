@@ -4,4 +4,4 @@ use Rattle.table_keeper.specs.Request.{after}
 use Rattle.table_keeper.proofs.request.Beginning.behind.Given as goal
 
 abbrev pub invariant-loop-byte : goal.invariant-loop-byte
-invariant-loop-byte l = fold after l.known (drop l.byte-index l.bytes) ≡ fold after l.self l.bytes
+invariant-loop-byte l = fold after l.known (drop l.byte-index l.bytes) ≡ fold after l.fn.self l.bytes
