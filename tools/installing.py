@@ -49,6 +49,8 @@ FROM debian:stable-slim
 COPY bin/{keeper} /usr/bin/table_keeper
 VOLUME /data
 EXPOSE 7000
+# The first process of a container takes no other signal. What was answered is in the log.
+STOPSIGNAL SIGKILL
 ENTRYPOINT ["/usr/bin/table_keeper"]
 CMD ["--schema", "/tables.toml", "--listen", "tcp:0.0.0.0:7000", "--data", "/data"]
 """
