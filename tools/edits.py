@@ -4,6 +4,7 @@ import re
 import threading
 
 from crate_checks import read
+from edit_kinds import kind_of
 from rattle_source import bare, changed_bodies, functions_of
 from twin_functions import has_twins, name_of
 
@@ -44,7 +45,12 @@ class Edit:
 
     def settle(self, verdict, words):
         self.verdict, self.words = verdict, words
-        say(f"{self.name}: {verdict}: {words[:300]}")
+        kind = f" {self.kind()}" if verdict == "refused" else ""
+        say(f"{self.name}: {verdict}{kind}: {words[:300]}")
+
+    def kind(self):
+        """By what it is refused."""
+        return kind_of(self.words)
 
     def pairs(self):
         """The pairs of texts, each with its file, and the function in whose body the text stands, if it has to be named."""
@@ -100,6 +106,10 @@ class Edit:
     def tried_symbols(self):
         """The names of the functions in which the edit is tried."""
         return [name_of(it, self.twin) for it in self.symbols] if self.twin else self.symbols
+
+    def tried_functions(self):
+        """The file and the name of each function in which the edit is tried."""
+        return [(it.key[0], name_of(it.name, self.twin) if self.twin else it.name) for it in self.bodies]
 
     def tried_inner(self):
         """The names of their closures."""

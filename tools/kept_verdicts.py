@@ -11,7 +11,7 @@ from crate_builds import rtlib
 
 HERE = os.path.dirname(os.path.abspath(__file__))
 # What judges an edit: these files, and these parts of the kit.
-TOOLS = ("try_edits", "edits.py", "twin_functions.py", "ci_in_progress.py", "crate_builds.py", "crate_checks.py", "kept_verdicts.py", "rattle_source.py")
+TOOLS = ("try_edits", "edits.py", "edit_kinds.py", "twin_functions.py", "ci_in_progress.py", "crate_builds.py", "crate_checks.py", "kept_verdicts.py", "rattle_source.py")
 PARTS = ("KIT-ID", "WHAT", "bin", "logic_built", "rattle/logic", "rattle/antt")
 # An entry that no run has taken for so long is removed.
 SECONDS = 90 * 24 * 3600
