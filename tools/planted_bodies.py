@@ -5,11 +5,13 @@ A plant is a program or a tool, and its changes: a file, a text that stands ther
 
 GATES, SENT, SHARED, TEXTS, RUNS, INDICES = "gate_cases", "stream_cases", "shared_cases", "text_cases", "container_runs", "index_tests"
 # Tools that drive the built server, or build it with changes of their own.
-ACCEPTS, PATHS, MISMATCHES = "run_refused_accepts", "run_journal_paths", "run_mismatches"
+ACCEPTS, THREADS, PATHS, MISMATCHES, CLIENTS = "run_refused_accepts", "run_refused_threads", "run_journal_paths", "run_mismatches", "check_interactive"
+TOOLS = (ACCEPTS, THREADS, PATHS, MISMATCHES, CLIENTS)
 
 CALLS, ON = "crates/shared_tables/src/shared.rt", "crates/table_sockets/src/serving.rt"
 GATHER, LOCKS, CELL = "crates/shared_tables/src/gathering.rt", "crates/shared_tables/src/locks.rt", "crates/shared_tables/src/cell.rt"
-SERVE, BESIDE, FAULT = "crates/table_server/src/serve.rt", "crates/table_server/src/beside.rt", "crates/table_server/src/fault.rt"
+SERVE, KEEPS, BESIDE, FAULT = (f"crates/table_server/src/{it}.rt" for it in ("serve", "keeps", "beside", "fault"))
+PIECES = "crates/table_engine/src/serve.rt"
 SHELF = "crates/node_store/src/shelf.rt"
 
 NEXT = "            newest = block.older;\n"
@@ -22,12 +24,16 @@ AT = "        &self.locks[place]\n"
 UNNAMED = "        let Some(place) = table_at(tables, command.table()) else {\n"
 CHANGE = "        let Some(twins) = prepare(\n"
 NO_ACCEPT = "        return Some(End::Listen);\n"
-KEEPS_NO_ACCEPT = "        End::Listen => later(Fault::Listen, keep(rt, shared, passes, journal)),\n"
+KEEPS_NO_ACCEPT = "        End::Listen => later(Fault::Listen, rt.keep(shared, passes, journal)),\n"
 DONE = "    keep_done(rt, done, &mut journal)\n"
 RENAME = "        fs::rename(&files, name.as_str(), path)\n"
 MISMATCH = "        End::Mismatch => Err(Fault::Mismatch),\n"
 TOLD = "        let _ = faults.write_all(self.text().as_bytes());\n"
 START = "        for pass in passes.iter_mut() {\n"
+LISTEN = "    let listening = match rt.listen(serving.listen) {\n"
+ANNOUNCES = "    if output.write_all(b\"listening\\n\").is_err() {\n        return Err(Fault::Write);\n    }\n"
+READ = "        let Ok(n) = source.read(&mut piece) else {\n            return Err(Stopped::Read);\n        };\n"
+NOT_STARTED = "            if started.is_err() {\n                keep(rt, kept, End::Memory);\n            }\n"
 KEPT = "    *kept = kept.later(end);\n"
 LAST = "    last.into_inner()\n"
 SPAWN = """            let started = Builder::new()
@@ -110,15 +116,19 @@ OF_REFUSALS = {
     "nodes_find_no_memory": (INDICES, gives_up(SHELF, "        let block = Block {\n            age: self.added,\n", "Err(NoRoom { value })")),
 }
 
-# How the program ends where an accept was refused, where its journal is not put at its path, and at a mismatch.
+# How the program ends where an accept or a thread was refused, where its journal is not put at its path, and at a mismatch. When it tells that it
+# listens, and when it writes what it has read the lines of.
 OF_SERVERS = {
     "refused_accept_loses_the_journal": (ACCEPTS, [(SERVE, KEEPS_NO_ACCEPT, "        End::Listen => {\n            drop(shared);\n            drop(passes);\n            Err(Fault::Listen)\n        }\n")]),
     "refused_accept_ends_well": (ACCEPTS, [(SERVE, DONE, "    let Done { shared, passes, end } = done;\n    let end = if end == End::Listen { End::Fine } else { end };\n    keep_done(rt, Done { shared, passes, end }, &mut journal)\n")]),
     "refused_accept_is_passed_over": (ACCEPTS, [(ON, NO_ACCEPT, "        return None;\n")]),
+    "refused_thread_is_passed_over": (THREADS, [(ON, NOT_STARTED, "            let _ = started;\n")]),
+    "listening_is_told_before_it_is_so": (PATHS, [(SERVE, ANNOUNCES, ""), (SERVE, LISTEN, ANNOUNCES + LISTEN)]),
+    "reads_twice_before_it_writes": (CLIENTS, [(PIECES, READ, READ.replace("Ok(n)", "Ok(first)") + READ.replace("Ok(n)", "Ok(more)").replace("piece)", "piece[first..])") + "        let n = first + more;\n")]),
     "whole_file_that_is_not_put_goes": (PATHS, [(BESIDE, RENAME, "        let put = fs::rename(&files, name.as_str(), path);\n        if put.is_err() {\n            let _ = fs::remove_file(&files, name.as_str());\n        }\n        put\n")]),
     "mismatch_has_no_text": (MISMATCHES, [(FAULT, TOLD, "        if self.status() != 4 {\n    " + TOLD + "        }\n")]),
     "mismatch_begins_the_journal_again": (MISMATCHES, [(SERVE, MISMATCH, "        End::Mismatch => {\n            drop(shared);\n            drop(passes);\n            if let Some(Journal { path, begun, line: _line }) = journal.take() {\n                if let Ok(made) = rt.make(path, begun) {\n                    let _ = rt.put(path, made);\n                }\n            }\n            Err(Fault::Mismatch)\n        }\n")]),
-    "ungathered_journal_begins_again": (MISMATCHES, [(SERVE, "    let told = Fault::from(fault.why);\n", "    let told = Fault::from(fault.why);\n    if told.status() == 4 {\n        if let Some(Journal { path, begun, line: _line }) = journal.take() {\n            if let Ok(made) = rt.make(path, begun) {\n                let _ = rt.put(path, made);\n            }\n        }\n    }\n")]),
+    "ungathered_journal_begins_again": (MISMATCHES, [(KEEPS, "    let told = Fault::from(fault.why);\n", "    let told = Fault::from(fault.why);\n    if told.status() == 4 {\n        if let Some(Journal { path, begun, line: _line }) = journal.take() {\n            if let Ok(made) = rt.make(path, begun) {\n                let _ = rt.put(path, made);\n            }\n        }\n    }\n")]),
 }
 
 # A store's end that leaves out records. Their blocks are freed all the same, as the clauses ask.
