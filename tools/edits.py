@@ -45,12 +45,15 @@ class Edit:
 
     def settle(self, verdict, words):
         self.verdict, self.words = verdict, words
-        kind = f" {self.kind()}" if verdict == "refused" else ""
-        say(f"{self.name}: {verdict}{kind}: {words[:300]}")
+        say(f"{self.name}: {self.told()}: {words[:300]}")
 
     def kind(self):
         """By what it is refused."""
         return kind_of(self.words)
+
+    def told(self):
+        """The verdict, and where it is refused by what."""
+        return f"{self.verdict} {self.kind()}" if self.verdict == "refused" else self.verdict
 
     def pairs(self):
         """The pairs of texts, each with its file, and the function in whose body the text stands, if it has to be named."""
