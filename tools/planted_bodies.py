@@ -10,7 +10,7 @@ TOOLS = (ACCEPTS, THREADS, PATHS, MISMATCHES, CLIENTS)
 
 CALLS, ON = "crates/shared_tables/src/shared.rt", "crates/table_sockets/src/serving.rt"
 GATHER, LOCKS, CELL = "crates/shared_tables/src/gathering.rt", "crates/shared_tables/src/locks.rt", "crates/shared_tables/src/cell.rt"
-SERVE, KEEPS, BESIDE, FAULT = (f"crates/table_server/src/{it}.rt" for it in ("serve", "keeps", "beside", "fault"))
+SERVE, BESIDE, FAULT = (f"crates/table_server/src/{it}.rt" for it in ("serve", "beside", "fault"))
 PIECES = "crates/table_engine/src/serve.rt"
 SHELF = "crates/node_store/src/shelf.rt"
 
@@ -24,14 +24,14 @@ AT = "        &self.locks[place]\n"
 UNNAMED = "        let Some(place) = table_at(tables, command.table()) else {\n"
 CHANGE = "        let Some(twins) = prepare(\n"
 NO_ACCEPT = "        return Some(End::Listen);\n"
-KEEPS_NO_ACCEPT = "        End::Listen => later(Fault::Listen, rt.keep(shared, passes, journal)),\n"
+KEEPS_NO_ACCEPT = "        End::Listen => later(Fault::Listen, keep(rt, shared, passes, journal)),\n"
 DONE = "    keep_done(rt, done, &mut journal)\n"
 RENAME = "        fs::rename(&files, name.as_str(), path)\n"
 MISMATCH = "        End::Mismatch => Err(Fault::Mismatch),\n"
 TOLD = "        let _ = faults.write_all(self.text().as_bytes());\n"
 START = "        for pass in passes.iter_mut() {\n"
 LISTEN = "    let listening = match rt.listen(serving.listen) {\n"
-ANNOUNCES = "    announce(output)?;\n"
+ANNOUNCES = '    if output.write_all(b"listening\\n").is_err() {\n        return Err(Fault::Write);\n    }\n'
 READ = "        let Ok(n) = source.read(&mut piece) else {\n            return Err(Stopped::Read);\n        };\n"
 NOT_STARTED = "            if started.is_err() {\n                keep(rt, kept, End::Memory);\n            }\n"
 KEPT = "    *kept = kept.later(end);\n"
@@ -127,8 +127,8 @@ OF_SERVERS = {
     "reads_twice_before_it_writes": (CLIENTS, [(PIECES, READ, READ.replace("Ok(n)", "Ok(first)") + READ.replace("Ok(n)", "Ok(more)").replace("piece)", "piece[first..])") + "        let n = first + more;\n")]),
     "whole_file_that_is_not_put_goes": (PATHS, [(BESIDE, RENAME, "        let put = fs::rename(&files, name.as_str(), path);\n        if put.is_err() {\n            let _ = fs::remove_file(&files, name.as_str());\n        }\n        put\n")]),
     "mismatch_has_no_text": (MISMATCHES, [(FAULT, TOLD, "        if self.status() != 4 {\n    " + TOLD + "        }\n")]),
-    "mismatch_begins_the_journal_again": (MISMATCHES, [(SERVE, MISMATCH, "        End::Mismatch => {\n            drop(shared);\n            drop(passes);\n            if let Some(Journal { path, begun, line: _line }) = journal.take() {\n                if let Ok(made) = rt.make(path, begun) {\n                    let _ = rt.put(path, made);\n                }\n            }\n            Err(Fault::Mismatch)\n        }\n")]),
-    "ungathered_journal_begins_again": (MISMATCHES, [(KEEPS, "    let told = Fault::from(fault.why);\n", "    let told = Fault::from(fault.why);\n    if told.status() == 4 {\n        if let Some(Journal { path, begun, line: _line }) = journal.take() {\n            if let Ok(made) = rt.make(path, begun) {\n                let _ = rt.put(path, made);\n            }\n        }\n    }\n")]),
+    "mismatch_begins_the_journal_again": (MISMATCHES, [(SERVE, MISMATCH, "        End::Mismatch => {\n            drop(shared);\n            drop(passes);\n            if let Some(Journal { path, begun }) = journal.take() {\n                if let Ok(made) = rt.make(path, begun) {\n                    let _ = rt.put(path, made);\n                }\n            }\n            Err(Fault::Mismatch)\n        }\n")]),
+    "ungathered_journal_begins_again": (MISMATCHES, [(SERVE, "    let told = Fault::from(fault.why);\n", "    let told = Fault::from(fault.why);\n    if told.status() == 4 {\n        if let Some(Journal { path, begun }) = journal.take() {\n            if let Ok(made) = rt.make(path, begun) {\n                let _ = rt.put(path, made);\n            }\n        }\n    }\n")]),
 }
 
 # A store's end that leaves out records. Their blocks are freed all the same, as the clauses ask.
