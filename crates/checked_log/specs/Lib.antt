@@ -1,0 +1,12 @@
+pub mod Chain
+pub mod Cuts
+pub mod Digest
+pub mod Hex
+pub mod Json
+pub mod Line
+pub mod Mark
+pub mod Read
+pub mod Recover
+pub mod Safe
+pub mod Whole
+pub mod Write
