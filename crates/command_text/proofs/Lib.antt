@@ -1,6 +1,6 @@
 pub mod Compact
 pub mod Sound
 pub mod Back
-pub mod OneLine
+pub mod Plain
 pub mod Law
 mod Rows

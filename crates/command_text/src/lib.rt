@@ -11,4 +11,4 @@ mod write;
 pub use meaning::text_meaning;
 pub use table_cmd::Command;
 pub use table_reply::{Out, OutOfRoom};
-pub use write::{canonical_text, write_command};
+pub use write::{canonical_text, set_text, write_command};

@@ -1,6 +1,6 @@
 //! Writes a command.
 
-ghost use Rattle.std.specs.Prelude.{◌≡◌, IfOk};
+ghost use Rattle.std.specs.Prelude.{◌≡◌, [], IfOk, OnErr, OnOk};
 ghost use Rattle.table_reply.specs.Buffer.{AddsOrNot};
 ghost use Rattle.table_reply.specs.Printed.{Prints, data_tokens};
 ghost use Rattle.command_text.specs.Text.{command_data, command_text};
@@ -14,19 +14,35 @@ use crate::parts::{
 };
 use json::Writer;
 use std::alloc::{AllocError, Global};
+use std::mem::replace;
 use table_cmd::Command;
 use table_reply::{Out, OutOfRoom};
 
 /// How many bytes a text has room for at first.
 const ROOM: usize = 128;
 
+/// Puts the canonical text of a command, without a newline, in place of what stands in a buffer, whose memory is used again. At an
+/// `Err` the buffer is empty: memory was refused. O(length of the text).
+pub fn set_text(buffer: &mut Vec<u8>, command: &Command) -> Result<(), AllocError>
+    ensures all { OnOk result (buffer.new.items ≡ command_text command.now) }
+    ensures none { OnErr result (buffer.new.items ≡ []) }
+{
+    let none = Vec::new(*buffer.allocator());
+    let mut room = replace(buffer, none);
+    room.clear();
+    let mut line = Writer::new(room);
+    print_command(&mut line, command)?;
+    *buffer = line.into_inner();
+    Ok(())
+}
+
 /// The canonical text of a command, without a newline, in memory of its own. O(length of the text).
 pub fn canonical_text(alloc: Global, command: &Command) -> Result<Vec<u8>, AllocError>
     ensures { IfOk result (λ text. text.items ≡ command_text command.now) }
 {
-    let mut line = Writer::new(Vec::with_capacity(alloc, ROOM)?);
-    print_command(&mut line, command)?;
-    Ok(line.into_inner())
+    let mut text = Vec::with_capacity(alloc, ROOM)?;
+    set_text(&mut text, command)?;
+    Ok(text)
 }
 
 /// Appends the canonical text of a command, without a newline. At an `Err` nothing is appended: memory was refused.
