@@ -102,6 +102,7 @@ impl Start {
         gate: G,
     ) -> Result<(Shared<G>, Vec<Pass>), AllocError> {
         let schema = read_schema(self.alloc, &self.schema).map_err(|_| AllocError)?;
-        Shared::new(self.alloc, schema, workers, gate)
+        let (shared, passes, _) = Shared::new(self.alloc, schema, workers, gate)?;
+        Ok((shared, passes))
     }
 }

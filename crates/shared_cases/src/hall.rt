@@ -152,7 +152,7 @@ impl Hall {
         report: &mut Report,
     ) -> Result<(), AllocError> {
         let alloc = self.alloc;
-        let Ok((shared, passes)) = Shared::new(alloc, schema, sessions, OpenGate) else {
+        let Ok((shared, passes, _)) = Shared::new(alloc, schema, sessions, OpenGate) else {
             return report.text("  memory\n");
         };
         self.sets.push(Set {

@@ -141,7 +141,7 @@ pub fn tell_threads<R: Threads + Wait + Sync>(
     schema: Schema,
     report: &mut Report,
 ) -> Result<(), AllocError> {
-    let (shared, mut passes) = Shared::new(alloc, schema, 2, OpenGate)?;
+    let (shared, mut passes, _) = Shared::new(alloc, schema, 2, OpenGate)?;
     let (Some(second), Some(first)) = (passes.pop(), passes.pop()) else {
         return report.text("  no passes\n");
     };

@@ -3,8 +3,8 @@
 ghost use Rattle.std.specs.Prelude.{◌≡◌, ◌++◌, IfOk, codes};
 ghost use Rattle.command_text.specs.Text.{command_text};
 
-use command_text::canonical_text;
-use std::alloc::{AllocError, Global};
+use command_text::set_text;
+use std::alloc::AllocError;
 use std::marker::Model;
 use table_cmd::Command;
 
@@ -27,21 +27,21 @@ impl Model for Canonical {
     ghost invariant = { λ c. c.line.items ≡ command_text c.command ++ codes "\n" };
 }
 
-// The line of a command.
-fn line_of(alloc: Global, command: &Command) -> Result<Vec<u8>, AllocError>
+// The line of a command, in as much memory as it has bytes.
+fn line_of(command: &Command, buffer: &mut Vec<u8>) -> Result<Vec<u8>, AllocError>
     ensures { IfOk result (λ line. line.items ≡ command_text command.now ++ codes "\n") }
 {
-    let mut line = canonical_text(alloc, command)?;
-    line.extend_from_slice(b"\n")?;
-    Ok(line)
+    set_text(buffer, command)?;
+    buffer.push(b'\n')?;
+    Vec::from_slice(*buffer.allocator(), buffer)
 }
 
 impl Canonical {
-    /// The command with its line. O(length of the line).
-    pub(crate) fn new(alloc: Global, command: Command) -> Result<Canonical, AllocError>
+    /// The command with its line, which is printed in a buffer first. O(length of the line).
+    pub(crate) fn new(command: Command, buffer: &mut Vec<u8>) -> Result<Canonical, AllocError>
         ensures { IfOk result (λ canonical. canonical ≡ command) }
     {
-        match line_of(alloc, &command) {
+        match line_of(&command, buffer) {
             Ok(line) => Ok(Canonical { command, line }),
             Err(error) => {
                 drop(command);

@@ -31,7 +31,7 @@ pub struct TableCell {
     pub(crate) table: Table,
     pub(crate) journal: Vec<Entry>,
     pub(crate) tallies: Vec<Tally>,
-    /// Room for the next answer that is long.
+    /// Room for the next answer that is long. The next line is printed in it, too.
     pub(crate) room: Vec<u8>,
 }
 
@@ -69,12 +69,13 @@ fn prepare(
     ensures write { IfSome result (λ _. 0 < writes.new.rows) }
     ensures answer { IfSome result (λ _. 256 ≤ writes.new.bytes) }
 {
+    let alloc = *room.allocator();
+    let canonical = Canonical::new(command, room).ok()?;
+    room.clear();
     if journal.reserve(1).is_err() || writes.reserve().is_err() || room.reserve(KEPT).is_err() {
-        drop(command);
+        drop(canonical);
         return None;
     }
-    let alloc = *room.allocator();
-    let canonical = Canonical::new(alloc, command).ok()?;
     let journal = Arc::new(alloc, canonical).ok()?;
     let pass = Arc::try_clone(&journal).ok()?;
     Some(Twins { journal, pass })

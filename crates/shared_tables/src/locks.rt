@@ -5,6 +5,7 @@ ghost use Rattle.std.specs.Prelude.{◌≡◌, ◌+◌, ◌<◌, ◌≤◌, IfOk
 
 use std::alloc::{AllocError, Global};
 use std::marker::Model;
+use std::snapshot::Snapshot;
 use std::sync::Mutex;
 
 /// Values, each behind a lock of its own, with the room for them out of their locks. A clause sees how many they are.
@@ -68,15 +69,20 @@ fn lock_all<T: Drop>(values: &mut Vec<T>, locks: &mut Vec<Mutex<T>>)
 }
 
 impl<T: Drop> Locked<T> {
-    /// Puts values behind locks. O(values).
-    pub(crate) fn new(alloc: Global, values: Vec<T>) -> Result<Locked<T>, AllocError>
-        ensures { IfOk result (λ locked. locked ≡ length values.items) }
+    /// Puts values behind locks, and shows those that went in. O(values).
+    pub(crate) fn new(
+        alloc: Global,
+        values: Vec<T>,
+    ) -> Result<(Locked<T>, Snapshot<Vec<T>>), AllocError>
+        ensures locked { IfOk result (λ made. made.0 ≡ length values.items) }
+        ensures begun { IfOk result (λ made. made.1.value.items ≡ values.items) }
     {
+        let begun = Snapshot::of(&values);
         let opened = Opened {
             room: Vec::with_capacity(alloc, values.len())?,
             values,
         };
-        Ok(opened.lock())
+        Ok((opened.lock(), begun))
     }
 
     /// The lock of the value at a place. O(1).

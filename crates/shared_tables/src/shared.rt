@@ -14,6 +14,7 @@ use crate::pass::Pass;
 use crate::unlocked::Unlocked;
 use std::alloc::{AllocError, Global};
 use std::marker::Model;
+use std::snapshot::Snapshot;
 use std::sync::Wait;
 use table_cmd::Command;
 use table_reply::{Fault, Out, Ready, Told};
@@ -72,30 +73,33 @@ impl<G: Gate> Model for Shared<G> {
 }
 
 impl<G: Gate + Drop> Shared<G> {
-    /// Empty tables of the schema, and a pass for each session, which are numbered from 0.
-    /// O(sessions · tables), and what it costs to make the tables.
+    /// Tables of the schema, a pass for each session, which are numbered from 0, and what went behind the locks, which a clause alone
+    /// sees: empty tables with empty journals. O(sessions · tables), and what it costs to make the tables.
     pub fn new(
         alloc: Global,
         schema: Schema,
         workers: u32,
         gate: G,
-    ) -> Result<(Shared<G>, Vec<Pass>), AllocError>
+    ) -> Result<(Shared<G>, Vec<Pass>, Snapshot<Vec<TableCell>>), AllocError>
         ensures shared { IfOk result (λ made. made.0 ≡ record { schema = schema; workers = workers }) }
         ensures passes { IfOk result (λ made. made.1.items ≡ fresh_passes (length schema) workers) }
+        ensures begun { IfOk result (λ made. made.2.value.items ≡ fresh_cells schema workers) }
     {
         let cells = fresh_cells(alloc, &schema, workers)?;
         let passes = new_passes(alloc, schema.tables().len(), workers)?;
         let answer = Out::new(alloc).map_err(|_| AllocError)?;
+        let journals = Vec::with_capacity(alloc, cells.len())?;
+        let (tables, begun) = Locked::new(alloc, cells)?;
         let shared = Shared {
             alloc,
-            journals: Vec::with_capacity(alloc, cells.len())?,
-            tables: Locked::new(alloc, cells)?,
+            journals,
+            tables,
             schema,
             workers,
             gate,
             answer,
         };
-        Ok((shared, passes))
+        Ok((shared, passes, begun))
     }
 
     /// Takes the tables out of their locks. Takes no memory. O(tables).

@@ -20,7 +20,8 @@ pub struct Locks<'a> {
 /// Empty tables, with passes of two sessions.
 fn tables(alloc: Global, input: &Input) -> Result<(Shared<OpenGate>, Vec<Pass>), AllocError> {
     let schema = input.schema(alloc).map_err(|_| AllocError)?;
-    Shared::new(alloc, schema, 2, OpenGate)
+    let (shared, passes, _) = Shared::new(alloc, schema, 2, OpenGate)?;
+    Ok((shared, passes))
 }
 
 /// The journals' text.

@@ -32,7 +32,8 @@ fn tables(
     workers: u32,
 ) -> Result<(Shared<OpenGate>, Vec<Pass>), AllocError> {
     let schema = input.schema(alloc).map_err(|_| AllocError)?;
-    Shared::new(alloc, schema, workers, OpenGate)
+    let (shared, passes, _) = Shared::new(alloc, schema, workers, OpenGate)?;
+    Ok((shared, passes))
 }
 
 /// How a service ends whose listener does not wait.

@@ -42,7 +42,7 @@ pub fn serve_connections<
     ensures fault { IfErr result (λ fault. status_of fault ≢ 2) }
 {
     let schema = schema_of(rt, Some(serving.schema))?;
-    let (shared, passes) = Shared::new(rt.alloc(), schema, serving.workers, OpenGate)?;
+    let (shared, passes, _) = Shared::new(rt.alloc(), schema, serving.workers, OpenGate)?;
     let listening = match rt.listen(serving.listen) {
         Ok(listening) => listening,
         Err(error) if error.kind() == ErrorKind::OutOfMemory => return Err(Fault::Memory),
