@@ -1,13 +1,14 @@
 //! A log's disk in a file.
 
-ghost use Rattle.std.specs.Prelude.{◌≡◌, ◌+◌, ◌≤◌, ◌<◌, ◌^◌, ℕ, List, Some, OnErr, OnOk, length, take, option_map};
+ghost use Rattle.std.specs.Prelude.{◌≡◌, ◌+◌, ◌≤◌, ◌<◌, ◌^◌, ℕ, List, Some, IfOk, OnErr, OnOk, length, take, option_map};
 ghost use Rattle.std.specs.Io.{WritesAtMost};
 ghost use Rattle.table_engine.specs.Devices.{failures_after, raised};
-ghost use Rattle.table_log.specs.Disk.{Cuts, synced_after};
-ghost use Rattle.file_disk.specs.File.{counted_after, written};
+ghost use Rattle.table_log.specs.Disk.{AppendsAll, Cuts, Reads, synced_after};
+ghost use Rattle.file_disk.specs.File.{IsThere, LacksBack, counted_after, written};
 
-use crate::again;
+use crate::again::{read_again, write_again};
 use crate::file::LogFile;
+use std::alloc::AllocError;
 use std::io;
 use table_log::{Disk, DiskFailed};
 
@@ -71,23 +72,51 @@ impl<F: LogFile> FileDisk<F> {
         ensures synced { self.new.synced ≡ self.old.synced }
         ensures failures { self.new.failures ≡ self.old.failures }
     {
-        let put = again::write(&mut self.file, bytes);
+        let put = write_again(&mut self.file, self.size, bytes);
         if let Ok(taken) = &put {
             self.size += *taken as u64;
         }
         put
     }
 
-    // Takes away what stands behind the first bytes.
-    fn shorten(&mut self, count: u64) -> io::Result<()>
+    /// Takes away what stands behind the first bytes, and leaves it to a sync to make sure of that. O(1).
+    pub fn shorten(&mut self, count: u64) -> Result<(), DiskFailed>
         requires { count ≤ self.old.size }
         ensures cut { OnOk result (F.contents self.new.file ≡ option_map (take count) (F.contents self.old.file) × (self.new.size ≡ count)) }
         ensures kept { OnErr result ((F.contents self.new.file ≡ F.contents self.old.file) × (self.new.size ≡ self.old.size)) }
-        ensures failures { self.new.failures ≡ self.old.failures }
+        ensures synced { self.new.synced ≡ self.old.synced }
+        ensures failures { self.new.failures ≡ failures_after result self.old.failures }
         ensures settles { F.settles self.new.file ≡ F.settles self.old.file }
     {
-        self.file.shorten(count)?;
+        if self.file.shorten(count).is_err() {
+            return Err(self.fail());
+        }
         self.size = count;
+        Ok(())
+    }
+
+    /// Writes bytes over themselves, as they stand from a place on, and leaves it to a sync to make sure of them. The file's bytes stay, at an `Err` too. O(bytes).
+    pub fn rewrite(&mut self, at: u64, bytes: &[u8]) -> Result<(), DiskFailed>
+        requires within { at + length bytes.now ≤ self.old.size }
+        requires there { IsThere (F.contents self.old.file) at bytes.now }
+        ensures contents { F.contents self.new.file ≡ F.contents self.old.file }
+        ensures size { self.new.size ≡ self.old.size }
+        ensures synced { self.new.synced ≡ self.old.synced }
+        ensures failures { self.new.failures ≡ failures_after result self.old.failures }
+        ensures settles { F.settles self.new.file ≡ F.settles self.old.file }
+    {
+        let mut place = at;
+        let mut rest = bytes;
+        while !rest.is_empty() {
+            match write_again(&mut self.file, place, rest) {
+                Err(_) | Ok(0) => return Err(self.fail()),
+                Ok(written) => {
+                    let (_, behind) = rest.split_at(written);
+                    place += written as u64;
+                    rest = behind;
+                }
+            }
+        }
         Ok(())
     }
 }
@@ -109,7 +138,15 @@ impl<F: LogFile> Disk for FileDisk<F> {
         self.synced
     }
 
-    fn read(&mut self, at: u64, piece: &mut [u8]) -> Result<usize, DiskFailed> {
+    fn read(&mut self, at: u64, piece: &mut [u8]) -> Result<usize, DiskFailed>
+        requires { at ≤ self.old.size }
+        ensures bytes { IfOk result (λ count. Reads (F.contents self.old.file) self.old.size at (length piece.old) piece.new count) }
+        ensures contents { F.contents self.new.file ≡ F.contents self.old.file }
+        ensures size { self.new.size ≡ self.old.size }
+        ensures synced { self.new.synced ≡ self.old.synced }
+        ensures failures { self.new.failures ≡ failures_after result self.old.failures }
+        ensures settles { F.settles self.new.file ≡ F.settles self.old.file }
+    {
         let left = self.size - at;
         let room = if left < piece.len() as u64 {
             left as usize
@@ -119,13 +156,23 @@ impl<F: LogFile> Disk for FileDisk<F> {
         if room == 0 {
             return Ok(0);
         }
-        match again::read(&mut self.file, at, &mut piece[..room]) {
+        match read_again(&mut self.file, at, &mut piece[..room]) {
             Ok(0) | Err(_) => Err(self.fail()),
             Ok(count) => Ok(count),
         }
     }
 
-    fn append(&mut self, bytes: &[u8]) -> Result<(), DiskFailed> {
+    fn reserve(&mut self, _count: usize) -> Result<(), AllocError> {
+        Ok(())
+    }
+
+    fn append(&mut self, bytes: &[u8]) -> Result<(), DiskFailed>
+        ensures contents { AppendsAll result (F.contents self.old.file) (F.contents self.new.file) bytes.now }
+        ensures size { OnOk result (self.new.size ≡ self.old.size + length bytes.now) }
+        ensures synced { self.new.synced ≡ self.old.synced }
+        ensures failures { self.new.failures ≡ failures_after result self.old.failures }
+        ensures short { OnErr result (LacksBack (F.contents self.old.file) (F.contents self.new.file) self.old.size self.new.size bytes.now) }
+    {
         if self.size.checked_add(bytes.len() as u64).is_none() {
             return Err(self.fail());
         }
@@ -162,9 +209,7 @@ impl<F: LogFile> Disk for FileDisk<F> {
         ensures failures { self.new.failures ≡ failures_after result self.old.failures }
         ensures settles { OnOk result (F.settles self.new.file ≡ raised (F.settles self.old.file)) }
     {
-        if self.shorten(count).is_err() {
-            return Err(self.fail());
-        }
+        self.shorten(count)?;
         self.sync()
     }
 

@@ -1,13 +1,13 @@
 //! The file that a log is kept in.
 
-ghost use Rattle.std.specs.Prelude.{◌≡◌, ℕ, List, Option, IfOk, OnErr, OnOk, option_map, take, length};
+ghost use Rattle.std.specs.Prelude.{◌≡◌, ◌≤◌, ℕ, List, Option, Some, IfOk, OnErr, OnOk, option_map, take, length};
 ghost use Rattle.std.specs.Io.{ReadsAtMost, WritesAtMost};
 ghost use Rattle.table_engine.specs.Devices.{raised};
-ghost use Rattle.file_disk.specs.File.{ReadsFrom, written};
+ghost use Rattle.file_disk.specs.File.{ReadsFrom, written_at};
 
 use std::io;
 
-/// A file that is read at any place, and written at its end alone.
+/// A file that is read and written at any place. It must not be open for appending, where a system writes behind the other bytes whatever the place.
 pub trait LogFile: Drop {
     /// Its bytes, where they are known.
     ghost contents: { Self → Option (List ℕ) };
@@ -20,12 +20,15 @@ pub trait LogFile: Drop {
         ensures bound { ReadsAtMost result piece.new }
         ensures room { length piece.new ≡ length piece.old }
         ensures bytes { IfOk result (λ count. ReadsFrom (contents self.old) at piece.new count) }
-        ensures kept { contents self.new ≡ contents self.old };
+        ensures kept { contents self.new ≡ contents self.old }
+        ensures settles { settles self.new ≡ settles self.old };
 
-    /// Writes bytes behind the others, in one call, as many as it likes.
-    fn write_behind(&mut self, bytes: &[u8]) -> io::Result<usize>
+    /// Writes bytes from a place on, over what stands there and behind it, in one call, as many as it likes.
+    fn write_at(&mut self, at: u64, bytes: &[u8]) -> io::Result<usize>
+        requires { (known : List ℕ) → contents self.old ≡ Some known → at ≤ length known }
         ensures bound { WritesAtMost result bytes.now }
-        ensures bytes { contents self.new ≡ written result bytes.now (contents self.old) };
+        ensures bytes { contents self.new ≡ written_at result at bytes.now (contents self.old) }
+        ensures settles { settles self.new ≡ settles self.old };
 
     /// Takes away what stands behind the first bytes.
     fn shorten(&mut self, count: u64) -> io::Result<()>

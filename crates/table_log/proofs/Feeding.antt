@@ -10,7 +10,7 @@ use Rattle.table_log.specs.declared.fault.OpenWhy.TheVariants as whys
 use Rattle.table_log.specs.declared.loading.Loader.{Loader}
 use Rattle.table_log.specs.Log.{IsLoaded, IsLog, IsRefused, after_line, after_lines, begun, whole_lines}
 use Rattle.table_log.specs.Loading.{IsLoading, IsUnloaded, Loads, LoadsLine, LoadsTo, Refuses, RefusesFrom, RefusesLine}
-use Rattle.table_log.specs.Logged.{IsOpened}
+use Rattle.table_log.specs.Loaded.{IsReplayed}
 use Rattle.table_log.proofs.Lines.{begun-byte, begun-newline, front_lines, keeps, kept_bytes, whole-byte, whole-newline}
 use Rattle.table_log.proofs.Replays.{after_more, loads}
 
@@ -114,20 +114,16 @@ pub refuses_from : (contents : Option (List ℕ)) (piece : List ℕ) (at count :
     → ((known : List ℕ) → contents ≡ Some known → take count piece ≡ take count (drop at known)) → Refuses old (take count piece) why → RefusesFrom contents at old why
 refuses_from contents piece at count old why is go = refuses_by contents piece at count old why is go
 
--- ---- opening
+-- ---- what stands behind the whole lines
 
-pub opened : (start : TableState) (bytes : List ℕ) (loader : Loader) (size torn : ℕ) (new : Option (List ℕ)) → IsLoading start bytes loader
-    → size ≡ length bytes → torn ≡ length loader.line.items → new ≡ option_map (take (size - torn)) (Some bytes) → IsOpened start bytes torn new loader.table
-opened start bytes loader size torn new h all line is =
+pub replayed_by : (start : TableState) (bytes : List ℕ) (loader : Loader) (torn : ℕ) → IsLoading start bytes loader → torn ≡ length loader.line.items
+    → IsReplayed start bytes torn loader.table
+replayed_by start bytes loader torn h line =
     let k = keeps bytes in
     let behind : torn ≡ length (begun bytes) = line ∙ ap length (sym h.line) in
-    let first : take (size - torn) bytes ≡ k.0 = ap (λ n. take (n - torn) bytes) all ∙ kept_bytes bytes k.0 torn k.1 behind in
-    let count : length bytes ≡ length k.0 + length (begun bytes) = ap length k.1.cuts ∙ length-append k.0 (begun bytes) in
     record {
-      kept = k.0;
-      is_kept = is ∙ ap Some first;
-      loaded = loads start bytes k.0 loader.table k.1 h.table;
-      cut_off = omega (arith, count, behind);
+      behind = behind;
+      loaded = subst (λ xs. IsLoaded start bytes xs loader.table) (sym (kept_bytes bytes k.0 torn k.1 behind)) (loads start bytes k.0 loader.table k.1 h.table);
     }
 
 -- ---- all bytes of a disk
@@ -182,25 +178,11 @@ around piece i h = sym (take-append-drop i piece) ∙ ap (λ xs. take i piece ++
 
 -- ---- what a cut leaves
 
-pub opened_known : (start : TableState) (contents new : Option (List ℕ)) (loader : Loader) (size torn : ℕ) (bytes : List ℕ) → contents ≡ Some bytes
-    → IsLoading start bytes loader → size ≡ length bytes → torn ≡ length loader.line.items → new ≡ option_map (take (size - torn)) contents → IsOpened start bytes torn new loader.table
-opened_known start contents new loader size torn bytes known h all line is =
-    opened start bytes loader size torn new h all line (is ∙ ap (option_map (take (size - torn))) known)
-
-pub opened_log : (start : TableState) (contents new : Option (List ℕ)) (loader : Loader) (size torn : ℕ)
-    → ((bytes : List ℕ) → contents ≡ Some bytes → IsLoading start bytes loader) → ((bytes : List ℕ) → contents ≡ Some bytes → size ≡ length bytes)
-    → torn ≡ length loader.line.items → new ≡ option_map (take (size - torn)) contents → (bytes : List ℕ) → new ≡ Some bytes → IsLog start bytes loader.table
-opened_log start None new loader size torn go counted line is bytes known = absurd (cc)
-opened_log start (Some b) new loader size torn go counted line is bytes known =
-    let o = opened start b loader size torn new (go b refl) (counted b refl) line is in
-    let there : new ≡ Some o.kept = o.is_kept in
-    let same : o.kept ≡ bytes = cc in
-    subst (λ xs. IsLog start xs loader.table) same o.loaded.log
-
-pub unopened : (start : TableState) (contents new : Option (List ℕ)) (loader : Loader) (size torn : ℕ) (bytes : List ℕ) → contents ≡ Some bytes
-    → IsLoading start bytes loader → size ≡ length bytes → torn ≡ length loader.line.items → (new ≡ contents) ⊎ (new ≡ option_map (take (size - torn)) contents)
-    → (new ≡ Some bytes) ⊎ ((kept : List ℕ) × (table : TableState) × (new ≡ Some kept) × IsLoaded start bytes kept table)
-unopened start contents new loader size torn bytes known h all line (inl e) = inl (e ∙ known)
-unopened start contents new loader size torn bytes known h all line (inr e) =
-    let o = opened_known start contents new loader size torn bytes known h all line e in
-    inr (o.kept, loader.table, o.is_kept, o.loaded)
+pub settled_by : (start : TableState) (contents new : Option (List ℕ)) (size torn : ℕ) (table : TableState)
+    → ((bytes : List ℕ) → contents ≡ Some bytes → IsReplayed start bytes torn table) → ((bytes : List ℕ) → contents ≡ Some bytes → size ≡ length bytes)
+    → new ≡ option_map (take (size - torn)) contents → (bytes : List ℕ) → new ≡ Some bytes → IsLog start bytes table
+settled_by start None new size torn table go counted is bytes known = absurd (cc)
+settled_by start (Some b) new size torn table go counted is bytes known =
+    let there : new ≡ Some (take (length b - torn) b) = is ∙ ap (λ n. Some (take (n - torn) b)) (counted b refl) in
+    let same : take (length b - torn) b ≡ bytes = cc in
+    subst (λ xs. IsLog start xs table) same (go b refl).loaded.log

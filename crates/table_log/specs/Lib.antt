@@ -3,3 +3,4 @@ pub mod Crash
 pub mod Disk
 pub mod Logged
 pub mod Loading
+pub mod Loaded

@@ -5,7 +5,7 @@ use Rattle.table_log.specs.declared.fault.OpenWhy.{OpenWhy}
 use Rattle.table_log.specs.declared.fault.OpenWhy.TheVariants as whys
 use Rattle.table_log.specs.declared.loading.Loader.{Loader}
 use Rattle.table_log.specs.Log.{IsRefused, after_line, begun, replayed, whole_lines}
-use Rattle.table_log.specs.Logged.{failures_after_open}
+use Rattle.table_engine.specs.Devices.{raised}
 
 -- the table after the whole lines of these bytes, how many they are, and what stands behind them
 pub record IsLoading (start : TableState) (seen : List ℕ) (loader : Loader) : Type 0 where
@@ -63,7 +63,13 @@ IsUnloaded start bytes whys.Disk = Unit {0}
 abbrev pub RefusesFrom : Option (List ℕ) → ℕ → Loader → OpenWhy → Type 0
 RefusesFrom contents at old why = (start : TableState) (bytes : List ℕ) → contents ≡ Some bytes → IsLoading start (take at bytes) old → IsUnloaded start bytes why
 
--- the failures of a disk that was loaded
+-- the failures of a disk whose log was not loaded
+abbrev pub failures_after_why : OpenWhy → ℕ → ℕ
+failures_after_why (whys.Line number) count = count
+failures_after_why whys.Memory count = count
+failures_after_why whys.Disk count = raised count
+
+-- the failures of a disk that was loaded, or not
 abbrev pub failures_after_load : {T : Type 0} → Result T OpenWhy → ℕ → ℕ
 failures_after_load (Ok x) count = count
-failures_after_load (Err why) count = failures_after_open why count
+failures_after_load (Err why) count = failures_after_why why count

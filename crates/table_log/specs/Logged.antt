@@ -8,9 +8,7 @@ use Rattle.table_engine.specs.Devices.{IsFront, raised}
 use Rattle.table_reply.specs.Answer.{answer_text}
 use Rattle.table_schema.specs.Shape.{TableShape}
 use Rattle.table_step.specs.Step.{TableState, memory_line, new_table, step_of}
-use Rattle.table_log.specs.declared.fault.OpenWhy.{OpenWhy}
-use Rattle.table_log.specs.declared.fault.OpenWhy.TheVariants as whys
-use Rattle.table_log.specs.Log.{IsLoaded, IsLog, IsRefused, after_command, replayed}
+use Rattle.table_log.specs.Log.{IsLog, after_command, replayed}
 
 -- what a clause sees of it: the declaration of the empty table that the log begins with, unless it begins with another table, the table, the
 -- log's bytes where they are known, how many they are and how many of them are synced, how often the disk failed, and whether the log is over
@@ -29,34 +27,6 @@ pub record IsKept (log : LogData) : Type 0 where
   pub is_empty : (shape : TableShape) → log.declared ≡ Some shape → start ≡ new_table shape
   pub stands : (bytes : List ℕ) → log.bytes ≡ Some bytes → log.is_over ≡ false → IsLog start bytes log.table
   pub loads : (bytes : List ℕ) → log.bytes ≡ Some bytes → IsSome (replayed start bytes)
-
--- ---- opening
-
--- The whole lines are kept and leave the table, and so many bytes behind them were cut off.
-pub record IsOpened (start : TableState) (bytes : List ℕ) (torn : ℕ) (new : Option (List ℕ)) (table : TableState) : Type 0 where
-  pub kept : List ℕ
-  pub is_kept : new ≡ Some kept
-  pub loaded : IsLoaded start bytes kept table
-  pub cut_off : length bytes ≡ length kept + torn
-
--- it begins with the empty table of this declaration, or with another, all of it is synced, and it is not over
-pub record IsSettled (declared : Option TableShape) (failures : ℕ) (log : LogData) : Type 0 where
-  pub begins : log.declared ≡ declared
-  pub synced : log.synced ≡ log.size
-  pub works : log.failures ≡ failures
-  pub stands : log.is_over ≡ false
-
--- why a log was not opened, and its bytes then
-abbrev pub IsUnopened : TableState → List ℕ → OpenWhy → Option (List ℕ) → Type 0
-IsUnopened start old (whys.Line number) new = IsRefused start old number × (new ≡ Some old)
-IsUnopened start old whys.Memory new = new ≡ Some old
-IsUnopened start old whys.Disk new = (new ≡ Some old) ⊎ ((kept : List ℕ) × (table : TableState) × (new ≡ Some kept) × IsLoaded start old kept table)
-
--- the failures of the disk after that
-abbrev pub failures_after_open : OpenWhy → ℕ → ℕ
-failures_after_open (whys.Line number) count = count
-failures_after_open whys.Memory count = count
-failures_after_open whys.Disk count = raised count
 
 -- ---- calls
 

@@ -5,6 +5,7 @@ ghost use Rattle.table_engine.specs.Devices.{failures_after};
 ghost use Rattle.table_log.specs.Disk.{AppendsAll, Cuts, Reads, synced_after};
 
 use crate::fault::DiskFailed;
+use std::alloc::AllocError;
 
 /// Bytes that are appended, and how many of the first of them are synced. A crash leaves the synced ones.
 pub trait Disk: Drop {
@@ -36,6 +37,13 @@ pub trait Disk: Drop {
         ensures size { size self.new ≡ size self.old }
         ensures synced { synced self.new ≡ synced self.old }
         ensures failures { failures self.new ≡ failures_after result (failures self.old) };
+
+    /// Takes the memory that an append of so many bytes needs.
+    fn reserve(&mut self, count: usize) -> Result<(), AllocError>
+        ensures contents { contents self.new ≡ contents self.old }
+        ensures size { size self.new ≡ size self.old }
+        ensures synced { synced self.new ≡ synced self.old }
+        ensures failures { failures self.new ≡ failures self.old };
 
     /// Puts bytes behind the others. At an `Err` a front of them is there.
     fn append(&mut self, bytes: &[u8]) -> Result<(), DiskFailed>

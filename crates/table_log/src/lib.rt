@@ -4,6 +4,7 @@
 mod disk;
 mod fault;
 mod law;
+mod loaded;
 mod loading;
 mod logged;
 mod memory;
@@ -11,5 +12,6 @@ mod memory;
 pub use disk::Disk;
 pub use fault::{DiskFailed, OpenFault, OpenWhy, Over};
 pub use law::crash_keeps_synced;
-pub use logged::{LoggedTable, Mark, Opened};
+pub use loaded::{Loaded, Opened};
+pub use logged::{LoggedTable, Mark};
 pub use memory::MemoryDisk;

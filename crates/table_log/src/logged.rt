@@ -1,18 +1,14 @@
 //! A table with its log.
 
-ghost use Rattle.std.specs.Prelude.{◌≡◌, ◌+◌, ◌≤◌, ◌↔◌, false, true, if◌then◌else◌, ℕ, List, None, Some, IfErr, IfOk, IsSome, IsTrue, OnErr, OnOk, length};
+ghost use Rattle.std.specs.Prelude.{◌≡◌, ◌+◌, ◌≤◌, ◌↔◌, false, true, if◌then◌else◌, IsSome, IsTrue, OnErr, OnOk, length};
 ghost use Rattle.command_lines.specs.Fits.{CommandFits};
 ghost use Rattle.table_changes.specs.Change.{is_change};
 ghost use Rattle.table_reply.specs.Ready.{IsBehind};
-ghost use Rattle.table_schema.specs.Shape.{TableShape};
-ghost use Rattle.table_step.specs.Step.{new_table};
-ghost use Rattle.table_log.specs.Loading.{failures_after_load};
-ghost use Rattle.table_log.specs.Log.{IsLog, after_command};
-ghost use Rattle.table_log.specs.Logged.{AppendsAnswer, IsKept, IsOpened, IsSettled, IsUnopened, Stops, Tells, failed_log, failures_after_open, log_line, synced_log};
+ghost use Rattle.table_log.specs.Log.{after_command};
+ghost use Rattle.table_log.specs.Logged.{AppendsAnswer, IsKept, Stops, Tells, failed_log, log_line, synced_log};
 
 use crate::disk::Disk;
-use crate::fault::{OpenFault, OpenWhy, Over};
-use crate::loading::load;
+use crate::fault::Over;
 use command_text::write_command;
 use std::alloc::Global;
 use std::marker::Model;
@@ -25,12 +21,12 @@ use table_step::{Outcome, Table, is_change, refuse_memory};
 #[derive(Drop)]
 pub struct LoggedTable<D: Disk> {
     // The declaration of the empty table that the log begins with.
-    declared: Option<TableSpec>,
-    table: Table,
-    disk: D,
-    line: Out,
-    is_over: bool,
-    alloc: Global,
+    pub(crate) declared: Option<TableSpec>,
+    pub(crate) table: Table,
+    pub(crate) disk: D,
+    pub(crate) line: Out,
+    pub(crate) is_over: bool,
+    pub(crate) alloc: Global,
 }
 
 impl<D: Disk> Model for LoggedTable<D> {
@@ -41,13 +37,6 @@ impl<D: Disk> Model for LoggedTable<D> {
     ghost view = { λ l. record { declared = l.declared; table = l.table; bytes = D.contents l.disk; size = D.size l.disk; synced = D.synced l.disk; failures = D.failures l.disk; is_over = l.is_over } };
 
     ghost invariant = { λ l. IsKept (record { declared = l.declared; table = l.table; bytes = D.contents l.disk; size = D.size l.disk; synced = D.synced l.disk; failures = D.failures l.disk; is_over = l.is_over }) };
-}
-
-/// A log that was opened, and how many bytes were cut off at its end.
-#[derive(Drop)]
-pub struct Opened<D: Disk> {
-    pub logged: LoggedTable<D>,
-    pub torn: u64,
 }
 
 /// How long a log was when an answer was given.
@@ -65,119 +54,24 @@ fn set_line(alloc: Global, command: &Command, line: &mut Out) -> Result<(), OutO
     line.try_push(b"\n")
 }
 
-// The table that a log leaves, and how many bytes were cut off.
-#[derive(Drop)]
-struct Prepared {
-    table: Table,
-    torn: u64,
-}
-
-// Loads a disk's log on a table, and cuts off what stands behind its whole lines.
-fn prepare<D: Disk>(alloc: Global, start: Table, disk: &mut D) -> Result<Prepared, OpenWhy>
-    ensures opened { IfOk result (λ prepared. (bytes : List ℕ) → D.contents disk.old ≡ Some bytes
-        → IsOpened start bytes prepared.torn (D.contents disk.new) prepared.table) }
-    ensures log { IfOk result (λ prepared. (bytes : List ℕ) → D.contents disk.new ≡ Some bytes → IsLog start bytes prepared.table) }
-    ensures synced { OnOk result (D.synced disk.new ≡ D.size disk.new) }
-    ensures unopened { IfErr result (λ why. (bytes : List ℕ) → D.contents disk.old ≡ Some bytes → IsUnopened start bytes why (D.contents disk.new)) }
-    ensures failures { D.failures disk.new ≡ failures_after_load result (D.failures disk.old) }
-{
-    let loader = match load(alloc, start, disk) {
-        Ok(loader) => loader,
-        Err(why) => return Err(why),
-    };
-    let end = disk.size();
-    let torn = loader.line.len() as u64;
-    match disk.cut(end - torn) {
-        Ok(()) => Ok(Prepared {
-            table: loader.table,
-            torn,
-        }),
-        Err(_) => Err(OpenWhy::Disk),
-    }
-}
-
-// Loads a disk's log on a table: the empty one of a declaration, or another.
-fn open_from<D: Disk>(
+// Puts the line of a write into a buffer, and takes the memory that a disk needs to append it.
+fn ready_line<D: Disk>(
     alloc: Global,
-    start: Table,
-    declared: Option<TableSpec>,
-    disk: D,
-) -> Result<Opened<D>, OpenFault<D>>
-    requires { (shape : TableShape) → declared ≡ Some shape → start ≡ new_table shape }
-    ensures opened { IfOk result (λ opened. (bytes : List ℕ) → D.contents disk ≡ Some bytes → IsOpened start bytes opened.torn opened.logged.bytes opened.logged.table) }
-    ensures settled { IfOk result (λ opened. IsSettled declared (D.failures disk) opened.logged) }
-    ensures unopened { IfErr result (λ fault. (bytes : List ℕ) → D.contents disk ≡ Some bytes → IsUnopened start bytes fault.why (D.contents fault.disk)) }
-    ensures failures { IfErr result (λ fault. D.failures fault.disk ≡ failures_after_open fault.why (D.failures disk)) }
+    command: &Command,
+    line: &mut Out,
+    disk: &mut D,
+) -> Result<(), OutOfRoom>
+    ensures line { OnOk result (line.new.bytes ≡ log_line command.now) }
+    ensures contents { D.contents disk.new ≡ D.contents disk.old }
+    ensures size { D.size disk.new ≡ D.size disk.old }
+    ensures synced { D.synced disk.new ≡ D.synced disk.old }
+    ensures failures { D.failures disk.new ≡ D.failures disk.old }
 {
-    let Ok(line) = Out::new(alloc) else {
-        return Err(OpenFault {
-            disk,
-            why: OpenWhy::Memory,
-        });
-    };
-    let mut disk = disk;
-    match prepare(alloc, start, &mut disk) {
-        Ok(prepared) => Ok(Opened {
-            logged: LoggedTable {
-                declared,
-                table: prepared.table,
-                disk,
-                line,
-                is_over: false,
-                alloc,
-            },
-            torn: prepared.torn,
-        }),
-        Err(why) => Err(OpenFault { disk, why }),
-    }
-}
-
-// An empty table, and a copy of its declaration.
-#[derive(Drop)]
-struct Empty {
-    table: Table,
-    spec: TableSpec,
-}
-
-// The empty table of a declaration.
-fn new_empty(alloc: Global, spec: &TableSpec) -> Result<Empty, OpenWhy>
-    ensures made { IfOk result (λ made. (made.table ≡ new_table spec.now) × (made.spec ≡ spec.now)) }
-    ensures memory { IfErr result (λ why. why ≡ OpenWhy.Memory) }
-{
-    Ok(Empty {
-        table: Table::new(alloc, spec)?,
-        spec: spec.copy()?,
-    })
+    set_line(alloc, command, line)?;
+    disk.reserve(line.bytes().len()).map_err(|_| OutOfRoom)
 }
 
 impl<D: Disk> LoggedTable<D> {
-    /// Loads a disk's log into an empty table of this declaration. What stands behind the last newline, as a crash leaves it, is
-    /// cut off, and the rest is synced. A whole line that is no accepted write refuses it, with its number, and nothing is
-    /// changed. A log that is refused hands its disk back. O(bytes), and what the commands cost.
-    pub fn open(alloc: Global, spec: &TableSpec, disk: D) -> Result<Opened<D>, OpenFault<D>>
-        ensures opened { IfOk result (λ opened. (bytes : List ℕ) → D.contents disk ≡ Some bytes
-            → IsOpened (new_table spec.now) bytes opened.torn opened.logged.bytes opened.logged.table) }
-        ensures settled { IfOk result (λ opened. IsSettled (Some spec.now) (D.failures disk) opened.logged) }
-        ensures unopened { IfErr result (λ fault. (bytes : List ℕ) → D.contents disk ≡ Some bytes
-            → IsUnopened (new_table spec.now) bytes fault.why (D.contents fault.disk)) }
-        ensures failures { IfErr result (λ fault. D.failures fault.disk ≡ failures_after_open fault.why (D.failures disk)) }
-    {
-        match new_empty(alloc, spec) {
-            Ok(made) => open_from(alloc, made.table, Some(made.spec), disk),
-            Err(why) => Err(OpenFault { disk, why }),
-        }
-    }
-
-    /// Loads a disk's log as `open` does, on the table that it begins with, as a state of an earlier log leaves it.
-    pub fn open_on(alloc: Global, start: Table, disk: D) -> Result<Opened<D>, OpenFault<D>>
-        ensures opened { IfOk result (λ opened. (bytes : List ℕ) → D.contents disk ≡ Some bytes → IsOpened start bytes opened.torn opened.logged.bytes opened.logged.table) }
-        ensures settled { IfOk result (λ opened. IsSettled None (D.failures disk) opened.logged) }
-        ensures unopened { IfErr result (λ fault. (bytes : List ℕ) → D.contents disk ≡ Some bytes → IsUnopened start bytes fault.why (D.contents fault.disk)) }
-        ensures failures { IfErr result (λ fault. D.failures fault.disk ≡ failures_after_open fault.why (D.failures disk)) }
-    {
-        open_from(alloc, start, None, disk)
-    }
-
     /// The table. O(1).
     pub fn table(&self) -> &Table
         ensures { result.now ≡ self.now.table }
@@ -206,7 +100,7 @@ impl<D: Disk> LoggedTable<D> {
                 out,
             };
         }
-        if set_line(self.alloc, command, &mut self.line).is_err() {
+        if ready_line(self.alloc, command, &mut self.line, &mut self.disk).is_err() {
             let Told { what: _, out } = refuse_memory(out);
             return Told { what: Ok(()), out };
         }
@@ -274,6 +168,16 @@ impl<D: Disk> LoggedTable<D> {
         ensures { IsTrue result ↔ mark.bytes ≤ self.now.synced }
     {
         mark.bytes <= self.disk.synced()
+    }
+
+    /// The disk. O(1).
+    pub fn disk(&self) -> &D
+        ensures contents { D.contents result.now ≡ self.now.bytes }
+        ensures size { D.size result.now ≡ self.now.size }
+        ensures synced { D.synced result.now ≡ self.now.synced }
+        ensures failures { D.failures result.now ≡ self.now.failures }
+    {
+        &self.disk
     }
 
     /// The table's name. O(1).

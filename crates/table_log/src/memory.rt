@@ -5,6 +5,7 @@ ghost use Rattle.table_engine.specs.Devices.{raised};
 
 use crate::disk::Disk;
 use crate::fault::DiskFailed;
+use std::alloc::AllocError;
 
 /// A disk in memory, with room for so many bytes. An append that finds less room fails, and leaves what fits.
 #[derive(Drop)]
@@ -67,6 +68,10 @@ impl Disk for MemoryDisk {
         let count = piece.len().min(self.bytes.len() - start);
         piece[..count].copy_from_slice(&self.bytes[start..start + count]);
         Ok(count)
+    }
+
+    fn reserve(&mut self, count: usize) -> Result<(), AllocError> {
+        self.bytes.reserve(count.min(self.room))
     }
 
     fn append(&mut self, bytes: &[u8]) -> Result<(), DiskFailed> {

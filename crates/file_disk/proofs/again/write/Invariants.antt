@@ -1,5 +1,0 @@
-use Rattle.std.proofs.Common.{◌≡◌}
-use Rattle.file_disk.proofs.again.write.Given as goal
-
-abbrev pub invariant-loop : goal.invariant-loop
-invariant-loop g l = g.F.LogFile.contents l.file ≡ g.F.LogFile.contents l.fn.file
