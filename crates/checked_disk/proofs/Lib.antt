@@ -1,0 +1,4 @@
+pub mod Founds
+pub mod Pieces
+pub mod Logs
+pub mod Recovers

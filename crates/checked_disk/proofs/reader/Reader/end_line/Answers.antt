@@ -1,0 +1,55 @@
+use Rattle.std.proofs.Common.{◌≡◌, List, ℕ, [], ◌∷◌, ◌++◌, None, Some, refl, ap, sym, ◌∙◌, append-nil, append_assoc, arith}
+use Rattle.checked_log.specs.Line.{Entry}
+use Rattle.checked_log.specs.Read.{said}
+use Rattle.checked_log.specs.Recover.{walked, whole_entry, with_line}
+use Rattle.checked_log.specs.declared.walk.Walk.{Walk}
+use Rattle.checked_log.proofs.Walked.{line_room}
+use Rattle.checked_disk.specs.Plain.{found_from}
+use Rattle.checked_disk.proofs.Founds.{found_none, found_some}
+use Rattle.checked_disk.proofs.reader.Reader.end_line.Goals as goal
+
+pub returns-in_default : goal.returns-in_default
+returns-in_default c =
+    let mark = c.args.self.now.mark in
+    let w = c.args.self.now.walk in
+    let line = c.args.self.now.line.items in
+    let walk : c.take.new.self ≡ with_line mark w line = c.take.ensures.walk ∙ ap (with_line mark w) c.deref.ensures.value in
+    let none : whole_entry w line ≡ None = ap (whole_entry w) (sym c.deref.ensures.value) ∙ sym c.in_default.ensures.whole in
+    let room = line_room mark w line in
+    let before = c.requires in
+    record {
+      made = [];
+      plain = sym (append-nil c.args.self.now.plain.items);
+      mark = refl;
+      durable = refl;
+      place = refl;
+      line = c.clear.ensures.items;
+      room = rw walk (omega arith);
+      walk = λ lines. ap (λ (v : Walk). walked mark v lines) (sym walk);
+      texts = λ lines. found_none mark w line lines none ∙ ap (λ (v : Walk). found_from v lines) (sym walk);
+    }
+
+pub returns : goal.returns
+returns c =
+    let mark = c.args.self.now.mark in
+    let w = c.args.self.now.walk in
+    let line = c.args.self.now.line.items in
+    let e : Entry = said c.in-Some.said in
+    let made : List ℕ = e.write ++ (10 ∷ []) in
+    let walk : c.take.new.self ≡ with_line mark w line = c.take.ensures.walk ∙ ap (with_line mark w) c.deref.ensures.value in
+    let some : whole_entry w line ≡ Some e = ap (whole_entry w) (sym c.deref.ensures.value) ∙ sym c.in-Some.ensures.whole in
+    let room = line_room mark w line in
+    let before = c.requires in
+    record {
+      made = made;
+      plain =
+          c.in_ok-push.ensures.items ∙ ap (λ (l : List ℕ). l ++ (10 ∷ [])) c.in_ok-extend_from_slice.ensures.items
+          ∙ append_assoc c.args.self.now.plain.items e.write (10 ∷ []);
+      mark = refl;
+      durable = refl;
+      place = refl;
+      line = c.clear-2.ensures.items;
+      room = rw walk (omega arith);
+      walk = λ lines. ap (λ (v : Walk). walked mark v lines) (sym walk);
+      texts = λ lines. found_some mark w line lines e some ∙ ap (λ (v : Walk). made ++ found_from v lines) (sym walk);
+    }
