@@ -20,6 +20,9 @@ pub struct State {
     pub is_next: bool,
     /// How often it was synced.
     pub settles: usize,
+    /// From where and up to where it was written.
+    pub least: usize,
+    pub most: usize,
 }
 
 /// A file in memory, which fails as its state says.
@@ -27,6 +30,15 @@ pub struct State {
 pub struct Frail {
     pub state: State,
     settles: u64,
+}
+
+/// Puts bytes over those from a place on, and behind them. A place behind the last byte is the end.
+pub fn put_at(bytes: &mut Vec<u8>, at: usize, more: &[u8]) -> Result<(), AllocError> {
+    let start = at.min(bytes.len());
+    let over = more.len().min(bytes.len() - start);
+    let (front, rest) = more.split_at(over);
+    bytes[start..start + over].copy_from_slice(front);
+    bytes.extend_from_slice(rest)
 }
 
 impl State {
@@ -41,6 +53,8 @@ impl State {
             interrupts: false,
             is_next: true,
             settles: 0,
+            least: usize::MAX,
+            most: 0,
         })
     }
 
@@ -54,13 +68,18 @@ impl State {
         Ok(())
     }
 
-    // Adds bytes.
-    fn add(&mut self, bytes: &[u8]) -> io::Result<()> {
+    // Puts bytes over those from a place on, and behind them.
+    fn put(&mut self, at: usize, bytes: &[u8]) -> io::Result<()> {
         self.begin()?;
         if !bytes.is_empty() && self.room == 0 {
             return Err(io::Error::from(ErrorKind::StorageFull));
         }
-        self.bytes.extend_from_slice(bytes)?;
+        put_at(&mut self.bytes, at, bytes)?;
+        if !bytes.is_empty() {
+            self.synced = self.synced.min(at);
+            self.least = self.least.min(at);
+            self.most = self.most.max(at.saturating_add(bytes.len()));
+        }
         self.room = self.room.saturating_sub(bytes.len());
         Ok(())
     }
@@ -99,14 +118,15 @@ impl LogFile for Frail {
         Ok(count)
     }
 
-    fn write_behind(&mut self, bytes: &[u8]) -> io::Result<usize> {
+    fn write_at(&mut self, at: u64, bytes: &[u8]) -> io::Result<usize> {
         let count = bytes.len().min(self.state.room).min(self.state.at_a_time);
-        self.state.add(&bytes[..count])?;
+        self.state.put(at as usize, &bytes[..count])?;
         Ok(count)
     }
 
     fn shorten(&mut self, count: u64) -> io::Result<()> {
         self.state.bytes.truncate(count as usize);
+        self.state.synced = self.state.synced.min(count as usize);
         Ok(())
     }
 

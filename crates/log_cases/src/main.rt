@@ -18,17 +18,34 @@
 //!
 //! At its end stands what each file has.
 //!
+//! A case of the kind `checked` names a table, which it has over a disk that checks itself, in files:
+//! - `line TEXT`, `torn TEXT`, `zeros COUNT`, `cut COUNT`: the log at rest has this more behind it, or so many bytes less;
+//! - `mark keep`, `mark kept`, `mark none`, `mark strange`: the mark at rest is kept, or put back; or another stands in its place;
+//! - `syncs COUNT`, `room COUNT`, `pieces COUNT`, `slots COUNT`: so many syncs the log's file takes, once it is open, so many bytes, so many
+//!   at a time, and so many slots the mark's;
+//! - `open`, `call COMMAND`, `sync`; `close`: the log's bytes, and where they were written;
+//! - `ends`, `holes`, `flips`, `lines`: what starts make of the log at rest where it ends at each byte; where blocks of its end that no sync made
+//!   sure of are zeros; where a bit is turned over; where a line is missing, doubled, or exchanged with the next.
+//!
 //! What is told for want of memory is made again.
 #![tactic(auto)]
 
+mod calling;
+mod checked_case;
 mod frail;
 mod input;
 mod log_case;
+mod opening;
 mod report;
+mod rest;
 mod seat_case;
 mod sending;
+mod slots;
+mod starting;
+mod sweeps;
 mod words;
 
+use checked_case::tell_checked;
 use input::Input;
 use log_case::tell_log;
 use report::Report;
@@ -37,6 +54,7 @@ use std::alloc::Global;
 use std::io;
 use std::io::Write;
 use std::sync::Wait;
+use words::first_word;
 
 fn tell_cases<R: Print + Wait>(rt: &R, alloc: Global, input: &Input) -> io::Result<()> {
     let schema = match input.schema(alloc) {
@@ -47,10 +65,13 @@ fn tell_cases<R: Print + Wait>(rt: &R, alloc: Global, input: &Input) -> io::Resu
     for case in &input.cases {
         let mut report = Report::new(alloc);
         report.texts(&[b"=== ", &case.name, b"\n"])?;
-        if case.name.starts_with(b"log ") {
-            tell_log(alloc, &schema, &case.lines, &mut report)?;
-        } else {
-            tell_seats(rt, alloc, &schema, &case.lines, &mut report)?;
+        match first_word(&case.name) {
+            (b"log", _) => tell_log(alloc, &schema, &case.lines, &mut report)?,
+            (b"checked", text) => {
+                let (table, _) = first_word(text);
+                tell_checked(alloc, &schema, table, &case.lines, &mut report)?;
+            }
+            _ => tell_seats(rt, alloc, &schema, &case.lines, &mut report)?,
         }
         output.write_all(report.bytes())?;
     }

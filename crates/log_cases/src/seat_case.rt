@@ -1,6 +1,7 @@
 //! Sessions on several tables with their logs, each over a file.
 
 use crate::frail::{Frail, State};
+use crate::opening::open;
 use crate::report::Report;
 use crate::sending::{Given, Narrow};
 use crate::words::{add_bytes, first_word, number, place_of};
@@ -98,7 +99,7 @@ fn open_log(
     let size = file.bytes.len() as u64;
     let mut disk = FileDisk::new(Frail::new(file), size);
     for _ in 0..2 {
-        match LoggedTable::open(alloc, spec, disk) {
+        match open(alloc, spec, disk) {
             Ok(opened) => return Ok(Some(opened.logged)),
             Err(fault) => {
                 report.texts(&[b"  ", spec.name().as_bytes(), b":"])?;
