@@ -9,7 +9,7 @@ use Rattle.program_words.specs.declared.asked.WordsFault.{WordsFault}
 use Rattle.program_words.specs.declared.asked.WordsFault.TheVariants.{Words, Listen, Memory}
 use Rattle.keeper_words.specs.Keeper.{keeper}
 use Rattle.keeper_words.specs.declared.asked.Asked.{Asked}
-use Rattle.keeper_words.specs.declared.asked.Asked.TheVariants.{Keep, Compact}
+use Rattle.keeper_words.specs.declared.asked.Asked.TheVariants.{Keep, Compact, Export, Import, Upgrade}
 use Rattle.keeper_words.specs.declared.asked.When.{When}
 use Rattle.keeper_words.specs.declared.asked.When.TheVariants.{Each, Second, Never}
 use Rattle.keeper_words.specs.declared.read.Given.{Given}
@@ -30,15 +30,24 @@ pub record Serving : Type 0 where
   pub sync : When
   pub idle : ℕ
 
--- the tables whose states are written
+-- the tables of a folder
 pub record Tables : Type 0 where
   pub schema : List ℕ
   pub folder : List ℕ
+
+-- one of them
+pub record OneTable : Type 0 where
+  pub schema : List ℕ
+  pub folder : List ℕ
+  pub table : List ℕ
 
 -- what is asked for
 pub data Asking : Type 0 where
   keep : Serving → Asking
   compact : Tables → Asking
+  export : OneTable → Asking
+  import : OneTable → Asking
+  upgrade : Tables → Asking
 
 -- what the options say
 pub record Options : Type 0 where
@@ -49,6 +58,9 @@ pub record Options : Type 0 where
   pub sync : When
   pub idle : ℕ
   pub compact : Bool
+  pub export : Option (List ℕ)
+  pub import : Option (List ℕ)
+  pub upgrade : Bool
 
 -- the text of a flag that is set
 abbrev pub is_true : Option (List ℕ) → Bool
@@ -70,6 +82,9 @@ given_in rows =
       sync = sync;
       idle = idle;
       compact = is_true (first_of (codes "compact") rows);
+      export = first_of (codes "export") rows;
+      import = first_of (codes "import") rows;
+      upgrade = is_true (first_of (codes "upgrade") rows);
     })
     (option_and_then (number_in 0 1000000) (one_of (codes "idle") rows)))
     (option_and_then when_named (first_of (codes "sync") rows)))
@@ -88,14 +103,25 @@ serving_of options listen = record {
   idle = options.idle;
 }
 
--- what options ask for that say where to listen, or that states are to be written, and not both
-abbrev pub one_choice : Options → Bool → Option (List ℕ) → Option Asking
-one_choice options false (Some listen) = Some (keep (serving_of options listen))
-one_choice options true None = Some (compact (record { schema = options.schema; folder = options.folder }))
-one_choice options _ _ = None
+-- the tables of these options
+abbrev pub tables_of : Options → Tables
+tables_of options = record { schema = options.schema; folder = options.folder }
+
+-- the table of this name
+abbrev pub table_of : Options → List ℕ → OneTable
+table_of options table = record { schema = options.schema; folder = options.folder; table = table }
+
+-- what options ask for that have one of five words, and no other of them
+abbrev pub one_choice : Options → Option (List ℕ) → Bool → Option (List ℕ) → Option (List ℕ) → Bool → Option Asking
+one_choice options (Some listen) false None None false = Some (keep (serving_of options listen))
+one_choice options None true None None false = Some (compact (tables_of options))
+one_choice options None false (Some table) None false = Some (export (table_of options table))
+one_choice options None false None (Some table) false = Some (import (table_of options table))
+one_choice options None false None None true = Some (upgrade (tables_of options))
+one_choice options _ _ _ _ _ = None
 
 abbrev pub choice : Options → Option Asking
-choice options = one_choice options options.compact options.listen
+choice options = one_choice options options.listen options.compact options.export options.import options.upgrade
 
 -- what matches ask for
 abbrev pub asked_in : List Row → Option Asking
@@ -116,7 +142,10 @@ Gives asking (Keep keeping) =
       sync = keeping.sync;
       idle = keeping.idle;
     })))
-Gives asking (Compact compacting) = asking ≡ Some (compact (record { schema = compacting.schema.now; folder = compacting.folder.now }))
+Gives asking (Compact tables) = asking ≡ Some (compact (record { schema = tables.schema.now; folder = tables.folder.now }))
+Gives asking (Export one) = asking ≡ Some (export (record { schema = one.schema.now; folder = one.folder.now; table = one.table.now }))
+Gives asking (Import one) = asking ≡ Some (import (record { schema = one.schema.now; folder = one.folder.now; table = one.table.now }))
+Gives asking (Upgrade tables) = asking ≡ Some (upgrade (record { schema = tables.schema.now; folder = tables.folder.now }))
 
 -- serving is asked for at a text that is no address
 abbrev pub HasNoAddress : Option Asking → Type 0
@@ -139,6 +168,9 @@ giving_of given = record {
   sync = given.sync;
   idle = given.idle;
   compact = given.compact;
+  export = option_map (λ s. s.now) given.export;
+  import = option_map (λ s. s.now) given.import;
+  upgrade = given.upgrade;
 }
 
 -- the numbers lie in their bounds
@@ -148,4 +180,4 @@ AreBounded given = (1 ≤ given.workers) × (given.workers ≤ 256) × (given.id
 -- the same of an answer
 abbrev pub IsBounded : Asked → Type 0
 IsBounded (Keep keeping) = (1 ≤ keeping.workers) × (keeping.workers ≤ 256) × (keeping.idle ≤ 1000000)
-IsBounded (Compact compacting) = ⊤
+IsBounded _ = ⊤

@@ -36,13 +36,19 @@ keeper =
     (with_rule
     (with_rule
     (with_rule
+    (with_rule
+    (with_rule
+    (with_rule
     (with_rule no_option (required_named (codes "schema")))
     (option_named (codes "listen")))
     (required_named (codes "data")))
     (number_named (codes "workers") (codes "16") 1 256))
     (default_named (codes "sync") (codes "each")))
     (number_named (codes "idle") (codes "0") 0 1000000))
-    (flag_named (codes "compact"))
+    (flag_named (codes "compact")))
+    (option_named (codes "export")))
+    (option_named (codes "import")))
+    (flag_named (codes "upgrade"))
 
 -- the words that ask for the version or for help are told it
 abbrev pub ShowsTexts : App → Type 0

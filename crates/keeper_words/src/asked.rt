@@ -35,7 +35,13 @@ pub enum Asked<'a> {
     /// Serve the tables, and keep them.
     Keep(Keeping<'a>),
     /// Write the tables' states, with an empty log behind each.
-    Compact(Compacting<'a>),
+    Compact(Tables<'a>),
+    /// Print the writes of a table's log.
+    Export(OneTable<'a>),
+    /// Take a journal into the log of an empty table.
+    Import(OneTable<'a>),
+    /// Take over a folder of an older program.
+    Upgrade(Tables<'a>),
 }
 
 /// Tables that are served and kept.
@@ -55,11 +61,22 @@ pub struct Keeping<'a> {
     pub idle: u32,
 }
 
-/// Tables whose states are written.
+/// The tables of a folder.
 #[derive(Clone, Copy, Debug, PartialEq, Eq)]
-pub struct Compacting<'a> {
+pub struct Tables<'a> {
     /// The file of the schema.
     pub schema: &'a str,
     /// The folder of the logs.
     pub folder: &'a str,
+}
+
+/// One table of a folder.
+#[derive(Clone, Copy, Debug, PartialEq, Eq)]
+pub struct OneTable<'a> {
+    /// The file of the schema.
+    pub schema: &'a str,
+    /// The folder of the logs.
+    pub folder: &'a str,
+    /// The table's name.
+    pub table: &'a str,
 }

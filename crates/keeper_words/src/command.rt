@@ -26,12 +26,7 @@ pub(crate) fn command<'a>(alloc: Global) -> Result<Command<'a>, AllocError>
         .after_help(EXAMPLES)
         .no_binary_name(true)
         .arg(required(alloc, "schema", "FILE", "Schema file of the tables"))?
-        .arg(option(
-            alloc,
-            "listen",
-            "ADDRESS",
-            "Where to listen: unix:PATH or tcp:IP:PORT",
-        ))?
+        .arg(listen(alloc))?
         .arg(required(
             alloc,
             "data",
@@ -41,7 +36,37 @@ pub(crate) fn command<'a>(alloc: Global) -> Result<Command<'a>, AllocError>
         .arg(workers(alloc))?
         .arg(sync(alloc))?
         .arg(idle(alloc))?
-        .arg(compact(alloc))
+        .arg(flag(
+            alloc,
+            "compact",
+            "In place of --listen: write the state of each table, with an empty log behind it, and end",
+        ))?
+        .arg(option(
+            alloc,
+            "export",
+            "NAME",
+            "In place of --listen: print the writes of this table's log, and end",
+        ))?
+        .arg(option(
+            alloc,
+            "import",
+            "NAME",
+            "In place of --listen: take a journal from standard input into this table, which is empty, and end",
+        ))?
+        .arg(flag(
+            alloc,
+            "upgrade",
+            "In place of --listen: take over a folder of an older program, and end",
+        ))
+}
+
+/// The option of the address.
+fn listen<'a>(alloc: Global) -> Arg<'a>
+    ensures rule { rule_of result ≡ option_named (codes "listen") }
+    ensures local { result.global ≡ false }
+{
+    let help = "Where to listen: unix:PATH or tcp:IP:PORT";
+    option(alloc, "listen", "ADDRESS", help)
 }
 
 /// The option of the number of threads.
@@ -88,17 +113,15 @@ fn idle<'a>(alloc: Global) -> Arg<'a>
     .default_value("0")
 }
 
-/// The word that stands in place of an address.
-fn compact<'a>(alloc: Global) -> Arg<'a>
-    ensures rule { rule_of result ≡ flag_named (codes "compact") }
+/// A word without a value.
+fn flag<'a>(alloc: Global, name: &'a str, help: &'a str) -> Arg<'a>
+    ensures rule { rule_of result ≡ flag_named name.entry.now }
     ensures local { result.global ≡ false }
 {
-    Arg::new(alloc, "compact")
-        .long("compact")
+    Arg::new(alloc, name)
+        .long(name)
         .action(ArgAction::SetTrue)
-        .help(
-            "In place of --listen: write the state of each table, with an empty log behind it, and end",
-        )
+        .help(help)
 }
 
 /// An option with one value, which has to be there.

@@ -7,7 +7,10 @@ pub(crate) const VERSION: &str = "0.1.0";
 pub(crate) const USAGE: &str = "\
 table_keeper --schema FILE --listen unix:PATH|tcp:IP:PORT --data FOLDER [--workers 1..256]
                     [--sync each|second|never] [--idle SECONDS]
-       table_keeper --schema FILE --data FOLDER --compact";
+       table_keeper --schema FILE --data FOLDER --compact
+       table_keeper --schema FILE --data FOLDER --export NAME
+       table_keeper --schema FILE --data FOLDER --import NAME
+       table_keeper --schema FILE --data FOLDER --upgrade";
 
 /// What stands at the end of the program's help.
 pub(crate) const EXAMPLES: &str = "\
@@ -18,6 +21,11 @@ Examples:
     table_keeper --schema tables.toml --listen tcp:127.0.0.1:7000 --data data --workers 64 --sync second --idle 600
   While it is stopped, write the state of each table in place of its log:
     table_keeper --schema tables.toml --data data --compact
+  Print the writes of a table's log, and take them into an empty table of another folder:
+    table_keeper --schema tables.toml --data data --export people > people.jsonl
+    table_keeper --schema tables.toml --data other --import people < people.jsonl
+  Take over a folder of an older table_keeper:
+    table_keeper --schema tables.toml --data data --upgrade
 
 It serves until it is ended by a signal. Every signal will do. The same words start it again with what was answered.
-With --compact in place of --listen it ends by itself. The other options are the same then, and no more than read.";
+With another of the five words in place of --listen it ends by itself. The other options are the same then, and no more than read.";

@@ -4,13 +4,13 @@ ghost use Rattle.clap.specs.Words.{found_of, one_text, rows_of};
 ghost use Rattle.program_words.specs.Asked.{SaysWords, number_in, texts};
 ghost use Rattle.keeper_words.specs.Asked.{AnswersFor, AreBounded, IsBounded, asked_in, asking_of, choice, given_in, giving_of, is_true, keep, serving_of};
 
-use crate::asked::{Asked, Compacting, Keeping, When};
+use crate::asked::{Asked, Keeping, OneTable, Tables, When};
 use crate::command::{command, fault_of};
 use clap::ArgMatches;
 use program_words::{Address, WordsFault};
 use std::alloc::Global;
 
-/// Reads the words that follow the program's name. They name an address, or `--compact`, and never both.
+/// Reads the words that follow the program's name. They name an address, `--compact`, `--export`, `--import` or `--upgrade`, and one of these alone.
 pub fn read_words<'a>(alloc: Global, words: &'a [String]) -> Result<Asked<'a>, WordsFault>
     ensures answers { AnswersFor (asking_of (texts words.entry.now)) result }
     ensures bounds { IfOk result IsBounded }
@@ -42,20 +42,50 @@ struct Given<'a> {
     sync: When,
     idle: u32,
     compact: bool,
+    export: Option<&'a str>,
+    import: Option<&'a str>,
+    upgrade: bool,
 }
 
-/// Which of the two the values ask for.
+/// Which of the five the values ask for.
 fn chosen<'a>(alloc: Global, given: &Given<'a>) -> Result<Asked<'a>, WordsFault>
     ensures answers { AnswersFor (choice (giving_of given.now)) result }
     ensures bounds { AreBounded given.now → IfOk result IsBounded }
 {
-    match given.listen {
-        Some(listen) if !given.compact => keeping(given, listen),
-        None if given.compact => Ok(Asked::Compact(Compacting {
-            schema: given.schema,
-            folder: given.folder,
-        })),
+    match (
+        given.listen,
+        given.compact,
+        given.export,
+        given.import,
+        given.upgrade,
+    ) {
+        (Some(listen), false, None, None, false) => keeping(given, listen),
+        (None, true, None, None, false) => Ok(Asked::Compact(tables(given))),
+        (None, false, Some(table), None, false) => Ok(Asked::Export(one_table(given, table))),
+        (None, false, None, Some(table), false) => Ok(Asked::Import(one_table(given, table))),
+        (None, false, None, None, true) => Ok(Asked::Upgrade(tables(given))),
         _ => Err(refused(alloc, NO_CHOICE)),
+    }
+}
+
+/// The tables of these values.
+fn tables<'a>(given: &Given<'a>) -> Tables<'a>
+    ensures { (result.schema.now ≡ given.now.schema.now) × (result.folder.now ≡ given.now.folder.now) }
+{
+    Tables {
+        schema: given.schema,
+        folder: given.folder,
+    }
+}
+
+/// The table of these values that has this name.
+fn one_table<'a>(given: &Given<'a>, table: &'a str) -> OneTable<'a>
+    ensures { (result.schema.now ≡ given.now.schema.now) × (result.folder.now ≡ given.now.folder.now) × (result.table.now ≡ table.now) }
+{
+    OneTable {
+        schema: given.schema,
+        folder: given.folder,
+        table,
     }
 }
 
@@ -90,6 +120,9 @@ fn given_by<'a>(options: &ArgMatches<'a>) -> Option<Given<'a>>
         sync: When::read(options.get_str("sync")?)?,
         idle: number(options, "idle", 0, 1_000_000)?,
         compact: is_set(options.get_str("compact")),
+        export: options.get_str("export"),
+        import: options.get_str("import"),
+        upgrade: is_set(options.get_str("upgrade")),
     })
 }
 
@@ -119,8 +152,9 @@ fn number(options: &ArgMatches, name: &str, least: u32, most: u32) -> Option<u32
 /// What is told where the value of `--sync` is none, which `clap` does not refuse itself.
 const NO_WHEN: &str = "error: --sync is each, second or never\n";
 
-/// What is told where neither of two words is there, or both.
-const NO_CHOICE: &str = "error: either --listen ADDRESS or --compact is needed, and not both\n";
+/// What is told where none of five words is there, or several.
+const NO_CHOICE: &str =
+    "error: one of --listen ADDRESS, --compact, --export NAME, --import NAME and --upgrade is needed, and no other of them\n";
 
 /// Words that `clap` does not refuse itself, with what is told of them.
 fn refused(alloc: Global, text: &str) -> WordsFault

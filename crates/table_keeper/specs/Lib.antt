@@ -1,2 +1,4 @@
+pub mod Ended
 pub mod Fault
+pub mod Names
 pub mod Request

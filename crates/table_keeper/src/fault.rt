@@ -1,11 +1,14 @@
 //! Why the program ends.
 ghost use Rattle.std.specs.Prelude.{◌≡◌};
-ghost use Rattle.table_keeper.specs.Fault.{of_schema, of_words, status_of};
+ghost use Rattle.table_keeper.specs.Fault.{of_opening, of_recovery, of_schema, of_words, status_of};
 
+use checked_disk::RecoverWhy;
+use checked_log::Refusal;
 use program_words::WordsFault;
 use std::alloc::{AllocError, AllocFailed};
 use std::io;
 use std::io::{ErrorKind, Write};
+use table_log::OpenWhy;
 use table_schema::SchemaFault;
 
 /// Why the program ends.
@@ -45,6 +48,18 @@ pub enum Fault {
     Missing(String),
     /// A state can't be written. The path.
     Unwritten(String),
+    /// Standard input can't be read.
+    Input,
+    /// Writes of a log that were known to be on the disk are not whole. The path, and the numbers of the first and the last of them.
+    Hurt(String, u64, u64),
+    /// A mark is of another log. The path of the mark.
+    Mark(String),
+    /// A log is one of an older program. The path of the log.
+    Old(String),
+    /// A log or a mark stands beside the files of an older program. The path.
+    Beside(String),
+    /// A journal is for a table that has a state or a write. The path of the log.
+    Filled(String),
 }
 
 impl Fault {
@@ -70,6 +85,14 @@ impl Fault {
             Fault::Lacking(path) => write!(faults, "state: too old for: {path}\n"),
             Fault::Missing(path) => write!(faults, "missing: {path}\n"),
             Fault::Unwritten(path) => write!(faults, "compact: {path}\n"),
+            Fault::Input => write!(faults, "device: read\n"),
+            Fault::Hurt(path, first, last) => {
+                write!(faults, "hurt: {path}: writes {first} to {last}\n")
+            }
+            Fault::Mark(path) => write!(faults, "mark: {path}: of another log\n"),
+            Fault::Old(path) => write!(faults, "old: {path}\n"),
+            Fault::Beside(path) => write!(faults, "old: others beside: {path}\n"),
+            Fault::Filled(path) => write!(faults, "filled: {path}\n"),
         };
         self.status()
     }
@@ -79,18 +102,47 @@ impl Fault {
         ensures { result ≡ status_of self.now }
     {
         match self {
-            Fault::File(_) | Fault::Output | Fault::Listen | Fault::Memory => 1,
+            Fault::File(_) | Fault::Output | Fault::Input | Fault::Listen | Fault::Memory => 1,
             Fault::Words(_) | Fault::Address => 2,
             Fault::Schema(_) | Fault::Declared(_) => 3,
             Fault::Log(_) => 5,
-            Fault::Line(_, _) => 6,
+            Fault::Line(_, _) | Fault::Hurt(_, _, _) => 6,
             Fault::Taken(_) => 7,
             Fault::StateLine(_, _)
             | Fault::State(_)
             | Fault::Behind(_)
             | Fault::Lacking(_)
-            | Fault::Missing(_) => 8,
+            | Fault::Missing(_)
+            | Fault::Mark(_)
+            | Fault::Old(_)
+            | Fault::Beside(_)
+            | Fault::Filled(_) => 8,
             Fault::Unwritten(_) => 9,
+        }
+    }
+
+    /// The fault of a log that is not opened, at this path.
+    pub(crate) fn of_opening(why: OpenWhy, path: String) -> Fault
+        ensures { result ≡ of_opening why path }
+    {
+        match why {
+            OpenWhy::Line(number) => Fault::Line(path, number),
+            OpenWhy::Memory => Fault::Memory,
+            OpenWhy::Disk => Fault::File(path),
+        }
+    }
+
+    /// The fault of a log that is not recovered, at this path and with its mark at that one.
+    pub(crate) fn of_recovery(why: RecoverWhy, path: String, mark: String) -> Fault
+        ensures { result ≡ of_recovery why path mark }
+    {
+        match why {
+            RecoverWhy::Memory => Fault::Memory,
+            RecoverWhy::Disk => Fault::File(path),
+            RecoverWhy::Refused(Refusal::Hurt { whole, durable }) => {
+                Fault::Hurt(path, whole.saturating_add(1), durable)
+            }
+            RecoverWhy::Refused(Refusal::Strange { number: _ }) => Fault::Mark(mark),
         }
     }
 

@@ -2,15 +2,13 @@
 
 use crate::declaration::{declares, text_of};
 use crate::fault::Fault;
+use crate::files::{FILE_MODE, make_empty, remove};
 use std::fs::{DirBuilder, File, OpenOptions, TryLockError};
-use std::io::{ErrorKind, Read, Write};
+use std::io::{ErrorKind, Write};
 use std::os::unix::fs::{DirBuilderExt, OpenOptionsExt};
 use std::time::Duration;
 use std::{fs, io, thread};
 use table_schema::{Schema, TableSpec};
-
-/// Who may read and write the files: their owner.
-pub(crate) const FILE_MODE: u32 = 0o600;
 
 /// Who may list and change the folder: its owner.
 const FOLDER_MODE: u32 = 0o700;
@@ -55,14 +53,6 @@ impl Folder {
         self.path.as_str()
     }
 
-    /// Refuses the declarations in the folder that are others than those of the schema.
-    pub(crate) fn check(&self, rt: &HostRuntime, schema: &Schema) -> Result<(), Fault> {
-        for table in schema.tables() {
-            self.check_table(rt, table)?;
-        }
-        Ok(())
-    }
-
     /// Whether the table's declaration is there. Another one is refused.
     pub(crate) fn check_table(&self, rt: &HostRuntime, table: &TableSpec) -> Result<bool, Fault> {
         let name = self.declaration_of(rt.alloc(), table.name())?;
@@ -86,6 +76,21 @@ impl Folder {
             }
         }
         self.sync(rt)
+    }
+
+    /// Removes what is not needed of a table: what was being written when a program was killed, and logs whose writes its state has.
+    pub(crate) fn clean(
+        &self,
+        rt: &HostRuntime,
+        table: &str,
+        spent: &[String],
+    ) -> Result<(), Fault> {
+        remove(rt, self.draft_of(rt.alloc(), table)?)?;
+        remove(rt, self.log_draft_of(rt.alloc(), table)?)?;
+        for path in spent {
+            remove(rt, path.clone()?)?;
+        }
+        Ok(())
     }
 
     /// Waits until the system has the folder's names where a crash leaves them.
@@ -141,12 +146,7 @@ fn sync_folder(rt: &HostRuntime, path: &str) -> io::Result<()> {
 
 // Writes a file under another name, and puts it at its own once the system has it.
 fn put(rt: &HostRuntime, part: &str, name: &str, bytes: &[u8]) -> io::Result<()> {
-    let mut file = OpenOptions::new()
-        .write(true)
-        .create(true)
-        .truncate(true)
-        .mode(FILE_MODE)
-        .open(rt, part)?;
+    let mut file = make_empty(rt, part)?;
     file.write_all(bytes)?;
     file.sync_all()?;
     fs::rename(rt, part, name)

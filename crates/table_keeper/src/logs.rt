@@ -1,172 +1,203 @@
-//! The states and the logs of a folder, and the tables that they leave.
+//! The logs of a folder, and the tables that they leave. Nothing is changed before all tables are decided.
 
 use crate::fault::Fault;
-use crate::folder::{FILE_MODE, Folder};
-use crate::old_logs::refuse_longer;
+use crate::files::{Found, find};
+use crate::folder::Folder;
+use crate::frame::types_of;
+use crate::logs_before::spent_logs;
+use crate::mark::{KeptMark, read_mark};
 use crate::shown::Shown;
-use crate::states::read_base;
-use crate::typed::types_line;
-use file_disk::FileDisk;
-use std::fs::{File, OpenOptions};
-use std::io::ErrorKind;
-use std::os::unix::fs::OpenOptionsExt;
-use std::{fs, io};
-use table_log::{LoggedTable, OpenWhy, Opened};
+use crate::states::{Base, Begin, read_begin};
+use checked_disk::{CheckedDisk, Found as Recovery};
+use checked_log::{Link, Marks, Recovered};
+use table_log::{Loaded, LoggedTable, Opened};
 use table_schema::{Schema, TableSpec};
+use table_step::Table;
 
-/// The disk of a log or of a state.
-pub(crate) type LogDisk = FileDisk<Shown>;
+/// The disk of a log.
+pub(crate) type LogDisk = CheckedDisk<Shown, KeptMark>;
+
+/// The log of a table as the folder has it.
+#[derive(Drop)]
+pub(crate) struct FoundLog {
+    pub(crate) disk: LogDisk,
+    pub(crate) about: About,
+    /// The table of the state that the log is behind, where there is one.
+    table: Option<Table>,
+}
+
+/// What is known of a table's log.
+#[derive(Drop)]
+pub(crate) struct About {
+    /// Its path.
+    pub(crate) path: String,
+    /// What it begins behind.
+    pub(crate) base: Base,
+    /// What is there of it.
+    pub(crate) recovered: Recovered,
+    /// The types of the table's columns.
+    pub(crate) types: String,
+    // The path of its mark, where that says nothing.
+    unmarked: Option<String>,
+    /// The paths of the logs before it that may go.
+    pub(crate) spent: Vec<String>,
+}
+
+// A table that is decided: it may be served, once its log is settled.
+#[derive(Drop)]
+struct Decided {
+    loaded: Loaded<LogDisk>,
+    about: About,
+}
 
 /// A table with its log, which is open.
 #[derive(Drop)]
 pub(crate) struct OpenLog {
     pub(crate) logged: LoggedTable<LogDisk>,
-    /// The path of the log.
-    pub(crate) path: String,
-    /// The write number of the state that the log is behind, where there is one.
-    pub(crate) state: Option<u64>,
-    /// The types of the table's columns.
-    pub(crate) types: String,
+    pub(crate) about: About,
 }
 
-// The same before what stands behind the log's last line is cut off.
-#[derive(Drop)]
-struct Uncut {
-    opened: Opened<LogDisk>,
-    path: String,
-    state: Option<u64>,
-    types: String,
-}
-
-/// Reads the states of a schema's tables, and opens the logs behind them, which are made where they are not there. Only once all are
-/// open is any of them cut.
-pub(crate) fn open_logs(
+/// Makes the tables of a folder, in the order of a start: all are decided, the folder is synced, logs and marks are made and settled,
+/// and the folder is synced. Only then what is spent goes.
+pub(crate) fn start(
     rt: &HostRuntime,
     folder: &Folder,
     schema: &Schema,
 ) -> Result<Vec<OpenLog>, Fault> {
-    let mut uncut = Vec::new(rt.alloc());
+    let mut decided = Vec::new(rt.alloc());
     for table in schema.tables() {
-        uncut.push(open_log(rt, folder, table)?)?;
+        decided.push(decide(rt, folder, table)?)?;
     }
+    folder.sync(rt)?;
     let mut logs = Vec::new(rt.alloc());
-    for log in uncut {
-        logs.push(cut_log(rt, log)?)?;
+    for table in decided {
+        logs.push(settle(rt, table)?)?;
+    }
+    folder.declare(rt, schema)?;
+    for log in &logs {
+        folder.clean(rt, log.logged.name(), &log.about.spent)?;
     }
     Ok(logs)
 }
 
-// Reads the state of a table, and opens the log behind it.
-fn open_log(rt: &HostRuntime, folder: &Folder, table: &TableSpec) -> Result<Uncut, Fault> {
-    let types = types_line(rt, table)?;
-    let base = read_base(rt, folder, table, types.as_str())?;
-    let state = base
-        .as_ref()
-        .map(|base| base.records().container().writes());
-    refuse_later(rt, folder, table.name(), state)?;
-    refuse_longer(rt, folder, table.name(), state)?;
-    let path = folder.log_of(rt.alloc(), table.name(), state)?;
-    if state.is_none() && folder.check_table(rt, table)? && !is_there(rt, path.as_str()) {
-        return Err(Fault::Missing(path));
-    }
-    let disk = match open_disk(rt, path.as_str()) {
-        Ok(disk) => disk,
-        Err(error) => return Err(Fault::of_file(&error, path)),
-    };
-    let opened = match base {
-        Some(base) => LoggedTable::open_on(rt.alloc(), base, disk),
-        None => LoggedTable::open(rt.alloc(), table, disk),
-    };
-    match opened {
-        Ok(opened) => Ok(Uncut {
-            opened,
-            path,
-            state,
-            types,
-        }),
-        Err(fault) => match fault.why {
-            OpenWhy::Line(number) => Err(Fault::Line(path, number)),
-            OpenWhy::Memory => Err(Fault::Memory),
-            OpenWhy::Disk => Err(Fault::File(path)),
-        },
-    }
-}
-
-// Whether a name is there.
-fn is_there(rt: &HostRuntime, path: &str) -> bool {
-    match fs::symlink_metadata(rt, path) {
-        Ok(_) => true,
-        Err(error) => error.kind() != ErrorKind::NotFound,
-    }
-}
-
-// Refuses a log that is behind a later state than the one that is there.
-fn refuse_later(
+/// Reads what a folder has of a table, up to its log.
+pub(crate) fn find_log(
     rt: &HostRuntime,
     folder: &Folder,
-    table: &str,
-    state: Option<u64>,
-) -> Result<(), Fault> {
-    for number in folder.numbers_of(rt, table)? {
-        if state.is_none_or(|state| state < number) {
-            return Err(Fault::Behind(folder.log_of(rt.alloc(), table, Some(number))?));
-        }
+    table: &TableSpec,
+) -> Result<FoundLog, Fault> {
+    let is_declared = folder.check_table(rt, table)?;
+    folder.refuse_plain(rt, table.name())?;
+    let types = types_of(rt.alloc(), table)?;
+    let Begin { base, table: begun } = read_begin(rt, folder, table, types.as_str())?;
+    let spent = spent_logs(rt, folder, table.name(), &base)?;
+    let path = folder.log_of(rt.alloc(), table.name(), base.state())?;
+    let file = find(rt, path.as_str(), true)?;
+    if is_declared && !base.is_state && file.is_none() {
+        return Err(Fault::Missing(path));
     }
-    Ok(())
-}
-
-// Cuts off what stands behind the last line of a log, and tells how much it was.
-fn cut_log(rt: &HostRuntime, uncut: Uncut) -> Result<OpenLog, Fault> {
-    let Uncut {
-        opened,
+    let mark = folder.mark_of(rt.alloc(), table.name())?;
+    let marks = read_mark(rt, mark.as_str())?;
+    let Recovery { disk, recovered } = recover(
+        rt,
+        path.as_str(),
+        file,
+        base.link,
+        marks,
+        mark.as_str(),
+    )?;
+    let unmarked = if marks.mark.is_none() {
+        Some(mark)
+    } else {
+        None
+    };
+    let about = About {
         path,
-        state,
+        base,
+        recovered,
         types,
-    } = uncut;
-    let Opened { mut logged, torn } = opened;
-    if logged.sync().is_err() {
-        return Err(Fault::File(path));
-    }
-    if torn > 0 {
-        let _ = eprintln!(rt; "torn: {path}: {torn} bytes were cut off");
-    }
-    Ok(OpenLog {
-        logged,
-        path,
-        state,
-        types,
+        unmarked,
+        spent,
+    };
+    Ok(FoundLog {
+        disk,
+        about,
+        table: begun,
     })
 }
 
-/// Opens the file of a log, which is made where it is not there.
-pub(crate) fn open_disk(rt: &HostRuntime, path: &str) -> io::Result<LogDisk> {
-    let file = OpenOptions::new()
-        .read(true)
-        .append(true)
-        .create(true)
-        .mode(FILE_MODE)
-        .open(rt, path)?;
-    disk_behind(rt, file, path, 0)
-}
-
-/// Refuses what is no file, and tells how many bytes it has.
-pub(crate) fn is_file(file: &File) -> io::Result<u64> {
-    let found = file.metadata()?;
-    if found.is_file() {
-        Ok(found.len())
-    } else {
-        Err(io::Error::from(ErrorKind::InvalidInput))
+// Recovers a log beside its mark.
+fn recover(
+    rt: &HostRuntime,
+    path: &str,
+    found: Option<Found>,
+    base: Link,
+    marks: Marks,
+    mark: &str,
+) -> Result<Recovery<Shown, KeptMark>, Fault> {
+    let (file, size) = match found {
+        Some(Found { file, size }) => (Some(file), size),
+        None => (None, 0),
+    };
+    let path = String::from_str(rt.alloc(), path)?;
+    let mark = String::from_str(rt.alloc(), mark)?;
+    let shown = Shown::new(*rt, file, path.clone()?, 0, size);
+    let kept = KeptMark::new(*rt, mark.clone()?);
+    match CheckedDisk::recover(rt.alloc(), shown, size, base, marks, kept) {
+        Ok(found) => Ok(found),
+        Err(fault) => Err(Fault::of_recovery(fault.why, path, mark)),
     }
 }
 
-/// The disk in a file, behind so many bytes.
-pub(crate) fn disk_behind(
-    rt: &HostRuntime,
-    file: File,
-    path: &str,
-    skipped: u64,
-) -> io::Result<LogDisk> {
-    let size = is_file(&file)?.saturating_sub(skipped);
-    let path = String::from_str(rt.alloc(), path)?;
-    Ok(FileDisk::new(Shown::new(*rt, file, path, skipped, size), size))
+// Decides whether a table may be served, and changes nothing.
+fn decide(rt: &HostRuntime, folder: &Folder, table: &TableSpec) -> Result<Decided, Fault> {
+    let FoundLog {
+        disk,
+        about,
+        table: begun,
+    } = find_log(rt, folder, table)?;
+    let loaded = match begun {
+        Some(begun) => LoggedTable::load_on(rt.alloc(), begun, disk),
+        None => LoggedTable::load(rt.alloc(), table, disk),
+    };
+    match loaded {
+        Ok(loaded) => Ok(Decided { loaded, about }),
+        Err(fault) => Err(Fault::of_opening(fault.why, about.path)),
+    }
+}
+
+// Cuts off what stands behind the whole lines of a log, writes again those that are not known to be on the disk, and marks the last.
+fn settle(rt: &HostRuntime, decided: Decided) -> Result<OpenLog, Fault> {
+    let Decided { loaded, about } = decided;
+    match loaded.settle() {
+        Ok(Opened { logged, torn: _ }) => {
+            tell(rt, &about);
+            Ok(OpenLog { logged, about })
+        }
+        Err(fault) => Err(Fault::of_opening(fault.why, about.path)),
+    }
+}
+
+// Tells what was cut off, and that there was no mark, where the log had writes.
+fn tell(rt: &HostRuntime, about: &About) {
+    let path = about.path.as_str();
+    let behind = about.recovered.behind;
+    let bytes = behind.bytes;
+    let lines = behind.lines;
+    match behind.first {
+        Some(first) => {
+            let _ = eprintln!(rt;
+                "torn: {path}: {bytes} bytes were cut off, with {lines} lines from write {first} on"
+            );
+        }
+        None if bytes > 0 => {
+            let _ = eprintln!(rt; "torn: {path}: {bytes} bytes were cut off");
+        }
+        None => {}
+    }
+    if let Some(mark) = &about.unmarked
+        && about.recovered.end > 0
+    {
+        let _ = eprintln!(rt; "mark: {mark}: none");
+    }
 }

@@ -1,21 +1,31 @@
 //! Keeps the tables of a schema in a folder, and answers lines of commands on them.
 #![tactic(auto)]
 
+mod compact;
 mod declaration;
+mod ended;
+mod export;
 mod fault;
+mod files;
 mod folder;
+mod frame;
 mod host;
+mod import;
 mod listen;
 mod logs;
+mod logs_before;
+mod mark;
 mod names;
-mod old_logs;
+mod older;
 mod patient;
+mod plain_logs;
 mod program;
 mod request;
+mod schema;
 mod serve;
 mod shown;
 mod states;
-mod typed;
+mod upgrade;
 
 use program::run;
 use std::process::ExitCode;

@@ -1,10 +1,19 @@
 //! The names of a table's files in the folder.
+ghost use Rattle.std.specs.Prelude.{◌≡◌, IfSome, decimal};
+ghost use Rattle.table_keeper.specs.Names.{log_name};
 
 use crate::fault::Fault;
 use crate::folder::Folder;
+use itoa::Buffer;
 use std::alloc::Global;
 use std::io::ErrorKind;
 use std::{fs, io};
+
+/// How the name of a log ends.
+const LOG: &str = ".log";
+
+/// How the name of a log of an older program ends.
+const PLAIN_LOG: &str = ".jsonl";
 
 impl Folder {
     /// The path of a table's log: the one behind the state of this write number, or the one that begins with the empty table.
@@ -14,34 +23,91 @@ impl Folder {
         table: &str,
         number: Option<u64>,
     ) -> Result<String, Fault> {
+        self.numbered(alloc, table, number, LOG)
+    }
+
+    /// The path of a log of an older program.
+    pub(crate) fn plain_log_of(
+        &self,
+        alloc: Global,
+        table: &str,
+        number: Option<u64>,
+    ) -> Result<String, Fault> {
+        self.numbered(alloc, table, number, PLAIN_LOG)
+    }
+
+    // The path of a log that ends so.
+    fn numbered(
+        &self,
+        alloc: Global,
+        table: &str,
+        number: Option<u64>,
+        end: &str,
+    ) -> Result<String, Fault> {
         let path = self.path();
         match number {
-            Some(number) => Ok(format!(in alloc; "{path}/{table}.{number}.jsonl")?),
-            None => Ok(format!(in alloc; "{path}/{table}.jsonl")?),
+            Some(number) => Ok(format!(in alloc; "{path}/{table}.{number}{end}")?),
+            None => Ok(format!(in alloc; "{path}/{table}{end}")?),
         }
+    }
+
+    /// The path of a table's file whose name ends so.
+    pub(crate) fn file_of(&self, alloc: Global, table: &str, end: &str) -> Result<String, Fault> {
+        let path = self.path();
+        Ok(format!(in alloc; "{path}/{table}.{end}")?)
     }
 
     /// The path of a table's declaration.
     pub(crate) fn declaration_of(&self, alloc: Global, table: &str) -> Result<String, Fault> {
-        let path = self.path();
-        Ok(format!(in alloc; "{path}/{table}.schema")?)
+        self.file_of(alloc, table, "schema")
     }
 
     /// The path of a table's state.
     pub(crate) fn state_of(&self, alloc: Global, table: &str) -> Result<String, Fault> {
-        let path = self.path();
-        Ok(format!(in alloc; "{path}/{table}.state")?)
+        self.file_of(alloc, table, "state")
     }
 
     /// The path of a table's state while it is written.
     pub(crate) fn draft_of(&self, alloc: Global, table: &str) -> Result<String, Fault> {
-        let path = self.path();
-        Ok(format!(in alloc; "{path}/{table}.state.new")?)
+        self.file_of(alloc, table, "state.new")
     }
 
-    /// The numbers of the states that a table's logs are behind. O(names in the folder).
-    pub(crate) fn numbers_of(&self, rt: &HostRuntime, table: &str) -> Result<Vec<u64>, Fault> {
-        let mut numbers = Vec::new(rt.alloc());
+    /// The path of a table's log while a journal is taken into it.
+    pub(crate) fn log_draft_of(&self, alloc: Global, table: &str) -> Result<String, Fault> {
+        self.file_of(alloc, table, "log.new")
+    }
+
+    /// The path of a table's mark.
+    pub(crate) fn mark_of(&self, alloc: Global, table: &str) -> Result<String, Fault> {
+        self.file_of(alloc, table, "mark")
+    }
+
+    /// Where a table's logs begin that are there: behind the states of these numbers, or with the empty table. O(names in the folder).
+    pub(crate) fn begins_of(
+        &self,
+        rt: &HostRuntime,
+        table: &str,
+    ) -> Result<Vec<Option<u64>>, Fault> {
+        self.begins_in(rt, table, LOG)
+    }
+
+    /// The same of the logs of an older program.
+    pub(crate) fn plain_begins_of(
+        &self,
+        rt: &HostRuntime,
+        table: &str,
+    ) -> Result<Vec<Option<u64>>, Fault> {
+        self.begins_in(rt, table, PLAIN_LOG)
+    }
+
+    // Where the logs begin whose names end so.
+    fn begins_in(
+        &self,
+        rt: &HostRuntime,
+        table: &str,
+        end: &str,
+    ) -> Result<Vec<Option<u64>>, Fault> {
+        let mut begins = Vec::new(rt.alloc());
         let names = match fs::read_dir(rt, self.path()) {
             Ok(names) => names,
             Err(error) => return Err(self.unlisted(rt, &error)),
@@ -49,8 +115,8 @@ impl Folder {
         for entry in names {
             match entry {
                 Ok(entry) => {
-                    if let Some(number) = number_in(entry.file_name(), table) {
-                        numbers.push(number)?;
+                    if let Some(begin) = begin_in(entry.file_name(), table, end) {
+                        begins.push(begin)?;
                     }
                 }
                 // A name that is no text is not of this program.
@@ -58,7 +124,7 @@ impl Folder {
                 Err(error) => return Err(self.unlisted(rt, &error)),
             }
         }
-        Ok(numbers)
+        Ok(begins)
     }
 
     // The fault of names that can't be read.
@@ -70,14 +136,27 @@ impl Folder {
     }
 }
 
-// The number in the name of a table's log, where it is written as the program writes it.
-fn number_in(name: &str, table: &str) -> Option<u64> {
-    let digits = name
-        .strip_prefix(table)?
-        .strip_prefix(".")?
-        .strip_suffix(".jsonl")?;
-    if digits.starts_with('+') || digits.len() > 1 && digits.starts_with('0') {
-        return None;
+// Where a log of this name begins, if it is one of the table.
+fn begin_in(name: &str, table: &str, end: &str) -> Option<Option<u64>>
+    ensures { IfSome result (λ begin. name.now ≡ log_name table.now begin end.now) }
+{
+    let rest = name.strip_prefix(table)?;
+    if rest == end {
+        return Some(None);
     }
-    digits.parse().ok()
+    let digits = rest.strip_prefix(".")?.strip_suffix(end)?;
+    Some(Some(number_in(digits)?))
+}
+
+// The number of these digits, where they are written as the program writes them.
+fn number_in(digits: &str) -> Option<u64>
+    ensures { IfSome result (λ number. digits.now ≡ decimal number) }
+{
+    let number = digits.parse::<u64>().ok()?;
+    let mut buffer = Buffer::new();
+    if buffer.format(number) == digits {
+        Some(number)
+    } else {
+        None
+    }
 }

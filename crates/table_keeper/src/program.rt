@@ -2,30 +2,32 @@
 ghost use Rattle.std.specs.Prelude.{◌≡◌};
 ghost use Rattle.table_keeper.specs.Fault.{asked_syncing};
 
+use crate::compact::compact;
+use crate::export::export;
 use crate::fault::Fault;
 use crate::folder::Folder;
 use crate::host::Host;
+use crate::import::import;
 use crate::listen::Listening;
-use crate::logs::{LogDisk, OpenLog, open_logs};
+use crate::logs::{LogDisk, OpenLog, start};
+use crate::schema::schema_of;
 use crate::serve::{Served, serve};
-use crate::states::{clean, compact};
-use keeper_words::{Asked, Keeping, When, read_words};
+use crate::upgrade::upgrade;
+use keeper_words::{Asked, Keeping, Tables, When, read_words};
 use logged_tables::{LoggedTables, OverAt, Syncing};
-use schema_file::read_schema;
+use std::env;
 use std::io::ErrorKind;
 use std::sync::{Arc, Condvar, Mutex};
-use std::{env, fs};
-use table_schema::Schema;
 
 /// Does what the words ask for. Serving ends at a fault alone.
 pub(crate) fn run<R: Host>(rt: &HostRuntime, threads: &R) -> Result<(), Fault> {
     let words = given_words(rt)?;
     match read_words(rt.alloc(), &words)? {
         Asked::Keep(keeping) => keep(rt, threads, &keeping),
-        Asked::Compact(compacting) => {
-            let started = start(rt, compacting.schema, compacting.folder)?;
-            compact(rt, &started.folder, &started.logs)
-        }
+        Asked::Compact(tables) => begin_anew(rt, &tables),
+        Asked::Export(one) => export(rt, &one),
+        Asked::Import(one) => import(rt, &one),
+        Asked::Upgrade(tables) => upgrade(rt, &tables),
     }
 }
 
@@ -38,31 +40,19 @@ fn given_words(rt: &HostRuntime) -> Result<Vec<String>, Fault> {
     }
 }
 
-// A folder that is taken, and its tables.
-#[derive(Drop)]
-struct Started {
-    folder: Folder,
-    logs: Vec<OpenLog>,
-}
-
-// Takes the folder and makes its tables. The system has the name of each state before a log behind it is made.
-fn start(rt: &HostRuntime, schema: &str, folder: &str) -> Result<Started, Fault> {
-    let schema = schema_of(rt, schema)?;
-    let folder = Folder::take(rt, folder)?;
-    folder.check(rt, &schema)?;
-    folder.sync(rt)?;
-    let logs = open_logs(rt, &folder, &schema)?;
-    folder.declare(rt, &schema)?;
-    clean(rt, &folder, &logs)?;
-    Ok(Started { folder, logs })
+// Starts, and writes the state of each table with an empty log behind it.
+fn begin_anew(rt: &HostRuntime, asked: &Tables<'_>) -> Result<(), Fault> {
+    let schema = schema_of(rt, asked.schema)?;
+    let folder = Folder::take(rt, asked.folder)?;
+    let logs = start(rt, &folder, &schema)?;
+    compact(rt, &folder, &logs)
 }
 
 // Starts, listens and serves.
 fn keep<R: Host>(rt: &HostRuntime, threads: &R, keeping: &Keeping<'_>) -> Result<(), Fault> {
-    let Started {
-        folder: _folder,
-        logs,
-    } = start(rt, keeping.schema, keeping.folder)?;
+    let schema = schema_of(rt, keeping.schema)?;
+    let folder = Folder::take(rt, keeping.folder)?;
+    let logs = start(rt, &folder, &schema)?;
     let Ok(listening) = Listening::at(rt, keeping.listen) else {
         return Err(Fault::Listen);
     };
@@ -97,14 +87,9 @@ fn behind_locks(rt: &HostRuntime, logs: Vec<OpenLog>) -> Result<Kept, Fault> {
     let mut tables = Vec::with_capacity(rt.alloc(), logs.len())?;
     let mut paths = Vec::with_capacity(rt.alloc(), logs.len())?;
     for log in logs {
-        let OpenLog {
-            logged,
-            path,
-            state: _,
-            types: _,
-        } = log;
+        let OpenLog { logged, about } = log;
         tables.push(logged)?;
-        paths.push(path)?;
+        paths.push(about.path)?;
     }
     let tables = LoggedTables::new(rt.alloc(), tables)?;
     Ok(Kept { tables, paths })
@@ -118,14 +103,6 @@ fn over(rt: &HostRuntime, paths: &[String], at: OverAt) -> Fault {
     match String::from_str(rt.alloc(), path) {
         Ok(path) => Fault::Log(path),
         Err(_) => Fault::Memory,
-    }
-}
-
-// The schema of a file.
-fn schema_of(rt: &HostRuntime, path: &str) -> Result<Schema, Fault> {
-    match fs::read(rt, path) {
-        Ok(bytes) => Ok(read_schema(rt.alloc(), &bytes)?),
-        Err(error) => Err(Fault::of_file(&error, String::from_str(rt.alloc(), path)?)),
     }
 }
 

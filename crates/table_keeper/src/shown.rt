@@ -1,41 +1,37 @@
-//! Logs that tell how far they are read, and are cut only once all are open.
+//! Files of logs and states, which tell how far they are read.
 ghost use Rattle.std.specs.Prelude.{◌≡◌};
 
+use crate::files::FILE_MODE;
 use file_disk::LogFile;
-use std::fs::File;
+use std::fs::{File, OpenOptions};
 use std::io;
-use std::io::Write;
-use std::os::unix::fs::FileExt;
+use std::io::ErrorKind;
+use std::os::unix::fs::{FileExt, OpenOptionsExt};
 use std::time::{Duration, Instant};
 
-/// A log's file, which tells once a second on standard error how far it is read. What is cut off it stays in the file until it is
-/// settled once more: by then all other logs are open, and none of them refuses the start.
+/// A file, which tells once a second on standard error how far it is read. Where it is absent it is empty, and made where it is
+/// changed first.
 #[derive(Drop)]
 pub(crate) struct Shown {
     rt: HostRuntime,
-    file: File,
+    file: Option<File>,
     path: String,
     // How many bytes at the file's front are none of these.
     skipped: u64,
     size: u64,
     last: Option<Instant>,
     settles: u64,
-    cut: Cut,
-}
-
-// What is to be cut off.
-#[derive(Clone, Copy, Debug, PartialEq, Eq)]
-enum Cut {
-    Nothing,
-    // All behind so many bytes, once it has been settled and is settled again.
-    Asked(u64),
-    // All behind so many bytes, once it is settled again.
-    Waits(u64),
 }
 
 impl Shown {
     /// The bytes of a file that stand behind so many others, and so many they are.
-    pub(crate) fn new(rt: HostRuntime, file: File, path: String, skipped: u64, size: u64) -> Shown {
+    pub(crate) fn new(
+        rt: HostRuntime,
+        file: Option<File>,
+        path: String,
+        skipped: u64,
+        size: u64,
+    ) -> Shown {
         let last = Instant::now(&rt).ok();
         Shown {
             rt,
@@ -45,23 +41,51 @@ impl Shown {
             size,
             last,
             settles: 0,
-            cut: Cut::Nothing,
         }
     }
 
-    // Cuts off what waits to be, and waits until the system has the file's bytes.
-    fn cut_and_sync(&mut self) -> io::Result<()>
+    /// The file, where it is there. O(1).
+    pub(crate) fn into_file(self) -> Option<File> {
+        let Shown {
+            rt: _,
+            file: kept,
+            path: _,
+            skipped: _,
+            size: _,
+            last: _,
+            settles: _,
+        } = self;
+        kept
+    }
+
+    // Makes the file where it is absent.
+    fn make(&mut self) -> io::Result<()>
         ensures { self.new.settles ≡ self.old.settles }
     {
-        if let Cut::Waits(count) = self.cut {
-            self.file.set_len(self.skipped.saturating_add(count))?;
-            self.cut = Cut::Nothing;
+        if self.file.is_none() {
+            let made = OpenOptions::new()
+                .read(true)
+                .write(true)
+                .create(true)
+                .mode(FILE_MODE)
+                .open(&self.rt, self.path.as_str())?;
+            self.file = Some(made);
         }
-        self.file.sync_data()
+        Ok(())
+    }
+
+    // The file, once it is made.
+    fn made(&self) -> io::Result<&File> {
+        match &self.file {
+            Some(file) => Ok(file),
+            None => Err(io::Error::from(ErrorKind::NotFound)),
+        }
     }
 
     // Tells how far it is read, where a second has passed since it told last.
-    fn show(&mut self, at: u64) {
+    fn show(&mut self, at: u64)
+        ensures { self.new.settles ≡ self.old.settles }
+    {
         let Some(last) = self.last else {
             return;
         };
@@ -80,7 +104,6 @@ impl Shown {
             size,
             last: _,
             settles: _,
-            cut: _,
         } = self;
         let _ = eprintln!(rt; "reads {path}: {at} of {size} bytes");
     }
@@ -95,23 +118,26 @@ impl LogFile for Shown {
 
     fn read_from(&mut self, at: u64, piece: &mut [u8]) -> io::Result<usize> {
         self.show(at);
-        self.file.read_at(piece, self.skipped.saturating_add(at))
+        match &self.file {
+            Some(file) => file.read_at(piece, self.skipped.saturating_add(at)),
+            None => Ok(0),
+        }
     }
 
-    fn write_behind(&mut self, bytes: &[u8]) -> io::Result<usize> {
-        self.file.write(bytes)
+    fn write_at(&mut self, at: u64, bytes: &[u8]) -> io::Result<usize> {
+        self.make()?;
+        self.made()?
+            .write_at(bytes, self.skipped.saturating_add(at))
     }
 
     fn shorten(&mut self, count: u64) -> io::Result<()> {
-        self.cut = Cut::Asked(count);
-        Ok(())
+        self.make()?;
+        self.made()?.set_len(self.skipped.saturating_add(count))
     }
 
     fn settle(&mut self) -> io::Result<()> {
-        match self.cut {
-            Cut::Asked(count) => self.cut = Cut::Waits(count),
-            _ => self.cut_and_sync()?,
-        }
+        self.make()?;
+        self.made()?.sync_data()?;
         self.settles = self.settles.saturating_add(1);
         Ok(())
     }

@@ -16,13 +16,16 @@ returns-clause-words c =
     let first_is : app_of c.no_binary_name.result ≡ no_option =
     ap app_of_fields c.no_binary_name.ensures ∙ ap (λ (a : App). record a { top = record a.top { no_binary_name = true } }) helped_is in
     let with_schema = c.in_ok-arg.ensures.shape c.required.ensures.local ∙ ap₂ with_rule first_is c.required.ensures.rule in
-    let with_listen = c.in_ok-arg-2.ensures.shape c.option.ensures.local ∙ ap₂ with_rule with_schema c.option.ensures.rule in
+    let with_listen = c.in_ok-arg-2.ensures.shape c.listen.ensures.local ∙ ap₂ with_rule with_schema c.listen.ensures.rule in
     let with_folder = c.in_ok-arg-3.ensures.shape c.required-2.ensures.local ∙ ap₂ with_rule with_listen c.required-2.ensures.rule in
     let with_workers = c.in_ok-arg-4.ensures.shape c.workers.ensures.local ∙ ap₂ with_rule with_folder c.workers.ensures.rule in
     let with_sync = c.in_ok-arg-5.ensures.shape c.sync.ensures.local ∙ ap₂ with_rule with_workers c.sync.ensures.rule in
     let with_idle = c.in_ok-arg-6.ensures.shape c.idle.ensures.local ∙ ap₂ with_rule with_sync c.idle.ensures.rule in
-    IfOk-weaker c.arg-7.result _ _ (λ m h. h.shape c.compact.ensures.local ∙ ap₂ with_rule with_idle c.compact.ensures.rule) c.arg-7.ensures
+    let with_compact = c.in_ok-arg-7.ensures.shape c.flag.ensures.local ∙ ap₂ with_rule with_idle c.flag.ensures.rule in
+    let with_export = c.in_ok-arg-8.ensures.shape c.option.ensures.local ∙ ap₂ with_rule with_compact c.option.ensures.rule in
+    let with_import = c.in_ok-arg-9.ensures.shape c.option-2.ensures.local ∙ ap₂ with_rule with_export c.option-2.ensures.rule in
+    IfOk-weaker c.arg-10.result _ _ (λ m h. h.shape c.flag-2.ensures.local ∙ ap₂ with_rule with_import c.flag-2.ensures.rule) c.arg-10.ensures
 
 pub returns-clause-texts : goal.returns-clause-texts
 returns-clause-texts c =
-    IfOk-weaker c.arg-7.result _ _ (λ m is. subst ShowsTexts (sym is) shows_texts-keeper) (returns-clause-words c)
+    IfOk-weaker c.arg-10.result _ _ (λ m is. subst ShowsTexts (sym is) shows_texts-keeper) (returns-clause-words c)

@@ -1,0 +1,56 @@
+//! Prints the writes of a table's log.
+
+use crate::fault::Fault;
+use crate::files::{PIECE, is_there};
+use crate::folder::Folder;
+use crate::logs::{FoundLog, LogDisk, find_log};
+use crate::schema::{schema_of, table_named};
+use keeper_words::OneTable;
+use std::io::Write;
+use table_log::Disk;
+
+/// Prints the writes of a table's log, a line each, and says behind which write they begin where that is not the first. Nothing is
+/// changed.
+pub(crate) fn export(rt: &HostRuntime, asked: &OneTable<'_>) -> Result<(), Fault> {
+    let schema = schema_of(rt, asked.schema)?;
+    let table = table_named(rt, &schema, asked.table)?;
+    if !is_there(rt, asked.folder) {
+        return Err(Fault::Missing(String::from_str(rt.alloc(), asked.folder)?));
+    }
+    let folder = Folder::take(rt, asked.folder)?;
+    let FoundLog {
+        mut disk,
+        about,
+        ..
+    } = find_log(rt, &folder, table)?;
+    let path = about.path.as_str();
+    match about.base.state() {
+        Some(number) => {
+            let _ = eprintln!(rt; "behind: {path}: the log begins behind write {number}");
+        }
+        None if !is_there(rt, path) => return Err(Fault::Missing(about.path)),
+        None => {}
+    }
+    print_all(rt, &mut disk, about.path)
+}
+
+// Prints all bytes of a disk.
+fn print_all(rt: &HostRuntime, disk: &mut LogDisk, path: String) -> Result<(), Fault> {
+    let mut out = rt.stdout();
+    let mut piece = vec![in rt.alloc(); 0u8; PIECE]?;
+    let mut at = 0u64;
+    for _ in 0..u64::MAX {
+        if at >= disk.size() {
+            break;
+        }
+        let Ok(count) = disk.read(at, &mut piece) else {
+            return Err(Fault::File(path));
+        };
+        let (read, _) = piece.split_at(count);
+        if out.write_all(read).is_err() {
+            return Err(Fault::Output);
+        }
+        at = at.saturating_add(count as u64);
+    }
+    Ok(())
+}

@@ -1,0 +1,173 @@
+//! Takes a journal into the log of an empty table.
+
+use crate::fault::Fault;
+use crate::files::{make_empty, put_at};
+use crate::folder::Folder;
+use crate::logs::{OpenLog, start};
+use crate::mark::NoMark;
+use crate::schema::{schema_of, table_named};
+use crate::shown::Shown;
+use crate::states::Base;
+use checked_disk::CheckedDisk;
+use checked_log::read_marks;
+use command_lines::{CommandFault, read_command};
+use keeper_words::OneTable;
+use std::io::{BufRead, BufReader, ErrorKind};
+use std::{fs, io};
+use table_log::{LoggedTable, Opened};
+use table_reply::{Out, memory_line};
+use table_schema::TableSpec;
+
+/// Where a journal comes from.
+const INPUT: &str = "standard input";
+
+/// A log that is not at its name yet.
+type DraftDisk = CheckedDisk<Shown, NoMark>;
+
+/// Takes a journal from standard input into the log of a table that has neither a state nor a write: all of it or nothing.
+pub(crate) fn import(rt: &HostRuntime, asked: &OneTable<'_>) -> Result<(), Fault> {
+    let schema = schema_of(rt, asked.schema)?;
+    let table = table_named(rt, &schema, asked.table)?;
+    let folder = Folder::take(rt, asked.folder)?;
+    let path = folder.log_of(rt.alloc(), table.name(), None)?;
+    refuse_filled(start(rt, &folder, &schema)?, table.name())?;
+    let draft = folder.log_draft_of(rt.alloc(), table.name())?;
+    let taken = take_in(rt, table, draft.as_str()).and_then(|()| put_at(
+        rt,
+        draft.as_str(),
+        path.as_str(),
+    ));
+    if let Err(fault) = taken {
+        let _ = fs::remove_file(rt, draft.as_str());
+        return Err(fault);
+    }
+    folder.sync(rt)?;
+    start(rt, &folder, &schema)?;
+    Ok(())
+}
+
+// Refuses a table of this name that has a state or a write.
+fn refuse_filled(logs: Vec<OpenLog>, table: &str) -> Result<(), Fault> {
+    for log in logs {
+        let OpenLog { logged, about } = log;
+        let is_filled = about.base.is_state || about.recovered.last.number > 0;
+        if logged.name() == table && is_filled {
+            return Err(Fault::Filled(about.path));
+        }
+    }
+    Ok(())
+}
+
+// Writes a journal's writes into a log, and waits until the system has them.
+fn take_in(rt: &HostRuntime, table: &TableSpec, draft: &str) -> Result<(), Fault> {
+    let mut logged = open_draft(rt, table, draft)?;
+    take_lines(rt, &mut logged, draft)?;
+    match logged.sync() {
+        Ok(()) => Ok(()),
+        Err(_) => Err(Fault::Log(String::from_str(rt.alloc(), draft)?)),
+    }
+}
+
+// An empty table with an empty log.
+fn open_draft(
+    rt: &HostRuntime,
+    table: &TableSpec,
+    draft: &str,
+) -> Result<LoggedTable<DraftDisk>, Fault> {
+    let path = String::from_str(rt.alloc(), draft)?;
+    let file = match make_empty(rt, draft) {
+        Ok(file) => file,
+        Err(error) => return Err(Fault::of_file(&error, path)),
+    };
+    let link = Base::empty(rt.alloc(), table)?.link;
+    let shown = Shown::new(*rt, Some(file), path.clone()?, 0, 0);
+    let marks = read_marks(&[]);
+    let Ok(found) = CheckedDisk::recover(rt.alloc(), shown, 0, link, marks, NoMark::new()) else {
+        return Err(Fault::Memory);
+    };
+    let loaded = match LoggedTable::load(rt.alloc(), table, found.disk) {
+        Ok(loaded) => loaded,
+        Err(fault) => return Err(Fault::of_opening(fault.why, path)),
+    };
+    match loaded.settle() {
+        Ok(Opened { logged, torn: _ }) => Ok(logged),
+        Err(fault) => Err(Fault::of_opening(fault.why, path)),
+    }
+}
+
+// Carries out the lines of standard input.
+fn take_lines(
+    rt: &HostRuntime,
+    logged: &mut LoggedTable<DraftDisk>,
+    draft: &str,
+) -> Result<(), Fault> {
+    let mut reader = match BufReader::new(rt.alloc(), rt.stdin()) {
+        Ok(reader) => reader,
+        Err(error) => return Err(of_input(&error)),
+    };
+    let Ok(mut out) = Out::new(rt.alloc()) else {
+        return Err(Fault::Memory);
+    };
+    let mut line = Vec::new(rt.alloc());
+    for number in 1..u64::MAX {
+        line.clear();
+        match reader.read_until(b'\n', &mut line) {
+            Ok(0) => break,
+            Ok(_) => take_line(rt, logged, draft, text_of(&line), number, &mut out)?,
+            Err(error) => return Err(of_input(&error)),
+        }
+    }
+    Ok(())
+}
+
+// A line without its newline.
+fn text_of(line: &[u8]) -> &[u8] {
+    match line.strip_suffix(b"\n") {
+        Some(text) => text,
+        None => line,
+    }
+}
+
+// The fault of standard input.
+fn of_input(error: &io::Error) -> Fault {
+    match error.kind() {
+        ErrorKind::OutOfMemory => Fault::Memory,
+        _ => Fault::Input,
+    }
+}
+
+// Carries out a line, which has to be an accepted write.
+fn take_line(
+    rt: &HostRuntime,
+    logged: &mut LoggedTable<DraftDisk>,
+    draft: &str,
+    text: &[u8],
+    number: u64,
+    out: &mut Out,
+) -> Result<(), Fault> {
+    let command = match read_command(rt.alloc(), text) {
+        Ok(command) => command,
+        Err(CommandFault::Memory) => return Err(Fault::Memory),
+        Err(_) => return Err(wrong(rt, number)),
+    };
+    let before = logged.mark();
+    let Ok(ready) = out.emptied();
+    if logged.call(&command, ready).end().is_err() {
+        return Err(Fault::Log(String::from_str(rt.alloc(), draft)?));
+    }
+    if logged.mark() != before {
+        Ok(())
+    } else if out.bytes() == memory_line() {
+        Err(Fault::Memory)
+    } else {
+        Err(wrong(rt, number))
+    }
+}
+
+// The fault of a line that is no accepted write.
+fn wrong(rt: &HostRuntime, number: u64) -> Fault {
+    match String::from_str(rt.alloc(), INPUT) {
+        Ok(input) => Fault::Line(input, number),
+        Err(_) => Fault::Memory,
+    }
+}
