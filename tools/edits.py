@@ -76,6 +76,13 @@ class Edit:
                 yield file, within, old, text
                 old = ""
 
+    def broken_examples(self):
+        """What an edit of definitions says that it breaks, or None where it edits sources."""
+        lines = [line.partition(":") for line in read(self.path).split("\n")]
+        if any(word == "file" and not text.strip().startswith("specs/") for word, _, text in lines):
+            return None
+        return [text.strip() for word, _, text in lines if word == "breaks"]
+
     def apply(self):
         """Makes the edited texts, and finds the bodies in which they differ from the crate's."""
         before = {}

@@ -1,6 +1,7 @@
-/* A disk that fails: preloaded. ROOM_LEFT=N: once N bytes are written to regular files, writes of them are refused as on a full disk.
-   FAILING=sync, or FAILING=rename: those calls fail, but for the first CALLS_BEFORE. CALLS_FILE names a file that gets a line for each sync and
-   rename, and one for each run of writes of regular files; with TELL_ANSWERS also one for each piece that is sent by a socket. */
+/* A disk that fails: preloaded. ROOM_LEFT=N: once regular files are longer by N bytes, they grow no more, as on a full disk.
+   FAILING=sync, rename, mark or settle: those calls fail, but for the first CALLS_BEFORE. CALLS_FILE names a file that gets a line for each rename, for each sync of a file or
+   folder (sync), and of a mark (settle), and one for each run of writes of regular files (write), and of marks (mark); with TELL_ANSWERS also one for each piece that is sent by a
+   socket. */
 #define _GNU_SOURCE
 #include <dlfcn.h>
 #include <errno.h>
@@ -12,7 +13,8 @@
 #include <sys/stat.h>
 #include <unistd.h>
 
-static int log_file = -1, is_writing;
+static int log_file = -1;
+static const char *writing = "";
 static long room_left = -1, calls_before;
 static const char *failing = "";
 
@@ -33,39 +35,80 @@ static void tell(const char *call)
 
 static int fails(const char *call)
 {
-    is_writing = 0;
+    writing = "";
     tell(call);
     errno = EIO;
     return strcmp(failing, call) == 0 && calls_before-- <= 0;
 }
 
-static int is_regular(int file)
+static int is_mark(int file)
 {
-    struct stat seen;
-    return fstat(file, &seen) == 0 && S_ISREG(seen.st_mode);
+    char link[64], path[4096];
+    ssize_t count;
+    sprintf(link, "/proc/self/fd/%d", file);
+    count = readlink(link, path, sizeof path);
+    return count > 5 && memcmp(path + count - 5, ".mark", 5) == 0;
+}
+
+/* How many of so many bytes there is room for, at this place of a regular file, or -1. */
+static ssize_t allowed(int file, size_t count, off_t at, struct stat *seen)
+{
+    const char *call = is_mark(file) ? "mark" : "write";
+    off_t grows = at + (off_t)count - seen->st_size;
+    if (strcmp(writing, call) != 0)
+        tell(call);
+    writing = call;
+    if (strcmp(failing, call) == 0 && calls_before-- <= 0) {
+        errno = EIO;
+        return -1;
+    }
+    if (room_left < 0 || grows <= 0)
+        return count;
+    if (grows > room_left)
+        count -= grows - room_left;
+    if (count == 0) {
+        errno = ENOSPC;
+        return -1;
+    }
+    room_left -= grows < room_left ? grows : room_left;
+    return count;
+}
+
+static int is_regular(int file, struct stat *seen)
+{
+    return fstat(file, seen) == 0 && S_ISREG(seen->st_mode);
 }
 
 ssize_t write(int file, const void *bytes, size_t count)
 {
     static ssize_t (*real)(int, const void *, size_t);
-    ssize_t written;
+    struct stat seen;
     if (!real)
         real = dlsym(RTLD_NEXT, "write");
-    if (!is_regular(file))
-        return real(file, bytes, count);
-    if (!is_writing)
-        tell("write");
-    is_writing = 1;
-    if (room_left == 0) {
-        errno = ENOSPC;
-        return -1;
+    if (is_regular(file, &seen)) {
+        off_t at = fcntl(file, F_GETFL) & O_APPEND ? seen.st_size : lseek(file, 0, SEEK_CUR);
+        ssize_t most = allowed(file, count, at, &seen);
+        return most < 0 ? -1 : real(file, bytes, most);
     }
-    if (room_left > 0 && count > (size_t)room_left)
-        count = room_left;
-    written = real(file, bytes, count);
-    if (room_left > 0 && written > 0)
-        room_left -= written;
-    return written;
+    return real(file, bytes, count);
+}
+
+ssize_t pwrite(int file, const void *bytes, size_t count, off_t at)
+{
+    static ssize_t (*real)(int, const void *, size_t, off_t);
+    struct stat seen;
+    if (!real)
+        real = dlsym(RTLD_NEXT, "pwrite");
+    if (is_regular(file, &seen)) {
+        ssize_t most = allowed(file, count, at, &seen);
+        return most < 0 ? -1 : real(file, bytes, most, at);
+    }
+    return real(file, bytes, count, at);
+}
+
+ssize_t pwrite64(int file, const void *bytes, size_t count, off_t at)
+{
+    return pwrite(file, bytes, count, at);
 }
 
 ssize_t send(int file, const void *bytes, size_t count, int flags)
@@ -74,7 +117,7 @@ ssize_t send(int file, const void *bytes, size_t count, int flags)
     if (!real)
         real = dlsym(RTLD_NEXT, "send");
     if (getenv("TELL_ANSWERS")) {
-        is_writing = 0;
+        writing = "";
         tell("answer");
     }
     return real(file, bytes, count, flags);
@@ -85,7 +128,7 @@ int fsync(int file)
     static int (*real)(int);
     if (!real)
         real = dlsym(RTLD_NEXT, "fsync");
-    return fails("sync") ? -1 : real(file);
+    return fails(is_mark(file) ? "settle" : "sync") ? -1 : real(file);
 }
 
 int fdatasync(int file)
@@ -93,7 +136,7 @@ int fdatasync(int file)
     static int (*real)(int);
     if (!real)
         real = dlsym(RTLD_NEXT, "fdatasync");
-    return fails("sync") ? -1 : real(file);
+    return fails(is_mark(file) ? "settle" : "sync") ? -1 : real(file);
 }
 
 int rename(const char *from, const char *to)

@@ -9,8 +9,9 @@ import sys
 import time
 
 from built_program import TOP, built_program
+from checked_log import MARK_BYTES, Link, bases_of, last_link, log_text, mark_text, read_marks, read_state, writes_of
 from command_texts import command_text
-from endings import SCHEMA, SECONDS, Ending, ask, look, wants
+from endings import SCHEMA, SECONDS, Ending, accepted, ask, look, wants
 from histories import Wrong, views
 from plain_keeper import FAULTS
 from plain_machine import Machine, read
@@ -83,16 +84,58 @@ class Room:
             keeper.listens()
             yield keeper
 
-    def path(self, table="p"):
-        return f"{self.folder}/data/{table}.jsonl"
+    def path(self, table="p", end="log"):
+        return f"{self.folder}/data/{table}.{end}"
 
-    def log(self, table="p"):
+    def base(self, table="p"):
+        """The link behind which the lines of a log begin: the log of a table, or, as p.4, that behind a state."""
+        name, _, number = table.partition(".")
+        if not number:
+            return bases_of(self.schema)[name]
+        with open(self.path(name, "state"), "rb") as file:
+            found = read_state(file.read())
+        if not found:
+            raise Wrong(f"{name}: the state's digest does not fit")
+        return Link(int(number), found[0])
+
+    def raw(self, table="p"):
         with open(self.path(table), "rb") as file:
             return file.read()
 
-    def put(self, text, table="p"):
+    def log(self, table="p"):
+        """The writes of a log, which has to be whole, with a line of a plain journal for each."""
+        text = self.raw(table)
+        writes = writes_of(text, self.base(table))
+        if writes is None:
+            raise Wrong(f"{table}: the log is not whole: {text[-200:]!r}")
+        return writes
+
+    def put(self, text, table="p", torn=b"", mark=None):
+        """Puts a log there that has these lines of a plain journal, and such bytes behind them, with a mark of its first writes: of none if not said."""
+        lines = log_text(text.splitlines(), self.base(table))
+        self.put_raw(lines + torn, table)
+        at_mark = last_link(b"".join(lines.splitlines(keepends=True)[: mark or 0]), self.base(table))
+        self.put_mark(mark_text(at_mark), table.partition(".")[0])
+
+    def put_raw(self, text, table="p"):
         with open(self.path(table), "wb") as file:
             file.write(text)
+
+    def put_mark(self, text, table="p"):
+        with open(self.path(table, "mark"), "wb") as file:
+            file.write(text)
+
+    def put_declaration(self, text, name):
+        with open(f"{self.folder}/data/{name}", "wb") as file:
+            file.write(text)
+
+    def marked(self, table="p"):
+        """The number that the mark tells, or None."""
+        with open(self.path(table, "mark"), "rb") as file:
+            text = file.read()
+        wants("the bytes of the mark", len(text), MARK_BYTES)
+        found, _ = read_marks(text)
+        return found and found.number
 
     def emptied(self):
         """A first start and its end, where a log of an earlier one stood."""
@@ -101,43 +144,46 @@ class Room:
             keeper.stop()
 
     def logs(self):
-        """The logs that stand there, by their tables."""
-        files = {name: it[0] for name, it in look(f"{self.folder}/data").items() if isinstance(it, tuple)}
-        return {name.removesuffix(".jsonl"): text for name, text in files.items() if name.endswith(".jsonl")}
+        """The writes of the logs that stand there, by the names of these."""
+        return {name.removesuffix(".log"): self.log(name.removesuffix(".log")) for name in self.files() if name.endswith(".log")}
 
     def files(self):
-        """The logs and states that stand there, by their names."""
+        """The logs, states and marks that stand there, by their names."""
         files = {name: it[0] for name, it in look(f"{self.folder}/data").items() if isinstance(it, tuple)}
         return {name: text for name, text in files.items() if name != "lock" and not name.endswith(".schema")}
 
     def lay(self, files):
-        """Puts these logs and states there, and no others."""
+        """Puts these logs, states and marks there, and no others."""
         for name in self.files():
             os.remove(f"{self.folder}/data/{name}")
         for name, text in files.items():
             with open(f"{self.folder}/data/{name}", "wb") as file:
                 file.write(text)
 
-    def compacting(self, environment=None):
-        """The program that is to write the states."""
-        words = [*self.program, "--schema", f"{self.folder}/schema", "--data", f"{self.folder}/data", "--compact"]
-        how = {"stdin": subprocess.DEVNULL, "stdout": subprocess.PIPE, "stderr": subprocess.PIPE, "encoding": "utf-8"}
+    def doing(self, *words, environment=None, stdin=subprocess.DEVNULL):
+        """The program that does what these words ask for, and ends."""
+        words = [*self.program, "--schema", f"{self.folder}/schema", "--data", f"{self.folder}/data", *words]
+        how = {"stdin": stdin, "stdout": subprocess.PIPE, "stderr": subprocess.PIPE}
         return subprocess.Popen(words, env={**os.environ, **(environment or {})}, **how)
 
-    def compact_ends(self, environment=None):
-        """Has the states written, and gives its status, what it printed, and the lines that it said."""
-        with self.compacting(environment) as process:
+    def does(self, *words, environment=None, text=None):
+        """Has that done, with this standard input, and gives its status, what it printed, and the lines that it said."""
+        with self.doing(*words, environment=environment, stdin=subprocess.PIPE) as process:
             try:
-                out, said = process.communicate(timeout=SECONDS)
+                out, said = process.communicate(text or b"", timeout=SECONDS)
             except subprocess.TimeoutExpired as why:
                 process.kill()
-                raise Wrong("the compact does not end") from why
-        return process.returncode, out, said.splitlines()
+                raise Wrong(f"{words} does not end") from why
+        return process.returncode, out, said.decode().splitlines()
 
     def compact(self, status=0, said="", environment=None):
         """Has the states written, and compares the end of that, and what it says at last."""
-        found, out, told = self.compact_ends(environment)
-        wants("the end of a compact", (found, out, told[-1:]), (status, "", [said.replace("@", self.folder)] if said else []))
+        self.ends_so(status, said, "--compact", environment=environment)
+
+    def ends_so(self, status, said, *words, environment=None, text=None):
+        """Compares the end of what these words ask for, and what it says at last. It prints nothing."""
+        found, out, told = self.does(*words, environment=environment, text=text)
+        wants(f"the end of {words}", (found, out, told[-1:]), (status, b"", [said.replace("@", self.folder)] if said else []))
 
     def refused(self, status, said, words=(), **how):
         """Compares the end of a program that may not start, and what it says at last, where a # stands for any number. Every log and state has
@@ -209,3 +255,25 @@ def built_program_of(room, name):
     made = f"{room}/{name}"
     subprocess.run(["gcc", "-O2", "-Wall", "-o", made, f"{TOP}/tools/{name}.c", "-lpthread"], check=True)
     return made
+
+
+def but_marks(files):
+    """The logs and states of these."""
+    return {name: text for name, text in files.items() if not name.endswith(".mark")}
+
+
+SIZE = b'{"op":"size","t":"p"}\n'
+
+
+def size(keeper):
+    """How many records there are."""
+    with keeper.connect() as connection:
+        connection.settimeout(PATIENCE)
+        return int(ask(connection, [SIZE])[0].partition(b'"n":')[2].partition(b",")[0])
+
+
+def filled(room, lines):
+    """Has these lines of accepted writes written, and ends the program."""
+    with room.kept() as keeper, keeper.connect() as connection:
+        wants("the answers", ask(connection, lines), accepted(len(lines)))
+        keeper.stop()

@@ -6,7 +6,7 @@ plain_keeper.py FAULT WORDS ..    FAULT is one of FAULTS, or `none`; the words a
 import argparse
 import contextlib
 import fcntl
-import hashlib
+import json
 import os
 import pickle
 import re
@@ -16,13 +16,16 @@ import threading
 import time
 import tomllib
 
+from checked_log import MARK_BYTES, SLOT_BYTES, Hurt, Link, Strange, bases_of, declaration_text, line_text, read_line, read_marks, read_state, recovered, slot_text, state_text, torn_text
 from command_texts import command_text
 from plain_machine import MEMORY, Fault, Machine, Record, by_age, read
 
 FAULTS = {
     "none",
-    "starts empty", "a torn line is carried out", "a torn line stays", "a torn line is not told", "a whole line goes with a torn one",
+    "starts empty", "a torn line is carried out", "a torn line stays", "a torn line is not told", "a torn line refuses", "a whole line goes with a torn one",
     "zeros are a line", "a bad line is passed over", "lines are counted from 0", "the wrong file is told", "a log is cut before all are read",
+    "hurt lines are cut", "the mark is not looked at", "marks are not written", "marks before it syncs", "a mark that is gone is not told",
+    "the tail is not rewritten", "the tail is cut and appended", "lines tell nothing durable", "lines tell too much",
     "two keepers at once", "any schema will do", "a declaration is its bytes", "an old socket keeps it out", "appends what was sent", "appends reads",
     "appends refused writes",
     "answers before it appends", "answers before it syncs", "answers while another syncs", "a commit waits for all", "never syncs",
@@ -31,10 +34,12 @@ FAULTS = {
     "a connection too many is closed", "a worker ends with its connection", "a failed accept ends a worker", "appends without its lock",
     "keeps each write", "a refused start empties a log", "a refused line is carried out", "a refused line has no answer",
     "a refused connection ends a worker",
-    "a state loses an order", "a state loses its number", "a state has the schema's indices alone", "a state numbers handles anew",
+    "a state loses an order", "a state loses its number", "a state has the schema's indices alone", "a state numbers handles anew", "a state's digest is not looked at",
     "a cut state is an empty table", "any state will do", "a half written state is read", "the old log runs on the new state", "an old log stays",
     "a half written state stays", "a log without its state is passed over", "a compact removes the log first", "a compact renames before it syncs",
-    "a missing log is made", "a state has no types", "an old log goes by its name", "a longer old log is passed over", "a log that is left is not told",
+    "a missing log is made", "a state has no types", "an old log goes by its name", "an old log goes by its number", "a longer old log is passed over",
+    "a log that is left is not told", "an old journal is passed over",
+    "a front of a journal is taken", "a journal comes to other writes", "an upgrade removes the journal first",
     "a slow line is not idle", "a slow taker is not idle", "takers of lines are idle", "answers a browser", "answers a browser in pieces", "ends at any word", "ends at a later request",
     "all may open its files", "all may open its folder", "all may open its socket",
     "a failed compact ends with status 0", "a failed compact takes the log", "a second compact empties the state", "a refused compact takes the log",
@@ -94,10 +99,17 @@ def file_mode():
     return 0o666 if has_fault("all may open its files") else 0o600
 
 
+def write_at(file, at, text):
+    while text:
+        count = os.pwrite(file, text, at)
+        at, text = at + count, text[count:]
+
+
 def make(path, text):
     """A file with this text."""
     file = os.open(path, os.O_WRONLY | os.O_CREAT | os.O_TRUNC, file_mode())
     append(file, text)
+    os.fsync(file)
     os.close(file)
 
 
@@ -115,22 +127,53 @@ def remove(path):
         os.remove(path)
 
 
-def spelled_by(text):
-    """The bytes that hexadecimal digits spell; of another text none."""
+class Files:
+    """The files of a table in the folder."""
+
+    def __init__(self, folder, name):
+        self.folder, self.name = folder, name
+        self.state, self.draft, self.journal, self.mark = (f"{folder}/{name}.{it}" for it in ("state", "state.new", "log.new", "mark"))
+        self.declaration = f"{folder}/{name}.schema"
+
+    def log(self, number):
+        """The path of the log behind a state, or of that which begins with the empty table."""
+        return f"{self.folder}/{self.name}.{'' if number is None else f'{number}.'}log"
+
+    def numbers(self):
+        """The numbers of the states that logs are behind, and None for that which begins with the empty table."""
+        found = [re.fullmatch(rf"{self.name}\.(?:(0|[1-9]\d*)\.)?log", it) for it in sorted(os.listdir(self.folder))]
+        return [it.group(1) and int(it.group(1)) for it in found if it]
+
+    def old_ones(self):
+        """The logs of an older keeper."""
+        return [f"{self.folder}/{it}" for it in sorted(os.listdir(self.folder)) if re.fullmatch(rf"{self.name}\.((0|[1-9]\d*)\.)?jsonl", it)]
+
+
+def text_of(path):
+    """What a file has, or None where there is none."""
     try:
-        return bytes.fromhex(text.decode())
-    except ValueError:
-        return b""
+        with open(path, "rb") as file:
+            return file.read()
+    except FileNotFoundError:
+        return None
+    except OSError:
+        raise Stop(1, f"device: file: {path}\n") from None
 
 
 class State:
     """What a file has of a table: its records with their handles, in the order of each index, and its number of writes."""
 
-    def __init__(self, folder, table):
-        self.folder, self.table, self.number = folder, table, None
-        self.path, self.draft = f"{folder}/{table.name}.state", f"{folder}/{table.name}.state.new"
+    def __init__(self, files, table, base):
+        self.files, self.table, self.base, self.is_there = files, table, base, False
 
-    def text(self):
+    def number(self):
+        """The number in the name of the log behind it."""
+        return self.base.number if self.is_there else None
+
+    def cells(self):
+        return json.dumps([f"{it.cell}{'?' * it.null}" for it in self.table.columns.values()], separators=(",", ":")).encode()
+
+    def body(self):
         lists, writes = self.table.lists, self.table.writes
         if has_fault("a state loses an order"):
             lists = {it: records if it.kind in ("ordered", "ranked") else by_age(records) for it, records in lists.items()}
@@ -140,173 +183,224 @@ class State:
             new = {id(it): Record(at, it.stamp, it.row) for at, it in enumerate(by_age(self.table.records))}
             lists = {index: [new[id(it)] for it in records] for index, records in lists.items()}
         text = pickle.dumps((self.table.name, self.table.columns, len(self.table.records) if has_fault("a state loses its number") else writes, lists))
-        return f"{hashlib.sha256(text).hexdigest()} {text.hex()}\n".encode()
+        return b'"%s"\n' % text.hex().encode()
 
     def read(self):
         """Puts the state into the empty table, where there is one."""
-        path = self.draft if has_fault("a half written state is read") and os.path.exists(self.draft) else self.path
-        if not os.path.exists(path):
+        path = self.files.state
+        if has_fault("a half written state is read") and os.path.exists(self.files.draft):
+            path = self.files.draft
+        text = text_of(path)
+        if text is None:
             return
-        with open(path, "rb") as file:
-            text = file.read()
-        line, newline, behind = text.partition(b"\n")
-        told, _, spelled = line.partition(b" ")
-        is_whole = newline and hashlib.sha256(spelled_by(spelled)).hexdigest().encode() == told
-        if not is_whole or behind:
+        found = read_state(text)
+        if not found and has_fault("a state's digest is not looked at"):
+            start, _, rest = text.partition(b"\n")
+            found = start[-18:-2], rest.rpartition(b'{"c"')[0]
+        try:
+            name, columns, writes, lists = pickle.loads(bytes.fromhex(found[1][1:-2].decode()))
+        except Exception:
             if has_fault("a cut state is an empty table"):
                 return
-            raise Stop(8, f"state: {path}: {2 if is_whole else 1}\n")
-        name, columns, writes, lists = pickle.loads(spelled_by(spelled))
+            raise Stop(8, f"state: {path}\n") from None
         same = list(columns) == list(self.table.columns) if has_fault("a state has no types") else columns == self.table.columns
         if (name != self.table.name or not same) and not has_fault("any state will do"):
             raise Stop(8, f"state: {path}: 1\n")
-        self.table.lists, self.table.writes, self.number = lists, writes, writes
+        self.table.lists, self.table.writes, self.base, self.is_there = lists, writes, Link(writes, found[0]), True
 
-    def log(self, number):
-        """The path of the log behind a state, or of that which begins with the empty table."""
-        return f"{self.folder}/{self.table.name}.{'' if number is None else f'{number}.'}jsonl"
+    def refuse_others(self):
+        """Logs that do not fit the state, or are of an older keeper."""
+        if not has_fault("an old journal is passed over"):
+            for path in self.files.old_ones():
+                raise Stop(8, f"old: {path}\n")
+        for number in self.files.numbers():
+            is_later = number is not None and (number > self.base.number or not self.is_there)
+            if is_later and not has_fault("a log without its state is passed over"):
+                raise Stop(8, f"state: none before: {self.files.log(number)}\n")
+            if self.is_there and number != self.base.number and not is_later and not has_fault("a longer old log is passed over"):
+                lines = list(filter(None, map(read_line, text_of(self.files.log(number)).split(b"\n")[:-1])))
+                if any(max(it.number, it.durable) > self.base.number for it in lines):
+                    raise Stop(8, f"state: too old for: {self.files.log(number)}\n")
+        is_declared = os.path.exists(self.files.declaration)
+        if not self.is_there and is_declared and not os.path.lexists(self.files.log(None)) and not has_fault("a missing log is made"):
+            raise Stop(8, f"missing: {self.files.log(None)}\n")
 
-    def numbers(self):
-        """The numbers of the states that logs are behind."""
-        found = [re.fullmatch(rf"{self.table.name}\.(0|[1-9]\d*)\.jsonl", it) for it in os.listdir(self.folder)]
-        return [int(it.group(1)) for it in found if it]
+    def is_spent(self, number, first):
+        """Whether a log from before the state ends where that begins."""
+        text = text_of(self.files.log(number))
+        line = read_line(text.partition(b"\n")[0])
+        base = first if not number else Link(number, line.before if line else b"")
+        try:
+            found = recovered(text, base)
+        except Hurt:
+            return False
+        if has_fault("an old log goes by its number"):
+            return found.last.number == self.base.number
+        return found.last == self.base and not found.torn
 
-    def old_logs(self):
-        """The paths of the logs from before the state, each with the number of its last write, and whether it is whole."""
-        for number in [None, *(it for it in self.numbers() if it < self.number)]:
-            with contextlib.suppress(FileNotFoundError), open(self.log(number), "rb") as file:
-                text = file.read()
-                yield self.log(number), (number or 0) + text.count(b"\n"), text.endswith(b"\n") or not text
-
-    def refuse_longer(self):
-        """A log from before the state may not go on behind it."""
-        for path, last, _ in self.old_logs() if self.number is not None else ():
-            if last > self.number and not has_fault("a longer old log is passed over"):
-                raise Stop(8, f"state: too old for: {path}\n")
-
-    def refuse_missing(self):
-        """A table that is declared has a state or a log."""
-        is_declared = os.path.exists(f"{self.folder}/{self.table.name}.schema")
-        if self.number is None and is_declared and not os.path.lexists(self.log(None)) and not has_fault("a missing log is made"):
-            raise Stop(8, f"missing: {self.log(None)}\n")
-
-    def refuse_later(self):
-        for number in self.numbers():
-            if (self.number is None or number > self.number) and not has_fault("a log without its state is passed over"):
-                raise Stop(8, f"state: none before: {self.log(number)}\n")
-
-    def clean(self):
+    def clean(self, first):
         """Removes what is older than the state."""
         if not has_fault("a half written state stays"):
-            remove(self.draft)
-        if self.number is None or has_fault("an old log stays"):
+            remove(self.files.draft)
+        remove(self.files.journal)
+        if not self.is_there or has_fault("an old log stays"):
             return
-        for path, last, is_whole in list(self.old_logs()):
-            if last == self.number and is_whole or has_fault("an old log goes by its name"):
+        for number in self.files.numbers():
+            if number == self.base.number:
+                continue
+            path = self.files.log(number)
+            if has_fault("an old log goes by its name") or self.is_spent(number, first):
                 remove(path)
             elif not has_fault("a log that is left is not told"):
-                os.write(2, f"left: {path}: it does not end with write {self.number}\n".encode())
+                os.write(2, f"left: {path}: it does not end with write {self.base.number}\n".encode())
 
-    def put(self):
-        """Writes the state in place of the one before, and an empty log."""
-        number = self.table.writes
-        if self.number == number:
+    def put(self, last, first):
+        """Writes the state behind this write in place of the one before, and an empty log."""
+        if self.is_there and self.base.number == last.number:
             if has_fault("a second compact empties the state"):
                 self.table.lists = {it: [] for it in self.table.lists}
-                self.put_text()
+                self.put_text(last)
             return
         if has_fault("a compact removes the log first"):
-            remove(self.log(self.number))
+            remove(self.files.log(self.number()))
         try:
-            self.put_text()
+            self.put_text(last)
         except OSError:
             if not has_fault("a half written state stays"):
-                remove(self.draft)
+                remove(self.files.draft)
             if has_fault("a failed compact takes the log"):
-                remove(self.log(self.number))
-            raise Stop(0 if has_fault("a failed compact ends with status 0") else 9, f"compact: {self.draft}\n") from None
+                remove(self.files.log(self.number()))
+            raise Stop(0 if has_fault("a failed compact ends with status 0") else 9, f"compact: {self.files.draft}\n") from None
+        self.base, self.is_there = last, True
         try:
-            sync_folder(self.folder)
-            make(self.log(number), b"")
-            sync_folder(self.folder)
+            sync_folder(self.files.folder)
+            make(self.files.log(last.number), b"")
+            sync_folder(self.files.folder)
         except OSError:
-            raise Stop(1, f"device: file: {self.folder}\n") from None
-        self.number = number
-        self.clean()
+            raise Stop(1, f"device: file: {self.files.folder}\n") from None
+        self.clean(first)
 
-    def put_text(self):
-        file = os.open(self.draft, os.O_WRONLY | os.O_CREAT | os.O_TRUNC, file_mode())
+    def put_text(self, last):
+        file = os.open(self.files.draft, os.O_WRONLY | os.O_CREAT | os.O_TRUNC, file_mode())
         try:
-            append(file, self.text())
+            append(file, state_text(self.cells(), last.digest, self.body()))
             if has_fault("a compact renames before it syncs"):
-                os.rename(self.draft, self.path)
+                os.rename(self.files.draft, self.files.state)
             os.fsync(file)
         finally:
             os.close(file)
         if not has_fault("a compact renames before it syncs"):
-            os.rename(self.draft, self.path)
+            os.rename(self.files.draft, self.files.state)
 
 
 class Log:
     """A table and the log of its accepted writes."""
 
-    def __init__(self, folder, table):
-        self.name, self.table, self.lock, self.torn, self.kept = table.name, table, threading.Lock(), b"", []
-        self.waiting = set()
-        self.state = State(folder, table)
+    def __init__(self, folder, table, first):
+        self.name, self.table, self.lock, self.kept = table.name, table, threading.Lock(), []
+        self.waiting, self.file, self.first, self.mark_synced = set(), None, first, 0
+        self.files = Files(folder, table.name)
+        self.state = State(self.files, table, first)
         self.state.read()
-        self.state.refuse_later()
-        self.state.refuse_longer()
-        self.state.refuse_missing()
-        path = self.state.log(self.state.number)
-        if has_fault("the old log runs on the new state") and os.path.exists(self.state.log(None)):
-            path = self.state.log(None)
-        self.path = f"{folder}/x.jsonl" if has_fault("the wrong file is told") else path
-        try:
-            self.file = os.open(path, os.O_RDWR | os.O_CREAT | os.O_APPEND, file_mode())
-        except OSError:
-            raise Stop(1, f"device: file: {self.path}\n") from None
+        self.state.refuse_others()
+        path = self.files.log(self.state.number())
+        if has_fault("the old log runs on the new state") and os.path.exists(self.files.log(None)):
+            path = self.files.log(None)
+        self.path = f"{folder}/x.log" if has_fault("the wrong file is told") else path
+        self.text = b"" if has_fault("starts empty") else text_of(path) or b""
         self.is_synced = True
 
     def load(self, machine):
-        """Carries out the whole lines; what stands behind them is torn."""
-        text = b"" if has_fault("starts empty") else os.pread(self.file, os.fstat(self.file).st_size, 0)
-        *lines, self.torn = text.split(b"\n")
-        if has_fault("a torn line is carried out") and self.torn or has_fault("zeros are a line") and self.torn.startswith(b"\0"):
-            lines, self.torn = [*lines, self.torn], b""
-        if has_fault("a whole line goes with a torn one") and self.torn and lines:
-            self.torn = lines.pop() + b"\n" + self.torn
-        for number, line in enumerate(lines, 0 if has_fault("lines are counted from 0") else 1):
-            change = machine.answer(line)[1]
-            if change and read(line)["t"] == self.name:
+        """Decides about the log, and carries out its lines. Nothing is changed."""
+        base, text = self.state.base, self.text
+        found = text_of(self.files.mark)
+        self.mark, self.slot = (None, 0) if has_fault("the mark is not looked at") else read_marks(found or b"")
+        if has_fault("a torn line is carried out") and read_line(text.rpartition(b"\n")[2]):
+            text = self.text = text + b"\n"
+        try:
+            self.found = recovered(text, base, self.mark)
+        except Hurt as why:
+            if not has_fault("hurt lines are cut"):
+                raise Stop(6, "hurt: %s: writes %d to %d\n" % (self.path, *why.args)) from None
+            self.found = self.front(text, base)
+        except Strange:
+            raise Stop(8, f"mark: {self.files.mark}: of another log\n") from None
+        if has_fault("a torn line refuses") and self.found.torn or has_fault("zeros are a line") and text[self.found.end :].startswith(b"\0"):
+            raise Stop(6, f"line: {self.path}: {len(self.found.lines) + 1}\n")
+        if has_fault("a whole line goes with a torn one") and self.found.torn and self.found.lines:
+            self.found = self.front(text[: self.found.end - 1], base)
+        for number, line in enumerate(self.found.lines, 0 if has_fault("lines are counted from 0") else 1):
+            change = machine.answer(line.write)[1]
+            if change and read(line.write)["t"] == self.name:
                 machine.keep(change)
             elif not has_fault("a bad line is passed over"):
                 raise Stop(6, f"line: {self.path}: {number}\n")
+        self.last, self.at = self.found.last, self.found.end
         if has_fault("a log is cut before all are read"):
-            self.cut()
+            self.open()
+            self.settle()
 
-    def cut(self):
-        """Cuts off what is torn, and tells it."""
-        if not self.torn:
-            return
-        if not has_fault("a torn line stays"):
-            os.ftruncate(self.file, os.fstat(self.file).st_size - len(self.torn))
-        if not has_fault("a torn line is not told"):
-            os.write(2, f"torn: {self.path}: {len(self.torn)} bytes were cut off\n".encode())
-        self.torn = b""
+    def front(self, text, base):
+        """The whole log at the front of these bytes, whatever else is known."""
+        lines = text.split(b"\n")[:-1]
+        for count in range(len(lines), -1, -1):
+            try:
+                return recovered(b"".join(it + b"\n" for it in lines[:count]), base)._replace(torn=len(self.text))
+            except Hurt:
+                pass
+
+    def open(self):
+        """Opens the log and the mark, which are made where they are not there."""
+        for path, text in ((self.path, b""), (self.files.mark, bytes(MARK_BYTES))):
+            if not os.path.lexists(path):
+                make(path, text)
+        try:
+            self.file, self.mark_file = (os.open(it, os.O_RDWR) for it in (self.path, self.files.mark))
+        except OSError:
+            raise Stop(1, f"device: file: {self.path}\n") from None
+
+    def settle(self):
+        """Cuts off what is torn, and tells it; writes what is not known to be on the disk once more in its place; and marks all that."""
+        torn, self.found = self.found.torn, self.found._replace(torn=0)
+        if torn and not has_fault("a torn line stays"):
+            os.ftruncate(self.file, self.found.end)
+        if torn and not has_fault("a torn line is not told"):
+            os.write(2, torn_text(self.path, self.found._replace(torn=torn)).encode())
+        if self.found.lines and not self.mark and not has_fault("a mark that is gone is not told"):
+            os.write(2, f"mark: {self.files.mark}: none\n".encode())
+        tail = [it for it in self.found.lines if it.number > self.found.durable]
+        begin = self.found.end - sum(len(it) + 1 for it in self.text[: self.found.end].split(b"\n")[:-1][len(self.found.lines) - len(tail) :])
+        if not has_fault("the tail is not rewritten"):
+            if has_fault("the tail is cut and appended"):
+                os.ftruncate(self.file, begin)
+            write_at(self.file, begin, self.text[begin : self.found.end])
+        if has_fault("a torn line stays") and torn:
+            self.at += torn
+        os.fdatasync(self.file)
+        self.durable = self.last.number
+        self.put_mark()
+        os.fdatasync(self.mark_file)
+
+    def put_mark(self):
+        if not has_fault("marks are not written"):
+            write_at(self.mark_file, self.slot, slot_text(self.last))
+            self.slot = SLOT_BYTES - self.slot
 
     def keep(self, line, change):
         """Carries out a write, once its line is in the log."""
         text = line if has_fault("appends what was sent") else command_text(read(line)).encode()
         if has_fault("keeps each write"):
             self.kept.append(text)
+        durable = self.last.number if has_fault("lines tell too much") else 0 if has_fault("lines tell nothing durable") else self.durable
+        text, self.last = line_text(text, self.last, durable)
+        at, self.at = self.at, self.at + len(text)
         try:
             if has_fault("answers before it appends"):
-                threading.Timer(0.02, append, (self.file, text + b"\n")).start()
+                threading.Timer(0.02, write_at, (self.file, at, text)).start()
             elif has_fault("appends without its lock"):
-                threading.Timer(0.002 * (len(text) % 3), append, (self.file, text + b"\n")).start()
+                threading.Timer(0.002 * (len(text) % 3), append, (os.open(self.path, os.O_WRONLY | os.O_APPEND), text)).start()
             else:
-                append(self.file, text + b"\n")
+                write_at(self.file, at, text)
         except OSError:
             self.fail()
         self.is_synced = False
@@ -332,7 +426,15 @@ class Log:
                 return
             self.is_synced = True
             try:
+                if has_fault("marks before it syncs"):
+                    self.put_mark()
                 os.fdatasync(self.file)
+                self.durable = self.last.number
+                if not has_fault("marks before it syncs"):
+                    self.put_mark()
+                if time.monotonic() - self.mark_synced > 1:
+                    self.mark_synced = time.monotonic()
+                    os.fdatasync(self.mark_file)
             except OSError:
                 self.fail()
 
@@ -342,14 +444,26 @@ class Log:
 
 
 def declared(text):
-    """The tables that a schema file declares, with what it leaves out; none where it is none."""
+    """The tables that a schema file declares, as they are printed; none where it is none."""
     try:
-        tables = tomllib.loads(text.decode())["table"]
+        return [declaration_text(it) for it in tomllib.loads(text.decode())["table"]]
     except (KeyError, ValueError):
         return None
-    columns = lambda table: [{"null": False, **it} for it in table["column"]]
-    indices = lambda table: [{"unique": False, **it} for it in table["index"]]
-    return [{"max": 2**32 - 1, **it, "column": columns(it), "index": indices(it)} for it in tables]
+
+
+def upgrade(folder, machine, bases):
+    """Takes over the logs of an older keeper that are behind no state: each table gets a state in their place."""
+    for name, table in machine.tables.items():
+        files = Files(folder, name)
+        for path in files.old_ones():
+            if not os.path.exists(files.state):
+                for line in text_of(path).split(b"\n")[:-1]:
+                    machine.keep(machine.answer(line)[1])
+                state = State(files, table, bases[name])
+                if has_fault("an upgrade removes the journal first"):
+                    remove(path)
+                state.put(Link(table.writes, bases[name].digest), bases[name])
+            remove(path)
 
 
 class Keeper:
@@ -362,24 +476,69 @@ class Keeper:
                 schema = file.read()
         except OSError:
             raise Stop(1, f"device: file: {given.schema}\n") from None
-        self.machine = Machine(schema)
+        self.machine, bases = Machine(schema), bases_of(schema)
         self.hold(schema)
-        self.logs = {name: Log(self.folder, table) for name, table in self.machine.tables.items()}
-        for log in self.logs.values():
-            log.load(self.machine)
+        if given.upgrade:
+            upgrade(self.folder, self.machine, bases)
+            self.machine = Machine(schema)
+        self.logs = {}
+        for name, table in self.machine.tables.items():
+            self.logs[name] = Log(self.folder, table, bases[name])
+            self.logs[name].load(self.machine)
         if self.memory.is_refused():
-            if has_fault("a refused start empties a log"):
-                os.ftruncate(log.file, 0)
+            for log in self.logs.values() if has_fault("a refused start empties a log") else ():
+                os.truncate(log.path, 0)
             raise Stop(1, "memory\n")
-        for log in self.logs.values():
-            log.cut()
-        self.declare(schema)
+        if given.export is None:
+            self.settle_all(schema)
+
+    def settle_all(self, schema):
+        """What a start changes, once all is decided."""
         try:
+            sync_folder(self.folder)
+            for log in self.logs.values():
+                if log.file is None:
+                    log.open()
+                    log.settle()
+            sync_folder(self.folder)
+            self.declare(schema)
             sync_folder(self.folder)
         except OSError:
             raise Stop(1, f"device: file: {self.folder}\n") from None
         for log in self.logs.values():
-            log.state.clean()
+            log.state.clean(log.first)
+
+    def named(self, name):
+        if name not in self.logs:
+            raise Stop(2, f"error: the schema has no table '{name}'\n")
+        return self.logs[name]
+
+    def export(self, name):
+        """Prints the writes of a log."""
+        log = self.named(name)
+        for line in log.found.lines:
+            sys.stdout.write(line.write.decode() + "\n")
+        if log.state.is_there:
+            os.write(2, f"behind: {log.path}: the log begins behind write {log.state.base.number}\n".encode())
+
+    def take(self, name):
+        """Takes a plain journal from standard input into the log of a table without writes."""
+        log = self.named(name)
+        if log.state.is_there or log.last.number and not has_fault("a journal comes to other writes"):
+            raise Stop(8, f"filled: {log.path}\n")
+        number, text = 0, b""
+        for number, line in enumerate(sys.stdin.buffer.read().splitlines(), 1):
+            change = self.machine.answer(line)[1]
+            if change is None or read(line)["t"] != name:
+                if has_fault("a front of a journal is taken"):
+                    break
+                raise Stop(6, f"line: standard input: {number}\n")
+            self.machine.keep(change)
+            line, log.last = line_text(command_text(read(line)).encode(), log.last, 0)
+            text += line
+        make(log.files.journal, text)
+        os.rename(log.files.journal, log.path)
+        sync_folder(self.folder)
 
     def compact(self):
         """Writes the state of each table."""
@@ -389,7 +548,7 @@ class Keeper:
                     remove(log.path)
             raise Stop(1, "memory\n")
         for log in self.logs.values():
-            log.state.put()
+            log.state.put(log.last, log.first)
 
     def hold(self, schema):
         """Takes the folder, and compares the declaration beside the logs."""
@@ -403,20 +562,25 @@ class Keeper:
                 raise Stop(7, f"taken: {self.folder}\n") from None
         except OSError:
             raise Stop(1, f"device: file: {self.folder}\n") from None
-        beside = f"{self.folder}/{next(iter(self.machine.tables))}.schema"
-        if not os.path.exists(beside):
+        for it in tomllib.loads(schema)["table"]:
+            self.compare(it, f"{self.folder}/{it['name']}.schema")
+
+    def compare(self, table, path):
+        """Compares the declaration of a table with the one beside its log."""
+        found = text_of(path)
+        if found is None:
             return
-        with open(beside, "rb") as file:
-            found = file.read()
-        meant = (lambda it: it) if has_fault("a declaration is its bytes") else declared
-        if meant(found) != meant(schema.encode()) and not has_fault("any schema will do"):
-            raise Stop(3, f"schema: other: {beside}\n")
+        fits = found == declaration_text(table).encode() if has_fault("a declaration is its bytes") else declared(found) == [declaration_text(table)]
+        if not fits and not has_fault("any schema will do"):
+            raise Stop(3, f"schema: other: {path}\n")
 
     def declare(self, schema):
         """Writes the declarations that are not there."""
-        for name in self.machine.tables:
-            if not os.path.exists(f"{self.folder}/{name}.schema"):
-                make(f"{self.folder}/{name}.schema", schema.encode())
+        for it in tomllib.loads(schema)["table"]:
+            path = f"{self.folder}/{it['name']}.schema"
+            if not os.path.exists(path):
+                make(f"{path}.part", declaration_text(it).encode())
+                os.rename(f"{path}.part", path)
 
     def answer(self, line):
         """The answer to a line, behind what it leaves in its table and its log."""
@@ -547,7 +711,10 @@ def words():
     for name in ("--schema", "--data"):
         reader.add_argument(name, required=True)
     reader.add_argument("--listen")
-    reader.add_argument("--compact", action="store_true")
+    for name in ("--export", "--import"):
+        reader.add_argument(name)
+    for name in ("--compact", "--upgrade"):
+        reader.add_argument(name, action="store_true")
     reader.add_argument("--workers", type=between(1, 256), default=16)
     reader.add_argument("--sync", choices=("each", "second", "never"), default="each")
     reader.add_argument("--idle", type=between(0, 10**6), default=0)
@@ -556,11 +723,17 @@ def words():
 
 def main():
     given = words()
-    if given.compact == (given.listen is not None):
-        stop(2, "error: either --listen ADDRESS or --compact is needed, and not both\n")
-    if given.compact:
+    given.taken = vars(given)["import"]
+    if [given.listen is not None, given.compact, given.export is not None, given.taken is not None, given.upgrade].count(True) != 1:
+        stop(2, "error: one of --listen ADDRESS, --compact, --export NAME, --import NAME and --upgrade is needed, and no other of them\n")
+    if given.listen is None:
         try:
-            Keeper(given).compact()
+            keeper = Keeper(given)
+            if given.compact:
+                keeper.compact()
+            for name, does in ((given.export, keeper.export), (given.taken, keeper.take)):
+                if name is not None:
+                    does(name)
         except Stop as why:
             stop(*why.args)
         return

@@ -1,5 +1,6 @@
 """The cases of crates/log_cases in Python: tables of the plain machine with their logs, over files that fail."""
 from command_texts import command_text
+from plain_checks import CheckedCase
 from plain_machine import MEMORY, Fault, Machine, read
 
 BOUNDLESS = 2**64
@@ -193,7 +194,8 @@ def cases_of(text):
     schema, *cases = text.decode().split("=== ")
     for case in cases:
         name, *lines = case.split("\n")[:-1]
-        yield name, lines, (LogCase if name.startswith("log ") else SeatCase)(schema)
+        kind, table, *_ = name.split()
+        yield name, lines, {"log": LogCase, "seats": SeatCase, "checked": lambda it: CheckedCase(it, table)}[kind](schema)
 
 
 def log_cases(text):

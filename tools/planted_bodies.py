@@ -1,12 +1,15 @@
 """Bodies that no clause refuses, each a change of a few lines, with the program whose stored output shows it.
 
-A plant is a program or a tool, and its changes: a file, a text that stands there once, and what comes in its place.
+A plant is a program or a tool with its words, and its changes: a file, a text that stands there once, and what comes in its place.
 """
 
 GATES, SENT, SHARED, TEXTS, RUNS, INDICES = "gate_cases", "stream_cases", "shared_cases", "text_cases", "container_runs", "index_tests"
 # Tools that drive the built server, or build it with changes of their own.
 ACCEPTS, THREADS, PATHS, MISMATCHES, CLIENTS = "run_refused_accepts", "run_refused_threads", "run_journal_paths", "run_mismatches", "check_interactive"
-TOOLS = (ACCEPTS, THREADS, PATHS, MISMATCHES, CLIENTS)
+# Tools that drive the built keeper.
+KEEPS, CRASHES = "run_keeper", "crash_keeper 0"
+# By which program each tool is tried.
+TOOLS = {**dict.fromkeys((ACCEPTS, THREADS, PATHS, MISMATCHES, CLIENTS), "table_server"), **dict.fromkeys(("run_keeper", "crash_keeper"), "table_keeper")}
 
 CALLS, ON = "crates/shared_tables/src/shared.rt", "crates/table_sockets/src/serving.rt"
 GATHER, LOCKS, CELL = "crates/shared_tables/src/gathering.rt", "crates/shared_tables/src/locks.rt", "crates/shared_tables/src/cell.rt"
@@ -105,7 +108,7 @@ OF_REFUSALS = {
     "gathers_no_memory": (SHARED, [(GATHER, GATHERED, not_gathered("Memory"))]),
     "tables_behind_locks_find_no_memory": (SHARED, gives_up(CALLS, "        let cells = fresh_cells(alloc, &schema, workers)?;\n", "Err(AllocError)")),
     "services_find_no_memory": (SENT, gives_up("crates/shared_tables/src/serve.rt", "        let called = Called { shared: self, rt };\n", "Err(ServeFault::Memory)")),
-    "canonical_texts_find_no_memory": (TEXTS, gives_up("crates/command_text/src/write.rt", "    let mut line = Writer::new(Vec::with_capacity(alloc, ROOM)?);\n", "Err(AllocError)")),
+    "canonical_texts_find_no_memory": (TEXTS, gives_up("crates/command_text/src/write.rt", "    let mut text = Vec::with_capacity(alloc, ROOM)?;\n", "Err(AllocError)")),
     "records_find_no_memory": (TEXTS, gives_up("crates/table_reply/src/records.rt", "    let printed = print_shown(&mut line, at, headings, record);\n", "Err(OutOfRoom)")),
     "engines_find_no_memory": (SENT, gives_up("crates/table_engine/src/engine.rt", "        let tables = Tables::new(alloc, schema)?;\n", "Err(AllocError)")),
     "streams_find_no_memory": (SENT, gives_up("crates/table_engine/src/stream.rt", "    let cutter = &mut engine.cutters[session];\n", "Err(StreamFault::Memory)")),
@@ -132,10 +135,35 @@ OF_SERVERS = {
     "ungathered_journal_begins_again": (MISMATCHES, [(SERVE, "    let told = Fault::from(fault.why);\n", "    let told = Fault::from(fault.why);\n    if told.status() == 4 {\n        if let Some(Journal { path, begun }) = journal.take() {\n            if let Ok(made) = rt.make(path, begun) {\n                let _ = rt.put(path, made);\n            }\n        }\n    }\n")]),
 }
 
+# What no clause of the keeper's program says: when and in which order its files are written, synced, marked and removed, and which of them refuse a start.
+KEEPER = "crates/table_keeper/src"
+STARTS, MARKS, BEFORE, STATES, COMPACTS, IMPORTS, FOLDER = (f"{KEEPER}/{it}.rt" for it in ("logs", "mark", "logs_before", "states", "compact", "import", "folder"))
+SETTLES = "    let mut logs = Vec::new(rt.alloc());\n    for table in decided {\n        logs.push(settle(rt, table)?)?;\n    }\n"
+DECIDES = "    let mut decided = Vec::new(rt.alloc());\n    for table in schema.tables() {\n        decided.push(decide(rt, folder, table)?)?;\n    }\n"
+SYNCS = "    folder.sync(rt)?;\n"
+LEFT = "            Some(OldLog::Spent) => spent.push(path)?,\n            Some(OldLog::Left) => {\n                let number = base.link.number;\n"
+OF_KEEPERS = {
+    "marks_are_not_written": (f"{KEEPS} lines_that_are_missing", [(MARKS, "        file.write_all_at(slot, at)?;\n", "        let _ = slot;\n")]),
+    "marks_are_never_synced": (f"{KEEPS} calls_of_a_start", [(MARKS, "        if self.is_due() {\n            self.sync()?;\n        }\n", "")]),
+    "marks_that_fail_are_passed_over": (f"{KEEPS} mark_that_fails", [(MARKS, "        file.write_all_at(slot, at)?;\n", "        let _ = file.write_all_at(slot, at);\n")]),
+    "logs_are_cut_before_all_are_decided": (f"{KEEPS} bad_line_behind_a_torn_log", [(STARTS, DECIDES + SYNCS + SETTLES, SYNCS + "    let mut logs = Vec::new(rt.alloc());\n    for table in schema.tables() {\n        let decided = decide(rt, folder, table)?;\n        logs.push(settle(rt, decided)?)?;\n    }\n")]),
+    "the_folder_is_not_synced_first": (f"{KEEPS} calls_of_a_start", [(STARTS, SYNCS + SETTLES, SETTLES)]),
+    "the_folder_is_never_synced": (CRASHES, [(FOLDER, "    File::open(rt, path)?.sync_all()\n", "    let _ = File::open(rt, path)?;\n    Ok(())\n")]),
+    "no_mark_is_not_told": (f"{KEEPS} each_bit_of_a_mark", [(STARTS, "        && about.recovered.end > 0\n", "        && about.recovered.end > 1_000_000\n")]),
+    "a_missing_log_is_made": (f"{KEEPS} declared_table_without_files", [(STARTS, "    if is_declared && !base.is_state && file.is_none() {\n", "    if is_declared && !base.is_state && file.is_none() && table.max() == 0 {\n")]),
+    "an_old_journal_is_passed_over": (f"{KEEPS} journal_beside_its_state", [(STARTS, "    folder.refuse_plain(rt, table.name())?;\n", "")]),
+    "an_old_log_goes_by_its_name": (f"{KEEPS} log_from_before_its_state", [(BEFORE, LEFT, LEFT + "                spent.push(path.clone()?)?;\n")]),
+    "a_longer_old_log_is_passed_over": (f"{KEEPS} log_from_before_its_state", [(BEFORE, "            Some(OldLog::Later) => return Err(Fault::Lacking(path)),\n", "            Some(OldLog::Later) => {}\n")]),
+    "a_states_digest_is_not_looked_at": (f"{KEEPS} each_bit_of_a_state", [(STATES, "    if !is_signed(rt, file, before)? {\n", "    if !is_signed(rt, file, before)? && first == 0 {\n")]),
+    "a_state_is_renamed_before_it_is_synced": (CRASHES, [(COMPACTS, "    file.sync_all()\n", "    Ok(())\n")]),
+    "a_state_has_its_name_unsynced": (CRASHES, [(COMPACTS, "        return Err(fault);\n    }\n    folder.sync(rt)\n", "        return Err(fault);\n    }\n    Ok(())\n")]),
+    "a_journal_is_taken_in_piece_by_piece": (f"{KEEPS} journals_that_come", [(IMPORTS, "        let _ = fs::remove_file(rt, draft.as_str());\n        return Err(fault);\n", "        let _ = put_at(rt, draft.as_str(), path.as_str());\n        return Err(fault);\n")]),
+}
+
 # A store's end that leaves out records. Their blocks are freed all the same, as the clauses ask.
 OF_ENDS = {
     "ends_drop_no_record": (INDICES, [(SHELF, NEXT, NEXT + "            std::mem::forget(block);\n")]),
     "ends_skip_the_first_record": (INDICES, [(SHELF, NEXT, NEXT + "            if newest.is_none() {\n                std::mem::forget(block);\n            } else {\n                drop(block);\n            }\n")]),
 }
 
-PLANTS = {**{name: (GATES, changes) for name, changes in {**OF_GATES, **OF_SERVICES}.items()}, **OF_REFUSALS, **OF_SERVERS, **OF_ENDS}
+PLANTS = {**{name: (GATES, changes) for name, changes in {**OF_GATES, **OF_SERVICES}.items()}, **OF_REFUSALS, **OF_SERVERS, **OF_KEEPERS, **OF_ENDS}
