@@ -10,10 +10,6 @@ ReadsFrom contents at piece count = (known : List ℕ) → contents ≡ Some kno
 abbrev pub over : ℕ → List ℕ → List ℕ → List ℕ
 over at bytes old = take at old ++ (bytes ++ drop (at + length bytes) old)
 
--- these bytes stand from a place on
-abbrev pub IsThere : Option (List ℕ) → ℕ → List ℕ → Type 0
-IsThere contents at bytes = (known : List ℕ) → contents ≡ Some known → take (length bytes) (drop at known) ≡ bytes
-
 -- the bytes after a write at a place that took so many, or none
 abbrev pub written_at : {E : Type 0} → Result ℕ E → ℕ → List ℕ → Option (List ℕ) → Option (List ℕ)
 written_at (Ok count) at bytes old = option_map (over at (take count bytes)) old

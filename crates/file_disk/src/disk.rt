@@ -4,7 +4,7 @@ ghost use Rattle.std.specs.Prelude.{◌≡◌, ◌+◌, ◌≤◌, ◌<◌, ◌^
 ghost use Rattle.std.specs.Io.{WritesAtMost};
 ghost use Rattle.table_engine.specs.Devices.{failures_after, raised};
 ghost use Rattle.table_log.specs.Disk.{AppendsAll, Cuts, Reads, synced_after};
-ghost use Rattle.file_disk.specs.File.{IsThere, LacksBack, counted_after, written};
+ghost use Rattle.file_disk.specs.File.{LacksBack, counted_after, written};
 
 use crate::again::{read_again, write_again};
 use crate::file::LogFile;
@@ -79,8 +79,8 @@ impl<F: LogFile> FileDisk<F> {
         put
     }
 
-    /// Takes away what stands behind the first bytes, and leaves it to a sync to make sure of that. O(1).
-    pub fn shorten(&mut self, count: u64) -> Result<(), DiskFailed>
+    // Takes away what stands behind the first bytes, and leaves it to a sync to make sure of that.
+    fn shorten(&mut self, count: u64) -> Result<(), DiskFailed>
         requires { count ≤ self.old.size }
         ensures cut { OnOk result (F.contents self.new.file ≡ option_map (take count) (F.contents self.old.file) × (self.new.size ≡ count)) }
         ensures kept { OnErr result ((F.contents self.new.file ≡ F.contents self.old.file) × (self.new.size ≡ self.old.size)) }
@@ -94,34 +94,11 @@ impl<F: LogFile> FileDisk<F> {
         self.size = count;
         Ok(())
     }
-
-    /// Writes bytes over themselves, as they stand from a place on, and leaves it to a sync to make sure of them. The file's bytes stay, at an `Err` too. O(bytes).
-    pub fn rewrite(&mut self, at: u64, bytes: &[u8]) -> Result<(), DiskFailed>
-        requires within { at + length bytes.now ≤ self.old.size }
-        requires there { IsThere (F.contents self.old.file) at bytes.now }
-        ensures contents { F.contents self.new.file ≡ F.contents self.old.file }
-        ensures size { self.new.size ≡ self.old.size }
-        ensures synced { self.new.synced ≡ self.old.synced }
-        ensures failures { self.new.failures ≡ failures_after result self.old.failures }
-        ensures settles { F.settles self.new.file ≡ F.settles self.old.file }
-    {
-        let mut place = at;
-        let mut rest = bytes;
-        while !rest.is_empty() {
-            match write_again(&mut self.file, place, rest) {
-                Err(_) | Ok(0) => return Err(self.fail()),
-                Ok(written) => {
-                    let (_, behind) = rest.split_at(written);
-                    place += written as u64;
-                    rest = behind;
-                }
-            }
-        }
-        Ok(())
-    }
 }
 
 impl<F: LogFile> Disk for FileDisk<F> {
+    ghost use Rattle.file_disk.specs.Same.{IsSame, same_goes_on, same_stays};
+
     ghost contents = { λ d. F.contents d.file };
 
     ghost size = { λ d. d.size };
@@ -129,6 +106,12 @@ impl<F: LogFile> Disk for FileDisk<F> {
     ghost synced = { λ d. d.synced };
 
     ghost failures = { λ d. d.failures };
+
+    ghost same = { λ a b. IsSame a b };
+
+    ghost stays = { λ d. same_stays d };
+
+    ghost goes_on = { λ a b c first second. same_goes_on a b c first second };
 
     fn size(&self) -> u64 {
         self.size
@@ -146,6 +129,7 @@ impl<F: LogFile> Disk for FileDisk<F> {
         ensures synced { self.new.synced ≡ self.old.synced }
         ensures failures { self.new.failures ≡ failures_after result self.old.failures }
         ensures settles { F.settles self.new.file ≡ F.settles self.old.file }
+        ensures same { IsSame self.old self.new }
     {
         let left = self.size - at;
         let room = if left < piece.len() as u64 {

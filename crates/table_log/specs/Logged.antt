@@ -28,6 +28,12 @@ pub record IsKept (log : LogData) : Type 0 where
   pub stands : (bytes : List ℕ) → log.bytes ≡ Some bytes → log.is_over ≡ false → IsLog start bytes log.table
   pub loads : (bytes : List ℕ) → log.bytes ≡ Some bytes → IsSome (replayed start bytes)
 
+-- The bytes, where they are known, are whole lines that leave the table on the one that they begin with: the empty one, where it is declared.
+pub record LeavesTable (declared : Option TableShape) (bytes : Option (List ℕ)) (table : TableState) : Type 0 where
+  pub start : TableState
+  pub is_empty : (shape : TableShape) → declared ≡ Some shape → start ≡ new_table shape
+  pub stands : (known : List ℕ) → bytes ≡ Some known → IsLog start known table
+
 -- ---- calls
 
 -- the line of a write: its canonical text, and a newline

@@ -21,6 +21,9 @@ pub trait Disk: Drop {
     /// How often it failed.
     ghost failures: { Self → ℕ };
 
+    /// The second is the first but for what reads change.
+    ghost same: { Self → Self → Type 0 };
+
     /// The number of its bytes. O(1).
     fn size(&self) -> u64
         ensures { result ≡ size self.now };
@@ -36,7 +39,8 @@ pub trait Disk: Drop {
         ensures contents { contents self.new ≡ contents self.old }
         ensures size { size self.new ≡ size self.old }
         ensures synced { synced self.new ≡ synced self.old }
-        ensures failures { failures self.new ≡ failures_after result (failures self.old) };
+        ensures failures { failures self.new ≡ failures_after result (failures self.old) }
+        ensures same { same self.old self.new };
 
     /// Takes the memory that an append of so many bytes needs.
     fn reserve(&mut self, count: usize) -> Result<(), AllocError>
@@ -64,6 +68,12 @@ pub trait Disk: Drop {
         requires { count ≤ size self.old }
         ensures contents { Cuts result count (contents self.old) (contents self.new) (size self.new) (synced self.new) }
         ensures failures { failures self.new ≡ failures_after result (failures self.old) };
+
+    /// It is so beside itself.
+    ghost stays: { (disk : Self) → same disk disk };
+
+    /// It is so after two reads as after one.
+    ghost goes_on: { (a b c : Self) → same a b → same b c → same a c };
 
     /// Its size is the number of its bytes.
     ghost counted: { (disk : Self) (bytes : List ℕ) → contents disk ≡ Some bytes → size disk ≡ length bytes };

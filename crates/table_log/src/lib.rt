@@ -8,6 +8,7 @@ mod loaded;
 mod loading;
 mod logged;
 mod memory;
+mod replaying;
 
 pub use disk::Disk;
 pub use fault::{DiskFailed, OpenFault, OpenWhy, Over};
@@ -15,3 +16,4 @@ pub use law::crash_keeps_synced;
 pub use loaded::{Loaded, Opened};
 pub use logged::{LoggedTable, Mark};
 pub use memory::MemoryDisk;
+pub use replaying::{Replayed, replay};

@@ -9,8 +9,8 @@ ghost use Rattle.table_log.specs.Loading.{IsUnloaded, failures_after_why};
 
 use crate::disk::Disk;
 use crate::fault::{OpenFault, OpenWhy};
-use crate::loading::load;
 use crate::logged::LoggedTable;
+use crate::replaying::{Replayed, replay};
 use std::alloc::Global;
 use std::marker::Model;
 use table_reply::Out;
@@ -69,12 +69,12 @@ fn load_from<D: Disk>(
         });
     };
     let mut disk = disk;
-    match load(alloc, start, &mut disk) {
-        Ok(loader) => Ok(Loaded {
+    match replay(alloc, start, &mut disk) {
+        Ok(Replayed { table, torn }) => Ok(Loaded {
             declared,
-            table: loader.table,
+            table,
             disk,
-            torn: loader.line.len() as u64,
+            torn,
             line,
             alloc,
         }),

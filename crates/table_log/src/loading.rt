@@ -116,6 +116,7 @@ fn load_piece<D: Disk>(
     ensures size { D.size disk.new ≡ D.size disk.old }
     ensures synced { D.synced disk.new ≡ D.synced disk.old }
     ensures failures { D.failures disk.new ≡ failures_after_load result (D.failures disk.old) }
+    ensures same { D.same disk.old disk.new }
 {
     let count = match disk.read(at, piece) {
         Ok(count) => count,
@@ -145,6 +146,7 @@ fn load_all<D: Disk>(
     ensures size { D.size disk.new ≡ D.size disk.old }
     ensures synced { D.synced disk.new ≡ D.synced disk.old }
     ensures failures { D.failures disk.new ≡ failures_after_load result (D.failures disk.old) }
+    ensures same { D.same disk.old disk.new }
 {
     let end = disk.size();
     let mut at = 0;
@@ -166,6 +168,7 @@ pub(crate) fn load<D: Disk>(alloc: Global, start: Table, disk: &mut D) -> Result
     ensures size { D.size disk.new ≡ D.size disk.old }
     ensures synced { D.synced disk.new ≡ D.synced disk.old }
     ensures failures { D.failures disk.new ≡ failures_after_load result (D.failures disk.old) }
+    ensures same { D.same disk.old disk.new }
 {
     let mut piece = vec![in alloc; 0u8; PIECE]?;
     let mut loader = Loader::new(alloc, start)?;

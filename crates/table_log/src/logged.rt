@@ -1,14 +1,15 @@
 //! A table with its log.
 
-ghost use Rattle.std.specs.Prelude.{◌≡◌, ◌+◌, ◌≤◌, ◌↔◌, false, true, if◌then◌else◌, IsSome, IsTrue, OnErr, OnOk, length};
+ghost use Rattle.std.specs.Prelude.{◌≡◌, ◌+◌, ◌≤◌, ◌↔◌, false, true, if◌then◌else◌, IfErr, IfOk, IsSome, IsTrue, OnErr, OnOk, length};
 ghost use Rattle.command_lines.specs.Fits.{CommandFits};
 ghost use Rattle.table_changes.specs.Change.{is_change};
 ghost use Rattle.table_reply.specs.Ready.{IsBehind};
+ghost use Rattle.table_log.specs.declared.fault.OpenWhy.TheVariants.{Memory};
 ghost use Rattle.table_log.specs.Log.{after_command};
-ghost use Rattle.table_log.specs.Logged.{AppendsAnswer, IsKept, Stops, Tells, failed_log, log_line, synced_log};
+ghost use Rattle.table_log.specs.Logged.{AppendsAnswer, IsKept, LeavesTable, Stops, Tells, failed_log, log_line, synced_log};
 
 use crate::disk::Disk;
-use crate::fault::Over;
+use crate::fault::{OpenFault, OpenWhy, Over};
 use command_text::write_command;
 use std::alloc::Global;
 use std::marker::Model;
@@ -72,6 +73,34 @@ fn ready_line<D: Disk>(
 }
 
 impl<D: Disk> LoggedTable<D> {
+    /// A table, and the disk with its log: the bytes are whole lines that leave the table. No line is carried out. The declaration is that of the empty table that the log
+    /// begins with, if it begins with one. Where memory is refused the disk is handed back. O(1).
+    pub fn on(
+        alloc: Global,
+        declared: Option<TableSpec>,
+        table: Table,
+        disk: D,
+    ) -> Result<LoggedTable<D>, OpenFault<D>>
+        requires { LeavesTable declared (D.contents disk) table }
+        ensures parts { IfOk result (λ logged. logged ≡ record { declared = declared; table = table; bytes = D.contents disk; size = D.size disk; synced = D.synced disk; failures = D.failures disk; is_over = false }) }
+        ensures back { IfErr result (λ fault. fault ≡ record { disk = disk; why = Memory }) }
+    {
+        match Out::new(alloc) {
+            Ok(line) => Ok(LoggedTable {
+                declared,
+                table,
+                disk,
+                line,
+                is_over: false,
+                alloc,
+            }),
+            Err(_) => Err(OpenFault {
+                disk,
+                why: OpenWhy::Memory,
+            }),
+        }
+    }
+
     /// The table. O(1).
     pub fn table(&self) -> &Table
         ensures { result.now ≡ self.now.table }
@@ -190,6 +219,7 @@ impl<D: Disk> LoggedTable<D> {
     /// The disk alone. O(records).
     pub fn into_disk(self) -> D
         ensures contents { D.contents result ≡ self.bytes }
+        ensures size { D.size result ≡ self.size }
         ensures synced { D.synced result ≡ self.synced }
         ensures failures { D.failures result ≡ self.failures }
     {

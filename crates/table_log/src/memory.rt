@@ -55,6 +55,8 @@ impl Disk for MemoryDisk {
 
     ghost failures = { λ d. d.failures };
 
+    ghost same = { λ a b. a ≡ b };
+
     fn size(&self) -> u64 {
         self.bytes.len() as u64
     }
@@ -99,7 +101,13 @@ impl Disk for MemoryDisk {
         Ok(())
     }
 
+    ghost use Rattle.std.proofs.Common.{◌∙◌};
+    ghost use Rattle.std.specs.Prelude.{refl};
     ghost use Rattle.table_log.specs.Disk.{same_length};
+
+    ghost stays = { λ _. refl };
+
+    ghost goes_on = { λ _ _ _ first second. first ∙ second };
 
     ghost counted = { λ d bytes e. same_length d.bytes.items bytes e };
 }

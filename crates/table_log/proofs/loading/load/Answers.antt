@@ -9,3 +9,6 @@ returns-in-Ok-clause-loaded g c =
 pub returns-clause-refused : goal.returns-clause-refused
 returns-clause-refused g c =
     all_refused (g.D.Disk.contents c.args.disk.now) c.in_ok-loader.loader c.args.start c.in-Err.why c.in_ok-loader.ensures.loading c.in-Err.ensures.refused
+
+pub returns-in_err-loader-clause-same : goal.returns-in_err-loader-clause-same
+returns-in_err-loader-clause-same g c = g.met.D.Disk.stays c.args.disk.now

@@ -19,6 +19,7 @@ loop-at-preserved g c =
       number = omega (arith, more.grows.number, inv.number);
       line = omega (arith, more.grows.line, inv.line);
       within = omega (arith, more.end, inv.size, c.size-end.ensures);
+      same = g.met.D.Disk.goes_on c.args.disk.now c.loop-at.disk c.load_piece.new.disk inv.same more.same;
     }
 
 pub returns-clause-loaded : goal.returns-clause-loaded

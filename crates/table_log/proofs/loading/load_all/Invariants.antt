@@ -12,6 +12,7 @@ invariant-loop-at g l = record {
   number : l.loader.number ≤ l.at;
   line : length l.loader.line.items ≤ l.at;
   within : l.at ≤ l.end;
+  same : g.D.Disk.same l.initial.disk l.disk;
 }
 
 abbrev pub decreases-loop-at : goal.decreases-loop-at
