@@ -1,15 +1,17 @@
 -- Bytes that come in pieces.
-use Rattle.std.proofs.Common.{◌≡◌, ℕ, ◌+◌, ◌≤◌, List, [], ◌∷◌, ◌++◌, length, take, drop, Option, Some, None, refl, ap, subst, sym, ◌∙◌, append-nil, append_assoc, arith, drop-drop, length-append}
+use Rattle.std.proofs.Common.{◌≡◌, ℕ, ◌+◌, ◌-◌, ◌≤◌, List, [], ◌∷◌, ◌++◌, length, take, drop, Option, Some, None, refl, ap, subst, sym, ◌∙◌, append-nil, append_assoc, arith, drop-drop, length-append}
 use Rattle.std.proofs.lemmas.List.{drop-append-le, drop_all, take-append-drop, take-append-le}
 use Rattle.checked_log.specs.Cuts.{Lacks}
 use Rattle.checked_log.specs.Recover.{walk_from, walked}
-use Rattle.checked_log.specs.Whole.{ended}
+use Rattle.checked_log.specs.Chain.{log_text}
+use Rattle.checked_log.specs.Whole.{ended, whole}
 use Rattle.checked_log.specs.declared.recovery.Link.{Link}
 use Rattle.checked_log.specs.declared.walk.Walk.{Walk}
 use Rattle.checked_log.proofs.Ended.{ended_cut, ended_none}
 use Rattle.checked_log.proofs.Lacking.{Lacks-append}
 use Rattle.checked_disk.specs.Plain.{found_from, plain_contents, plain_text}
-use Rattle.checked_disk.specs.Reading.{HasWalked, IsReading, IsSound, Takes}
+use Rattle.checked_disk.specs.Reading.{EndsAt, HasWalked, IsReading, IsSound, KeepsTail, Takes}
+use Rattle.checked_disk.specs.Stands.{sure_text}
 use Rattle.checked_disk.specs.declared.reader.Reader.{Reader}
 use Rattle.checked_disk.specs.declared.texts.Texts.{Texts}
 use Rattle.checked_disk.proofs.Founds.{found_end}
@@ -41,7 +43,7 @@ pub record IsWalking (old : Reader) (bytes : List ℕ) (size : ℕ) (new : Reade
   pub is_size : length (found_from old.walk (ended bytes)) ≡ size + length (found_from new.walk (ended (new.line.items ++ drop new.place bytes)))
 
 module _ (old new : Reader) (front bytes : List ℕ) (takes : Takes old front [] new) (there : front ++ drop (old.place + length front) bytes ≡ drop old.place bytes) where
-  lines_left : front ++ drop new.place bytes ≡ drop old.place bytes
+  pub lines_left : front ++ drop new.place bytes ≡ drop old.place bytes
   lines_left =
       let place = takes.place in
       let here : new.place ≡ old.place + length front = omega arith in
@@ -52,6 +54,11 @@ module _ (old new : Reader) (front bytes : List ℕ) (takes : Takes old front []
 
   pub found_left : found_from old.walk (ended (old.line.items ++ drop old.place bytes)) ≡ takes.made ++ found_from new.walk (ended (new.line.items ++ drop new.place bytes))
   found_left = ap (λ (l : List ℕ). found_from old.walk (ended (old.line.items ++ l))) (sym lines_left) ∙ takes.texts (drop new.place bytes)
+
+  -- and where the durable lines end
+  pub ends_left : (end : ℕ) → EndsAt old.durable old.walk (ended (old.line.items ++ drop old.place bytes)) end
+      → EndsAt old.durable new.walk (ended (new.line.items ++ drop new.place bytes)) end × (old.tail ≤ end → new.tail ≤ end)
+  ends_left end at = takes.tail (drop new.place bytes) end (subst (λ (l : List ℕ). EndsAt old.durable old.walk (ended (old.line.items ++ l)) end) (sym lines_left) at)
 
 pub walking_begins : (old : Reader) (bytes : List ℕ) → old.place ≡ 0 → old.line.items ≡ [] → IsWalking old bytes 0 old
 walking_begins old bytes place line =
@@ -109,4 +116,30 @@ fresh_reading texts mark walk place line plain read_at handed sound contents = r
       let none : drop texts.handed texts.reader.plain.items ≡ [] = ap (λ (n : ℕ). drop n texts.reader.plain.items) handed ∙ plain in
       ap (λ (n : ℕ). drop n (plain_text texts.base bytes)) read_at ∙ sym all
       ∙ ap (λ (l : List ℕ). l ++ found_from texts.reader.walk (ended (texts.reader.line.items ++ drop texts.reader.place bytes))) (sym none);
+  ends = λ bytes is all few.
+      let durable = texts.reader.durable in
+      let rest = texts.reader.line.items ++ drop texts.reader.place bytes in
+      let whole_is : rest ≡ bytes = ap (λ (l : List ℕ). l ++ drop texts.reader.place bytes) line ∙ ap (λ (n : ℕ). drop n bytes) place in
+      let from : texts.reader.walk.so_far.end + length (log_text (take (durable - texts.reader.walk.so_far.last.number) (whole texts.reader.walk.so_far.last (ended rest))))
+      ≡ 0 + length (sure_text texts.base (whole texts.base (ended rest)) durable) =
+      ap (λ (v : Walk). v.so_far.end + length (log_text (take (durable - v.so_far.last.number) (whole v.so_far.last (ended rest))))) walk in
+      let upto : length (sure_text texts.base (whole texts.base (ended rest)) durable) ≡ length (sure_text texts.base (whole texts.base (ended bytes)) durable) =
+      ap (λ (l : List ℕ). length (sure_text texts.base (whole texts.base (ended l)) durable)) whole_is in
+      omega (arith, from, upto);
 }
+
+-- ---- the tail
+
+pub tail_same : (contents : Option (List ℕ)) (old new : Texts) → new.base ≡ old.base → new.reader.durable ≡ old.reader.durable → new.reader.tail ≡ old.reader.tail → KeepsTail contents old new
+tail_same contents old new base durable tail = record {
+  durable = durable;
+  grows = omega arith;
+  tail = λ was bytes is.
+      let end : length (sure_text old.base (whole old.base (ended bytes)) old.reader.durable) ≡ length (sure_text new.base (whole new.base (ended bytes)) new.reader.durable) =
+      ap (λ (b : Link). length (sure_text b (whole b (ended bytes)) old.reader.durable)) (sym base)
+      ∙ ap (λ (d : ℕ). length (sure_text new.base (whole new.base (ended bytes)) d)) (sym durable) in
+      omega (arith, was bytes is, end, tail);
+}
+
+pub tail_joined : (contents : Option (List ℕ)) (old mid new : Texts) → KeepsTail contents old mid → KeepsTail contents mid new → KeepsTail contents old new
+tail_joined contents old mid new a b = record { durable = b.durable ∙ a.durable; grows = omega (arith, a.grows, b.grows); tail = λ was. b.tail (a.tail was) }

@@ -1,5 +1,5 @@
 -- What is known of a log that is kept, and what its calls do.
-use Rattle.std.specs.Prelude.{◌≡◌, ◌⊎◌, ℕ, ◌+◌, ◌==◌, cond, true, false, List, [], ◌∷◌, ◌++◌, length, take, Option, Some, None, option_map, Result, Ok, Err, refl}
+use Rattle.std.specs.Prelude.{◌≡◌, ◌⊎◌, ℕ, ◌+◌, cond, true, false, List, [], ◌∷◌, ◌++◌, length, take, Option, Some, None, option_map, Result, Ok, Err, refl}
 use Rattle.std.proofs.Common.{ap, ◌∙◌}
 use Rattle.std.specs.Io.KnownBytes.{append_known}
 use Rattle.table_engine.specs.Devices.{IsFront}
@@ -70,9 +70,8 @@ abbrev pub Renews : {E : Type 0} → Result (Unit {0}) E → Log → Option (Lis
 Renews (Ok x) log old new = new ≡ cond log.is_settled old (option_map (take log.end) old)
 Renews (Err e) log old new = (new ≡ old) ⊎ (new ≡ option_map (take log.end) old)
 
--- the place of the other slot
-abbrev pub other_slot : ℕ → ℕ
-other_slot at = cond (at == 0) 512 0
+abbrev pub link_at : ℕ → ℕ → Link
+link_at number digest = record { number = number; digest = digest }
 
 -- the slot of a mark, with its newline
 abbrev pub slot_of : Link → List ℕ

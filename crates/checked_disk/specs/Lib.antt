@@ -1,3 +1,10 @@
+pub mod Files
 pub mod Plain
 pub mod Reading
+pub mod Stands
 pub mod Kept
+pub mod Resumed
+pub mod Safe
+pub mod Same
+pub mod Slots
+pub mod Synced

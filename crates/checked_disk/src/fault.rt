@@ -19,9 +19,8 @@ pub enum RecoverWhy {
 
 /// The files, handed back as they were.
 #[derive(Drop)]
-pub struct RecoverFault<F, M> {
-    pub file: F,
-    pub mark_file: M,
+pub struct RecoverFault<F> {
+    pub files: F,
     pub why: RecoverWhy,
 }
 

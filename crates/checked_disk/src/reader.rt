@@ -1,6 +1,6 @@
 //! The plain lines of a log's bytes, which come in pieces.
 
-ghost use Rattle.std.specs.Prelude.{◌≡◌, ◌+◌, ◌^◌, ◌<◌, ◌≤◌, ◌++◌, ◌∷◌, [], OnOk, length};
+ghost use Rattle.std.specs.Prelude.{◌≡◌, ℕ, ◌+◌, ◌^◌, ◌<◌, ◌≤◌, ◌++◌, ◌∷◌, [], OnOk, length};
 
 use crate::cut::cut_at_newline;
 use checked_log::{Link, Walk};
@@ -20,6 +20,18 @@ pub(crate) struct Reader {
     /// All writes up to this number are durable, and where the line of the last of them ends that was taken.
     pub(crate) durable: u64,
     pub(crate) tail: u64,
+}
+
+// Where the durable lines end, as far as they were taken, behind the line of a number, which ends at a place.
+fn tail_behind(tail: u64, durable: u64, number: u64, end: u64) -> u64
+    ensures grows { tail ≤ result }
+    ensures within { (most : ℕ) → (number ≤ durable → end ≤ most) → tail ≤ most → result ≤ most }
+{
+    if number <= durable {
+        tail.max(end)
+    } else {
+        tail
+    }
 }
 
 impl Reader {
@@ -72,7 +84,8 @@ impl Reader {
     // Takes the line that a newline ends now.
     fn end_line(&mut self) -> Result<(), AllocError>
         requires { self.old.walk.so_far.end + self.old.walk.so_far.behind.lines + length self.old.line.items < self.old.place }
-        ensures { OnOk result (EndsLine self.old self.new) }
+        ensures ends { OnOk result (EndsLine self.old self.new) }
+        ensures durable { self.new.durable ≡ self.old.durable }
     {
         let place = self.place;
         let Some(said) = self.walk.take(self.mark, &self.line) else {
@@ -81,11 +94,8 @@ impl Reader {
         };
         self.plain.extend_from_slice(said.write)?;
         self.plain.push(b'\n')?;
-        self.tail = if said.number <= self.durable {
-            place
-        } else {
-            self.tail
-        };
+        let end = place.min(self.walk.so_far.end as u64);
+        self.tail = tail_behind(self.tail, self.durable, said.number, end);
         self.line.clear();
         Ok(())
     }
@@ -94,7 +104,8 @@ impl Reader {
     pub(crate) fn take(&mut self, piece: &[u8]) -> Result<(), AllocError>
         requires few { self.old.place + length piece.now < 2 ^ 64 }
         requires sound { IsSound self.old }
-        ensures { OnOk result (Takes self.old piece.now [] self.new) }
+        ensures takes { OnOk result (Takes self.old piece.now [] self.new) }
+        ensures durable { self.new.durable ≡ self.old.durable }
     {
         let mut left = piece;
         while let Some((front, rest)) = cut_at_newline(left) {

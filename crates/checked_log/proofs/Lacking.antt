@@ -1,4 +1,4 @@
--- A line's text has no newline.
+-- The text of a line or a mark has no newline.
 use Rattle.std.proofs.Common.{◌≡◌, ◌≢◌, ℕ, zero, suc, ◌/◌, ◌%◌, ◌<◌, ◌≤◌, ◌^◌, ◌==◌, Bool, true, false, not, List, [], ◌∷◌, ◌++◌, codes, decimal, get_or, inl, inr, nat_le, refl, sym, ◌∙◌, arith}
 use Rattle.std.specs.List.{list_all}
 use Rattle.std.specs.Int.{w64, to_be_bytes}
@@ -8,8 +8,11 @@ use Rattle.std.proofs.lemmas.List.{get_or_past}
 use Rattle.std.proofs.lemmas.Str.Parse.{not_in_digits, numerals_by_value, tells_digits}
 use Rattle.hex.specs.Hex.{encode_with, lower_digits}
 use Rattle.checked_log.specs.Cuts.{Lacks}
+use Rattle.checked_log.specs.Digest.{digest}
 use Rattle.checked_log.specs.Hex.{hex_text}
 use Rattle.checked_log.specs.Line.{Entry, Fits, covered, is_plain, line_digest, line_text, with_digest}
+use Rattle.checked_log.specs.Mark.{LinkFits, mark_covered, mark_text}
+use Rattle.checked_log.specs.declared.recovery.Link.{Link}
 use Rattle.checked_log.proofs.Cuts.{Lacks-tail}
 
 pub Lacks-none : (byte : ℕ) → Lacks byte []
@@ -84,3 +87,18 @@ line_lacks e fits =
     Lacks-append 10 (codes "{\"c\":\"") _ (Lacks-tested 10 (codes "{\"c\":\"") refl)
     (Lacks-append 10 (hex_text (line_digest e)) _ (hex_lacks (line_digest e))
     (Lacks-append 10 (codes "\",") _ (Lacks-tested 10 (codes "\",") refl) (covered_lacks e fits)))
+
+mark_covered_lacks : (m : Link) → LinkFits m → Lacks 10 (mark_covered m)
+unfolding mark_covered
+mark_covered_lacks m fits =
+    Lacks-append 10 (codes "\"e\":\"") _ (Lacks-tested 10 (codes "\"e\":\"") refl)
+    (Lacks-append 10 (hex_text m.digest) _ (hex_lacks m.digest)
+    (Lacks-append 10 (codes "\",\"n\":") _ (Lacks-tested 10 (codes "\",\"n\":") refl)
+    (Lacks-append 10 (decimal m.number) _ (decimal_lacks m.number fits.number) (Lacks-tested 10 (codes "}") refl))))
+
+pub mark_lacks : (m : Link) → LinkFits m → Lacks 10 (mark_text m)
+unfolding with_digest
+mark_lacks m fits =
+    Lacks-append 10 (codes "{\"c\":\"") _ (Lacks-tested 10 (codes "{\"c\":\"") refl)
+    (Lacks-append 10 (hex_text (digest (mark_covered m))) _ (hex_lacks (digest (mark_covered m)))
+    (Lacks-append 10 (codes "\",") _ (Lacks-tested 10 (codes "\",") refl) (mark_covered_lacks m fits)))

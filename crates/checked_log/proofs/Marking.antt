@@ -1,13 +1,15 @@
 -- What a slot of the mark says.
-use Rattle.std.proofs.Common.{◌≡◌, ℕ, ◌^◌, Bool, true, false, cond, List, ◌++◌, codes, decimal, drop, take, nat_lt, Some, None, refl, sym, ap, ◌∙◌}
+use Rattle.std.proofs.Common.{◌≡◌, ℕ, ◌^◌, Bool, true, false, cond, List, [], ◌∷◌, ◌++◌, codes, decimal, drop, take, nat_lt, Some, None, refl, sym, ap, ◌∙◌}
 use Rattle.std.proofs.lemmas.Bool.{ltb-true, lt-ltb, and_from, and_parts}
 use Rattle.std.proofs.lemmas.Fmt.{decimal_is_IsNumeral}
 use Rattle.std.proofs.lemmas.Slice.Eq.{bytes_eq-Decides}
 use Rattle.checked_log.specs.Digest.{digest}
 use Rattle.checked_log.specs.Hex.{hex_text}
 use Rattle.checked_log.specs.Line.{with_digest}
-use Rattle.checked_log.specs.Mark.{LinkFits, is_mark, link_in, mark_covered, mark_of, mark_text}
+use Rattle.checked_log.specs.Mark.{LinkFits, first_mark, is_mark, link_in, mark_covered, mark_of, mark_text, slot_mark}
 use Rattle.checked_log.specs.declared.recovery.Link.{Link}
+use Rattle.checked_log.proofs.Ended.{ended_cut}
+use Rattle.checked_log.proofs.Lacking.{mark_lacks}
 use Rattle.checked_log.proofs.Reading.{all_but_one_is, behind_digest, behind_hex, front_hex, hex_number_is}
 
 -- what stands behind the digest of the write's line
@@ -65,3 +67,7 @@ mark_of-none text none = none_by text (link_in text) _ refl (none (link_in text)
 pub same_mark_covered : (text body : List ℕ) (d : ℕ) (m : Link) → text ≡ with_digest d body → text ≡ mark_text m → body ≡ mark_covered m
 same_mark_covered text body d m is said =
     sym (behind_digest d body) ∙ ap (drop 24) (sym is ∙ said) ∙ behind_digest (digest (mark_covered m)) (mark_covered m)
+
+-- a slot that begins with the text of a mark says it
+pub slot_mark-text : (m : Link) → LinkFits m → slot_mark (mark_text m ++ (10 ∷ [])) ≡ Some m
+slot_mark-text m fits = ap first_mark (ended_cut (mark_text m) [] (mark_lacks m fits)) ∙ mark_of-text (mark_text m) m fits refl

@@ -290,3 +290,49 @@ served_crash base mark es synced bytes served left =
       marked = omega arith;
       agrees = and_from _ _ tests.0 (all_take mark k es tests.1);
     }
+
+told_texts : (k : ℕ) (es : List Entry) → told_durable (map line_text (take k es)) ≤ told_durable (map line_text es)
+told_texts zero es = omega arith
+told_texts (suc k) [] = omega arith
+told_texts (suc k) (e ∷ es) = let rest = told_texts k es in omega arith
+
+-- the lines up to the synced number alone
+pub served_take : (base : Link) (mark : Option Link) (es : List Entry) (synced : ℕ) → IsServed base mark es synced → IsServed base mark (take (synced - base.number) es) synced
+served_take base mark es synced served =
+    let k = synced - base.number in
+    let beyond = served.beyond in
+    let within = served.within in
+    let told = served.told in
+    let fewer = told_texts k es in
+    let tests = and_parts (agrees mark base) (list_all (λ e. agrees mark (link_of e)) es) served.agrees in
+    record {
+      chain = Chained-take k base es served.chain;
+      told = omega arith;
+      beyond = served.beyond;
+      within = omega (arith, length-take k es);
+      marked = served.marked;
+      agrees = and_from _ _ tests.0 (all_take mark k es tests.1);
+    }
+
+-- lines more, of which none tells more
+pub served_more : (base : Link) (mark : Option Link) (es more : List Entry) (synced : ℕ) → IsServed base mark es synced → Chained base (es ++ more) → told_durable (map line_text (es ++ more)) ≤ synced
+    → IsServed base mark (es ++ more) synced
+served_more base mark es more synced served chain told =
+    let last = last_number base es served.chain in
+    let within = served.within in
+    let marked = served.marked in
+    let tests = and_parts (agrees mark base) (list_all (λ e. agrees mark (link_of e)) es) served.agrees in
+    record {
+      chain = chain;
+      told = told;
+      beyond = served.beyond;
+      within = omega (arith, length-append es more);
+      marked = served.marked;
+      agrees = and_from _ _ tests.0 (all_both mark es more tests.1 (all_above mark (last_link base es) more (Chained-rest base es more chain) (omega arith)));
+    }
+
+-- the whole lines tell no more than all
+pub told_whole : (base : Link) (bytes : List ℕ) → told_durable (map line_text (whole base (ended bytes))) ≤ told_durable (ended bytes)
+told_whole base bytes =
+    let lines = ended bytes in
+    subst (λ (ls : List (List ℕ)). told_durable ls ≤ told_durable lines) (whole_front lines base).texts (told-take (length (whole base lines)) lines)

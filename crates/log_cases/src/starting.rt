@@ -3,14 +3,14 @@
 use crate::frail::Frail;
 use crate::opening::open;
 use crate::slots::Slots;
-use checked_disk::{CheckedDisk, Found, RecoverFault, RecoverWhy};
+use checked_disk::{Beside, CheckedDisk, Found, RecoverFault, RecoverWhy};
 use checked_log::{Link, Recovered, digest_of, read_marks};
 use std::alloc::Global;
 use table_log::{OpenFault, OpenWhy, Opened};
 use table_schema::TableSpec;
 
 /// A disk that checks itself, in memory.
-pub type Checked = CheckedDisk<Frail, Slots>;
+pub type Checked = CheckedDisk<Beside<Frail, Slots>>;
 
 /// The files of a log and its mark.
 #[derive(Drop)]
@@ -57,7 +57,7 @@ pub fn base_of(spec: &TableSpec) -> Link {
 
 /// The files of a disk.
 pub fn files_of(disk: Checked) -> Files {
-    let (log, mark) = disk.into_parts();
+    let Beside { log, mark } = disk.into_files();
     Files { log, mark }
 }
 
@@ -66,14 +66,12 @@ pub fn start(alloc: Global, spec: &TableSpec, files: Files) -> Result<Started, U
     let Files { log, mark } = files;
     let size = log.state.bytes.len() as u64;
     let marks = read_marks(&mark.bytes);
-    let found = match CheckedDisk::recover(alloc, log, size, base_of(spec), marks, mark) {
+    let files = Beside { log, mark };
+    let found = match CheckedDisk::recover(alloc, files, size, base_of(spec), marks) {
         Ok(found) => found,
         Err(fault) => {
-            let RecoverFault {
-                file: log,
-                mark_file: mark,
-                why,
-            } = fault;
+            let RecoverFault { files, why } = fault;
+            let Beside { log, mark } = files;
             return Err(Unstarted {
                 files: Files { log, mark },
                 why: Why::Recover(why),

@@ -21,26 +21,26 @@ returns-in-Err-clause-refused g c = λ bytes is. c.in-Err.ensures.refused c.args
 
 pub returns-in-Err-judge-clause-refused : goal.returns-in-Err-judge-clause-refused
 returns-in-Err-judge-clause-refused g c = λ bytes is.
-    recovers c.args.base c.args.mark bytes c.reserve-2.new.self.walk c.size.result (Err c.in-Err-judge.refusal)
+    recovers c.args.base c.args.mark bytes c.reserve-2.new.self.walk c.walk_all.new.disk.size (Err c.in-Err-judge.refusal)
     (took_all c.args.base c.args.mark c.new-reader.result c.walk_all.new.reader c.reserve-2.new.self.walk bytes c.in-Ok.size c.new-reader.ensures.mark c.new-reader.ensures.walk
     (c.in-Ok.ensures.found bytes is) (ap (λ (r : Reader). r.walk) c.reserve-2.ensures.kept))
-    (c.size.ensures ∙ c.in-Ok.ensures.size ∙ c.args.disk.now.counted bytes is) c.in-Err-judge.ensures
+    (c.in-Ok.ensures.size ∙ c.args.disk.now.counted bytes is) c.in-Err-judge.ensures
 
 pub returns-clause-recovered : goal.returns-clause-recovered
 returns-clause-recovered g c = λ bytes is.
-    recovers c.args.base c.args.mark bytes c.reserve-2.new.self.walk c.size.result (Ok c.in-Ok-judge.recovered)
+    recovers c.args.base c.args.mark bytes c.reserve-2.new.self.walk c.walk_all.new.disk.size (Ok c.in-Ok-judge.recovered)
     (took_all c.args.base c.args.mark c.new-reader.result c.walk_all.new.reader c.reserve-2.new.self.walk bytes c.in-Ok.size c.new-reader.ensures.mark c.new-reader.ensures.walk
     (c.in-Ok.ensures.found bytes is) (ap (λ (r : Reader). r.walk) c.reserve-2.ensures.kept))
-    (c.size.ensures ∙ c.in-Ok.ensures.size ∙ c.args.disk.now.counted bytes is) c.in-Ok-judge.ensures
+    (c.in-Ok.ensures.size ∙ c.args.disk.now.counted bytes is) c.in-Ok-judge.ensures
 
 pub returns-clause-kept : goal.returns-clause-kept
 returns-clause-kept g c = λ bytes is.
     let found = c.in-Ok.ensures.found bytes is in
     recovered_kept c.args.base c.args.mark bytes c.in-Ok-judge.recovered c.in-Ok.size
-    (recovers c.args.base c.args.mark bytes c.reserve-2.new.self.walk c.size.result (Ok c.in-Ok-judge.recovered)
+    (recovers c.args.base c.args.mark bytes c.reserve-2.new.self.walk c.walk_all.new.disk.size (Ok c.in-Ok-judge.recovered)
     (took_all c.args.base c.args.mark c.new-reader.result c.walk_all.new.reader c.reserve-2.new.self.walk bytes c.in-Ok.size c.new-reader.ensures.mark c.new-reader.ensures.walk
     found (ap (λ (r : Reader). r.walk) c.reserve-2.ensures.kept))
-    (c.size.ensures ∙ c.in-Ok.ensures.size ∙ c.args.disk.now.counted bytes is) c.in-Ok-judge.ensures)
+    (c.in-Ok.ensures.size ∙ c.args.disk.now.counted bytes is) c.in-Ok-judge.ensures)
     (found.is_size ∙ ap (λ (v : Walk). length (found_from v (ended bytes))) c.new-reader.ensures.walk)
 
 pub returns-clause-within : goal.returns-clause-within
@@ -48,14 +48,14 @@ returns-clause-within g c =
     let w = c.reserve-2.new.self.walk in
     subst (λ (n : ℕ). n ≤ c.args.disk.now.size)
     (sym
-    (judged_end c.args.mark w.is_marked w.so_far c.in-Ok-judge.recovered c.size.result (sym c.in-Ok-judge.ensures)
+    (judged_end c.args.mark w.is_marked w.so_far c.in-Ok-judge.recovered c.walk_all.new.disk.size (sym c.in-Ok-judge.ensures)
     ∙ ap (λ (r : Reader). r.walk.so_far.end) c.reserve-2.ensures.kept))
     c.in-Ok.ensures.within
 
 pub returns-clause-told : goal.returns-clause-told
 returns-clause-told g c =
     let w = c.reserve-2.new.self.walk in
-    judged_told c.args.mark w.is_marked (with_count c.size.result w.so_far) c.in-Ok-judge.recovered (sym c.in-Ok-judge.ensures)
+    judged_told c.args.mark w.is_marked (with_count c.walk_all.new.disk.size w.so_far) c.in-Ok-judge.recovered (sym c.in-Ok-judge.ensures)
 
 pub returns-clause-reading : goal.returns-clause-reading
 returns-clause-reading g c =

@@ -1,15 +1,17 @@
-use Rattle.std.proofs.Common.{◌≡◌, List, ℕ, [], ◌∷◌, ◌++◌, None, Some, refl, ap, sym, ◌∙◌, append-nil, append_assoc, arith}
+use Rattle.std.proofs.Common.{◌≡◌, ◌≤◌, subst, List, ℕ, [], ◌∷◌, ◌++◌, None, Some, refl, ap, sym, ◌∙◌, append-nil, append_assoc, arith}
 use Rattle.checked_log.specs.Line.{Entry}
 use Rattle.checked_log.specs.Read.{said}
 use Rattle.checked_log.specs.Recover.{walked, whole_entry, with_line}
 use Rattle.checked_log.specs.declared.walk.Walk.{Walk}
 use Rattle.checked_log.proofs.Walked.{line_room}
 use Rattle.checked_disk.specs.Plain.{found_from}
+use Rattle.checked_disk.specs.Reading.{EndsAt}
+use Rattle.checked_disk.proofs.Ends.{ends_none, ends_some, ends_within}
 use Rattle.checked_disk.proofs.Founds.{found_none, found_some}
 use Rattle.checked_disk.proofs.reader.Reader.end_line.Goals as goal
 
-pub returns-in_default : goal.returns-in_default
-returns-in_default c =
+pub returns-in_default-clause-ends : goal.returns-in_default-clause-ends
+returns-in_default-clause-ends c =
     let mark = c.args.self.now.mark in
     let w = c.args.self.now.walk in
     let line = c.args.self.now.line.items in
@@ -27,10 +29,12 @@ returns-in_default c =
       room = rw walk (omega arith);
       walk = λ lines. ap (λ (v : Walk). walked mark v lines) (sym walk);
       texts = λ lines. found_none mark w line lines none ∙ ap (λ (v : Walk). found_from v lines) (sym walk);
+      grows = omega arith;
+      tail = λ lines end at. (subst (λ (v : Walk). EndsAt c.args.self.now.durable v lines end) (sym walk) (ends_none mark w line none c.args.self.now.durable lines end), λ le. le);
     }
 
-pub returns : goal.returns
-returns c =
+pub returns-clause-ends : goal.returns-clause-ends
+returns-clause-ends c =
     let mark = c.args.self.now.mark in
     let w = c.args.self.now.walk in
     let line = c.args.self.now.line.items in
@@ -52,4 +56,10 @@ returns c =
       room = rw walk (omega arith);
       walk = λ lines. ap (λ (v : Walk). walked mark v lines) (sym walk);
       texts = λ lines. found_some mark w line lines e some ∙ ap (λ (v : Walk). made ++ found_from v lines) (sym walk);
+      grows = c.tail_behind-self.ensures.grows;
+      tail = λ lines end at. (
+        subst (λ (v : Walk). EndsAt c.args.self.now.durable v lines end) (sym walk) (ends_some mark w line e some c.args.self.now.durable lines end at),
+        c.tail_behind-self.ensures.within end
+            (λ few. omega (arith, subst (λ (v : Walk). v.so_far.end ≤ end) (sym walk) (ends_within mark w line e some c.args.self.now.durable lines end at few))),
+      );
     }

@@ -15,4 +15,5 @@ returns-clause-reading c = λ contents reading.
       sound = reading.sound;
       within = omega (arith, length-drop handed plain);
       left = λ bytes is. moved c.args.self.now.read_at handed c.min-count.result plain _ _ few (reading.left bytes is);
+      ends = reading.ends;
     }
