@@ -3,6 +3,7 @@
 
 mod fault;
 mod lock;
+mod long;
 mod numbered;
 mod peer;
 mod seat;

@@ -1,13 +1,17 @@
 //! A table with its log, behind a lock.
 
+use crate::long::is_long;
 use crate::numbered::Numbered;
 use std::sync::{Condvar, Mutex, MutexGuard, Wait};
+use table_cmd::Command;
 use table_log::{Disk, LoggedTable};
 
-/// A table with its log behind a lock. A sync may let the calls go first that came before it, and makes sure of theirs too.
+/// A table with its log behind a lock. A sync may let the calls go first that came before it, and makes sure of theirs too. Calls that may
+/// take long stand in a row, and only its head is at the lock. So short calls and syncs wait there for few of them.
 #[derive(Drop)]
 pub(crate) struct TableLock<D: Disk> {
     table: Mutex<Numbered<D>>,
+    row: Mutex<()>,
     queue: Mutex<Queue>,
     moves: Condvar,
 }
@@ -49,6 +53,7 @@ impl<D: Disk> TableLock<D> {
     pub(crate) fn new(number: usize, log: LoggedTable<D>) -> TableLock<D> {
         TableLock {
             table: Mutex::new(Numbered { number, log }),
+            row: Mutex::new(()),
             queue: Mutex::new(Queue {
                 came: 0,
                 went: 0,
@@ -56,6 +61,21 @@ impl<D: Disk> TableLock<D> {
             }),
             moves: Condvar::new(),
         }
+    }
+
+    /// Locks the table for a command.
+    pub(crate) fn lock_for(
+        &self,
+        rt: &impl Wait,
+        command: &Command,
+    ) -> MutexGuard<'_, Numbered<D>> {
+        if !is_long(command) {
+            return self.lock(rt);
+        }
+        let head = self.row.lock(rt);
+        let table = self.lock(rt);
+        drop(head);
+        table
     }
 
     /// Locks the table.
@@ -81,6 +101,7 @@ impl<D: Disk> TableLock<D> {
     pub(crate) fn into_table(self) -> Numbered<D> {
         let TableLock {
             table,
+            row: _,
             queue: _,
             moves: _,
         } = self;

@@ -97,7 +97,7 @@ impl<'a, D: Disk, T: Wait> Seat<'a, D, T> {
         let Some(lock) = tables.at(place) else {
             return refuse_memory(out).with(Ok(()));
         };
-        let mut held = lock.lock(self.rt);
+        let mut held = lock.lock_for(self.rt, command);
         // They always fit, but of what a lock holds only its type is known.
         if !tables.is_at(place, &held) || place >= standing.len() {
             return refuse_memory(out).with(Ok(()));
