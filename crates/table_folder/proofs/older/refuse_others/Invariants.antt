@@ -1,0 +1,5 @@
+use Rattle.std.proofs.Common.{length}
+use Rattle.table_folder.proofs.older.refuse_others.Given as goal
+
+abbrev pub decreases-loop-begin : goal.decreases-loop-begin
+decreases-loop-begin g l = length l.rest
