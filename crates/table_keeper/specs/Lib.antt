@@ -1,4 +1,4 @@
-pub mod Ended
 pub mod Fault
+pub mod HostFolder
 pub mod Names
 pub mod Request

@@ -3,10 +3,12 @@
 use crate::fault::Fault;
 use crate::files::{PIECE, is_there};
 use crate::folder::Folder;
-use crate::logs::{FoundLog, LogDisk, find_log};
+use crate::host_folder::TableFiles;
+use crate::logs::{LogDisk, find_log};
 use crate::schema::{schema_of, table_named};
 use keeper_words::OneTable;
 use std::io::Write;
+use table_folder::{FileName, FoundLog};
 use table_log::Disk;
 
 /// Prints the writes of a table's log, a line each, and says behind which write they begin where that is not the first. Nothing is
@@ -23,15 +25,20 @@ pub(crate) fn export(rt: &HostRuntime, asked: &OneTable<'_>) -> Result<(), Fault
         about,
         ..
     } = find_log(rt, &folder, table)?;
-    let path = about.path.as_str();
-    match about.base.state() {
+    let state = about.base.state();
+    let files = TableFiles::new(*rt, &folder, table.name());
+    let path = folder.log_of(rt.alloc(), table.name(), state)?;
+    match state {
         Some(number) => {
             let _ = eprintln!(rt; "behind: {path}: the log begins behind write {number}");
         }
-        None if !is_there(rt, path) => return Err(Fault::Missing(about.path)),
-        None => {}
+        None => match table_folder::is_there(&files, FileName::Log(None)) {
+            Ok(true) => {}
+            Ok(false) => return Err(Fault::Missing(path)),
+            Err(fault) => return Err(files.told(fault)),
+        },
     }
-    print_all(rt, &mut disk, about.path)
+    print_all(rt, &mut disk, path)
 }
 
 // Prints all bytes of a disk.

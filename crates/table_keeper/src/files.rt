@@ -1,6 +1,5 @@
-//! Files that are looked at, read at their front, put at their names and removed.
+//! Files that are opened, made and read at a place.
 
-use crate::fault::Fault;
 use std::fs::{File, OpenOptions};
 use std::io::ErrorKind;
 use std::os::unix::fs::{FileExt, OpenOptionsExt};
@@ -37,20 +36,11 @@ pub(crate) struct Found {
     pub(crate) size: u64,
 }
 
-// Opens a file to read it, and to write it where that is asked for.
-fn open(rt: &HostRuntime, path: &str, writes: bool) -> io::Result<Found> {
+/// Opens a file to read it, and to write it where that is asked for.
+pub(crate) fn open(rt: &HostRuntime, path: &str, writes: bool) -> io::Result<Found> {
     let file = OpenOptions::new().read(true).write(writes).open(rt, path)?;
     let size = size_of(&file)?;
     Ok(Found { file, size })
-}
-
-/// Opens a file to read it, and to write it where that is asked for, if there is one.
-pub(crate) fn find(rt: &HostRuntime, path: &str, writes: bool) -> Result<Option<Found>, Fault> {
-    match open(rt, path, writes) {
-        Ok(found) => Ok(Some(found)),
-        Err(error) if error.kind() == ErrorKind::NotFound => Ok(None),
-        Err(error) => Err(Fault::of_file(&error, String::from_str(rt.alloc(), path)?)),
-    }
 }
 
 /// Makes a file that is read and written, and is empty.
@@ -79,21 +69,4 @@ pub(crate) fn read_some(file: &File, at: u64, piece: &mut [u8]) -> io::Result<us
         }
     }
     Ok(count)
-}
-
-/// Puts a file at another name.
-pub(crate) fn put_at(rt: &HostRuntime, path: &str, name: &str) -> Result<(), Fault> {
-    match fs::rename(rt, path, name) {
-        Ok(()) => Ok(()),
-        Err(error) => Err(Fault::of_file(&error, String::from_str(rt.alloc(), name)?)),
-    }
-}
-
-/// Removes a file, where it is there.
-pub(crate) fn remove(rt: &HostRuntime, path: String) -> Result<(), Fault> {
-    match fs::remove_file(rt, path.as_str()) {
-        Ok(()) => Ok(()),
-        Err(error) if error.kind() == ErrorKind::NotFound => Ok(()),
-        Err(error) => Err(Fault::of_file(&error, path)),
-    }
 }

@@ -1,14 +1,16 @@
 //! The folder of the logs.
 
-use crate::declaration::{declares, text_of};
+use crate::declaration::declares;
 use crate::fault::Fault;
-use crate::files::{FILE_MODE, make_empty, remove};
+use crate::files::FILE_MODE;
+use crate::host_folder::TableFiles;
 use std::fs::{DirBuilder, File, OpenOptions, TryLockError};
-use std::io::{ErrorKind, Write};
+use std::io::ErrorKind;
 use std::os::unix::fs::{DirBuilderExt, OpenOptionsExt};
 use std::time::Duration;
 use std::{fs, io, thread};
-use table_schema::{Schema, TableSpec};
+use table_folder::{FileName, read_file};
+use table_schema::TableSpec;
 
 /// Who may list and change the folder: its owner.
 const FOLDER_MODE: u32 = 0o700;
@@ -53,63 +55,31 @@ impl Folder {
         self.path.as_str()
     }
 
-    /// Whether the table's declaration is there. Another one is refused.
-    pub(crate) fn check_table(&self, rt: &HostRuntime, table: &TableSpec) -> Result<bool, Fault> {
-        let name = self.declaration_of(rt.alloc(), table.name())?;
-        match fs::read(rt, name.as_str()) {
-            Ok(found) => if declares(rt.alloc(), found.as_slice(), table)? {
-                Ok(true)
+    /// Refuses another declaration of the table than this one.
+    pub(crate) fn check_table(&self, rt: &HostRuntime, table: &TableSpec) -> Result<(), Fault> {
+        let files = TableFiles::new(*rt, self, table.name());
+        match read_file(rt.alloc(), &files, FileName::Declaration) {
+            Ok(None) => Ok(()),
+            Ok(Some(found)) => if declares(rt.alloc(), found.as_slice(), table)? {
+                Ok(())
             } else {
-                Err(Fault::Declared(name))
+                Err(Fault::Declared(self.declaration_of(rt.alloc(), table.name())?))
             },
-            Err(error) if error.kind() == ErrorKind::NotFound => Ok(false),
-            Err(error) => Err(Fault::of_file(&error, name)),
+            Err(fault) => Err(files.told(fault)),
         }
-    }
-
-    /// Writes the declarations that are not there, and syncs the folder. The system has the names of their logs before.
-    pub(crate) fn declare(&self, rt: &HostRuntime, schema: &Schema) -> Result<(), Fault> {
-        self.sync(rt)?;
-        for table in schema.tables() {
-            if !self.check_table(rt, table)? {
-                self.declare_table(rt, table)?;
-            }
-        }
-        self.sync(rt)
-    }
-
-    /// Removes what is not needed of a table: what was being written when a program was killed, and logs whose writes its state has.
-    pub(crate) fn clean(
-        &self,
-        rt: &HostRuntime,
-        table: &str,
-        spent: &[String],
-    ) -> Result<(), Fault> {
-        remove(rt, self.draft_of(rt.alloc(), table)?)?;
-        remove(rt, self.log_draft_of(rt.alloc(), table)?)?;
-        for path in spent {
-            remove(rt, path.clone()?)?;
-        }
-        Ok(())
     }
 
     /// Waits until the system has the folder's names where a crash leaves them.
     pub(crate) fn sync(&self, rt: &HostRuntime) -> Result<(), Fault> {
-        match sync_folder(rt, self.path()) {
+        match self.settle_names(rt) {
             Ok(()) => Ok(()),
             Err(error) => Err(Fault::of_file(&error, String::from_str(rt.alloc(), self.path())?)),
         }
     }
 
-    // Writes a table's declaration.
-    fn declare_table(&self, rt: &HostRuntime, table: &TableSpec) -> Result<(), Fault> {
-        let name = self.declaration_of(rt.alloc(), table.name())?;
-        let text = text_of(rt.alloc(), table)?;
-        let part = format!(in rt.alloc(); "{name}.part")?;
-        match put(rt, part.as_str(), name.as_str(), text.as_bytes()) {
-            Ok(()) => Ok(()),
-            Err(error) => Err(Fault::of_file(&error, name)),
-        }
+    /// The same, with the system's fault.
+    pub(crate) fn settle_names(&self, rt: &HostRuntime) -> io::Result<()> {
+        sync_folder(rt, self.path())
     }
 }
 
@@ -142,12 +112,4 @@ fn make(rt: &HostRuntime, path: &str) -> io::Result<()> {
 // Waits until the system has a folder's names where a crash leaves them.
 fn sync_folder(rt: &HostRuntime, path: &str) -> io::Result<()> {
     File::open(rt, path)?.sync_all()
-}
-
-// Writes a file under another name, and puts it at its own once the system has it.
-fn put(rt: &HostRuntime, part: &str, name: &str, bytes: &[u8]) -> io::Result<()> {
-    let mut file = make_empty(rt, part)?;
-    file.write_all(bytes)?;
-    file.sync_all()?;
-    fs::rename(rt, part, name)
 }

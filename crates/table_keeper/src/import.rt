@@ -1,19 +1,18 @@
 //! Takes a journal into the log of an empty table.
 
 use crate::fault::Fault;
-use crate::files::{make_empty, put_at};
 use crate::folder::Folder;
-use crate::logs::{OpenLog, start};
+use crate::host_folder::{HostFile, TableFiles};
+use crate::logs::{Declared, OpenLog, start};
 use crate::mark::NoMark;
 use crate::schema::{schema_of, table_named};
-use crate::shown::Shown;
-use crate::states::Base;
-use checked_disk::CheckedDisk;
+use checked_disk::{Beside, CheckedDisk};
 use checked_log::read_marks;
 use command_lines::{CommandFault, read_command};
 use keeper_words::OneTable;
+use std::io;
 use std::io::{BufRead, BufReader, ErrorKind};
-use std::{fs, io};
+use table_folder::{Base, FileName, Folder as _};
 use table_log::{LoggedTable, Opened};
 use table_reply::{Out, memory_line};
 use table_schema::TableSpec;
@@ -22,23 +21,17 @@ use table_schema::TableSpec;
 const INPUT: &str = "standard input";
 
 /// A log that is not at its name yet.
-type DraftDisk = CheckedDisk<Shown, NoMark>;
+type DraftDisk = CheckedDisk<Beside<HostFile, NoMark>>;
 
 /// Takes a journal from standard input into the log of a table that has neither a state nor a write: all of it or nothing.
 pub(crate) fn import(rt: &HostRuntime, asked: &OneTable<'_>) -> Result<(), Fault> {
     let schema = schema_of(rt, asked.schema)?;
     let table = table_named(rt, &schema, asked.table)?;
     let folder = Folder::take(rt, asked.folder)?;
-    let path = folder.log_of(rt.alloc(), table.name(), None)?;
-    refuse_filled(start(rt, &folder, &schema)?, table.name())?;
-    let draft = folder.log_draft_of(rt.alloc(), table.name())?;
-    let taken = take_in(rt, table, draft.as_str()).and_then(|()| put_at(
-        rt,
-        draft.as_str(),
-        path.as_str(),
-    ));
-    if let Err(fault) = taken {
-        let _ = fs::remove_file(rt, draft.as_str());
+    refuse_filled(rt, &folder, start(rt, &folder, &schema)?, table.name())?;
+    let mut files = TableFiles::new(*rt, &folder, table.name());
+    if let Err(fault) = put_log(rt, &folder, &mut files, table) {
+        let _ = files.remove(FileName::LogDraft);
         return Err(fault);
     }
     folder.sync(rt)?;
@@ -47,24 +40,46 @@ pub(crate) fn import(rt: &HostRuntime, asked: &OneTable<'_>) -> Result<(), Fault
 }
 
 // Refuses a table of this name that has a state or a write.
-fn refuse_filled(logs: Vec<OpenLog>, table: &str) -> Result<(), Fault> {
+fn refuse_filled(
+    rt: &HostRuntime,
+    folder: &Folder,
+    logs: Vec<OpenLog<'_>>,
+    table: &str,
+) -> Result<(), Fault> {
     for log in logs {
-        let OpenLog { logged, about } = log;
-        let is_filled = about.base.is_state || about.recovered.last.number > 0;
-        if logged.name() == table && is_filled {
-            return Err(Fault::Filled(about.path));
+        let base = log.about.base;
+        let is_filled = base.is_state || log.about.recovered.last.number > 0;
+        if log.table.name() == table && is_filled {
+            return Err(Fault::Filled(folder.log_of(rt.alloc(), table, base.state())?));
         }
     }
     Ok(())
 }
 
-// Writes a journal's writes into a log, and waits until the system has them.
-fn take_in(rt: &HostRuntime, table: &TableSpec, draft: &str) -> Result<(), Fault> {
-    let mut logged = open_draft(rt, table, draft)?;
-    take_lines(rt, &mut logged, draft)?;
-    match logged.sync() {
+// Takes a journal into a log beside, and puts it at its name once the system has it.
+fn put_log(
+    rt: &HostRuntime,
+    folder: &Folder,
+    files: &mut TableFiles<'_>,
+    table: &TableSpec,
+) -> Result<(), Fault> {
+    let path = folder.log_draft_of(rt.alloc(), table.name())?;
+    let draft = match files.begin(FileName::LogDraft) {
+        Ok(draft) => draft,
+        Err(error) => return Err(Fault::of_file(&error, path)),
+    };
+    let mut logged = open_draft(rt, table, draft, path.as_str())?;
+    take_lines(rt, &mut logged, path.as_str())?;
+    if logged.sync().is_err() {
+        return Err(Fault::Log(path));
+    }
+    let Beside { log, mark: _ } = logged.into_disk().into_files();
+    let put = files
+        .end(FileName::LogDraft, log)
+        .and_then(|()| files.put_at(FileName::LogDraft, FileName::Log(None)));
+    match put {
         Ok(()) => Ok(()),
-        Err(_) => Err(Fault::Log(String::from_str(rt.alloc(), draft)?)),
+        Err(error) => Err(Fault::of_file(&error, path)),
     }
 }
 
@@ -72,19 +87,18 @@ fn take_in(rt: &HostRuntime, table: &TableSpec, draft: &str) -> Result<(), Fault
 fn open_draft(
     rt: &HostRuntime,
     table: &TableSpec,
-    draft: &str,
+    draft: HostFile,
+    path: &str,
 ) -> Result<LoggedTable<DraftDisk>, Fault> {
-    let path = String::from_str(rt.alloc(), draft)?;
-    let file = match make_empty(rt, draft) {
-        Ok(file) => file,
-        Err(error) => return Err(Fault::of_file(&error, path)),
+    let base = Base::empty(Declared::new(rt, table)?.digest());
+    let files = Beside {
+        log: draft,
+        mark: NoMark::new(),
     };
-    let link = Base::empty(rt.alloc(), table)?.link;
-    let shown = Shown::new(*rt, Some(file), path.clone()?, 0, 0);
-    let marks = read_marks(&[]);
-    let Ok(found) = CheckedDisk::recover(rt.alloc(), shown, 0, link, marks, NoMark::new()) else {
+    let Ok(found) = CheckedDisk::recover(rt.alloc(), files, 0, base.link, read_marks(&[])) else {
         return Err(Fault::Memory);
     };
+    let path = String::from_str(rt.alloc(), path)?;
     let loaded = match LoggedTable::load(rt.alloc(), table, found.disk) {
         Ok(loaded) => loaded,
         Err(fault) => return Err(Fault::of_opening(fault.why, path)),

@@ -1,83 +1,96 @@
 //! The logs of a folder, and the tables that they leave. Nothing is changed before all tables are decided.
 
+use crate::declaration::text_of;
 use crate::fault::Fault;
-use crate::files::{Found, find};
 use crate::folder::Folder;
 use crate::frame::types_of;
-use crate::logs_before::spent_logs;
-use crate::mark::{KeptMark, read_mark};
-use crate::shown::Shown;
-use crate::states::{Base, Begin, read_begin};
-use checked_disk::{CheckedDisk, Found as Recovery};
-use checked_log::{Link, Marks, Recovered};
-use table_log::{Loaded, LoggedTable, Opened};
+use crate::host_folder::{HostLog, TableFiles};
+use checked_disk::CheckedDisk;
+use checked_log::digest_of;
+use table_folder::{About, Decided, FoundLog, clean, decide, declare, refuse_plain, settle};
+use table_log::LoggedTable;
 use table_schema::{Schema, TableSpec};
 use table_step::Table;
 
 /// The disk of a log.
-pub(crate) type LogDisk = CheckedDisk<Shown, KeptMark>;
+pub(crate) type LogDisk = CheckedDisk<HostLog>;
 
-/// The log of a table as the folder has it.
+/// A table of the schema, with what its files are compared with.
 #[derive(Drop)]
-pub(crate) struct FoundLog {
-    pub(crate) disk: LogDisk,
-    pub(crate) about: About,
-    /// The table of the state that the log is behind, where there is one.
-    table: Option<Table>,
-}
-
-/// What is known of a table's log.
-#[derive(Drop)]
-pub(crate) struct About {
-    /// Its path.
-    pub(crate) path: String,
-    /// What it begins behind.
-    pub(crate) base: Base,
-    /// What is there of it.
-    pub(crate) recovered: Recovered,
-    /// The types of the table's columns.
+pub(crate) struct Declared<'a> {
+    pub(crate) spec: &'a TableSpec,
+    /// The text of its declaration, and the digest of that.
+    text: String,
+    digest: u64,
+    /// The types of its columns.
     pub(crate) types: String,
-    // The path of its mark, where that says nothing.
-    unmarked: Option<String>,
-    /// The paths of the logs before it that may go.
-    pub(crate) spent: Vec<String>,
 }
 
-// A table that is decided: it may be served, once its log is settled.
-#[derive(Drop)]
-struct Decided {
-    loaded: Loaded<LogDisk>,
-    about: About,
+impl<'a> Declared<'a> {
+    /// A table of the schema.
+    pub(crate) fn new(rt: &HostRuntime, spec: &'a TableSpec) -> Result<Declared<'a>, Fault> {
+        let text = text_of(rt.alloc(), spec)?;
+        let digest = digest_of(text.as_bytes());
+        let types = types_of(rt.alloc(), spec)?;
+        Ok(Declared {
+            spec,
+            text,
+            digest,
+            types,
+        })
+    }
+
+    /// The digest of its declaration.
+    pub(crate) fn digest(&self) -> u64 {
+        self.digest
+    }
 }
 
 /// A table with its log, which is open.
 #[derive(Drop)]
-pub(crate) struct OpenLog {
-    pub(crate) logged: LoggedTable<LogDisk>,
+pub(crate) struct OpenLog<'a> {
+    pub(crate) declared: Declared<'a>,
+    pub(crate) table: Table,
+    pub(crate) disk: LogDisk,
     pub(crate) about: About,
 }
 
-/// Makes the tables of a folder, in the order of a start: all are decided, the folder is synced, logs and marks are made and settled,
-/// and the folder is synced. Only then what is spent goes.
-pub(crate) fn start(
+// A table that is decided: it may be served, once its log is settled.
+#[derive(Drop)]
+struct ToServe<'a> {
+    declared: Declared<'a>,
+    decided: Decided,
+}
+
+/// Makes the tables of a folder, in the order of a start: all are decided, and only then the files of each are settled.
+pub(crate) fn start<'a>(
     rt: &HostRuntime,
     folder: &Folder,
-    schema: &Schema,
-) -> Result<Vec<OpenLog>, Fault> {
+    schema: &'a Schema,
+) -> Result<Vec<OpenLog<'a>>, Fault> {
     let mut decided = Vec::new(rt.alloc());
     for table in schema.tables() {
-        decided.push(decide(rt, folder, table)?)?;
+        decided.push(ready(rt, folder, table)?)?;
     }
-    folder.sync(rt)?;
     let mut logs = Vec::new(rt.alloc());
     for table in decided {
-        logs.push(settle(rt, table)?)?;
-    }
-    folder.declare(rt, schema)?;
-    for log in &logs {
-        folder.clean(rt, log.logged.name(), &log.about.spent)?;
+        logs.push(open(rt, folder, table)?)?;
     }
     Ok(logs)
+}
+
+// A table, where the declaration that is there is its own, and no file is one of an older program.
+fn compared<'a>(
+    rt: &HostRuntime,
+    folder: &Folder,
+    table: &'a TableSpec,
+) -> Result<Declared<'a>, Fault> {
+    folder.check_table(rt, table)?;
+    let files = TableFiles::new(*rt, folder, table.name());
+    if let Err(fault) = refuse_plain(rt.alloc(), &files) {
+        return Err(files.told(fault));
+    }
+    Declared::new(rt, table)
 }
 
 /// Reads what a folder has of a table, up to its log.
@@ -85,102 +98,132 @@ pub(crate) fn find_log(
     rt: &HostRuntime,
     folder: &Folder,
     table: &TableSpec,
-) -> Result<FoundLog, Fault> {
-    let is_declared = folder.check_table(rt, table)?;
-    folder.refuse_plain(rt, table.name())?;
-    let types = types_of(rt.alloc(), table)?;
-    let Begin { base, table: begun } = read_begin(rt, folder, table, types.as_str())?;
-    let spent = spent_logs(rt, folder, table.name(), &base)?;
-    let path = folder.log_of(rt.alloc(), table.name(), base.state())?;
-    let file = find(rt, path.as_str(), true)?;
-    if is_declared && !base.is_state && file.is_none() {
-        return Err(Fault::Missing(path));
-    }
-    let mark = folder.mark_of(rt.alloc(), table.name())?;
-    let marks = read_mark(rt, mark.as_str())?;
-    let Recovery { disk, recovered } = recover(
-        rt,
-        path.as_str(),
-        file,
-        base.link,
-        marks,
-        mark.as_str(),
-    )?;
-    let unmarked = if marks.mark.is_none() {
-        Some(mark)
-    } else {
-        None
-    };
-    let about = About {
-        path,
-        base,
-        recovered,
-        types,
-        unmarked,
-        spent,
-    };
-    Ok(FoundLog {
-        disk,
-        about,
-        table: begun,
-    })
-}
-
-// Recovers a log beside its mark.
-fn recover(
-    rt: &HostRuntime,
-    path: &str,
-    found: Option<Found>,
-    base: Link,
-    marks: Marks,
-    mark: &str,
-) -> Result<Recovery<Shown, KeptMark>, Fault> {
-    let (file, size) = match found {
-        Some(Found { file, size }) => (Some(file), size),
-        None => (None, 0),
-    };
-    let path = String::from_str(rt.alloc(), path)?;
-    let mark = String::from_str(rt.alloc(), mark)?;
-    let shown = Shown::new(*rt, file, path.clone()?, 0, size);
-    let kept = KeptMark::new(*rt, mark.clone()?);
-    match CheckedDisk::recover(rt.alloc(), shown, size, base, marks, kept) {
-        Ok(found) => Ok(found),
-        Err(fault) => Err(Fault::of_recovery(fault.why, path, mark)),
+) -> Result<FoundLog<HostLog>, Fault> {
+    let declared = compared(rt, folder, table)?;
+    let files = TableFiles::new(*rt, folder, table.name());
+    let mut left = Vec::new(rt.alloc());
+    let found = table_folder::find_log(
+        rt.alloc(),
+        &files,
+        table,
+        declared.types.as_str(),
+        declared.digest,
+        &mut left,
+    );
+    match found {
+        Ok(found) => {
+            tell_left(
+                rt,
+                folder,
+                table.name(),
+                &left,
+                found.about.base.link.number,
+            )?;
+            Ok(found)
+        }
+        Err(fault) => Err(files.told(fault)),
     }
 }
 
 // Decides whether a table may be served, and changes nothing.
-fn decide(rt: &HostRuntime, folder: &Folder, table: &TableSpec) -> Result<Decided, Fault> {
-    let FoundLog {
-        disk,
-        about,
-        table: begun,
-    } = find_log(rt, folder, table)?;
-    let loaded = match begun {
-        Some(begun) => LoggedTable::load_on(rt.alloc(), begun, disk),
-        None => LoggedTable::load(rt.alloc(), table, disk),
-    };
-    match loaded {
-        Ok(loaded) => Ok(Decided { loaded, about }),
-        Err(fault) => Err(Fault::of_opening(fault.why, about.path)),
+fn ready<'a>(
+    rt: &HostRuntime,
+    folder: &Folder,
+    table: &'a TableSpec,
+) -> Result<ToServe<'a>, Fault> {
+    let declared = compared(rt, folder, table)?;
+    let files = TableFiles::new(*rt, folder, table.name());
+    let mut left = Vec::new(rt.alloc());
+    let decided = decide(
+        rt.alloc(),
+        &files,
+        table,
+        declared.types.as_str(),
+        declared.digest,
+        &mut left,
+    );
+    match decided {
+        Ok(decided) => {
+            tell_left(
+                rt,
+                folder,
+                table.name(),
+                &left,
+                decided.about.base.link.number,
+            )?;
+            Ok(ToServe { declared, decided })
+        }
+        Err(fault) => Err(files.told(fault)),
     }
 }
 
-// Cuts off what stands behind the whole lines of a log, writes again those that are not known to be on the disk, and marks the last.
-fn settle(rt: &HostRuntime, decided: Decided) -> Result<OpenLog, Fault> {
-    let Decided { loaded, about } = decided;
-    match loaded.settle() {
-        Ok(Opened { logged, torn: _ }) => {
-            tell(rt, &about);
-            Ok(OpenLog { logged, about })
-        }
-        Err(fault) => Err(Fault::of_opening(fault.why, about.path)),
+// Opens a table's log once its names are settled, makes sure of it, declares the table, and removes what is not needed.
+fn open<'a>(rt: &HostRuntime, folder: &Folder, decided: ToServe<'a>) -> Result<OpenLog<'a>, Fault> {
+    let ToServe { declared, decided } = decided;
+    let Decided { table, about } = decided;
+    let mut files = TableFiles::new(*rt, folder, declared.spec.name());
+    let disk = match settle(rt.alloc(), &mut files, &about) {
+        Ok(disk) => disk,
+        Err(fault) => return Err(files.told(fault)),
+    };
+    tell(rt, folder, declared.spec.name(), &about)?;
+    if let Err(fault) = declare(&mut files, declared.text.as_bytes()) {
+        return Err(files.told(fault));
     }
+    if let Err(fault) = clean(&mut files, &about.spent) {
+        return Err(files.told(fault));
+    }
+    Ok(OpenLog {
+        declared,
+        table,
+        disk,
+        about,
+    })
+}
+
+impl OpenLog<'_> {
+    /// The table on its log.
+    pub(crate) fn logged(self, rt: &HostRuntime) -> Result<LoggedTable<LogDisk>, Fault> {
+        let OpenLog {
+            declared,
+            table,
+            disk,
+            about,
+        } = self;
+        let begins_empty = if about.base.is_state {
+            None
+        } else {
+            Some(declared.spec.copy()?)
+        };
+        match LoggedTable::on(rt.alloc(), begins_empty, table, disk) {
+            Ok(logged) => Ok(logged),
+            Err(_) => Err(Fault::Memory),
+        }
+    }
+}
+
+/// Tells which logs are left, beside a state of this last write.
+pub(crate) fn tell_left(
+    rt: &HostRuntime,
+    folder: &Folder,
+    table: &str,
+    left: &[Option<u64>],
+    number: u64,
+) -> Result<(), Fault> {
+    for begin in left {
+        tell_unended(rt, &folder.log_of(rt.alloc(), table, *begin)?, number);
+    }
+    Ok(())
+}
+
+/// Tells that a log is left, at this path, which does not end with a write.
+pub(crate) fn tell_unended(rt: &HostRuntime, path: &str, number: u64) {
+    let _ = eprintln!(rt; "left: {path}: it does not end with write {number}");
 }
 
 // Tells what was cut off, and that there was no mark, where the log had writes.
-fn tell(rt: &HostRuntime, about: &About) {
-    let path = about.path.as_str();
+fn tell(rt: &HostRuntime, folder: &Folder, table: &str, about: &About) -> Result<(), Fault> {
+    let path = folder.log_of(rt.alloc(), table, about.base.state())?;
     let behind = about.recovered.behind;
     let bytes = behind.bytes;
     let lines = behind.lines;
@@ -195,9 +238,9 @@ fn tell(rt: &HostRuntime, about: &About) {
         }
         None => {}
     }
-    if let Some(mark) = &about.unmarked
-        && about.recovered.end > 0
-    {
+    if about.marks.mark.is_none() && about.recovered.end > 0 {
+        let mark = folder.mark_of(rt.alloc(), table)?;
         let _ = eprintln!(rt; "mark: {mark}: none");
     }
+    Ok(())
 }

@@ -3,28 +3,24 @@
 
 mod compact;
 mod declaration;
-mod ended;
 mod export;
 mod fault;
 mod files;
 mod folder;
 mod frame;
 mod host;
+mod host_folder;
 mod import;
 mod listen;
 mod logs;
-mod logs_before;
 mod mark;
 mod names;
-mod older;
 mod patient;
-mod plain_logs;
 mod program;
 mod request;
 mod schema;
 mod serve;
 mod shown;
-mod states;
 mod upgrade;
 
 use program::run;

@@ -1,30 +1,14 @@
 //! The mark of a log: which write is known to be on the disk.
 ghost use Rattle.std.specs.Prelude.{◌≡◌};
 
-use crate::fault::Fault;
-use crate::files::{FILE_MODE, find, read_some};
+use crate::files::{FILE_MODE, read_some};
 use checked_disk::MarkFile;
-use checked_log::{MARK_BYTES, Marks, read_marks};
+use checked_log::MARK_BYTES;
 use std::fs::{File, OpenOptions};
 use std::io;
 use std::io::ErrorKind;
 use std::os::unix::fs::{FileExt, OpenOptionsExt};
 use std::time::{Duration, Instant};
-
-/// What the mark at a path says. An absent one says nothing.
-pub(crate) fn read_mark(rt: &HostRuntime, path: &str) -> Result<Marks, Fault> {
-    let Some(found) = find(rt, path, false)? else {
-        return Ok(read_marks(&[]));
-    };
-    let mut bytes = [0; MARK_BYTES];
-    match read_some(&found.file, 0, &mut bytes) {
-        Ok(count) => {
-            let (read, _) = bytes.split_at(count.min(MARK_BYTES));
-            Ok(read_marks(read))
-        }
-        Err(error) => Err(Fault::of_file(&error, String::from_str(rt.alloc(), path)?)),
-    }
-}
 
 /// A mark's file. It is made whole where it is absent, and synced where it was not for a second.
 #[derive(Drop)]
@@ -33,7 +17,7 @@ pub(crate) struct KeptMark {
     path: String,
     file: Option<File>,
     synced: Option<Instant>,
-    puts: u64,
+    pub(crate) puts: u64,
 }
 
 impl KeptMark {

@@ -8,12 +8,16 @@ use itoa::Buffer;
 use std::alloc::Global;
 use std::io::ErrorKind;
 use std::{fs, io};
+use table_folder::FileName;
 
 /// How the name of a log ends.
 const LOG: &str = ".log";
 
 /// How the name of a log of an older program ends.
 const PLAIN_LOG: &str = ".jsonl";
+
+/// How that name ends once the log is left.
+const PLAIN_LOG_LEFT: &str = ".jsonl.old";
 
 impl Folder {
     /// The path of a table's log: the one behind the state of this write number, or the one that begins with the empty table.
@@ -34,6 +38,16 @@ impl Folder {
         number: Option<u64>,
     ) -> Result<String, Fault> {
         self.numbered(alloc, table, number, PLAIN_LOG)
+    }
+
+    /// The path of such a log that was left.
+    pub(crate) fn plain_log_left_of(
+        &self,
+        alloc: Global,
+        table: &str,
+        number: Option<u64>,
+    ) -> Result<String, Fault> {
+        self.numbered(alloc, table, number, PLAIN_LOG_LEFT)
     }
 
     // The path of a log that ends so.
@@ -62,6 +76,11 @@ impl Folder {
         self.file_of(alloc, table, "schema")
     }
 
+    /// The path of a table's declaration while it is written.
+    pub(crate) fn declaration_draft_of(&self, alloc: Global, table: &str) -> Result<String, Fault> {
+        self.file_of(alloc, table, "schema.part")
+    }
+
     /// The path of a table's state.
     pub(crate) fn state_of(&self, alloc: Global, table: &str) -> Result<String, Fault> {
         self.file_of(alloc, table, "state")
@@ -80,6 +99,26 @@ impl Folder {
     /// The path of a table's mark.
     pub(crate) fn mark_of(&self, alloc: Global, table: &str) -> Result<String, Fault> {
         self.file_of(alloc, table, "mark")
+    }
+
+    /// The path of a table's file.
+    pub(crate) fn path_of(
+        &self,
+        alloc: Global,
+        table: &str,
+        name: FileName,
+    ) -> Result<String, Fault> {
+        match name {
+            FileName::Declaration => self.declaration_of(alloc, table),
+            FileName::DeclarationDraft => self.declaration_draft_of(alloc, table),
+            FileName::State => self.state_of(alloc, table),
+            FileName::StateDraft => self.draft_of(alloc, table),
+            FileName::Log(number) => self.log_of(alloc, table, number),
+            FileName::LogDraft => self.log_draft_of(alloc, table),
+            FileName::Mark => self.mark_of(alloc, table),
+            FileName::PlainLog(number) => self.plain_log_of(alloc, table, number),
+            FileName::PlainLogLeft(number) => self.plain_log_left_of(alloc, table, number),
+        }
     }
 
     /// Where a table's logs begin that are there: behind the states of these numbers, or with the empty table. O(names in the folder).

@@ -45,7 +45,7 @@ fn begin_anew(rt: &HostRuntime, asked: &Tables<'_>) -> Result<(), Fault> {
     let schema = schema_of(rt, asked.schema)?;
     let folder = Folder::take(rt, asked.folder)?;
     let logs = start(rt, &folder, &schema)?;
-    compact(rt, &folder, &logs)
+    compact(rt, &folder, logs)
 }
 
 // Starts, listens and serves.
@@ -56,7 +56,7 @@ fn keep<R: Host>(rt: &HostRuntime, threads: &R, keeping: &Keeping<'_>) -> Result
     let Ok(listening) = Listening::at(rt, keeping.listen) else {
         return Err(Fault::Listen);
     };
-    let Kept { tables, paths } = behind_locks(rt, logs)?;
+    let Kept { tables, paths } = behind_locks(rt, &folder, logs)?;
     let served = Arc::new(
         rt.alloc(),
         Served {
@@ -83,13 +83,12 @@ struct Kept {
 }
 
 // Puts tables behind locks.
-fn behind_locks(rt: &HostRuntime, logs: Vec<OpenLog>) -> Result<Kept, Fault> {
+fn behind_locks(rt: &HostRuntime, folder: &Folder, logs: Vec<OpenLog<'_>>) -> Result<Kept, Fault> {
     let mut tables = Vec::with_capacity(rt.alloc(), logs.len())?;
     let mut paths = Vec::with_capacity(rt.alloc(), logs.len())?;
     for log in logs {
-        let OpenLog { logged, about } = log;
-        tables.push(logged)?;
-        paths.push(about.path)?;
+        paths.push(folder.log_of(rt.alloc(), log.table.name(), log.about.base.state())?)?;
+        tables.push(log.logged(rt)?)?;
     }
     let tables = LoggedTables::new(rt.alloc(), tables)?;
     Ok(Kept { tables, paths })

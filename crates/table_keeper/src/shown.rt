@@ -1,16 +1,14 @@
 //! Files of logs and states, which tell how far they are read.
 ghost use Rattle.std.specs.Prelude.{◌≡◌};
 
-use crate::files::FILE_MODE;
 use file_disk::LogFile;
-use std::fs::{File, OpenOptions};
+use std::fs::File;
 use std::io;
 use std::io::ErrorKind;
-use std::os::unix::fs::{FileExt, OpenOptionsExt};
+use std::os::unix::fs::FileExt;
 use std::time::{Duration, Instant};
 
-/// A file, which tells once a second on standard error how far it is read. Where it is absent it is empty, and made where it is
-/// changed first.
+/// A file, which tells once a second on standard error how far it is read. Where it is absent it is empty, and is not changed.
 #[derive(Drop)]
 pub(crate) struct Shown {
     rt: HostRuntime,
@@ -20,7 +18,7 @@ pub(crate) struct Shown {
     skipped: u64,
     size: u64,
     last: Option<Instant>,
-    settles: u64,
+    pub(crate) settles: u64,
 }
 
 impl Shown {
@@ -44,42 +42,17 @@ impl Shown {
         }
     }
 
-    /// The file, where it is there. O(1).
-    pub(crate) fn into_file(self) -> Option<File> {
-        let Shown {
-            rt: _,
-            file: kept,
-            path: _,
-            skipped: _,
-            size: _,
-            last: _,
-            settles: _,
-        } = self;
-        kept
-    }
-
-    // Makes the file where it is absent.
-    fn make(&mut self) -> io::Result<()>
-        ensures { self.new.settles ≡ self.old.settles }
-    {
-        if self.file.is_none() {
-            let made = OpenOptions::new()
-                .read(true)
-                .write(true)
-                .create(true)
-                .mode(FILE_MODE)
-                .open(&self.rt, self.path.as_str())?;
-            self.file = Some(made);
-        }
-        Ok(())
-    }
-
-    // The file, once it is made.
-    fn made(&self) -> io::Result<&File> {
+    // The file, where it is there.
+    fn there(&self) -> io::Result<&File> {
         match &self.file {
             Some(file) => Ok(file),
             None => Err(io::Error::from(ErrorKind::NotFound)),
         }
+    }
+
+    /// Waits until the system has the file, its length and its times where a crash leaves them.
+    pub(crate) fn sync_all(&self) -> io::Result<()> {
+        self.there()?.sync_all()
     }
 
     // Tells how far it is read, where a second has passed since it told last.
@@ -125,19 +98,16 @@ impl LogFile for Shown {
     }
 
     fn write_at(&mut self, at: u64, bytes: &[u8]) -> io::Result<usize> {
-        self.make()?;
-        self.made()?
+        self.there()?
             .write_at(bytes, self.skipped.saturating_add(at))
     }
 
     fn shorten(&mut self, count: u64) -> io::Result<()> {
-        self.make()?;
-        self.made()?.set_len(self.skipped.saturating_add(count))
+        self.there()?.set_len(self.skipped.saturating_add(count))
     }
 
     fn settle(&mut self) -> io::Result<()> {
-        self.make()?;
-        self.made()?.sync_data()?;
+        self.there()?.sync_data()?;
         self.settles = self.settles.saturating_add(1);
         Ok(())
     }

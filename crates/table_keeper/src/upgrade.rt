@@ -1,34 +1,20 @@
 //! Takes over a folder of an older program: plain logs, and states without digests.
 
-use crate::compact::put_state;
 use crate::fault::Fault;
 use crate::folder::Folder;
-use crate::frame::types_of;
-use crate::logs::start;
-use crate::older::{Form, PlainDisk, form_of, load_plain};
+use crate::host_folder::TableFiles;
+use crate::logs::{Declared, start, tell_unended};
 use crate::schema::schema_of;
-use crate::states::{Base, read_begin};
 use keeper_words::Tables;
-use table_log::Loaded;
+use table_folder::{FolderFault, Older, find_older, refuse_beside, retire, take_over};
 use table_schema::{Schema, TableSpec};
 
 /// A table whose files are those of an older program.
 #[derive(Drop)]
-struct Older {
-    name: String,
-    types: String,
-    /// The digest with which the last write is told.
-    digest: u64,
-    kept: Kept,
-}
-
-/// What the files leave.
-#[derive(Drop)]
-enum Kept {
-    /// The table.
-    Plain(Loaded<PlainDisk>),
-    /// The state of this number, which is in the new form already.
-    State(u64),
+struct ToTake<'a> {
+    /// Its last write is told with the digest of its declaration.
+    declared: Declared<'a>,
+    older: Older,
 }
 
 /// Writes a state in the new form for each table whose files are those of an older program, and takes these away. All tables are
@@ -39,79 +25,91 @@ pub(crate) fn upgrade(rt: &HostRuntime, asked: &Tables<'_>) -> Result<(), Fault>
     let older = find_all(rt, &folder, &schema)?;
     folder.sync(rt)?;
     for table in older {
-        take_over(rt, &folder, table)?;
+        take(rt, &folder, table)?;
     }
     start(rt, &folder, &schema)?;
     Ok(())
 }
 
 // The tables whose files are those of an older program.
-fn find_all(rt: &HostRuntime, folder: &Folder, schema: &Schema) -> Result<Vec<Older>, Fault> {
+fn find_all<'a>(
+    rt: &HostRuntime,
+    folder: &Folder,
+    schema: &'a Schema,
+) -> Result<Vec<ToTake<'a>>, Fault> {
     let mut older = Vec::new(rt.alloc());
     for table in schema.tables() {
         folder.check_table(rt, table)?;
-        if let Some(found) = find_older(rt, folder, table)? {
-            folder.refuse_beside(rt, table.name())?;
+        if let Some(found) = find(rt, folder, table)? {
             older.push(found)?;
         }
     }
     Ok(older)
 }
 
-// The files of a table, if they are those of an older program.
-fn find_older(
+// A table, if its files are those of an older program. No log and no mark of this one may stand beside them.
+fn find<'a>(
     rt: &HostRuntime,
     folder: &Folder,
-    table: &TableSpec,
-) -> Result<Option<Older>, Fault> {
-    let types = types_of(rt.alloc(), table)?;
-    let has_logs = !folder.plain_begins_of(rt, table.name())?.is_empty();
-    let path = folder.state_of(rt.alloc(), table.name())?;
-    let kept = match form_of(rt, path.as_str(), types.as_str())? {
-        Form::New if has_logs => half_taken(rt, folder, table, types.as_str())?,
-        Form::Absent if !has_logs => return Ok(None),
-        Form::New => return Ok(None),
-        Form::Absent | Form::Plain => {
-            Kept::Plain(load_plain(rt, folder, table, types.as_str())?)
-        }
-    };
-    Ok(Some(Older {
-        name: String::from_str(rt.alloc(), table.name())?,
-        types,
-        digest: Base::empty(rt.alloc(), table)?.declared,
-        kept,
-    }))
-}
-
-// A table whose state is in the new form, and whose older logs are still there. They have to end with it or before.
-fn half_taken(
-    rt: &HostRuntime,
-    folder: &Folder,
-    table: &TableSpec,
-    types: &str,
-) -> Result<Kept, Fault> {
-    let number = read_begin(rt, folder, table, types)?.base.link.number;
-    for begin in folder.plain_begins_of(rt, table.name())? {
-        folder.refuse_longer(rt, table.name(), begin, number)?;
+    table: &'a TableSpec,
+) -> Result<Option<ToTake<'a>>, Fault> {
+    let declared = Declared::new(rt, table)?;
+    let files = TableFiles::new(*rt, folder, table.name());
+    match find_alone(rt, &files, &declared) {
+        Ok(Some(older)) => Ok(Some(ToTake { declared, older })),
+        Ok(None) => Ok(None),
+        Err(fault) => Err(files.told(fault)),
     }
-    Ok(Kept::State(number))
 }
 
-// Writes the state of a table in the new form, and takes its older logs away.
-fn take_over(rt: &HostRuntime, folder: &Folder, older: Older) -> Result<(), Fault> {
-    let Older {
-        name,
-        types,
-        digest,
-        kept,
-    } = older;
-    let number = match kept {
-        Kept::State(number) => number,
-        Kept::Plain(loaded) => {
-            let table = loaded.table();
-            put_state(rt, folder, table, types.as_str(), digest)?;
-            table.records().container().writes()
-        }
+// What the files of an older program leave, if they are there, and nothing stands beside them.
+fn find_alone(
+    rt: &HostRuntime,
+    files: &TableFiles<'_>,
+    declared: &Declared<'_>,
+) -> Result<Option<Older>, FolderFault> {
+    let types = declared.types.as_str();
+    let found = find_older(rt.alloc(), files, declared.spec, types, declared.digest())?;
+    if found.is_some() {
+        refuse_beside(rt.alloc(), files)?;
+    }
+    Ok(found)
+}
+
+// Has the state of a table in the new form, takes its older logs away, and tells which of them are left.
+fn take(rt: &HostRuntime, folder: &Folder, table: ToTake<'_>) -> Result<(), Fault> {
+    let ToTake { declared, older } = table;
+    let mut files = TableFiles::new(*rt, folder, declared.spec.name());
+    let mut left = Vec::new(rt.alloc());
+    let done = match &older {
+        Older::Table(table) => take_over(
+            rt.alloc(),
+            &mut files,
+            table,
+            declared.types.as_str(),
+            declared.digest(),
+            &mut left,
+        ),
+        Older::State(number) => retire(rt.alloc(), &mut files, *number, &mut left),
     };
-    folder.retire_plain(rt, name.as_str(), number)
+    tell_retired(rt, folder, declared.spec.name(), &left, older.number())?;
+    match done {
+        Ok(()) => Ok(()),
+        Err(fault) => Err(files.told(fault)),
+    }
+}
+
+// Tells which logs of an older program are left, beside a state of this number.
+fn tell_retired(
+    rt: &HostRuntime,
+    folder: &Folder,
+    table: &str,
+    left: &[Option<u64>],
+    number: u64,
+) -> Result<(), Fault> {
+    for begin in left {
+        let path = folder.plain_log_left_of(rt.alloc(), table, *begin)?;
+        tell_unended(rt, path.as_str(), number);
+    }
+    Ok(())
 }
