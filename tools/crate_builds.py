@@ -48,7 +48,8 @@ def with_below(crates):
 
 
 def program_of(crate):
-    return f"{crate.folder}/out/{crate.name}"
+    """The program of a crate, or its static library for C."""
+    return f"{crate.folder}/out/{f'lib{crate.name}.a' if crate.is_static else crate.name}"
 
 
 def log_of(crate):
@@ -79,6 +80,18 @@ def changed_at(file):
     return max(found.st_mtime, found.st_ctime)
 
 
+def build_static(crate, flags):
+    """Proves a static library, and makes it. Returns whether all went well."""
+    stamp, made = crate.stamp(), program_of(crate)
+    if crate.build_static(flags):
+        return False
+    # (after an edit meanwhile, nobody can tell which text was built)
+    if stamp == crate.stamp():
+        with open(f"{made}.stamp", "w", encoding="utf-8") as it:
+            it.write(stamp + rtlib.sum_of(made))
+    return True
+
+
 def build(crate, jobs):
     """Proves a crate, and makes its library; or its program, which is run on the lines that are stored for it. Returns whether all went well."""
     os.makedirs(f"{crate.folder}/out", exist_ok=True)
@@ -87,6 +100,8 @@ def build(crate, jobs):
         try:
             if crate.makes_rlib():
                 return crate.build_rlib(flags, anew=False) == 0
+            if crate.is_static:
+                return build_static(crate, flags)
             run = {"input": crate.stream("stdin") or b"", "stdout": subprocess.PIPE, "stderr": crate.out, "timeout": rtlib.LIMIT}
             words = (crate.stream("args") or b"").decode().splitlines()
             return crate.build_and_run(flags, words, False, **run) == int(crate.stream("status") or 0)

@@ -1,0 +1,268 @@
+// Calls the library through its C++ header, for tools/run_c_library.
+//
+// statuses SCHEMA [BAD STATUS]..     what each call tells where it refuses, what moved tables tell, and a line that is asked while answers wait
+// pieces SEED SCHEMA LINES..         tables for each file of lines, which are handed in by turns, in pieces of drawn lengths, and moved in between;
+//                                    what each is answered goes to LINES.answers
+// asks SCHEMA LINES                  each line asked, with its newline or without; the answers go to LINES.answers
+// refused SCHEMA LINES               the same with each allocation refused in turn, of the library and of the answers' texts
+#include "thwartcornel.hpp"
+
+#include <cstdio>
+#include <cstdlib>
+#include <fstream>
+#include <iterator>
+#include <new>
+#include <random>
+#include <string>
+#include <utility>
+#include <vector>
+
+using thwartcornel::status;
+using thwartcornel::tables;
+
+static constexpr std::string_view MEMORY_LINE = "{\"err\":\"memory\"}\n", COMMAND_LINE = "{\"err\":\"command\"}\n";
+
+[[noreturn]] static void stop(const std::string &why)
+{
+    std::fprintf(stderr, "%s\n", why.c_str());
+    std::exit(1);
+}
+
+static void is(const std::string &what, bool holds)
+{
+    if (!holds)
+        stop(what + " is not so");
+}
+
+// ---- memory: the linker hands to these the calls of the library, and the header's own of `new (std::nothrow) char[]`
+
+extern "C" {
+void *__real_malloc(std::size_t);
+void *__real_realloc(void *, std::size_t);
+void __real_free(void *);
+void *__real__ZnamRKSt9nothrow_t(std::size_t, const std::nothrow_t &) noexcept;
+}
+
+static long count, live, refuse_at, refuse_many = 1;
+
+static bool refused()
+{
+    count++;
+    return refuse_at && count >= refuse_at && count < refuse_at + refuse_many;
+}
+
+extern "C" {
+void *__wrap_malloc(std::size_t size)
+{
+    void *made = refused() ? nullptr : __real_malloc(size);
+    live += made != nullptr;
+    return made;
+}
+
+void *__wrap_realloc(void *old, std::size_t size)
+{
+    void *made = refused() ? nullptr : __real_realloc(old, size);
+    live += made && !old;
+    return made;
+}
+
+void __wrap_free(void *old)
+{
+    live -= old != nullptr;
+    __real_free(old);
+}
+
+void *__wrap__ZnamRKSt9nothrow_t(std::size_t size, const std::nothrow_t &how) noexcept
+{
+    return refused() ? nullptr : __real__ZnamRKSt9nothrow_t(size, how);
+}
+
+void *__wrap__Znam(std::size_t)
+{
+    stop("the header asks for memory by a call that throws");
+}
+}
+
+// ---- files
+
+static std::string read_file(const std::string &path)
+{
+    std::ifstream file(path, std::ios::binary);
+    is(path, file.good());
+    return {std::istreambuf_iterator<char>(file), {}};
+}
+
+static void write_file(const std::string &path, std::string_view text)
+{
+    std::ofstream(path, std::ios::binary) << text;
+}
+
+static tables opened(std::string_view schema)
+{
+    auto found = tables::open(schema);
+    is("an open", found.has_value());
+    return std::move(*found);
+}
+
+// ---- what the first word asks for
+
+static void try_statuses(const std::vector<std::string> &words)
+{
+    std::string schema = read_file(words[0]);
+    for (std::size_t k = 1; k + 1 < words.size(); k += 2) {
+        status why{};
+        is("a refused open", !tables::open(read_file(words[k]), &why) && why == status(std::stoi(words[k + 1])));
+    }
+    is("an open of nothing", !tables::open({}));
+    status why = status::room;
+    auto from = tables::open(schema, &why);
+    is("an open", from && why == status::ok);
+    is("answers of nothing", from->answers() == "");
+    auto [how, taken] = from->call("{\"op\":");
+    is("a call", how == status::ok && taken == 6);
+    tables to = std::move(*from);
+    is("a call of closed tables", from->call("\n").how == status::handle && from->end() == status::handle && from->take({}).how == status::handle);
+    is("answers of closed tables", !from->answers() && !from->ask("{}"));
+    is("an end", to.end() == status::ok);
+    char room[15];
+    auto [again, length] = to.take({room, 14});
+    is("a take with too little room", again == status::room && length == 15);
+    is("a take without room", to.take({}).length == 15);
+    is("the answer", to.take(room).how == status::ok && std::string_view(room, 15) == "{\"err\":\"json\"}\n");
+    is("an answer once", to.answers() == "");
+    *from = std::move(to);
+    is("an ask of moved tables", from->ask("{}") == from->ask("{}\n"));
+    tables &same = *from;
+    *from = std::move(same);
+    auto answer = from->ask("{}");
+    is("an ask of tables moved to themselves", answer.has_value());
+    {
+        tables last = opened(schema);
+        last = std::move(*from);
+        from.reset();
+        is("an answer after its tables moved", answer == COMMAND_LINE);
+    }
+    is("all blocks given back", !live);
+}
+
+// Lines whose answers wait, and then one that is asked while some allocations are refused: so it is handed in again where it stopped.
+static void ask_behind(std::string_view schema)
+{
+    for (int waiting = 0; waiting < 100; waiting++)
+        for (refuse_many = 1; refuse_many < 4; refuse_many++) {
+            tables held = opened(schema);
+            std::string before;
+            for (int k = 0; k < waiting; k++) {
+                is("a line that is taken", held.call("{}\n").how == status::ok);
+                before += COMMAND_LINE;
+            }
+            count = 0;
+            refuse_at = 1;
+            auto found = held.ask("{}\n");
+            refuse_at = 0;
+            if (!found)
+                found = held.answers();
+            is("all answers", found == before + std::string(COMMAND_LINE) || found == before + std::string(MEMORY_LINE));
+        }
+    refuse_many = 1;
+    is("all blocks given back", !live);
+}
+
+static void hand_in_pieces(const std::vector<std::string> &words)
+{
+    std::minstd_rand drawn(static_cast<unsigned>(std::stoi(words[0])));
+    std::vector<std::string> lines, answers(words.size() - 2);
+    std::vector<tables> all;
+    for (std::size_t k = 2; k < words.size(); k++) {
+        lines.push_back(read_file(words[k]));
+        all.push_back(opened(read_file(words[1])));
+    }
+    std::vector<std::size_t> at(all.size());
+    for (std::size_t left = all.size(); left;) {
+        std::size_t k = drawn() % all.size();
+        if (at[k] > lines[k].size())
+            continue;
+        tables held = std::move(all[k]);
+        auto piece = std::string_view(lines[k]).substr(at[k], drawn() % 4 ? drawn() % 40 : drawn() % 4000);
+        auto [how, taken] = held.call(piece);
+        is("a piece that is taken", how == status::ok && taken == piece.size());
+        at[k] += taken;
+        if (at[k] == lines[k].size()) {
+            is("an end", held.end() == status::ok);
+            at[k]++;
+            left--;
+        }
+        if (drawn() % 2 || at[k] > lines[k].size())
+            answers[k] += held.answers().value();
+        all[k] = std::move(held);
+    }
+    for (std::size_t k = 0; k < all.size(); k++)
+        write_file(words[2 + k] + ".answers", answers[k]);
+    all.clear();
+    is("all blocks given back", !live);
+}
+
+// Asks a line until it is not refused memory, and tells its answer.
+static std::string insist(tables &held, std::string_view line)
+{
+    for (int tries = 0; tries < 3; tries++) {
+        auto found = held.ask(line);
+        if (!found)
+            found = held.answers();
+        is("an answer later", found.has_value());
+        if (*found != MEMORY_LINE)
+            return std::string(*found);
+    }
+    stop("a line is refused memory again and again");
+}
+
+// All lines once, with an allocation refused. Returns how many allocations there were.
+static long ask_all(std::string_view schema, std::string_view lines, long at, std::string &answers)
+{
+    count = 0;
+    refuse_at = at;
+    answers.clear();
+    {
+        status why{};
+        auto held = tables::open(schema, &why);
+        if (!held) {
+            is("an open refused memory", at && why == status::memory && !live);
+            held = tables::open(schema);
+        }
+        is("an open", held.has_value());
+        for (bool whole = false; !lines.empty(); whole = !whole) {
+            std::size_t length = lines.find('\n');
+            answers += insist(*held, lines.substr(0, length + whole));
+            lines.remove_prefix(length + 1);
+        }
+    }
+    is("all blocks given back", !live);
+    return count;
+}
+
+static void ask(const std::vector<std::string> &words, bool refuses)
+{
+    std::string schema = read_file(words[0]), lines = read_file(words[1]), wanted, found;
+    long all = ask_all(schema, lines, 0, wanted);
+    for (long at = 1; refuses && at <= all; at++) {
+        ask_all(schema, lines, at, found);
+        is("allocation " + std::to_string(at) + ": the same answers", found == wanted);
+    }
+    write_file(words[1] + ".answers", wanted);
+    std::printf("%ld\n", all);
+}
+
+int main(int many, char **all)
+{
+    std::vector<std::string> words(all + 2, all + (many > 2 ? many : 2));
+    std::string what = many > 2 ? all[1] : "";
+    if (what == "statuses") {
+        try_statuses(words);
+        ask_behind(read_file(words[0]));
+    } else if (what == "pieces" && words.size() > 2)
+        hand_in_pieces(words);
+    else if ((what == "asks" || what == "refused") && words.size() == 2)
+        ask(words, what == "refused");
+    else
+        stop("other words");
+}
