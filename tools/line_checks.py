@@ -170,6 +170,8 @@ CALLS = [
     ([TASKS, SIZE, WRONG], "", 1, ["line 1: ok: ", "line 2: table: ", f"    right: {SIZE}"]),
     (["--schema", TASKS, f"{TOP}/examples/tasks/absent"], "", 1, []),
     (["--built-in", '{"op":"size","t":"f"}'], "", 0, ["line 1: ok: "]),
+    ([f"{TOP}/tools/absent", SIZE], "", 3, [f"{TOP}/tools/absent: No such file or directory"]),
+    ([f"{TOP}/README.md", SIZE], "", 3, ["schema: toml: line 3, column 3: ", "    A container ", "      ^"]),
     (["--schema"], "", 1, []),
     (["--help"], "", 0, ["Says what is wrong with lines"]),
 ]

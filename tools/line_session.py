@@ -55,6 +55,10 @@ class Session:
     def line_called(number):
         return f"line {number}"
 
+    @staticmethod
+    def lines_called(first, last):
+        return f"lines {first} to {last}"
+
     def table_near(self, name, said=None):
         """The table that was meant by a name, or by what else is said."""
         tables = self.machine.tables
@@ -100,7 +104,7 @@ class Session:
         if len(whole) > MAX_LINE or len(self.broken) > MOST_BROKEN:
             self.broken = []
         if len(self.broken) > 1 and self.fault_of(whole)[0] != "json":
-            why = f"lines {self.broken[0][0]} to {self.number} are one value, and a command stands on one line"
+            why = f"{self.lines_called(self.broken[0][0], self.number)} are one value, and a command stands on one line"
             explained.steps, explained.then, self.broken = [(explained.name, [why])], None, []
             self.mend(read_json(whole), whole, explained)
 
@@ -177,7 +181,7 @@ class Session:
             if any(it.kind == "number" and "a date" in it.sentence for it in found.slips):
                 found.values = [self.with_days(it) for it in found.values]
             if self.broken and not line.strip().startswith(b"{"):
-                explained.causes_of_first().append(f"perhaps it goes on from line {self.broken[0][0]}: a command stands on one line")
+                explained.causes_of_first().append(f"perhaps it goes on from {self.line_called(self.broken[0][0])}: a command stands on one line")
         if found.values and isinstance(found.values[0], (dict, list)):
             return found.values[0]
         return from_words(self, found.text)

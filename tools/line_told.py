@@ -1,4 +1,8 @@
-"""What is said of an explained line, for a person: by tools/explain_line behind the line's number, and by the word `.explain` of tools/shell."""
+"""What is said to a person of an explained line, and of the schema file that lines are for: by tools/explain_line, and by tools/shell."""
+import subprocess
+import sys
+
+from built_program import TOP
 
 MOST_CAUSES = 4
 
@@ -17,3 +21,11 @@ def faults_in_words(explained):
     if explained.then:
         said.append(f"    as the table is now, that is {explained.then[0]}: {in_short(explained.then[1])}")
     return said
+
+
+def explain_schema(file):
+    """Prints what is wrong with a schema file, if anything is, as tools/explain_schema says it. Returns whether nothing is."""
+    ran = subprocess.run([sys.executable, f"{TOP}/tools/explain_schema", file], stdout=subprocess.PIPE, encoding="utf-8", errors="replace")
+    if ran.returncode:
+        print(ran.stdout, end="", flush=True)
+    return ran.returncode == 0

@@ -56,7 +56,8 @@ def example(op, tables):
     needs, joined, kinds = OPS[op]
     more = {"modify": "set", "range": "ge", "add_index": "kind key"}.get(op, "")
     for table in tables.values():
-        if "i" in needs.split() and kinds and not any(it.kind in kinds for it in table.indices):
+        # (of a served table no index may be known)
+        if not table.indices or "i" in needs.split() and kinds and not any(it.kind in kinds for it in table.indices):
             continue
         said = {"op": op, "t": table.name}
         for key in sorted([*needs.split(), *more.split()], key=["i", "key"].__contains__, reverse=True):

@@ -147,8 +147,7 @@ def missing(said, table):
     if any(it in said for it in may):
         needed, may = needed + may, []
     may += sorted(MORE_KEYS.get(op, ()))
-    if table and "add" in may and not columns_left(said, "add", table):
-        may.remove("add")
+    may = [it for it in may if not table or it not in ("set", "add") or columns_left(said, it, table)]
     if op == "add_index" and "kind" in said:
         needed += ["key"] * (said["kind"] not in SEQUENCES)
         may = ["unique"] * (said["kind"] not in SEQUENCES)
@@ -213,7 +212,7 @@ def of_row(at, said, name, table):
         next_ones = [(f',"{it}":', begin_of_cell(table.columns[it])) for it in left]
         return (next_ones[:1] or [("}", "")]) if name == "r" else [("}", ""), *next_ones]
     column = table.columns.get(at.key)
-    # (a null is no term, though a cell that is null may get one)
+    # (a null is no term, and what is added to a cell that is null leaves it so)
     return cells_of(column) if at.wants == "value" and column and name != "add" else []
 
 
