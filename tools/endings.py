@@ -52,7 +52,9 @@ def built_library(room, name):
     """A library to be preloaded, of a source in tools/."""
     made = f"{room}/{name}.so"
     if not os.path.exists(made):
-        subprocess.run(["gcc", "-shared", "-fPIC", "-O1", "-Wall", "-o", made, f"{TOP}/tools/{name}.c", "-ldl"], check=True)
+        part = f"{made}.{threading.get_ident()}"
+        subprocess.run(["gcc", "-shared", "-fPIC", "-O1", "-Wall", "-o", part, f"{TOP}/tools/{name}.c", "-ldl"], check=True)
+        os.replace(part, made)
     return made
 
 

@@ -40,6 +40,11 @@ def plain_keeper(fault="none"):
     return sys.executable, "-B", f"{TOP}/tools/plain_keeper.py", fault
 
 
+def said_of(text):
+    """What the program says, but for how far it reads, which comes where a second goes by."""
+    return "".join(it for it in text.decode().splitlines(keepends=True) if not it.startswith("reads "))
+
+
 class Keeper(Ending):
     """The running program. Its schema, its socket and the folder of its logs stand in one room."""
 
@@ -57,7 +62,7 @@ class Keeper(Ending):
             _, said = self.process.communicate(timeout=SECONDS)
         except subprocess.TimeoutExpired as why:
             raise Wrong("the program does not end") from why
-        return self.process.returncode, said.decode()
+        return self.process.returncode, said_of(said)
 
 
 class Room:
@@ -174,7 +179,7 @@ class Room:
             except subprocess.TimeoutExpired as why:
                 process.kill()
                 raise Wrong(f"{words} does not end") from why
-        return process.returncode, out, said.decode().splitlines()
+        return process.returncode, out, said_of(said).splitlines()
 
     def compact(self, status=0, said="", environment=None):
         """Has the states written, and compares the end of that, and what it says at last."""

@@ -288,16 +288,18 @@ def calls_of_a_start(room):
     room.put(b"".join(LINES), torn=b"{")
     text = room.raw()
     os.remove(room.path("p", "mark"))
-    _, status, said = answers_until_it_ends(room, [])
+    answers_until_it_ends(room, [])
     with open(f"{room.folder}/records", "rb") as file:
         records = [it for it in records_of(file.read()) if it[0] != "N" or not it[3].endswith(b"/lock")]
-    number = os.stat(room.path()).st_ino
-    made = [kind if it != number else {"W": "tail", "T": "cut", "B": "begun", "S": "synced"}[kind] for kind, it, *_ in records]
+    number, *others = (os.stat(it).st_ino for it in (room.path(), room.path("p", "mark"), f"{room.folder}/data"))
+    names = {number: {"W": "tail", "T": "cut", "S": "synced"}, others[0]: {"W": "mark", "S": "settled"}, others[1]: {"S": "folder"}}
+    made = [names.get(it, {}).get(kind, kind) for kind, it, *_ in records]
     begun = text[:-1].rindex(NEWLINE, 0, -1) + 1
     tail = [(at, len(written)) for kind, it, at, written, _ in records if it == number and kind == "W"]
     wants("the tail", (tail[0][0] <= begun, sum(count for _, count in tail), tail[-1][0] + tail[-1][1]), (True, len(text) - 1 - tail[0][0], len(text) - 1))
-    order = [made.index("S"), made.index("N"), made.index("tail"), made.index("synced")]
-    if order[0] > order[1] or order[2] > order[3] or "W" in made[: order[3]] and made.index("W") < order[0]:
+    last = lambda it: len(made) - 1 - made[::-1].index(it)
+    orders = [made.index("folder"), made.index("N")], [made.index("tail"), made.index("synced"), last("mark"), last("settled"), last("folder")]
+    if any(order != sorted(order) for order in orders):
         raise Wrong(f"the calls of a start: {made}")
 
 

@@ -297,8 +297,8 @@ class Log:
     """A table and the log of its accepted writes."""
 
     def __init__(self, folder, table, first):
-        self.name, self.table, self.lock, self.kept = table.name, table, threading.Lock(), []
-        self.waiting, self.file, self.first, self.mark_synced = set(), None, first, 0
+        self.name, self.table, self.lock, self.kept, self.late = table.name, table, threading.Lock(), [], None
+        self.file, self.first, self.mark_synced = None, first, 0
         self.files = Files(folder, table.name)
         self.state = State(self.files, table, first)
         self.state.read()
@@ -396,9 +396,9 @@ class Log:
         at, self.at = self.at, self.at + len(text)
         try:
             if has_fault("answers before it appends"):
-                threading.Timer(0.02, write_at, (self.file, at, text)).start()
+                self.put_before_the_next(at, text)
             elif has_fault("appends without its lock"):
-                threading.Timer(0.002 * (len(text) % 3), append, (os.open(self.path, os.O_WRONLY | os.O_APPEND), text)).start()
+                self.put_behind_the_next(at, text)
             else:
                 write_at(self.file, at, text)
         except OSError:
@@ -406,21 +406,30 @@ class Log:
         self.is_synced = False
         change()
 
-    @contextlib.contextmanager
-    def locked(self):
-        """The lock for a line. Until it is there the line is among those that wait."""
-        line = object()
-        self.waiting.add(line)
-        with self.lock:
-            self.waiting.discard(line)
-            yield
+    def put_before_the_next(self, at, text):
+        """Puts the line before, and holds this one back."""
+        if self.late is not None:
+            write_at(self.file, *self.late)
+        self.late = (at, text)
+
+    def put_behind_the_next(self, at, text):
+        """Exchanges two lines, as where each writer appends its own once the other has the lock."""
+        if self.late is None:
+            self.late = (at, text)
+        else:
+            (at, late), self.late = self.late, None
+            write_at(self.file, at, text + late)
+
+    def wait_for_all(self):
+        """Waits until so many lines are carried out as ten clients send by the time that each has come three times."""
+        behind = self.last.number + 30
+        while self.last.number < behind:
+            time.sleep(0.001)
 
     def sync(self):
         """Syncs what was appended, or waits for who does."""
         if has_fault("answers while another syncs") and self.lock.locked():
             return
-        while has_fault("a commit waits for all") and self.waiting:
-            time.sleep(0.0001)
         with self.lock:
             if self.is_synced or has_fault("never syncs"):
                 return
@@ -591,7 +600,7 @@ class Keeper:
             log = self.logs[read(line)["t"]]
         except (Fault, KeyError):
             return self.machine.answer(line)[0]
-        with log.locked():
+        with log.lock:
             answer, change = self.machine.answer(line)
             if has_fault("appends reads") and b'"size"' in line or has_fault("appends refused writes") and b'"banned"' in answer:
                 log.keep(line, lambda: None)
@@ -599,12 +608,14 @@ class Keeper:
                 log.keep(line, change)
         return MEMORY if is_refused else answer
 
-    def settle(self):
-        """Syncs what was appended, as it is asked for."""
+    def settle(self, is_lone):
+        """Syncs what was appended by one line or more, as it is asked for."""
         if has_fault("answers while another syncs"):
             time.sleep(0.001)
         if self.given.sync == "each" and not has_fault("answers before it syncs"):
             for log in self.logs.values():
+                if is_lone and has_fault("a commit waits for all"):
+                    log.wait_for_all()
                 log.sync()
 
     def receive(self, connection, rest):
@@ -645,7 +656,7 @@ class Keeper:
                 continue
             connection.settimeout(idle)
             answers = [self.answer(it) + b"\n" for it in lines if it.strip()]
-            self.settle()
+            self.settle(len(answers) == 1)
             self.send(connection, answers)
             waits = time.monotonic()
             if has_fault("busy ones are idle") and self.given.idle and time.monotonic() - begun > self.given.idle:

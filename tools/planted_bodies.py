@@ -137,27 +137,26 @@ OF_SERVERS = {
 
 # What no clause of the keeper's program says: when and in which order its files are written, synced, marked and removed, and which of them refuse a start.
 KEEPER = "crates/table_keeper/src"
-STARTS, MARKS, BEFORE, STATES, COMPACTS, IMPORTS, FOLDER = (f"{KEEPER}/{it}.rt" for it in ("logs", "mark", "logs_before", "states", "compact", "import", "folder"))
-SETTLES = "    let mut logs = Vec::new(rt.alloc());\n    for table in decided {\n        logs.push(settle(rt, table)?)?;\n    }\n"
-DECIDES = "    let mut decided = Vec::new(rt.alloc());\n    for table in schema.tables() {\n        decided.push(decide(rt, folder, table)?)?;\n    }\n"
-SYNCS = "    folder.sync(rt)?;\n"
-LEFT = "            Some(OldLog::Spent) => spent.push(path)?,\n            Some(OldLog::Left) => {\n                let number = base.link.number;\n"
+STARTS, MARKS, IMPORTS, FOLDER, HOSTS = (f"{KEEPER}/{it}.rt" for it in ("logs", "mark", "import", "folder", "host_folder"))
+SPENT, PUTS, SETTLES = (f"crates/table_folder/src/{it}.rt" for it in ("spent", "put", "settling"))
+DECIDES = "    let mut decided = Vec::new(rt.alloc());\n    for table in schema.tables() {\n        decided.push(ready(rt, folder, table)?)?;\n    }\n"
+OPENS = "    let mut logs = Vec::new(rt.alloc());\n    for table in decided {\n        logs.push(open(rt, folder, table)?)?;\n    }\n"
+LEFT = "        Some(OldLog::Left) => left.push(begin)?,\n"
+PUT = "        return Err(fault);\n    }\n    match folder.settle_names() {\n        Ok(()) => Ok(()),\n        Err(error) => Err(FolderFault::of_names(&error)),\n    }\n"
 OF_KEEPERS = {
     "marks_are_not_written": (f"{KEEPS} lines_that_are_missing", [(MARKS, "        file.write_all_at(slot, at)?;\n", "        let _ = slot;\n")]),
     "marks_are_never_synced": (f"{KEEPS} calls_of_a_start", [(MARKS, "        if self.is_due() {\n            self.sync()?;\n        }\n", "")]),
     "marks_that_fail_are_passed_over": (f"{KEEPS} mark_that_fails", [(MARKS, "        file.write_all_at(slot, at)?;\n", "        let _ = file.write_all_at(slot, at);\n")]),
-    "logs_are_cut_before_all_are_decided": (f"{KEEPS} bad_line_behind_a_torn_log", [(STARTS, DECIDES + SYNCS + SETTLES, SYNCS + "    let mut logs = Vec::new(rt.alloc());\n    for table in schema.tables() {\n        let decided = decide(rt, folder, table)?;\n        logs.push(settle(rt, decided)?)?;\n    }\n")]),
-    "the_folder_is_not_synced_first": (f"{KEEPS} calls_of_a_start", [(STARTS, SYNCS + SETTLES, SETTLES)]),
+    "logs_are_cut_before_all_are_decided": (f"{KEEPS} bad_line_behind_a_torn_log", [(STARTS, DECIDES + OPENS, "    let mut logs = Vec::new(rt.alloc());\n    for table in schema.tables() {\n        let decided = ready(rt, folder, table)?;\n        logs.push(open(rt, folder, decided)?)?;\n    }\n")]),
+    "the_folder_is_not_synced_first": (f"{KEEPS} calls_of_a_start", [(SETTLES, "    settle_names(folder)?;\n    make_absent(folder, FileName::Log(begin))?;\n", "    make_absent(folder, FileName::Log(begin))?;\n")]),
     "the_folder_is_never_synced": (CRASHES, [(FOLDER, "    File::open(rt, path)?.sync_all()\n", "    let _ = File::open(rt, path)?;\n    Ok(())\n")]),
-    "no_mark_is_not_told": (f"{KEEPS} each_bit_of_a_mark", [(STARTS, "        && about.recovered.end > 0\n", "        && about.recovered.end > 1_000_000\n")]),
-    "a_missing_log_is_made": (f"{KEEPS} declared_table_without_files", [(STARTS, "    if is_declared && !base.is_state && file.is_none() {\n", "    if is_declared && !base.is_state && file.is_none() && table.max() == 0 {\n")]),
-    "an_old_journal_is_passed_over": (f"{KEEPS} journal_beside_its_state", [(STARTS, "    folder.refuse_plain(rt, table.name())?;\n", "")]),
-    "an_old_log_goes_by_its_name": (f"{KEEPS} log_from_before_its_state", [(BEFORE, LEFT, LEFT + "                spent.push(path.clone()?)?;\n")]),
-    "a_longer_old_log_is_passed_over": (f"{KEEPS} log_from_before_its_state", [(BEFORE, "            Some(OldLog::Later) => return Err(Fault::Lacking(path)),\n", "            Some(OldLog::Later) => {}\n")]),
-    "a_states_digest_is_not_looked_at": (f"{KEEPS} each_bit_of_a_state", [(STATES, "    if !is_signed(rt, file, before)? {\n", "    if !is_signed(rt, file, before)? && first == 0 {\n")]),
-    "a_state_is_renamed_before_it_is_synced": (CRASHES, [(COMPACTS, "    file.sync_all()\n", "    Ok(())\n")]),
-    "a_state_has_its_name_unsynced": (CRASHES, [(COMPACTS, "        return Err(fault);\n    }\n    folder.sync(rt)\n", "        return Err(fault);\n    }\n    Ok(())\n")]),
-    "a_journal_is_taken_in_piece_by_piece": (f"{KEEPS} journals_that_come", [(IMPORTS, "        let _ = fs::remove_file(rt, draft.as_str());\n        return Err(fault);\n", "        let _ = put_at(rt, draft.as_str(), path.as_str());\n        return Err(fault);\n")]),
+    "no_mark_is_not_told": (f"{KEEPS} each_bit_of_a_mark", [(STARTS, "about.marks.mark.is_none() && about.recovered.end > 0 {\n", "about.marks.mark.is_none() && about.recovered.end > 1_000_000 {\n")]),
+    "an_old_journal_is_passed_over": (f"{KEEPS} journal_beside_its_state", [(STARTS, "    if let Err(fault) = refuse_plain(rt.alloc(), &files) {\n        return Err(files.told(fault));\n    }\n", "    let _ = refuse_plain(rt.alloc(), &files);\n")]),
+    "an_old_log_goes_by_its_name": (f"{KEEPS} log_from_before_its_state", [(SPENT, LEFT, "        Some(OldLog::Left) => {\n            left.push(begin)?;\n            spent.push(begin)?;\n        }\n")]),
+    "a_longer_old_log_is_passed_over": (f"{KEEPS} log_from_before_its_state", [(SPENT, "        Some(OldLog::Later) => return Err(FolderFault::Lacking(FileName::Log(begin))),\n", "        Some(OldLog::Later) => {}\n")]),
+    "a_state_is_renamed_before_it_is_synced": (CRASHES, [(HOSTS, "            file.shown.sync_all()\n", "            Ok(())\n")]),
+    "a_state_has_its_name_unsynced": (f"{KEEPS} calls_of_a_compact", [(PUTS, PUT, "        return Err(fault);\n    }\n    Ok(())\n")]),
+    "a_journal_is_taken_in_piece_by_piece": (f"{KEEPS} journals_that_come", [(IMPORTS, "        let _ = files.remove(FileName::LogDraft);\n        return Err(fault);\n", "        let _ = files.put_at(FileName::LogDraft, FileName::Log(None));\n        return Err(fault);\n")]),
 }
 
 # A store's end that leaves out records. Their blocks are freed all the same, as the clauses ask.
