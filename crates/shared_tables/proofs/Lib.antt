@@ -14,3 +14,4 @@ pub mod Shapes
 pub mod Again
 pub mod Known
 pub mod Serving
+pub mod Reading

@@ -11,4 +11,5 @@ pub mod Holders
 pub mod Text
 pub mod Again
 pub mod Serving
+pub mod Requests
 pub mod Stored

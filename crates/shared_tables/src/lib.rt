@@ -15,12 +15,16 @@ mod line;
 mod locks;
 mod looks;
 mod pass;
+mod request;
+mod requests;
 mod same;
 mod serve;
 mod shared;
 mod stored;
 mod tally;
+mod turns;
 mod unlocked;
+mod waiting;
 mod write;
 mod writes;
 

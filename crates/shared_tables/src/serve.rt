@@ -1,51 +1,28 @@
 //! One session's stream over tables behind locks.
 
-ghost use Rattle.std.specs.Prelude.{◌≡◌, List, ℕ, Err, OnOk};
-ghost use Rattle.table_engine.specs.Outcomes.{IsRefused, IsServed, IsUnread, IsUntouched, IsUnwritten};
+ghost use Rattle.std.specs.Prelude.{◌≡◌, ◌<◌, ◌++◌, [], List, ℕ, Err, OnOk, Option, length};
+ghost use Rattle.std.specs.Option.{option_to_list};
+ghost use Rattle.std.specs.Io.KnownBytes.{Appends};
+ghost use Rattle.table_engine.specs.Devices.{AppendsFront};
+ghost use Rattle.table_engine.specs.Lines.{short, added};
+ghost use Rattle.table_engine.specs.Outcomes.{IsRefused, IsServed, IsUnread, IsUntouched, IsUnwritten, Stops, failures_after_stop};
+ghost use Rattle.table_engine.specs.Stream.{Breaks, Feeds, Meets, Passes, Starts, TellsAll, TellsLine};
 ghost use Rattle.table_engine.specs.Whole.{lines_of};
-ghost use Rattle.shared_tables.specs.Serving.{HearsEnded, HearsFront, HearsLines, RefusesNext};
+ghost use Rattle.shared_tables.specs.Requests.{Asks, HearsSome, HearsUntil};
+ghost use Rattle.shared_tables.specs.Serving.{HearsEnded, HearsFront, HearsLines, HearsText, RefusesNext, RefusesText};
+ghost use Rattle.shared_tables.specs.declared.request.Request.{Request};
 
 use crate::fault::{CallFault, ServeFault};
 use crate::pass::Pass;
+use crate::request::{end_line, take_line};
+use crate::requests::Requests;
 use crate::shared::{Gate, Shared};
-use command_lines::{CommandFault, read_command};
+use crate::waiting::{grow_ahead, make_room, write_out};
+use memchr::memchr;
 use std::io::{Read, Write};
 use std::sync::Wait;
-use table_engine::{Answers, LineCutter, Sink, Source, Stopped, serve_lines};
-use table_reply::{Fault, Ready, Told};
-use table_step::refuse;
-
-/// The tables that a session calls, and leave to wait for them.
-#[derive(Drop)]
-pub(crate) struct Called<'a, G: Gate, T: Wait> {
-    shared: &'a Shared<G>,
-    rt: &'a T,
-}
-
-impl<'a, G: Gate, T: Wait> Answers<Called<'a, G, T>> for Pass {
-    ghost use Rattle.shared_tables.specs.Serving.{HearsText, RefusesText};
-
-    type Refusal = CallFault;
-
-    ghost tells = { λ called. HearsText called.shared.now };
-
-    ghost refuses = { λ called. RefusesText called.shared.now };
-
-    fn answer<'o>(
-        &mut self,
-        called: &Called<'a, G, T>,
-        line: &[u8],
-        out: Ready<'o>,
-    ) -> Told<'o, Result<(), CallFault>> {
-        let shared = called.shared;
-        match read_command(shared.alloc, line) {
-            Ok(command) => shared.call(called.rt, self, command, out),
-            Err(CommandFault::Json) => refuse(Fault::Json, out).with(Ok(())),
-            Err(CommandFault::Command) => refuse(Fault::Command, out).with(Ok(())),
-            Err(CommandFault::Memory) => refuse(Fault::Memory, out).with(Ok(())),
-        }
-    }
-}
+use table_engine::{LineCutter, PIECE, Sink, Source, Stopped};
+use table_reply::Out;
 
 impl<G: Gate> Shared<G> {
     /// Serves a session's stream to its end: each line that is a command is answered as `call` answers it, from the pass that
@@ -76,14 +53,183 @@ impl<G: Gate> Shared<G> {
             (λ bytes text. RefusesNext self.now pass.old bytes text pass.new why) }
         ensures memory { result ≡ Err ServeFault.Memory → (pass.new ≡ pass.old) × IsUntouched source.old source.new sink.old sink.new }
     {
-        let called = Called { shared: self, rt };
+        let Ok(mut out) = Out::new(self.alloc) else {
+            return Err(ServeFault::Memory);
+        };
+        let Ok(mut requests) = Requests::new(self.alloc) else {
+            return Err(ServeFault::Memory);
+        };
         let mut cutter = LineCutter::new();
-        match serve_lines(self.alloc, pass, &called, &mut cutter, source, sink) {
+        match self.serve_pieces(rt, pass, &mut cutter, &mut requests, source, sink, &mut out) {
             Ok(()) => {}
             Err(Stopped::Read) => return Err(ServeFault::Read),
             Err(Stopped::Write) => return Err(ServeFault::Write),
             Err(Stopped::Memory) => return Err(ServeFault::Memory),
             Err(Stopped::Refused(why)) => return Err(ServeFault::Call(why)),
+        }
+        Ok(())
+    }
+
+    // Serves a stream from its first byte on to its end, or to a fault.
+    fn serve_pieces<R: Read, W: Write>(
+        &self,
+        rt: &impl Wait,
+        pass: &mut Pass,
+        cutter: &mut LineCutter,
+        requests: &mut Requests,
+        source: &mut Source<R>,
+        sink: &mut Sink<W>,
+        out: &mut Out,
+    ) -> Result<(), Stopped<CallFault>>
+        requires empty { out.old.bytes ≡ [] }
+        requires none { requests.old ≡ [] }
+        ensures served { OnOk result (IsServed R.remaining W.contents source.old source.new sink.old sink.new
+            (λ bytes text. TellsAll (HearsText self.now) pass.old cutter.old.unfinished bytes text pass.new)) }
+        ensures read { result ≡ Err Stopped.Read → IsUnread R.remaining W.contents source.old source.new sink.old sink.new
+            (λ bytes text. Starts (HearsText self.now) pass.old cutter.old.unfinished bytes text pass.new) }
+        ensures write { result ≡ Err Stopped.Write → IsUnwritten R.remaining W.contents source.old source.new sink.old sink.new
+            (λ bytes text. Breaks (HearsText self.now) pass.old cutter.old.unfinished bytes text pass.new) }
+        ensures refused { (why : CallFault) → result ≡ Err (Stopped.Refused why) → IsRefused R.remaining W.contents source.old source.new sink.old sink.new
+            (λ bytes text. Meets (HearsText self.now) (RefusesText self.now) pass.old cutter.old.unfinished bytes text pass.new why) }
+        ensures memory { result ≡ Err Stopped.Memory → ⊥ }
+    {
+        let mut piece = [0u8; PIECE];
+        for _ in 0..u32::MAX {
+            let Ok(n) = source.read(&mut piece) else {
+                return Err(Stopped::Read);
+            };
+            if n == 0 {
+                return self.serve_end(rt, pass, cutter, requests, sink, out);
+            }
+            grow_ahead(self.alloc, n);
+            match self.serve_piece(rt, pass, cutter, &piece[..n], requests, sink, out) {
+                Ok(()) => {}
+                Err(stopped) => return Err(stopped),
+            }
+        }
+        Err(Stopped::Read)
+    }
+
+    // Answers the last line of a stream, which no newline ends, and writes the answer out.
+    fn serve_end<W: Write>(
+        &self,
+        rt: &impl Wait,
+        pass: &mut Pass,
+        cutter: &mut LineCutter,
+        requests: &mut Requests,
+        sink: &mut Sink<W>,
+        out: &mut Out,
+    ) -> Result<(), Stopped<CallFault>>
+        requires empty { out.old.bytes ≡ [] }
+        requires none { requests.old ≡ [] }
+        ensures served { OnOk result ((text : List ℕ) × TellsLine (HearsText self.now) pass.old cutter.old.unfinished text pass.new
+            × Appends (W.contents sink.old.inner) (W.contents sink.new.inner) text) }
+        ensures stopped { Stops result
+            ((told : List ℕ) × Breaks (HearsText self.now) pass.old cutter.old.unfinished [] told pass.new × AppendsFront (W.contents sink.old.inner) (W.contents sink.new.inner) told)
+            (λ why. (told : List ℕ) × Meets (HearsText self.now) (RefusesText self.now) pass.old cutter.old.unfinished [] told pass.new why × AppendsFront (W.contents sink.old.inner) (W.contents sink.new.inner) told) }
+        ensures failures { sink.new.failures ≡ failures_after_stop result sink.old.failures }
+    {
+        requests.put(end_line(self.alloc, cutter));
+        match self.answer_all(rt, pass, requests, sink, out) {
+            Ok(()) => {}
+            Err(stopped) => return Err(stopped),
+        }
+        write_out(self.alloc, sink, out)?;
+        Ok(())
+    }
+
+    // Takes the bytes of a piece, answers the lines that they end, and writes the answers out.
+    fn serve_piece<W: Write>(
+        &self,
+        rt: &impl Wait,
+        pass: &mut Pass,
+        cutter: &mut LineCutter,
+        piece: &[u8],
+        requests: &mut Requests,
+        sink: &mut Sink<W>,
+        out: &mut Out,
+    ) -> Result<(), Stopped<CallFault>>
+        requires empty { out.old.bytes ≡ [] }
+        requires none { requests.old ≡ [] }
+        ensures served { OnOk result ((told : List ℕ) × Feeds (HearsText self.now) pass.old cutter.old.unfinished piece.now told pass.new cutter.new.unfinished
+            × Appends (W.contents sink.old.inner) (W.contents sink.new.inner) told) }
+        ensures empty { OnOk result (out.new.bytes ≡ []) }
+        ensures none { OnOk result (requests.new ≡ []) }
+        ensures stopped { Stops result
+            ((told : List ℕ) × Breaks (HearsText self.now) pass.old cutter.old.unfinished piece.now told pass.new × AppendsFront (W.contents sink.old.inner) (W.contents sink.new.inner) told)
+            (λ why. (told : List ℕ) × Meets (HearsText self.now) (RefusesText self.now) pass.old cutter.old.unfinished piece.now told pass.new why × AppendsFront (W.contents sink.old.inner) (W.contents sink.new.inner) told) }
+        ensures failures { sink.new.failures ≡ failures_after_stop result sink.old.failures }
+    {
+        let mut rest = piece;
+        while let Some(length) = memchr(b'\n', rest) {
+            let (line, after) = rest.split_at(length);
+            match self.serve_line(rt, pass, cutter, line, requests, sink, out) {
+                Ok(()) => {}
+                Err(stopped) => return Err(stopped),
+            }
+            let (_, behind) = after.split_at(1);
+            rest = behind;
+        }
+        cutter.extend(rest);
+        match self.answer_all(rt, pass, requests, sink, out) {
+            Ok(()) => {}
+            Err(stopped) => return Err(stopped),
+        }
+        write_out(self.alloc, sink, out)?;
+        Ok(())
+    }
+
+    // Takes bytes and the newline after them, and reads the line that they end. It waits to be carried out, until as many wait as
+    // there may be.
+    fn serve_line<W: Write>(
+        &self,
+        rt: &impl Wait,
+        pass: &mut Pass,
+        cutter: &mut LineCutter,
+        line: &[u8],
+        requests: &mut Requests,
+        sink: &mut Sink<W>,
+        out: &mut Out,
+    ) -> Result<(), Stopped<CallFault>>
+        requires { length requests.old < 128 }
+        ensures told { OnOk result ((asked : Option Request) × Asks (added line.now cutter.old.unfinished) asked
+            × (text : List ℕ) × HearsSome self.now pass.old (requests.old ++ option_to_list asked) requests.new text pass.new × Passes (W.contents sink.old.inner) (W.contents sink.new.inner) out.old.bytes text out.new.bytes) }
+        ensures ended { OnOk result (cutter.new.unfinished ≡ short []) }
+        ensures few { OnOk result (length requests.new < 128) }
+        ensures stopped { Stops result
+            ((asked : Option Request) × Asks (added line.now cutter.old.unfinished) asked × (left : List Request) × (text : List ℕ) × HearsSome self.now pass.old (requests.old ++ option_to_list asked) left text pass.new × AppendsFront (W.contents sink.old.inner) (W.contents sink.new.inner) (out.old.bytes ++ text))
+            (λ why. (asked : Option Request) × Asks (added line.now cutter.old.unfinished) asked × (text : List ℕ) × HearsUntil self.now pass.old (requests.old ++ option_to_list asked) text pass.new why × AppendsFront (W.contents sink.old.inner) (W.contents sink.new.inner) (out.old.bytes ++ text)) }
+        ensures failures { sink.new.failures ≡ failures_after_stop result sink.old.failures }
+    {
+        requests.put(take_line(self.alloc, cutter, line));
+        if requests.is_full() {
+            return self.answer_all(rt, pass, requests, sink, out);
+        }
+        Ok(())
+    }
+
+    // Answers what waits, in its order. The answers are written out where they are many or leave no room for a further one.
+    fn answer_all<W: Write>(
+        &self,
+        rt: &impl Wait,
+        pass: &mut Pass,
+        requests: &mut Requests,
+        sink: &mut Sink<W>,
+        out: &mut Out,
+    ) -> Result<(), Stopped<CallFault>>
+        ensures told { OnOk result ((text : List ℕ) × HearsSome self.now pass.old requests.old requests.new text pass.new × Passes (W.contents sink.old.inner) (W.contents sink.new.inner) out.old.bytes text out.new.bytes) }
+        ensures none { OnOk result (requests.new ≡ []) }
+        ensures stopped { Stops result
+            ((left : List Request) × (text : List ℕ) × HearsSome self.now pass.old requests.old left text pass.new × AppendsFront (W.contents sink.old.inner) (W.contents sink.new.inner) (out.old.bytes ++ text))
+            (λ why. (text : List ℕ) × HearsUntil self.now pass.old requests.old text pass.new why × AppendsFront (W.contents sink.old.inner) (W.contents sink.new.inner) (out.old.bytes ++ text)) }
+        ensures failures { sink.new.failures ≡ failures_after_stop result sink.old.failures }
+    {
+        while let Some(request) = requests.pop() {
+            make_room(self.alloc, sink, out)?;
+            match self.answer_on(rt, pass, request, requests, out) {
+                Ok(()) => {}
+                Err(why) => return Err(Stopped::Refused(why)),
+            }
         }
         Ok(())
     }

@@ -1,10 +1,12 @@
 //! Tables behind locks of their own.
 
-ghost use Rattle.std.specs.Prelude.{◌≡◌, ◌≤◌, OnErr, OnOk, IfErr, IfOk, length};
+ghost use Rattle.std.specs.Prelude.{◌≡◌, ◌≤◌, OnErr, OnOk, IfErr, IfOk, Some, length};
+ghost use Rattle.table_cmd.specs.Command.{table_in};
 ghost use Rattle.table_reply.specs.Ready.{IsBehind};
 ghost use Rattle.shared_tables.specs.Hears.{Hears, Refuses, table_at};
 ghost use Rattle.shared_tables.specs.Journals.{fresh_cells};
 ghost use Rattle.shared_tables.specs.Pass.{fresh_passes};
+ghost use Rattle.shared_tables.specs.Requests.{IsEntered};
 
 use crate::cell::TableCell;
 use crate::entry::Entry;
@@ -151,8 +153,8 @@ fn new_passes(alloc: Global, tables: usize, workers: u32) -> Result<Vec<Pass>, A
     Ok(passes)
 }
 
-// The place of the first table of a name.
-fn table_at(tables: &[TableSpec], name: &str) -> Option<usize>
+/// The place of the first table of a name.
+pub(crate) fn table_at(tables: &[TableSpec], name: &str) -> Option<usize>
     ensures { result ≡ table_at tables.now name.now }
 {
     tables.iter().position(|table| table.name() == name)
@@ -192,6 +194,26 @@ impl<G: Gate> Shared<G> {
             drop(command);
             return refuse_memory(out).with(Ok(()));
         }
+        self.tell_step(&mut cell, place, pass, command, out)
+    }
+
+    /// Carries out a command under the lock of its table.
+    pub(crate) fn tell_step<'o>(
+        &self,
+        cell: &mut TableCell,
+        place: usize,
+        pass: &mut Pass,
+        command: Command,
+        out: Ready<'o>,
+    ) -> Told<'o, Result<(), CallFault>>
+        requires named { table_at self.now.schema (table_in command) ≡ Some place }
+        requires entered { IsEntered self.now place cell.old }
+        ensures entered { IsEntered self.now place cell.new }
+        ensures refused { IfErr result.what (λ fault. Refuses self.now pass.old command fault) }
+        ensures unchanged { OnErr result.what ((pass.new ≡ pass.old) × (result.out.now ≡ out.entry.out.now)) }
+        ensures answered { OnOk result.what (Hears self.now pass.old command out.entry.out.now.bytes result.out.now.bytes pass.new) }
+        ensures behind { IsBehind out.entry result }
+    {
         self.gate.enter(place, pass.session);
         cell.call(pass, command, out)
     }

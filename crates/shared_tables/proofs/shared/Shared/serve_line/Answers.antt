@@ -1,0 +1,30 @@
+use Rattle.std.proofs.Common.{[], subst}
+use Rattle.std.proofs.lemmas.Result.{on_ok_weaker}
+use Rattle.table_engine.proofs.Devices.{passes_nothing}
+use Rattle.shared_tables.specs.Requests.{HearsSome}
+use Rattle.shared_tables.proofs.Reading.{some_none}
+use Rattle.shared_tables.proofs.shared.Shared.serve_line.Goals as goal
+
+pub returns-then-is_full-clause-told : goal.returns-then-is_full-clause-told
+returns-then-is_full-clause-told g c =
+    let shared = c.args.self.now in
+    let old = c.args.pass.now in
+    let new = c.answer_all.new in
+    on_ok_weaker c.answer_all.result (λ told. (
+      c.take_line.result,
+      c.take_line.ensures.asks,
+      told.0,
+      subst (λ rs. HearsSome shared old rs new.requests told.0 new.pass) c.put.ensures told.1,
+      told.2,
+    )) c.answer_all.ensures.told
+
+pub returns-clause-told : goal.returns-clause-told
+returns-clause-told g c =
+    let shared = c.args.self.now in
+    let old = c.args.pass.now in (
+      c.take_line.result,
+      c.take_line.ensures.asks,
+      [],
+      subst (λ rs. HearsSome shared old rs c.put.new.self [] old) c.put.ensures (some_none shared old c.put.new.self),
+      passes_nothing (g.W.Write.contents c.args.sink.now.inner) c.args.out.now.bytes,
+    )
