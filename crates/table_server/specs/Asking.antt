@@ -32,7 +32,7 @@ DoesAsked is_at remaining is_made is_put contents None input_before input_after 
 DoesAsked is_at remaining is_made is_put contents (Some (run files)) input_before input_after output_before output_after =
     Done is_at remaining files input_before input_after output_before output_after
 DoesAsked is_at remaining is_made is_put contents (Some (serve serving)) input_before input_after output_before output_after =
-    Served is_at remaining is_made is_put contents serving.schema serving.workers serving.journal output_before output_after
+    Served is_at remaining is_made is_put contents serving.schema serving.workers serving.each serving.journal output_before output_after
 
 -- what is asked for reads the input to its end, or does not touch it
 abbrev pub LeavesInput : {I : Type 0} → Option Asking → Source I → Source I → Type 0

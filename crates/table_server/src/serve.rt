@@ -36,7 +36,7 @@ pub fn serve_connections<
     O: Write,
 >(rt: &R, serving: &Serving<'_>, output: &mut Sink<O>) -> Result<(), Fault>
     ensures done { OnOk result (Served (R.is_at rt.now) R.Opened.remaining (R.is_made rt.now) (R.is_put rt.now) R.Made.contents
-        serving.now.schema.now serving.now.workers (option_map (λ s. s.now) serving.now.journal)
+        serving.now.schema.now serving.now.workers serving.now.each (option_map (λ s. s.now) serving.now.journal)
         (O.contents output.old.inner) (O.contents output.new.inner)) }
     ensures announces { AppendsFront (O.contents output.old.inner) (O.contents output.new.inner) announcement }
     ensures fault { IfErr result (λ fault. status_of fault ≢ 2) }

@@ -1,5 +1,5 @@
 -- How threads end.
-use Rattle.std.specs.Prelude.{ℕ, Option, Some, None}
+use Rattle.std.specs.Prelude.{ℕ, Option, Some, None, nat_le, if◌then◌else◌}
 use Rattle.shared_tables.specs.declared.fault.ServeFault.{ServeFault}
 use Rattle.shared_tables.specs.declared.fault.ServeFault.TheVariants as fault
 use Rattle.table_sockets.specs.declared.end.End.{End}
@@ -18,3 +18,7 @@ ended_by fault.Read = None
 ended_by fault.Write = None
 ended_by fault.Memory = Some Memory
 ended_by (fault.Call why) = Some Mismatch
+
+-- the later of two ends
+abbrev pub later : End → End → End
+later first second = if nat_le (rank_of second) (rank_of first) then first else second

@@ -1,6 +1,6 @@
 //! How threads end.
 ghost use Rattle.std.specs.Prelude.{◌≡◌, ◌≤◌, ◌⊎◌};
-ghost use Rattle.table_sockets.specs.End.{ended_by, rank_of};
+ghost use Rattle.table_sockets.specs.End.{ended_by, later};
 
 use shared_tables::{Gate, Pass, ServeFault, Shared};
 
@@ -39,8 +39,7 @@ impl End {
 
     /// The one of two that stands later in the list.
     pub(crate) fn later(self, other: End) -> End
-        ensures one { (result ≡ self) ⊎ (result ≡ other) }
-        ensures later { (rank_of self ≤ rank_of result) × (rank_of other ≤ rank_of result) }
+        ensures { result ≡ later self other }
     {
         match (self, other) {
             (End::Mismatch, _) | (_, End::Mismatch) => End::Mismatch,

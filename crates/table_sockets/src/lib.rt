@@ -4,6 +4,7 @@
 mod end;
 mod listening;
 mod serving;
+mod worker;
 
 pub use end::{Done, End};
 pub use listening::Listening;

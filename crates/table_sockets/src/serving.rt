@@ -1,32 +1,50 @@
 //! Threads that accept connections and serve them.
-ghost use Rattle.std.specs.Prelude.{◌≡◌, length, vec_len};
+ghost use Rattle.std.specs.Prelude.{◌≡◌, ◌<◌, ◌≤◌, ◌++◌, ◌∷◌, [], IfErr, IfOk, vec_len, vec_capacity};
+ghost use Rattle.table_sockets.specs.End.{later};
+ghost use Rattle.table_sockets.specs.Serving.{AreServed, Leaves};
 
 use crate::end::{Done, End};
-use crate::listening::{Connection, Listening};
-use shared_tables::{Gate, Pass, ServeFault, Shared};
-use std::io::{Read, Write};
-use std::sync::{Mutex, Wait};
+use crate::listening::Listening;
+use crate::worker::{Left, Promised, Work};
+use core::thread::Stack;
+use shared_tables::{Gate, Pass, Shared};
+use std::snapshot::Snapshot;
+use std::sync::Wait;
+use std::sync::atomic::{AtomicUsize, Ordering};
 use std::thread;
-use std::thread::{Builder, Threads};
-use table_engine::{Sink, Source};
+use std::thread::{PromisedHandle, Scope, Threads};
 
 /// The stack of a thread, in bytes. The deepest line, of 127 levels of JSON, takes less than 256 KiB of it.
 const STACK: usize = 2 << 20;
 
 /// Starts a thread for each pass, each of which accepts so many connections, one after the other, and serves each to its
 /// end. A fault of a connection's reads or writes ends that connection alone. A thread ends where no connection can be
-/// accepted, memory is refused or a call is; the others go on. Returns when all threads have ended.
+/// accepted, memory is refused or a call is; the others go on. Returns when all threads have ended. Takes no memory but the
+/// threads' own.
 pub fn serve_on<G: Gate + Drop + Sync, R: Threads + Wait + Sync>(
     rt: &R,
     listening: Listening,
     shared: Shared<G>,
-    mut passes: Vec<Pass>,
+    passes: Vec<Pass>,
     each: u32,
 ) -> Done<G>
     ensures shared { result.shared ≡ shared }
     ensures passes { vec_len result.passes ≡ vec_len passes }
+    ensures served { AreServed shared each passes.items result.passes.items result.end }
 {
-    let end = serve_all(rt, &listening, &shared, &mut passes, each);
+    let work = Work {
+        listening,
+        shared,
+        each,
+        refused: AtomicUsize::new(0),
+    };
+    let (passes, end) = serve_all(rt, &work, passes);
+    let Work {
+        listening: _listening,
+        shared,
+        each: _,
+        refused: _,
+    } = work;
     Done {
         shared,
         passes,
@@ -37,83 +55,88 @@ pub fn serve_on<G: Gate + Drop + Sync, R: Threads + Wait + Sync>(
 // Lets each pass serve its connections in a thread of its own.
 fn serve_all<G: Gate + Sync, R: Threads + Wait + Sync>(
     rt: &R,
-    listening: &Listening,
-    shared: &Shared<G>,
-    passes: &mut [Pass],
-    each: u32,
-) -> End
-    ensures { length passes.new ≡ length passes.old }
+    work: &Work<G>,
+    passes: Vec<Pass>,
+) -> (Vec<Pass>, End)
+    ensures passes { vec_len result.0 ≡ vec_len passes }
+    ensures served { AreServed work.now.shared work.now.each passes.items result.0.items result.1 }
 {
-    let last = Mutex::new(End::Fine);
-    let kept = &last;
-    thread::scope(thread::scope_env(), rt, |scope| {
-        for pass in passes.iter_mut() {
-            let started = Builder::new()
-                .stack_size(STACK)
-                .spawn_scoped(scope, move || {
-                    keep(rt, kept, serve_each(rt, listening, shared, pass, each))
-                });
-            if started.is_err() {
-                keep(rt, kept, End::Memory);
-            }
-        }
-    });
-    last.into_inner()
+    thread::scope(
+        thread::scope_env(),
+        rt,
+        |scope| -> (Vec<Pass>, End)
+            ensures passes { vec_len result.0 ≡ vec_len passes }
+            ensures served { AreServed work.entry.now.shared work.entry.now.each passes.items result.0.items result.1 }
+        { serve_rest(scope, rt, work, passes) },
+    )
 }
 
-// Keeps the later of two ends.
-fn keep(rt: &impl Wait, last: &Mutex<End>, end: End) {
-    let mut kept = last.lock(rt);
-    *kept = kept.later(end);
+// Starts a thread for each of these passes, and waits for them all.
+fn serve_rest<'s, E, G: Gate + Sync, R: Threads + Wait + Sync>(
+    scope: &Scope<'s, E>,
+    rt: &'s R,
+    work: &'s Work<G>,
+    mut passes: Vec<Pass>,
+) -> (Vec<Pass>, End)
+    ensures room { vec_capacity passes ≤ vec_capacity result.0 }
+    ensures passes { vec_len result.0 ≡ vec_len passes }
+    ensures served { AreServed work.now.shared work.now.each passes.items result.0.items result.1 }
+{
+    let number = passes.len();
+    let Some(pass) = passes.pop() else {
+        return (passes, End::Fine);
+    };
+    let begun = begin(scope, rt, work, number, pass);
+    let (passes, end) = serve_rest(scope, rt, work, passes);
+    let left = match begun {
+        Ok(thread) => thread.join(rt),
+        Err(left) => left,
+    };
+    with_last(passes, end, left)
 }
 
-// Accepts so many connections and serves them.
-fn serve_each<G: Gate>(
-    rt: &impl Wait,
-    listening: &Listening,
-    shared: &Shared<G>,
-    pass: &mut Pass,
-    each: u32,
-) -> End {
-    for _ in 0..each {
-        if let Some(end) = serve_next(rt, listening, shared, pass) {
-            return end;
+// Starts the thread of this number. Where it can't be started, its pass comes back as it is.
+fn begin<'s, E, G: Gate + Sync, R: Threads + Wait + Sync>(
+    scope: &Scope<'s, E>,
+    rt: &'s R,
+    work: &'s Work<G>,
+    number: usize,
+    pass: Pass,
+) -> Result<PromisedHandle<Left, Promised<G>>, Left>
+    ensures begun { IfOk result (λ thread. (thread.promise.shared.value ≡ work.now.shared) × (thread.promise.each ≡ work.now.each) × (thread.promise.pass.value ≡ pass)) }
+    ensures refused { IfErr result (λ left. Leaves work.now.shared work.now.each pass left.pass left.end) }
+{
+    let promise = Promised {
+        shared: Snapshot::of(&work.shared),
+        pass: Snapshot::of(&pass),
+        each: work.each,
+    };
+    let begun = Stack::new().stack_size(STACK).spawn_scoped_with(
+        scope,
+        promise,
+        move || -> Left
+            ensures { Leaves work.entry.now.shared work.entry.now.each pass result.pass result.end }
+        { work.leave(rt, number, pass) },
+    );
+    match begun {
+        Ok(thread) => Ok(thread),
+        Err(not_begun) => {
+            work.refused.store(number, Ordering::SeqCst);
+            Err((not_begun.value)())
         }
     }
-    End::Fine
 }
 
-// Accepts a connection, serves it, and says how that ends the thread, if it does.
-fn serve_next<G: Gate>(
-    rt: &impl Wait,
-    listening: &Listening,
-    shared: &Shared<G>,
-    pass: &mut Pass,
-) -> Option<End> {
-    let Ok(connection) = listening.accept() else {
-        return Some(End::Listen);
+// The passes with this one behind them, for which there is room, and the later of both ends.
+fn with_last(mut passes: Vec<Pass>, end: End, left: Left) -> (Vec<Pass>, End)
+    requires { vec_len passes < vec_capacity passes }
+    ensures room { vec_capacity passes ≤ vec_capacity result.0 }
+    ensures passes { result.0.items ≡ passes.items ++ left.pass ∷ [] }
+    ensures end { result.1 ≡ later end left.end }
+{
+    let Left { pass, end: other } = left;
+    let Ok(()) = passes.push(pass) else {
+        unreachable!()
     };
-    let served = match &connection {
-        Connection::Unix(stream) => serve(rt, shared, pass, stream, stream),
-        Connection::Tcp(stream) => {
-            // Answers are written in whole pieces, so there is nothing to wait for.
-            let _ = stream.set_nodelay(true);
-            serve(rt, shared, pass, stream, stream)
-        }
-    };
-    match served {
-        Ok(()) => None,
-        Err(fault) => End::by(fault),
-    }
-}
-
-// Serves a connection to its end.
-fn serve<G: Gate, I: Read + Drop, O: Write + Drop>(
-    rt: &impl Wait,
-    shared: &Shared<G>,
-    pass: &mut Pass,
-    reader: I,
-    writer: O,
-) -> Result<(), ServeFault> {
-    shared.serve(rt, pass, &mut Source::new(reader), &mut Sink::new(writer))
+    (passes, end.later(other))
 }
