@@ -3,9 +3,12 @@
    statuses SCHEMA [BAD STATUS]..     what each call answers where it refuses
    pieces SEED SCHEMA LINES..         a handle for each file of lines, which are handed in by turns, in pieces of drawn lengths; what each is
                                       answered goes to LINES.answers
-   refused SCHEMA LINES               each allocation refused in turn, alone or with all later ones until that is told; then the same call again */
+   refused SCHEMA LINES               each allocation refused in turn, alone or with all later ones until that is told; then the same call again
+   rows SCHEMA TABLE CALLS            the typed calls of tools/typed_lines.py on the container of a table; what each is told goes to CALLS.answers
+   rows_refused SCHEMA TABLE CALLS    the same, with each allocation refused in turn */
 #include "thwartcornel.h"
 
+#include <inttypes.h>
 #include <stdarg.h>
 #include <stdio.h>
 #include <stdlib.h>
@@ -278,15 +281,311 @@ static void refuse_each(char **words)
     printf("%ld\n", told);
 }
 
+/* ---- typed calls, as tools/typed_lines.py spells them. What is no cell is kKIND:NUMBER, and bytes that no cell has are +HEX. */
+
+enum { CELLS = 64, TEXTS = 1 << 16 };
+
+struct asked {
+    const char *op;
+    size_t index;
+    uint64_t place;
+    bool rollback;
+    tc_handle handle;
+    tc_cell cells[CELLS];
+    size_t count;
+    char texts[TEXTS];
+    size_t length;
+};
+
+/* The ops, and what each is followed by: b the rollback, h a handle, i an index, n a place, c cells. */
+static const char *const OPS[][2] = {{"insert", "c"}, {"modify", "bhc"}, {"erase", "h"}, {"clear", ""}, {"size", ""}, {"get", "h"}, {"list", "i"}, {"nth", "in"},
+                                     {"rank", "ih"},  {"find", "ic"},    {"lower", "ic"}, {"upper", "ic"}, {"next", "ih"}, {"previous", "ih"}, {"first", "i"}, {"last", "i"}};
+
+static void read_bytes(struct asked *asked, const char *hex)
+{
+    for (unsigned byte; sscanf(hex, "%2x", &byte) == 1; hex += 2)
+        asked->texts[asked->length++] = (char)byte;
+}
+
+static void read_cell(struct asked *asked, const char *word)
+{
+    size_t before = asked->length;
+    int kind = *word == 'n' ? TC_NULL : *word == 'b' ? TC_BOOLEAN : TC_INTEGER;
+    int64_t number = 0;
+    if (*word == '+' || *word == 't')
+        read_bytes(asked, word + 1);
+    if (*word == '+')
+        return;
+    if (*word == 'k')
+        sscanf(word, "k%d:%" SCNd64, &kind, &number);
+    else if (*word == 't')
+        kind = TC_TEXT, number = (int64_t)(asked->length - before);
+    else
+        sscanf(word + 1, "%" SCNd64, &number);
+    asked->cells[asked->count++] = (tc_cell){number, (uint8_t)kind};
+}
+
+static void read_call(struct asked *asked, char *line)
+{
+    char *word = strtok(line, " ");
+    size_t k = 0;
+    while (strcmp(word, OPS[k][0]))
+        if (++k == sizeof OPS / sizeof *OPS)
+            stop("no call is %s", word);
+    asked->op = OPS[k][0];
+    asked->count = asked->length = 0;
+    for (const char *what = OPS[k][1]; *what && (word = strtok(NULL, " ")); what += *what != 'c')
+        if (*what == 'b')
+            asked->rollback = *word == '1';
+        else if (*what == 'h')
+            sscanf(word, "%" SCNu32 ":%" SCNu64, &asked->handle.slot, &asked->handle.stamp);
+        else if (*what == 'i')
+            asked->index = strtoul(word, NULL, 10);
+        else if (*what == 'n')
+            asked->place = strtoull(word, NULL, 10);
+        else
+            read_cell(asked, word);
+}
+
+static void tell(struct text *to, const char *format, ...)
+{
+    va_list values;
+    va_start(values, format);
+    to->length += (size_t)vsnprintf(to->bytes + to->length, 4096, format, values);
+    va_end(values);
+}
+
+static void tell_handle(struct text *to, tc_handle handle)
+{
+    tell(to, " %" PRIu32 ":%" PRIu64, handle.slot, handle.stamp);
+}
+
+static void tell_cells(struct text *to, const tc_cell *cells, size_t count, const char *texts)
+{
+    for (; count--; cells++)
+        if (cells->kind == TC_TEXT) {
+            tell(to, " t");
+            for (int64_t k = 0; k < cells->number; k++)
+                tell(to, "%02x", (unsigned char)*texts++);
+        } else if (cells->kind == TC_NULL)
+            tell(to, cells->number ? " null" : " n");
+        else
+            tell(to, " %c%" PRId64, cells->kind == TC_INTEGER ? 'i' : 'b', cells->number);
+}
+
+static bool are(const void *bytes, size_t length, char as)
+{
+    for (size_t k = 0; k < length; k++)
+        if (((const char *)bytes)[k] != as)
+            return false;
+    return true;
+}
+
+/* A record's cells into rooms that just fit, after rooms with too little. */
+static unsigned tell_row(tc_rows *rows, tc_handle handle, struct text *to)
+{
+    static tc_cell cells[CELLS];
+    static char texts[TEXTS];
+    size_t count, length, again, least;
+    memset(cells, 'x', sizeof cells);
+    memset(texts, 'x', sizeof texts);
+    unsigned status = tc_rows_get(rows, &handle, cells, 0, texts, 0, &count, &length);
+    if (status != TC_ROOM) {
+        if (count + length)
+            stop("a row of %zu cells and %zu bytes is told by status %u", count, length, status);
+        return status;
+    }
+    is("a row without room for a cell", tc_rows_get(rows, &handle, cells, count - 1, texts, length, &again, &least), TC_ROOM);
+    if (length)
+        is("a row without room for a byte", tc_rows_get(rows, &handle, cells, count, texts, length - 1, &again, &least), TC_ROOM);
+    if (again != count || least != length || !are(cells, sizeof cells, 'x') || !are(texts, sizeof texts, 'x'))
+        stop("a row without room is told in part, or as one of %zu cells and %zu bytes", again, least);
+    status = tc_rows_get(rows, &handle, cells, count, texts, length, &again, &least);
+    if (again != count || least != length || !are(cells + count, sizeof cells - count * sizeof *cells, 'x') || !are(texts + length, sizeof texts - length, 'x'))
+        stop("a row is told beyond its room, or as one of %zu cells and %zu bytes", again, least);
+    tell_cells(to, cells, count, texts);
+    return status;
+}
+
+static unsigned tell_list(tc_rows *rows, size_t index, struct text *to)
+{
+    tc_handle at;
+    unsigned status = tc_rows_first(rows, index, &at);
+    for (; status == TC_OK; status = tc_rows_next(rows, index, &at)) {
+        tell_handle(to, at);
+        is("a row of a list", tell_row(rows, at, to), TC_OK);
+    }
+    return status == TC_NONE ? TC_OK : status;
+}
+
+/* The calls that tell a record, or which one is in the way. */
+static unsigned call_for_record(tc_rows *rows, const struct asked *asked, tc_handle *handle, size_t *index)
+{
+    const char *op = asked->op;
+    if (!strcmp(op, "insert"))
+        return tc_rows_insert(rows, asked->cells, asked->count, asked->texts, asked->length, handle, index);
+    if (!strcmp(op, "modify"))
+        return tc_rows_modify(rows, handle, asked->cells, asked->count, asked->texts, asked->length, asked->rollback, index);
+    if (!strcmp(op, "find"))
+        return tc_rows_find(rows, asked->index, asked->cells, asked->count, asked->texts, asked->length, handle);
+    if (!strcmp(op, "lower"))
+        return tc_rows_lower(rows, asked->index, asked->cells, asked->count, asked->texts, asked->length, handle);
+    if (!strcmp(op, "upper"))
+        return tc_rows_upper(rows, asked->index, asked->cells, asked->count, asked->texts, asked->length, handle);
+    if (!strcmp(op, "next"))
+        return tc_rows_next(rows, asked->index, handle);
+    if (!strcmp(op, "previous"))
+        return tc_rows_previous(rows, asked->index, handle);
+    if (!strcmp(op, "nth"))
+        return tc_rows_nth(rows, asked->index, asked->place, handle);
+    return !strcmp(op, "first") ? tc_rows_first(rows, asked->index, handle) : tc_rows_last(rows, asked->index, handle);
+}
+
+static unsigned tell_record(tc_rows *rows, const struct asked *asked, struct text *to)
+{
+    tc_handle handle = asked->handle;
+    size_t index = SIZE_MAX;
+    bool changes = !strcmp(asked->op, "modify");
+    unsigned status = call_for_record(rows, asked, &handle, &index);
+    bool bans = status == TC_BANNED || status == TC_LOST;
+    if (bans != (index != SIZE_MAX))
+        stop("%s puts %zu as an index by status %u", asked->op, index, status);
+    if (bans)
+        tell(to, " %zu", index);
+    if (bans || (status == TC_OK && !changes))
+        tell_handle(to, handle);
+    else if (handle.stamp != asked->handle.stamp || handle.slot != asked->handle.slot)
+        stop("%s puts a record by status %u", asked->op, status);
+    return status;
+}
+
+static unsigned tell_number(struct text *to, unsigned status, uint64_t number)
+{
+    if (status == TC_OK)
+        tell(to, " %" PRIu64, number);
+    else if (number)
+        stop("status %u tells %" PRIu64, status, number);
+    return status;
+}
+
+/* One call, and what it tells. Returns its status. */
+static unsigned call(tc_rows *rows, const struct asked *asked, struct text *to)
+{
+    static struct text words;
+    if (!words.bytes)
+        words = blank();
+    words.length = 0;
+    uint64_t number = UINT64_MAX;
+    unsigned status;
+    if (!strcmp(asked->op, "get"))
+        status = tell_row(rows, asked->handle, &words);
+    else if (!strcmp(asked->op, "list"))
+        status = tell_list(rows, asked->index, &words);
+    else if (!strcmp(asked->op, "erase"))
+        status = tc_rows_erase(rows, &asked->handle);
+    else if (!strcmp(asked->op, "clear"))
+        status = tc_rows_clear(rows);
+    else if (!strcmp(asked->op, "size"))
+        status = tc_rows_size(rows, &number), tell_number(&words, status, number);
+    else if (!strcmp(asked->op, "rank"))
+        status = tc_rows_rank(rows, asked->index, &asked->handle, &number), tell_number(&words, status, number);
+    else
+        status = tell_record(rows, asked, &words);
+    tell(to, "%u", status);
+    memcpy(to->bytes + to->length, words.bytes, words.length);
+    to->length += words.length;
+    to->bytes[to->length++] = '\n';
+    return status;
+}
+
+/* All calls once, with an allocation refused. Returns how many allocations there were. */
+static long run_calls(struct text schema, size_t table, struct text calls, long at, int on, struct text *answers)
+{
+    static struct asked asked;
+    static char line[1 << 18];
+    tc_rows rows = TC_CLOSED;
+    count = live = was_refused = 0;
+    refuse_at = at;
+    refuses_on = on;
+    answers->length = 0;
+    for (int tries = 0; tc_rows_open(&rows, schema.bytes, schema.length, table) != TC_OK; tries++) {
+        if (tries || !was_refused || rows.is_open || live)
+            stop("allocation %ld: an open is refused otherwise, or leaves %ld blocks", at, live);
+        refuse_at = 0;
+    }
+    for (size_t k = 0, length; k < calls.length; k += length + 1) {
+        length = (size_t)((char *)memchr(calls.bytes + k, '\n', calls.length - k) - (calls.bytes + k));
+        memcpy(line, calls.bytes + k, length);
+        line[length] = 0;
+        read_call(&asked, line);
+        for (size_t told = answers->length; call(&rows, &asked, answers) == TC_MEMORY; answers->length = told) {
+            if (!was_refused || !refuse_at || answers->length - told != 2)
+                stop("memory is told where none was refused, or tells more");
+            refuse_at = 0;
+        }
+        if (was_refused)
+            refuse_at = 0;
+    }
+    tc_rows_close(&rows);
+    if (live)
+        stop("allocation %ld: %ld blocks are left", at, live);
+    return count;
+}
+
+static void run_typed(char **words, int refuses)
+{
+    struct text schema = read_file(words[0]), calls = read_file(words[2]), wanted = blank(), found = blank();
+    size_t table = (size_t)atoi(words[1]);
+    long all = run_calls(schema, table, calls, 0, 0, &wanted), told = 0;
+    for (long at = 1; refuses && at <= all; at++)
+        for (int on = 0; on < 2; on++) {
+            run_calls(schema, table, calls, at, on, &found);
+            if (found.length != wanted.length || memcmp(found.bytes, wanted.bytes, wanted.length))
+                stop("allocation %ld: other answers", at);
+            told += was_refused;
+        }
+    write_file(words[2], ".answers", wanted);
+    if (refuses)
+        printf("%ld\n", told);
+}
+
+/* What each call answers to a closed handle, and an open where it refuses. */
+static void try_typed_statuses(int many, char **words)
+{
+    static struct asked asked;
+    tc_rows rows = TC_CLOSED;
+    struct text schema = read_file(words[0]), answers = blank();
+    asked.cells[0] = (tc_cell){1, TC_INTEGER};
+    asked.count = 1;
+    for (size_t k = 0; k < sizeof OPS / sizeof *OPS; k++) {
+        asked.op = OPS[k][0];
+        is(asked.op, call(&rows, &asked, &answers), TC_HANDLE);
+    }
+    for (int k = 1; k + 1 < many; k += 2) {
+        struct text bad = read_file(words[k]);
+        is(words[k], tc_rows_open(&rows, bad.bytes, bad.length, 0), (unsigned)atoi(words[k + 1]));
+    }
+    is("an open of no table", tc_rows_open(&rows, schema.bytes, schema.length, 99), TC_TABLE);
+    is("an open", tc_rows_open(&rows, schema.bytes, schema.length, 0), TC_OK);
+    is("a second open", tc_rows_open(&rows, schema.bytes, schema.length, 1), TC_HANDLE);
+    tc_rows_close(&rows);
+    tc_rows_close(&rows);
+    is("a call after the close", tc_rows_clear(&rows), TC_HANDLE);
+    if (live)
+        stop("%ld blocks are left", live);
+}
+
 int main(int many, char **words)
 {
     atexit(give_back);
     if (many > 2 && !strcmp(words[1], "statuses"))
-        try_statuses(many - 2, words + 2);
+        try_statuses(many - 2, words + 2), try_typed_statuses(many - 2, words + 2);
     else if (many > 4 && many < 5 + HANDLES && !strcmp(words[1], "pieces"))
         hand_in_pieces(many - 2, words + 2);
     else if (many == 4 && !strcmp(words[1], "refused"))
         refuse_each(words + 2);
+    else if (many == 5 && (!strcmp(words[1], "rows") || !strcmp(words[1], "rows_refused")))
+        run_typed(words + 2, words[1][4] == '_');
     else
         stop("other words");
     return 0;

@@ -5,6 +5,8 @@
 //                                    what each is answered goes to LINES.answers
 // asks SCHEMA LINES                  each line asked, with its newline or without; the answers go to LINES.answers
 // refused SCHEMA LINES               the same with each allocation refused in turn, of the library and of the answers' texts
+// rows SCHEMA TABLE CALLS            the typed calls of tools/typed_lines.py on the container of a table; what each is told goes to CALLS.answers
+// rows_refused SCHEMA TABLE CALLS    the same with each allocation refused in turn
 #include "thwartcornel.hpp"
 
 #include <cstdio>
@@ -13,10 +15,14 @@
 #include <iterator>
 #include <new>
 #include <random>
+#include <sstream>
 #include <string>
 #include <utility>
 #include <vector>
 
+using thwartcornel::cell;
+using thwartcornel::handle;
+using thwartcornel::rows;
 using thwartcornel::status;
 using thwartcornel::tables;
 
@@ -252,6 +258,209 @@ static void ask(const std::vector<std::string> &words, bool refuses)
     std::printf("%ld\n", all);
 }
 
+// ---- typed calls
+
+static std::string spelled(const handle &it)
+{
+    return ' ' + std::to_string(it.slot) + ':' + std::to_string(it.stamp);
+}
+
+static std::string spelled(rows::cells record)
+{
+    std::ostringstream out;
+    for (const cell &it : record) {
+        out << ' ';
+        if (it.is_null())
+            out << 'n';
+        if (auto number = it.number())
+            out << 'i' << *number;
+        if (auto truth = it.truth())
+            out << 'b' << *truth;
+        if (auto text = it.text()) {
+            out << 't';
+            for (unsigned char byte : *text)
+                out << "0123456789abcdef"[byte >> 4] << "0123456789abcdef"[byte & 15];
+        }
+    }
+    return out.str();
+}
+
+// A call that is read word by word. The bytes of its texts are kept as long as it is.
+struct typed_call {
+    std::istringstream words;
+    std::vector<std::string> texts;
+    std::vector<cell> cells;
+    std::string name;
+
+    explicit typed_call(const std::string &line) : words(line) { words >> name; }
+
+    std::uint64_t number()
+    {
+        std::uint64_t found = 0;
+        words >> found;
+        return found;
+    }
+
+    handle record()
+    {
+        handle found{};
+        char colon;
+        words >> found.slot >> colon >> found.stamp;
+        return found;
+    }
+
+    rows::cells rest()
+    {
+        std::vector<std::string> all{std::istream_iterator<std::string>(words), {}};
+        texts.resize(all.size());
+        for (std::size_t k = 0; k < all.size(); k++)
+            cells.push_back(value(all[k], texts[k]));
+        return cells;
+    }
+
+    static cell value(const std::string &word, std::string &text)
+    {
+        if (word[0] == 'n')
+            return nullptr;
+        if (word[0] == 'b')
+            return word[1] == '1';
+        if (word[0] == 'i')
+            return std::strtoll(word.c_str() + 1, nullptr, 10);
+        for (std::size_t at = 1; at < word.size(); at += 2)
+            text += static_cast<char>(std::stoi(word.substr(at, 2), nullptr, 16));
+        return text;
+    }
+};
+
+static std::string number_of(status how)
+{
+    return std::to_string(static_cast<int>(how));
+}
+
+static std::string told_of(const thwartcornel::change &change, bool is_new)
+{
+    std::string told = number_of(change.how);
+    if (change.how == status::banned || change.how == status::lost)
+        return told + ' ' + std::to_string(change.index) + spelled(change.record);
+    return is_new ? told + spelled(change.record) : told;
+}
+
+static std::string listed(rows &held, std::size_t index)
+{
+    status why{};
+    auto first = held.first(index, &why);
+    if (!first)
+        return number_of(why == status::none ? status::ok : why);
+    std::string told = "0";
+    for (auto at : held.along(index, first)) {
+        auto record = held.get(at, &why);
+        if (!record)
+            return number_of(why);
+        told += spelled(at) + spelled(*record);
+    }
+    is("a walk over all", held.along(index).begin() != held.along(index).end());
+    return told;
+}
+
+static std::string told_of(rows::found found, const status &why)
+{
+    return found ? "0" + spelled(*found) : number_of(why);
+}
+
+// Makes a call, and tells what it was told.
+static std::string told_by(rows &held, const std::string &line)
+{
+    typed_call call(line);
+    status why{};
+    const std::string &name = call.name;
+    if (name == "insert") {
+        auto change = held.insert(call.rest());
+        return told_of(change, bool(change));
+    }
+    if (name == "modify") {
+        bool rollback = call.number();
+        auto record = call.record();
+        return told_of(held.modify(record, call.rest(), rollback), false);
+    }
+    if (name == "erase")
+        return number_of(held.erase(call.record()));
+    if (name == "clear")
+        return number_of(held.clear());
+    if (name == "size")
+        return "0 " + std::to_string(held.size());
+    if (name == "get") {
+        auto record = held.get(call.record(), &why);
+        return record ? "0" + spelled(*record) : number_of(why);
+    }
+    std::size_t index = call.number();
+    if (name == "list")
+        return listed(held, index);
+    if (name == "nth")
+        return told_of(held.nth(index, call.number(), &why), why);
+    if (name == "last")
+        return told_of(held.last(index, &why), why);
+    if (name == "next")
+        return told_of(held.next(index, call.record(), &why), why);
+    if (name == "previous")
+        return told_of(held.previous(index, call.record(), &why), why);
+    if (name == "rank") {
+        auto rank = held.rank(index, call.record(), &why);
+        return rank ? "0 " + std::to_string(*rank) : number_of(why);
+    }
+    auto key = call.rest();
+    if (name == "find")
+        return told_of(held.find(index, key, &why), why);
+    if (name == "lower")
+        return told_of(held.lower(index, key, &why), why);
+    is(name, name == "upper");
+    return told_of(held.upper(index, key, &why), why);
+}
+
+// All calls once, with an allocation refused: a call that is refused memory is made again. Returns how many allocations there were.
+static long call_all(std::string_view schema, std::size_t table, const std::string &calls, long at, std::string &answers)
+{
+    answers.clear();
+    count = 0;
+    refuse_at = at;
+    {
+        status why{};
+        auto held = rows::open(schema, table, &why);
+        if (!held) {
+            is("an open refused memory", at && why == status::memory && !live);
+            held = rows::open(schema, table);
+        }
+        is("an open", held.has_value());
+        std::istringstream lines(calls);
+        for (std::string line; std::getline(lines, line);) {
+            rows moved = std::move(*held);
+            is("a call of closed rows", !held->size() && held->clear() == status::handle && held->insert({}).how == status::handle);
+            std::string told = told_by(moved, line);
+            if (told == "1")
+                told = told_by(moved, line);
+            answers += told + '\n';
+            *held = std::move(moved);
+        }
+    }
+    is("all blocks given back", !live);
+    return count;
+}
+
+static void call_rows(const std::vector<std::string> &words, bool refuses)
+{
+    std::string schema = read_file(words[0]), calls = read_file(words[2]), wanted, found;
+    std::size_t table = std::stoul(words[1]);
+    status why{};
+    is("no table of the number", !rows::open(schema, 16, &why) && why == status::table);
+    is("no schema", !rows::open("x", 0, &why) && why == status::toml);
+    long all = call_all(schema, table, calls, 0, wanted);
+    for (long at = 1; refuses && at <= all; at++) {
+        call_all(schema, table, calls, at, found);
+        is("allocation " + std::to_string(at) + ": the same answers", found == wanted);
+    }
+    write_file(words[2] + ".answers", wanted);
+    std::printf("%ld\n", all);
+}
+
 int main(int many, char **all)
 {
     std::vector<std::string> words(all + 2, all + (many > 2 ? many : 2));
@@ -263,6 +472,8 @@ int main(int many, char **all)
         hand_in_pieces(words);
     else if ((what == "asks" || what == "refused") && words.size() == 2)
         ask(words, what == "refused");
+    else if ((what == "rows" || what == "rows_refused") && words.size() == 3)
+        call_rows(words, what == "rows_refused");
     else
         stop("other words");
 }

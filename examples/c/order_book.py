@@ -3,10 +3,8 @@
 order_book.py schema.toml   prints each answer, and at the end the bids
 """
 import json
-import os
 import sys
 
-sys.path.insert(0, os.path.join(os.path.dirname(os.path.abspath(__file__)), ".."))
 from thwartcornel import Refused, Tables
 
 

@@ -1,1 +1,5 @@
+pub mod Boxed
 pub mod Values
+pub mod RowValues
+pub mod Spelled
+pub mod Holding

@@ -5,16 +5,31 @@ ghost use Rattle.std.specs.Prelude.{◌≡◌, None};
 ghost use Rattle.schema_file.specs.Meaning.{schema_of};
 ghost use Rattle.tables_c.specs.Calls.{Calls, Ends, Opens, Takes, led};
 
+mod cells;
+mod change;
+mod get;
 mod handle;
 mod held;
+mod made;
 mod parts;
+mod row_calls;
+mod rows;
+mod search;
 mod status;
+mod told;
+mod walk;
 
+pub use cells::{BOOLEAN, INTEGER, NULL, RowCell, TEXT};
 pub use handle::Handle;
 use held::Held;
+pub use rows::Rows;
 use status::number_of;
-pub use status::{HANDLE, KEY, LIMIT, MEMORY, NAME, OK, ROOM, SHAPE, TOML};
+pub use status::{
+    BANNED, FULL, HANDLE, KEY, KIND, LIMIT, LOST, MEMORY, NAME, NONE, OK, ROOM, ROW, SEARCH, SHAPE,
+    SPENT, STALE, TABLE, TOML,
+};
 use std::alloc::Global;
+pub use told::RowHandle;
 
 /// Opens the empty tables of a schema file.
 #[unsafe(no_mangle)]

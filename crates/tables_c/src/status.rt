@@ -2,7 +2,9 @@
 
 ghost use Rattle.std.specs.Prelude.{◌≡◌};
 ghost use Rattle.tables_c.specs.Calls.{number_of};
+ghost use Rattle.tables_c.specs.Rows.{refusal_number};
 
+use container_model::Why;
 use table_schema::SchemaFault;
 
 /// Done.
@@ -32,6 +34,36 @@ pub const HANDLE: u8 = 7;
 /// What waits is longer than the room for it.
 pub const ROOM: u8 = 8;
 
+/// There is no such record.
+pub const NONE: u8 = 9;
+
+/// The cells are no row of the table.
+pub const ROW: u8 = 10;
+
+/// The cells are no search key of the index.
+pub const SEARCH: u8 = 11;
+
+/// No index has the number, or it is of a kind that has no such call.
+pub const KIND: u8 = 12;
+
+/// The handle names no record.
+pub const STALE: u8 = 13;
+
+/// A record is in the way at a unique index.
+pub const BANNED: u8 = 14;
+
+/// The record was taken out, as another is in its way at a unique index.
+pub const LOST: u8 = 15;
+
+/// There are as many records as there may be.
+pub const FULL: u8 = 16;
+
+/// The last change has the greatest number.
+pub const SPENT: u8 = 17;
+
+/// No table of the schema has the number.
+pub const TABLE: u8 = 18;
+
 // The status of a fault.
 pub(crate) fn number_of(fault: SchemaFault) -> u8
     ensures { result ≡ number_of fault }
@@ -43,5 +75,19 @@ pub(crate) fn number_of(fault: SchemaFault) -> u8
         SchemaFault::Limit => LIMIT,
         SchemaFault::Name => NAME,
         SchemaFault::Key => KEY,
+    }
+}
+
+// The status of a refusal. The last four are of no call that is made here.
+pub(crate) fn refusal_number(why: Why) -> u8
+    ensures { result ≡ refusal_number why }
+{
+    match why {
+        Why::Stale => STALE,
+        Why::Banned { .. } => BANNED,
+        Why::Full => FULL,
+        Why::Spent => SPENT,
+        Why::Memory => MEMORY,
+        Why::Kind | Why::Definition | Why::Place | Why::Order | Why::Clash { .. } => KIND,
     }
 }

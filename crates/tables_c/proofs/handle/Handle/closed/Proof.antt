@@ -18,7 +18,8 @@ use mathlib.Core.Bool.{false}
 use mathlib.Core.Path.{◌≡◌}
 use Rattle.std.specs.Prelude.{Option, None}
 use Rattle.std.proofs.raw_atomic.Walks.{proved_at, leaves}
-use Rattle.tables_c.proofs.Values.{held, nobody, word, word_good, handle_in}
+use Rattle.tables_c.proofs.Boxed.{word}
+use Rattle.tables_c.proofs.Values.{held, nobody, word_good, handle_in}
 use Rattle.tables_c.specs.contracts.handle.Handle.closed.{ended, clauses}
 use Rattle.tables_c.specs.contracts.handle.Handle.closed.Key.{name as #self}
 use Rattle.tables_c.proofs.handle.Handle.closed.Statement.{statement}

@@ -31,7 +31,7 @@ use Rattle.core.proofs.cell.Inside.{Good}
 use Rattle.std_alloc.proofs.BoxSteps.Form as box
 use Rattle.std_alloc.proofs.BoxSteps.Steps.{box_out, box_in}
 use Rattle.std.proofs.raw_atomic.Walks.{proved_at, leaves}
-use Rattle.tables_c.proofs.Values.{both, Parts, parts_good, parts_out}
+use Rattle.tables_c.proofs.Boxed.{both, Parts, parts_good, parts_out}
 use Rattle.std_alloc.specs.contracts.boxed.Box.from_raw as callee
 use Rattle.std_alloc.proofs.boxed.Box.from_raw.Met.{met}
 use Rattle.tables_c.specs.contracts.parts.Parts.into_box.{ended, clauses}

@@ -32,7 +32,7 @@ use Rattle.std_alloc.specs.Box.Ownership.{box_owns}
 use Rattle.std_alloc.proofs.BoxSteps.Form as box
 use Rattle.std_alloc.proofs.BoxSteps.Steps.{box_out, box_in}
 use Rattle.std.proofs.raw_atomic.Walks.{proved_at, leaves}
-use Rattle.tables_c.proofs.Values.{both, parts_good, parts_in}
+use Rattle.tables_c.proofs.Boxed.{both, parts_good, parts_in}
 use Rattle.std_alloc.specs.contracts.boxed.Box.into_raw_with_allocator as callee
 use Rattle.std_alloc.proofs.boxed.Box.into_raw_with_allocator.Met.{met}
 use Rattle.tables_c.specs.contracts.parts.Parts.of.{ended, clauses}
