@@ -1,21 +1,15 @@
 //! Items on shelves, under three indices: `rt run` in this folder.
 #![tactic(auto)]
 
-mod item;
+mod items;
 
-use indexed::{FieldKeys, Indexed, Iter, Search};
-use item::{INDICES, Item};
+use indexed::{FieldKeys, Indexed, Iter};
+use items::{BY_DAY, BY_NUMBER, BY_SHELF, INDICES, Item, MOST, by_number, by_shelf_leading};
 use std::io;
 use std::rt::Runtime;
 
-const BY_NUMBER: usize = 0;
-
-const BY_SHELF: usize = 1;
-
-const BY_DAY: usize = 2;
-
 // Each with its number, shelf and day.
-const ITEMS: [(u64, u64, u64); 5] = [(7, 1, 30), (3, 2, 10), (5, 1, 20), (7, 3, 1), (4, 1, 25)];
+const ITEMS: [(i64, i64, i64); 5] = [(7, 1, 30), (3, 2, 10), (5, 1, 20), (7, 3, 1), (4, 1, 25)];
 
 fn put_all<R: Runtime>(rt: &R, items: &mut Indexed<Item>) -> io::Result<()> {
     for (sku, shelf, due) in ITEMS {
@@ -45,17 +39,14 @@ fn list_all<R: Runtime>(rt: &R, items: &Indexed<Item>) -> io::Result<()> {
 }
 
 fn look_up<R: Runtime>(rt: &R, items: &Indexed<Item>) -> io::Result<()> {
-    let shelf = Search::unsigned(1).leading();
+    let shelf = by_shelf_leading(1);
     println!(rt; "on shelf 1: {}", items.index(BY_SHELF).count(&shelf))?;
     list(rt, items.index(BY_SHELF).equal(&shelf))?;
-    println!(rt;
-        "item 5: {:?}",
-        items.index(BY_NUMBER).row(&Search::unsigned(5))
-    )
+    println!(rt; "item 5: {:?}", items.index(BY_NUMBER).row(&by_number(5)))
 }
 
 fn main(rt: HostRuntime) -> io::Result<()> {
-    let mut items = Indexed::new(rt.alloc(), INDICES, 1000)?;
+    let mut items = Indexed::new(rt.alloc(), INDICES, MOST)?;
     put_all(&rt, &mut items)?;
     list_all(&rt, &items)?;
     look_up(&rt, &items)

@@ -1,36 +1,11 @@
 //! Words that are found under either of two names: two hashed indices, both unique.
 #![tactic(auto)]
 
-use indexed::{Field, Fields, Index, Indexed, Rising, Search, UNIQUE_HASHED, View, pick, text};
+mod words;
+
+use indexed::{Indexed, Text};
 use std::io;
-
-#[derive(Clone, Copy, Debug)]
-struct Word {
-    english: &'static str,
-    spanish: &'static str,
-}
-
-const ENGLISH: usize = 0;
-
-const SPANISH: usize = 1;
-
-const INDICES: &[Index] = &[
-    Index(UNIQUE_HASHED, &[Rising(0)]),
-    Index(UNIQUE_HASHED, &[Rising(1)]),
-];
-
-impl Fields for Word {
-    ghost use Rattle.std.specs.Prelude.{◌∷◌, []};
-    ghost use Rattle.indexed.specs.Declaration.{text, unique_hashed};
-
-    ghost row_of = { λ word. text word.english.now ∷ text word.spanish.now ∷ [] };
-
-    ghost indices = { unique_hashed ∷ unique_hashed ∷ [] };
-
-    fn field(&self, column: usize) -> Option<Field<'_>> {
-        pick(column, &[text(self.english), text(self.spanish)])
-    }
-}
+use words::{BY_ENGLISH, BY_SPANISH, INDICES, MOST, Word, by_english, by_spanish};
 
 const WORDS: [(&str, &str); 4] = [
     ("hello", "hola"),
@@ -39,9 +14,16 @@ const WORDS: [(&str, &str); 4] = [
     ("house", "casa"),
 ];
 
+fn word(rt: &HostRuntime, english: &str, spanish: &str) -> io::Result<Word> {
+    Ok(Word {
+        english: Text::copy_of(rt.alloc(), english)?,
+        spanish: Text::copy_of(rt.alloc(), spanish)?,
+    })
+}
+
 fn put_all(rt: &HostRuntime, words: &mut Indexed<Word>) -> io::Result<()> {
     for (english, spanish) in WORDS {
-        match words.insert(Word { english, spanish }) {
+        match words.insert(word(rt, english, spanish)?) {
             Ok(_) => println!(rt; "{english} is {spanish}")?,
             Err(refused) => println!(rt; "{english}: {refused}")?,
         }
@@ -49,15 +31,18 @@ fn put_all(rt: &HostRuntime, words: &mut Indexed<Word>) -> io::Result<()> {
     Ok(())
 }
 
-fn look_up(rt: &HostRuntime, words: View<'_, Word>, word: &str) -> io::Result<()> {
-    let word = Search::text(rt.alloc(), word)?;
-    println!(rt; "{:?}", words.row(&word))
+fn look_up(rt: &HostRuntime, words: &Indexed<Word>) -> io::Result<()> {
+    let cat = by_english(rt.alloc(), "cat")?;
+    println!(rt; "{:?}", words.index(BY_ENGLISH).row(&cat))?;
+    for spanish in ["casa", "perro"] {
+        let sought = by_spanish(rt.alloc(), spanish)?;
+        println!(rt; "{:?}", words.index(BY_SPANISH).row(&sought))?;
+    }
+    Ok(())
 }
 
 fn main(rt: HostRuntime) -> io::Result<()> {
-    let mut words: Indexed<Word> = Indexed::new(rt.alloc(), INDICES, 1000)?;
+    let mut words = Indexed::new(rt.alloc(), INDICES, MOST)?;
     put_all(&rt, &mut words)?;
-    look_up(&rt, words.index(ENGLISH), "cat")?;
-    look_up(&rt, words.index(SPANISH), "casa")?;
-    look_up(&rt, words.index(SPANISH), "perro")
+    look_up(&rt, &words)
 }
