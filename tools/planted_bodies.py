@@ -11,7 +11,7 @@ KEEPS, CRASHES = "run_keeper", "crash_keeper 0"
 # By which program each tool is tried.
 TOOLS = {**dict.fromkeys((ACCEPTS, THREADS, PATHS, MISMATCHES, CLIENTS), "table_server"), **dict.fromkeys(("run_keeper", "crash_keeper"), "table_keeper")}
 
-CALLS, ON = "crates/shared_tables/src/shared.rt", "crates/table_sockets/src/serving.rt"
+CALLS, ON, WORKER = "crates/shared_tables/src/shared.rt", "crates/table_sockets/src/serving.rt", "crates/table_sockets/src/worker.rt"
 GATHER, LOCKS, CELL = "crates/shared_tables/src/gathering.rt", "crates/shared_tables/src/locks.rt", "crates/shared_tables/src/cell.rt"
 SERVE, BESIDE, FAULT = (f"crates/table_server/src/{it}.rt" for it in ("serve", "beside", "fault"))
 PIECES = "crates/table_engine/src/serve.rt"
@@ -22,33 +22,39 @@ LOCK = "        let mut cell = self.tables.at(place).lock(rt);\n"
 ENTER = "        self.gate.enter(place, pass.session);\n"
 STEP = "        cell.call(pass, command, out)\n"
 GATHERED = "        None => Ok(opened.into_journals()),\n"
-EACH = "    for _ in 0..each {\n"
+EACH = "        for _ in 0..self.each {\n"
 AT = "        &self.locks[place]\n"
 UNNAMED = "        let Some(place) = table_at(tables, command.table()) else {\n"
 CHANGE = "        let Some(twins) = prepare(\n"
-NO_ACCEPT = "        return Some(End::Listen);\n"
+NO_ACCEPT = "            return Some(End::Listen);\n"
 KEEPS_NO_ACCEPT = "        End::Listen => later(Fault::Listen, keep(rt, shared, passes, journal)),\n"
 DONE = "    keep_done(rt, done, &mut journal)\n"
 RENAME = "        fs::rename(&files, name.as_str(), path)\n"
 MISMATCH = "        End::Mismatch => Err(Fault::Mismatch),\n"
 TOLD = "        let _ = faults.write_all(self.text().as_bytes());\n"
-START = "        for pass in passes.iter_mut() {\n"
+ENDED = "    let (passes, end) = serve_all(rt, &work, passes);\n"
+LEFT_SO = "                return Left { pass, end };\n"
+START = "    let begun = begin(scope, rt, work, number, pass);\n"
 LISTEN = "    let listening = match rt.listen(serving.listen) {\n"
 ANNOUNCES = '    if output.write_all(b"listening\\n").is_err() {\n        return Err(Fault::Write);\n    }\n'
 READ = "        let Ok(n) = source.read(&mut piece) else {\n            return Err(Stopped::Read);\n        };\n"
-NOT_STARTED = "            if started.is_err() {\n                keep(rt, kept, End::Memory);\n            }\n"
-KEPT = "    *kept = kept.later(end);\n"
-LAST = "    last.into_inner()\n"
-SPAWN = """            let started = Builder::new()
-                .stack_size(STACK)
-                .spawn_scoped(scope, move || {
-                    keep(rt, kept, serve_each(rt, listening, shared, pass, each))
-                });
-            if started.is_err() {
-                keep(rt, kept, End::Memory);
-            }
+NOT_STARTED = "                end: End::Memory,\n"
+SPAWN = """    let begun = Stack::new().stack_size(STACK).spawn_scoped_with(
+        scope,
+        promise,
+        move || -> Left
+            ensures { Leaves work.entry.now.shared work.entry.now.each pass result.pass result.end }
+        { work.leave(rt, number, pass) },
+    );
+    match begun {
+        Ok(thread) => Ok(thread),
+        Err(not_begun) => {
+            work.refused.store(number, Ordering::SeqCst);
+            Err((not_begun.value)())
+        }
+    }
 """
-INLINE = "            keep(rt, kept, serve_each(rt, listening, shared, pass, each));\n"
+INLINE = "    let _ = (scope, promise);\n    Err(work.leave(rt, number, pass))\n"
 
 
 def around(place):
@@ -89,16 +95,14 @@ OF_GATES = {
 # How many threads serve, how many connections, and how that ends.
 OF_SERVICES = {
     "one_thread_for_all": [(ON, SPAWN, INLINE)],
-    "starts_no_thread": [(ON, SPAWN, "            let _ = pass;\n            keep(rt, kept, End::Memory);\n")],
-    "starts_one_thread_fewer": [(ON, START, "        for pass in passes.iter_mut().skip(1) {\n")],
-    "takes_one_connection_fewer": [(ON, EACH, "    for _ in 1..each {\n")],
-    "takes_one_connection_more": [(ON, EACH, "    for _ in 0..=each {\n")],
-    "takes_two_thousand_connections_at_most": [(ON, EACH, "    for _ in 0..each.min(2_000) {\n")],
-    "takes_ninety_thousand_connections_at_most": [(ON, EACH, "    for _ in 0..each.min(90_000) {\n")],
-    "always_ends_fine": [(ON, LAST, "    let _ = last.into_inner();\n    End::Fine\n")],
-    "last_end_counts": [(ON, KEPT, "    *kept = end;\n")],
-    "first_end_counts": [(ON, KEPT, "    if *kept == End::Fine {\n        *kept = end;\n    }\n")],
-    "no_connection_is_fine": [(ON, NO_ACCEPT, "        return Some(End::Fine);\n")],
+    "starts_no_thread": [(ON, SPAWN, "    let _ = (scope, promise, rt, number);\n    Err(Left {\n        pass,\n        end: End::Memory,\n    })\n")],
+    "starts_one_thread_fewer": [(ON, START, "    if number == 1 {\n        return with_last(passes, End::Fine, Left { pass, end: End::Fine });\n    }\n" + START)],
+    "takes_one_connection_fewer": [(WORKER, EACH, "        for _ in 1..self.each {\n")],
+    "takes_one_connection_more": [(WORKER, EACH, "        for _ in 0..=self.each {\n")],
+    "takes_two_thousand_connections_at_most": [(WORKER, EACH, "        for _ in 0..self.each.min(2_000) {\n")],
+    "takes_ninety_thousand_connections_at_most": [(WORKER, EACH, "        for _ in 0..self.each.min(90_000) {\n")],
+    "always_ends_fine": [(ON, ENDED, "    let (passes, _) = serve_all(rt, &work, passes);\n    let end = End::Fine;\n")],
+    "no_connection_is_fine": [(WORKER, LEFT_SO, "                let end = if end == End::Listen { End::Fine } else { end };\n" + LEFT_SO)],
 }
 
 # Bodies that always give up, or refuse without cause.
@@ -107,7 +111,7 @@ OF_REFUSALS = {
     "gathers_a_mismatch": (GATES, [(GATHER, GATHERED, not_gathered("Mismatch { table: 0, session: 0 }"))]),
     "gathers_no_memory": (SHARED, [(GATHER, GATHERED, not_gathered("Memory"))]),
     "tables_behind_locks_find_no_memory": (SHARED, gives_up(CALLS, "        let cells = fresh_cells(alloc, &schema, workers)?;\n", "Err(AllocError)")),
-    "services_find_no_memory": (SENT, gives_up("crates/shared_tables/src/serve.rt", "        let called = Called { shared: self, rt };\n", "Err(ServeFault::Memory)")),
+    "services_find_no_memory": (SENT, gives_up("crates/shared_tables/src/serve.rt", "        let Ok(mut out) = Out::new(self.alloc) else {\n", "Err(ServeFault::Memory)")),
     "canonical_texts_find_no_memory": (TEXTS, gives_up("crates/command_text/src/write.rt", "    let mut text = Vec::with_capacity(alloc, ROOM)?;\n", "Err(AllocError)")),
     "records_find_no_memory": (TEXTS, gives_up("crates/table_reply/src/records.rt", "    let printed = print_shown(&mut line, at, headings, record);\n", "Err(OutOfRoom)")),
     "engines_find_no_memory": (SENT, gives_up("crates/table_engine/src/engine.rt", "        let tables = Tables::new(alloc, schema)?;\n", "Err(AllocError)")),
@@ -125,8 +129,8 @@ OF_REFUSALS = {
 OF_SERVERS = {
     "refused_accept_loses_the_journal": (ACCEPTS, [(SERVE, KEEPS_NO_ACCEPT, "        End::Listen => {\n            drop(shared);\n            drop(passes);\n            Err(Fault::Listen)\n        }\n")]),
     "refused_accept_ends_well": (ACCEPTS, [(SERVE, DONE, "    let Done { shared, passes, end } = done;\n    let end = if end == End::Listen { End::Fine } else { end };\n    keep_done(rt, Done { shared, passes, end }, &mut journal)\n")]),
-    "refused_accept_is_passed_over": (ACCEPTS, [(ON, NO_ACCEPT, "        return None;\n")]),
-    "refused_thread_is_passed_over": (THREADS, [(ON, NOT_STARTED, "            let _ = started;\n")]),
+    "refused_accept_is_passed_over": (ACCEPTS, [(WORKER, NO_ACCEPT, "            return None;\n")]),
+    "refused_thread_is_passed_over": (THREADS, [(WORKER, NOT_STARTED, "                end: End::Fine,\n")]),
     "listening_is_told_before_it_is_so": (PATHS, [(SERVE, ANNOUNCES, ""), (SERVE, LISTEN, ANNOUNCES + LISTEN)]),
     "reads_twice_before_it_writes": (CLIENTS, [(PIECES, READ, READ.replace("Ok(n)", "Ok(first)") + READ.replace("Ok(n)", "Ok(more)").replace("piece)", "piece[first..])") + "        let n = first + more;\n")]),
     "whole_file_that_is_not_put_goes": (PATHS, [(BESIDE, RENAME, "        let put = fs::rename(&files, name.as_str(), path);\n        if put.is_err() {\n            let _ = fs::remove_file(&files, name.as_str());\n        }\n        put\n")]),
