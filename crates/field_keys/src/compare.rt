@@ -13,6 +13,7 @@ use crate::search::{Search, Value, field_at};
 use std::cmp::Ordering;
 
 // How two fields compare.
+#[inline(always)]
 fn compare_fields(a: &Field<'_>, b: &Field<'_>) -> Ordering
     ensures { result ≡ cell_cmp (cell_of a.now) (cell_of b.now) }
 {
@@ -29,6 +30,7 @@ fn compare_fields(a: &Field<'_>, b: &Field<'_>) -> Ordering
 }
 
 // A column that a record lacks comes before all fields.
+#[inline(always)]
 fn compare_optional(a: &Option<Field<'_>>, b: &Option<Field<'_>>) -> Ordering
     ensures { result ≡ optional_cell_cmp (option_map cell_of a.now) (option_map cell_of b.now) }
 {
@@ -50,6 +52,7 @@ fn directed_order(part: KeyPart, order: Ordering) -> Ordering
     }
 }
 
+#[inline(always)]
 fn compare_part<R: Fields>(part: KeyPart, a: &R, b: &R) -> Ordering
     ensures { result ≡ part_cmp (part_of part) (R.row_of a.now) (R.row_of b.now) }
 {
@@ -70,6 +73,7 @@ pub(crate) fn compare_records<R: Fields>(parts: &[KeyPart], a: &R, b: &R) -> Ord
     Ordering::Equal
 }
 
+#[inline(always)]
 fn compare_value<R: Fields>(part: KeyPart, a: &R, value: Field<'_>) -> Ordering
     ensures { result ≡ value_side (part_of part) (R.row_of a.now) (cell_of value.entry) }
 {

@@ -14,6 +14,7 @@ use crate::search::{Value, field_at};
 use std::hash::{FoldHasher, Hash, Hasher};
 
 // Feeds the low eight bytes of a number; of those below -2^64, which all feed the same, zeros.
+#[inline(always)]
 fn feed_number(number: i128, state: &mut FoldHasher)
     ensures { state.new ≡ fold folding.write state.old (i64 number) }
 {
@@ -35,6 +36,7 @@ fn feed_unsigned(number: u128, state: &mut FoldHasher)
 }
 
 // Feeds a field, or that there is none.
+#[inline(always)]
 fn feed_optional(field: &Option<Field<'_>>, state: &mut FoldHasher)
     ensures { state.new ≡ fold folding.write state.old (optional_cell_writes (option_map cell_of field.now)) }
 {

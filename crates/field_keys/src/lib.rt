@@ -21,5 +21,5 @@ pub use key_extract::Text;
 pub use keys::FieldKeys;
 pub use part::KeyPart;
 pub use part::KeyPart::{Falling, Rising};
-pub use row::{pick, signed, text, truth, unsigned};
+pub use row::{signed, text, truth, unsigned};
 pub use search::{Search, Value};

@@ -1,22 +1,9 @@
-//! The fields of a row, in one line.
-ghost use Rattle.std.specs.Prelude.{◌≡◌, map, slice_get};
-ghost use Rattle.std.specs.Option.{option_map};
+//! The fields of a row.
+ghost use Rattle.std.specs.Prelude.{◌≡◌};
 ghost use Rattle.field_keys.specs.Fields.{cell_of};
 ghost use Rattle.field_keys.specs.Row as row;
 
 use crate::field::Field;
-
-/// The field of a column among all fields of a row, if there is such a column. O(1).
-#[inline(always)]
-pub fn pick<'a>(column: usize, fields: &[Field<'a>]) -> Option<Field<'a>>
-    ensures { option_map cell_of result ≡ slice_get (map cell_of fields.now) column }
-{
-    if column < fields.len() {
-        Some(fields[column])
-    } else {
-        None
-    }
-}
 
 /// The field of a number without a sign. O(1).
 #[inline(always)]

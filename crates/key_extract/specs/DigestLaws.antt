@@ -1,5 +1,5 @@
 -- Digests of keys keep the order of keys.
-use Rattle.std.proofs.Common.{◌≡◌, ℕ, zero, suc, ◌+◌, ◌-◌, ◌*◌, ◌^◌, ◌<◌, ◌≤◌, Bool, true, false, cond, List, [], ◌∷◌, length, refl, ap, ◌∙◌, arith, Option, Some, None, ℤ, pos, inl, inr}
+use Rattle.std.proofs.Common.{◌≡◌, ℕ, zero, suc, ◌-◌, ◌^◌, ◌<◌, ◌≤◌, Bool, true, false, cond, List, [], ◌∷◌, length, refl, ap, ◌∙◌, arith, Option, Some, None, ℤ, pos, inl, inr}
 use Rattle.std.specs.Prelude.{slice_get, IsTrue, negsuc, nat_le, ◌&&◌}
 use Rattle.std.specs.Cmp.Lexicographic.{slice_cmp, options_total}
 use Rattle.std.specs.Ordering.{ordering_then, ordering_reverse, int_cmp, nat_cmp}
@@ -7,13 +7,13 @@ use Rattle.std.specs.declared.cmp.Ordering.{Ordering}
 use Rattle.std.specs.declared.cmp.Ordering.TheVariants.{Less, Equal, Greater}
 use Rattle.std.proofs.lemmas.Bool.{cases_lt, cases_order}
 use Rattle.std.proofs.lemmas.Bool.Decides.{nat_tests}
-use Rattle.std.proofs.Math.Nat.{pow-suc, one-le-pow, mul-le-mul_right, suc-mul}
+use Rattle.std.proofs.Math.Nat.{mul-le-mul_left}
 use Rattle.key_extract.specs.declared.cell.Cell.{Cell}
 use Rattle.key_extract.specs.declared.cell.Cell.TheVariants.{Null, Int, Text, Bool as Truth}
 use Rattle.key_extract.specs.declared.key.Part.{Part}
 use Rattle.key_extract.specs.Cells.{cell_cmp, optional_cell_cmp}
 use Rattle.key_extract.specs.Digests.{OrdersDigests, CutsDigests, none_below, one_cuts}
-use Rattle.key_extract.specs.KeyDigests.{number_place, count_digest, leading_bytes, cell_digest, optional_digest, part_digest, key_digest, probe_digest}
+use Rattle.key_extract.specs.KeyDigests.{number_place, count_digest, byte_width, byte_start, byte_place, byte_room, text_place, cell_digest, optional_digest, part_digest, key_digest, probe_digest}
 use Rattle.key_extract.specs.Keys.{part_cmp, key_cmp, probe_cmp, probe_fits}
 use Rattle.key_extract.specs.Laws.{cells_total, directed_cmp, directed_total}
 
@@ -33,16 +33,41 @@ numbers_order (pos m) (negsuc n) h = absurd (omega arith)
 numbers_order (negsuc m) (pos n) h = refl
 numbers_order (negsuc m) (negsuc n) h = less_negsuc m n (omega arith)
 
-module _ (k byte : ℕ) (bytes : List ℕ) where
-  pub small_byte : byte < 256 → leading_bytes (suc k) (byte ∷ bytes) ≡ byte * 256 ^ k + leading_bytes k bytes
-  small_byte h = grind (arith, nat_tests)
+-- bytes begin in their order
+pub starts_grow : (x y : ℕ) → x ≤ y → byte_start x ≤ byte_start y
+starts_grow zero zero h = omega arith
+starts_grow (suc x) zero h = absurd (omega (arith, h))
+starts_grow x (suc y) h = elim (cases_lt x (suc y)) [
+  | inl less ↦ omega (arith, starts_grow x y (omega (arith, less)))
+  | inr le ↦ let same : x ≡ suc y = omega (arith, h, le) in omega (arith, ap byte_start same)
+]
 
-  large_byte : 256 ≤ byte → leading_bytes (suc k) (byte ∷ bytes) ≡ 256 ^ k * 256 - 1
-  large_byte h = grind (arith, nat_tests)
+no_width : (n : ℕ) → 256 ≤ n → byte_width n ≡ 0
+no_width n h = grind (arith, nat_tests)
 
--- a smaller highest digit leaves room for all that follow
-below_next : (a b p r : ℕ) → a < b → r < p → a * p + r < b * p
-below_next a b p r h k = omega (arith, mul-le-mul_right p h, suc-mul a p, k)
+all_bytes : byte_start 256 ≡ 4094
+all_bytes = refl
+
+past_all : (n : ℕ) → 256 ≤ n → byte_start n ≡ 4094
+past_all zero h = absurd (omega (arith, h))
+past_all (suc n) h = elim (cases_lt n 256) [
+  | inl less ↦ let last : suc n ≡ 256 = omega (arith, h, less) in ap byte_start last ∙ all_bytes
+  | inr le ↦ omega (arith, past_all n le, no_width n le)
+]
+
+pub starts_below : (n : ℕ) → byte_start n < 4096
+starts_below n = elim (cases_lt n 256) [ inl less ↦ omega (arith, starts_grow n 256 (omega (arith, less)), all_bytes) | inr le ↦ omega (arith, past_all n le) ]
+
+pub places_grow : (room x y : ℕ) → x ≤ y → byte_place room x ≤ byte_place room y
+places_grow room x y h = omega (arith, mul-le-mul_left room (starts_grow x y h))
+
+pub places_below : (room x : ℕ) → byte_place room x ≤ room
+places_below room x = let start : byte_start x ≤ 4096 = omega (arith, starts_below x) in omega (arith, mul-le-mul_left room start)
+
+-- a text has a place in the room, or the one behind it
+pub text_within : (room : ℕ) (bytes : List ℕ) → text_place room bytes ≤ room
+text_within room [] = omega arith
+text_within room (byte ∷ bytes) = omega (arith, text_within (byte_room room byte) bytes, places_grow room byte (suc byte) (omega arith), places_below room (suc byte))
 
 not_counted : (m n : ℕ) → n ≤ m → count_digest n ≤ count_digest m
 not_counted m n h = grind (arith, nat_tests)
@@ -50,14 +75,6 @@ not_counted m n h = grind (arith, nat_tests)
 -- of a smaller digest is the smaller number
 pub counted_below : (m n : ℕ) → count_digest m < count_digest n → m < n
 counted_below m n h = elim (cases_lt m n) [ inl less ↦ less | inr le ↦ absurd (omega (arith, h, not_counted m n le)) ]
-
-pub leading_below : (k : ℕ) (bytes : List ℕ) → leading_bytes k bytes < 256 ^ k
-leading_below zero bytes = omega arith
-leading_below (suc k) [] = omega (arith, one-le-pow (suc k) 256 (omega arith))
-leading_below (suc k) (byte ∷ bytes) = elim (cases_lt byte 256) [
-  | inl small ↦ omega (arith, small_byte k byte bytes small, below_next byte 256 (256 ^ k) (leading_bytes k bytes) small (leading_below k bytes), pow-suc 256 k)
-  | inr large ↦ omega (arith, large_byte k byte bytes large, pow-suc 256 k, one-le-pow k 256 (omega arith))
-]
 
 nat_less : (m n : ℕ) → m < n → nat_cmp m n ≡ Less
 nat_less m n h = grind (arith, nat_tests)
@@ -81,34 +98,24 @@ counts_order f a b h = nat_less (f a) (f b) (counted_below (f a) (f b) h)
 pub counts_cut : {R : Type 0} (f : R → ℕ) (n : ℕ) → CutsDigests (λ a. nat_cmp (f a) n) (λ a. count_digest (f a)) (count_digest n)
 counts_cut f n = record { below = λ a h. nat_less (f a) n (counted_below (f a) n h); above = λ a h. nat_greater (f a) n (counted_below n (f a) h) }
 
-module _ (k x y : ℕ) (xs ys : List ℕ) where
-  none_after : y < x → leading_bytes (suc k) (x ∷ xs) < leading_bytes (suc k) (y ∷ ys) → ⊥
-  none_after h less = elim (cases_lt x 256) [
-    | inl small ↦ omega (arith, less, small_byte k x xs small, small_byte k y ys (omega (arith, h, small)), below_next y x (256 ^ k) (leading_bytes k ys) h (leading_below k ys))
-    | inr large ↦ omega (arith, less, large_byte k x xs large, leading_below (suc k) (y ∷ ys), pow-suc 256 k)
-  ]
+module _ (room x y : ℕ) (xs ys : List ℕ) where
+  none_after : y < x → text_place room (x ∷ xs) < text_place room (y ∷ ys) → ⊥
+  none_after h less = omega (arith, less, text_within (byte_room room y) ys, places_grow room y (suc y) (omega arith), places_grow room (suc y) x (omega (arith, h)))
 
-  rest_less : x ≡ y → leading_bytes (suc k) (x ∷ xs) < leading_bytes (suc k) (y ∷ ys) → leading_bytes k xs < leading_bytes k ys
-  rest_less h less = elim (cases_lt x 256) [
-    | inl small ↦ omega (arith, less, small_byte k x xs small, small_byte k y ys (omega (arith, h, small)), ap (λ z. z * 256 ^ k) h)
-    | inr large ↦ absurd (omega (arith, less, large_byte k x xs large, large_byte k y ys (omega (arith, h, large))))
-  ]
+  rest_less : x ≡ y → text_place room (x ∷ xs) < text_place room (y ∷ ys) → text_place (byte_room room x) xs < text_place (byte_room room x) ys
+  rest_less h less = omega (arith, less, ap (byte_place room) h, ap (λ z. text_place (byte_room room z) ys) h)
 
-texts_order : (k : ℕ) (xs ys : List ℕ) → leading_bytes k xs < leading_bytes k ys → slice_cmp nat_cmp xs ys ≡ Less
-texts_order zero xs ys h = none_below 0 h
-texts_order (suc k) [] [] h = none_below 0 h
-texts_order (suc k) [] (y ∷ ys) h = refl
-texts_order (suc k) (x ∷ xs) [] h = absurd (omega (arith, h))
-texts_order (suc k) (x ∷ xs) (y ∷ ys) h = elim (cases_order x y) [
-  | inl same ↦ then_next (nat_cmp x y) (slice_cmp nat_cmp xs ys) (nat_equal x y same) (texts_order k xs ys (rest_less k x y xs ys same h))
+texts_order : (room : ℕ) (xs ys : List ℕ) → text_place room xs < text_place room ys → slice_cmp nat_cmp xs ys ≡ Less
+texts_order room [] [] h = none_below 0 h
+texts_order room [] (y ∷ ys) h = refl
+texts_order room (x ∷ xs) [] h = absurd (omega (arith, h))
+texts_order room (x ∷ xs) (y ∷ ys) h = elim (cases_order x y) [
+  | inl same ↦ then_next (nat_cmp x y) (slice_cmp nat_cmp xs ys) (nat_equal x y same) (texts_order (byte_room room x) xs ys (rest_less room x y xs ys same h))
   | inr apart ↦ elim apart [
     | inl less ↦ then_less (nat_cmp x y) (slice_cmp nat_cmp xs ys) (nat_less x y less)
-    | inr more ↦ absurd (none_after k x y xs ys more h)
+    | inr more ↦ absurd (none_after room x y xs ys more h)
   ]
 ]
-
-six : (bytes : List ℕ) → leading_bytes 6 bytes < 2 ^ 48
-six bytes = leading_below 6 bytes
 
 -- a cell of a smaller digest comes before
 cells_order : (a b : Cell) → cell_digest a < cell_digest b → cell_cmp a b ≡ Less
@@ -122,13 +129,13 @@ cells_order (Int a) (Text b) h = refl
 cells_order (Int a) (Truth b) h = refl
 cells_order (Text a) Null h = absurd (omega (arith, h))
 cells_order (Text a) (Int b) h = absurd (omega (arith, h, number_place_below b))
-cells_order (Text a) (Text b) h = texts_order 6 a b (omega (arith, h))
+cells_order (Text a) (Text b) h = texts_order (2 ^ 46) a b (omega (arith, h))
 cells_order (Text a) (Truth b) h = refl
 cells_order (Truth a) Null h = absurd (omega (arith, h))
 cells_order (Truth false) (Int b) h = absurd (omega (arith, h, number_place_below b))
 cells_order (Truth true) (Int b) h = absurd (omega (arith, h, number_place_below b))
-cells_order (Truth false) (Text b) h = absurd (omega (arith, h, six b))
-cells_order (Truth true) (Text b) h = absurd (omega (arith, h, six b))
+cells_order (Truth false) (Text b) h = absurd (omega (arith, h, text_within (2 ^ 46) b))
+cells_order (Truth true) (Text b) h = absurd (omega (arith, h, text_within (2 ^ 46) b))
 cells_order (Truth false) (Truth false) h = absurd (omega (arith, h))
 cells_order (Truth false) (Truth true) h = refl
 cells_order (Truth true) (Truth false) h = absurd (omega (arith, h))

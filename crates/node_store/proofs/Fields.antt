@@ -1,5 +1,5 @@
 -- A node and its links, as the block of the node has them.
-use Rattle.std.proofs.Common.{◌≡◌, ℕ, ◌<◌, List, length, length-set, get_or, set, Option, Some, None, refl, sym, ap, ◌∙◌, arith}
+use Rattle.std.proofs.Common.{◌≡◌, ℕ, ◌<◌, List, length, length-set, get_or, set, Option, Some, None, refl, sym, ap, Bool, cond, ◌∙◌, arith}
 use Rattle.std.proofs.lemmas.Option.{same_Some}
 use Rattle.std.specs.Option.{option_map}
 use Rattle.node_store.specs.declared.Node.{Node}
@@ -91,6 +91,10 @@ module _ {R A : Type 0} {N : ℕ} {es : List (Held R A N)} {al : A} {newest : Op
       unfolding lent
       link_read default =
           rw (← view) (link_kept es added n (lent node b read) col default (rw (← view) at node) (here node b read) there in_row)
+
+      -- its link `b`, or `a`
+      pub side_read : (default : Stored) (second : Bool) (link : Link) → column_of s col n ≡ Some link → cond second (link_of (get_or b.links.row col default)).b (link_of (get_or b.links.row col default)).a ≡ cond second link.b link.a
+      side_read default second link is = ap (λ (l : Link). cond second l.b l.a) (same_Some _ _ (sym (link_read default) ∙ is))
 
       -- ---- a write of links
 

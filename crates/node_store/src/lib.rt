@@ -6,7 +6,7 @@
 //! is O(length). `add` allocates one block; no other call allocates.
 #![tactic(auto)]
 
-ghost use Rattle.std.specs.Prelude.{◌≡◌, ◌+◌, ◌<◌, ◌≤◌, ◌^◌, max, IfOk, IfErr, OnOk, OnErr, Some, IsTrue, ◌↔◌};
+ghost use Rattle.std.specs.Prelude.{◌≡◌, ◌+◌, ◌<◌, ◌≤◌, ◌^◌, max, IfOk, IfErr, OnOk, OnErr, Some, IsTrue, ◌↔◌, cond};
 ghost use Rattle.std.specs.Borrow.{sem};
 ghost use denote.RawPtr.{block_ptr, block_of as number_at};
 
@@ -219,6 +219,16 @@ impl<R> NodeStore<R> {
         ensures { column_of self.now col n ≡ Some result }
     {
         on_shelf!(&self.shelves, shelf => shelf.link(n, col))
+    }
+
+    /// The node's link `b` in a column, or `a`. A descent that goes by it has no branch to guess.
+    #[inline(always)]
+    pub fn side(&self, n: Node, col: usize, second: bool) -> Option<Node>
+        requires { IsNode (column_of self.now col) n }
+        ensures { (link : Link) → column_of self.now col n ≡ Some link →
+            result ≡ cond second link.b link.a }
+    {
+        on_shelf!(&self.shelves, shelf => shelf.side(n, col, second))
     }
 
     /// Whether `o` is the node `n`. Their ages decide, so both must be nodes of this store.

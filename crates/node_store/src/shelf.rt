@@ -1,5 +1,5 @@
 //! Records with their links in one number of columns, each in a heap block of its own.
-ghost use Rattle.std.specs.Prelude.{◌≡◌, ◌+◌, ◌<◌, ◌≤◌, ◌^◌, IfOk, IfErr, OnOk, OnErr, Some};
+ghost use Rattle.std.specs.Prelude.{◌≡◌, ◌+◌, ◌<◌, ◌≤◌, ◌^◌, IfOk, IfErr, OnOk, OnErr, Some, cond};
 ghost use Rattle.std.specs.Borrow.{sem};
 ghost use Rattle.node_store.specs.Store.{aged, age_of, IsNodeOf, IsStore, len_of, empty_store};
 ghost use Rattle.node_store.specs.Age.{last_below};
@@ -164,6 +164,16 @@ impl<R, const N: usize> Shelf<R, N> {
         ensures { column_of self.now col n ≡ Some result }
     {
         self.heap.get(n.place).links.row[col].link()
+    }
+
+    // The node's link `b` in a column, or `a`.
+    #[inline(always)]
+    pub(crate) fn side(&self, n: Node, col: usize, second: bool) -> Option<Node>
+        requires { IsNode (column_of self.now col) n }
+        ensures { (link : Link) → column_of self.now col n ≡ Some link →
+            result ≡ cond second link.b link.a }
+    {
+        self.heap.get(n.place).links.row[col].side(second)
     }
 
     // Replaces the node's links in a column. Its record, its other columns and all other nodes stay as they were.

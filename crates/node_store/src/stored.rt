@@ -1,14 +1,13 @@
 //! Links as a column keeps them.
-ghost use Rattle.std.specs.Prelude.{◌≡◌};
+ghost use Rattle.std.specs.Prelude.{◌≡◌, cond};
 ghost use Rattle.node_store.specs.Stored.{link_of};
 
-use crate::{Digest, Link, MaybeNode};
+use crate::{Digest, Link, MaybeNode, Node};
 
-/// Links in which an absent node is null. What a descent reads stands first.
+/// Links in which an absent node is null. What a descent reads stands first: `a` and `b` side by side, and the digest.
 #[derive(Clone, Copy)]
 pub(crate) struct Stored {
-    a: MaybeNode,
-    b: MaybeNode,
+    sides: [MaybeNode; 2],
     high: u32,
     low: u16,
     height: u8,
@@ -29,8 +28,7 @@ impl Stored {
         ensures { link_of result ≡ link }
     {
         Stored {
-            a: MaybeNode::of(link.a),
-            b: MaybeNode::of(link.b),
+            sides: [MaybeNode::of(link.a), MaybeNode::of(link.b)],
             high: link.digest.high,
             low: link.digest.low,
             height: link.height,
@@ -47,14 +45,22 @@ impl Stored {
         self.tag = tag;
     }
 
+    /// The link `b`, or `a`.
+    #[inline(always)]
+    pub(crate) fn side(&self, second: bool) -> Option<Node>
+        ensures { result ≡ cond second (link_of self.now).b (link_of self.now).a }
+    {
+        self.sides[second as usize].node()
+    }
+
     /// The links that were stored.
     #[inline(always)]
     pub(crate) fn link(self) -> Link
         ensures { result ≡ link_of self }
     {
         Link {
-            a: self.a.node(),
-            b: self.b.node(),
+            a: self.sides[0].node(),
+            b: self.sides[1].node(),
             up: self.up.node(),
             tag: self.tag,
             height: self.height,

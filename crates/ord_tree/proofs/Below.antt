@@ -1,5 +1,5 @@
 -- What holds of each node of a subtree, on the way down.
-use Rattle.std.proofs.Common.{◌≡◌, ℕ, List, [], ◌∷◌, ◌++◌, Option, Some, None, inl, inr, sym, ap, subst, ◌∙◌}
+use Rattle.std.proofs.Common.{◌≡◌, ℕ, Bool, true, false, cond, List, [], ◌∷◌, ◌++◌, Option, Some, None, inl, inr, sym, ap, subst, ◌∙◌}
 use Rattle.std.specs.List.{AllByRecursion}
 use Rattle.std.proofs.lemmas.Option.{none-some, same_Some}
 use Rattle.node_store.specs.declared.Node.{Node}
@@ -39,6 +39,11 @@ parted tally c P at n link b e l =
       left = record { here = o.left; is_at = o.at_left; all = s.0 };
       right = record { here = o.right; is_at = o.at_right; all = s.1.1 };
     }
+
+-- the one side or the other
+pub parted_side : (tally : ℕ → ℕ → ℕ) (c : Column) (P : Node → Type 0) (n : Node) (link : Link) (right : Bool) → Parted tally c P n link → AllBelow tally c P (cond right link.b link.a)
+parted_side tally c P n link true p = p.right
+parted_side tally c P n link false p = p.left
 
 -- the first and the last of a list are so
 pub all_first : (P : Node → Type 0) (xs : List Node) (m : Node) → AllByRecursion P xs → first_or xs None ≡ Some m → P m

@@ -82,6 +82,11 @@ comes_on tally c q whole at last n link cut s e l =
       };
     }
 
+-- to the side that the test says
+pub comes_to : (tally : ℕ → ℕ → ℕ) (c : Column) (q : Node → Bool) (whole : Tree) (last : Option Node) (n : Node) (link : Link) → ComesOn tally c q whole n link last → (right : Bool) → q n ≡ right → Comes tally c q whole (cond right link.b link.a) (cond right (Some n) last)
+comes_to tally c q whole last n link on true e = on.right e
+comes_to tally c q whole last n link on false e = on.left e
+
 pub comes_end : (tally : ℕ → ℕ → ℕ) (c : Column) (q : Node → Bool) (whole : Tree) (at last : Option Node) → Comes tally c q whole at last → at ≡ None → last ≡ last_that q (nodes whole)
 comes_end tally c q whole at last s e =
     let leaf : s.here ≡ Leaf = is_leaf s.here (sym s.is_at.root ∙ e) in

@@ -109,6 +109,11 @@ Opens-from tally c P p whole at n link found d e l =
       lower_left = omega (arith, hl, hn, h);
     }
 
+-- the one side or the other is lower
+pub opened_lower : (tally : ℕ → ℕ → ℕ) (c : Column) (P : Node → Node → Type 0) (p : Node → Bool) (whole : Tree) (n : Node) (link : Link) (found : Option Node) → Opens tally c P p whole n link found → (right : Bool) → stored_height c (cond right link.b link.a) < stored_height c (Some n)
+opened_lower tally c P p whole n link found o true = o.lower_right
+opened_lower tally c P p whole n link found o false = o.lower_left
+
 module _ (tally : ℕ → ℕ → ℕ) (c : Column) (P : Node → Node → Type 0) (p : Node → Bool) (whole : Tree) (n : Node) (link : Link) (found : Option Node) (o : Opens tally c P p whole n link found) where
   -- no node up to this one passes
   pub go_right : AllByRecursion (λ x. p x ≡ false) (nodes o.left) → p n ≡ false → Nears tally c P p whole link.b found

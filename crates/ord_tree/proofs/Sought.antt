@@ -1,5 +1,5 @@
 -- The descent by a key.
-use Rattle.std.proofs.Common.{◌≡◌, ℕ, ◌≤◌, true, false, List, ◌∷◌, Option, Some, refl, ap, ◌∙◌, arith}
+use Rattle.std.proofs.Common.{◌≡◌, ℕ, ◌≤◌, Bool, true, false, cond, List, ◌∷◌, Option, Some, refl, sym, ap, ◌∙◌, arith}
 use Rattle.std.specs.Prelude.{find}
 use Rattle.std.specs.List.{AllByRecursion}
 use Rattle.std.specs.Ordering.{ordering_index, is_lt, is_le}
@@ -12,15 +12,13 @@ use Rattle.list_model.specs.Order.{EachPair}
 use Rattle.list_model.specs.Place.{lower, upper}
 use Rattle.list_model.proofs.InOrder.{All-map}
 use Rattle.list_model.proofs.Orders.{lt_falls, le_falls}
-use Rattle.ord_tree.specs.declared.seek.Sought.{Sought}
-use Rattle.ord_tree.specs.declared.seek.Sought.TheVariants.{NotBefore, Same, After}
-use Rattle.ord_tree.specs.Seek.{is_sought, comes_before}
+use Rattle.ord_tree.specs.Seek.{Which, NotBefore, Same, After, is_sought, comes_before}
 use Rattle.ord_tree.specs.Tree.{Tree, nodes}
 use Rattle.ord_tree.proofs.Nearing.{EachPair-each, Nears, Opens, go_right, go_left, take_here}
 use Rattle.ord_tree.proofs.KeySides.{Rises, cut_found}
 
 -- what stands before one that comes before all that are looked for does so too
-passed : (s : Sought) (o p : Ordering) → comes_before s o ≡ true → ordering_index p ≤ ordering_index o → is_sought s p ≡ false
+passed : (s : Which) (o p : Ordering) → comes_before s o ≡ true → ordering_index p ≤ ordering_index o → is_sought s p ≡ false
 passed NotBefore Less Less h k = refl
 passed NotBefore Less Equal h k = absurd (omega arith)
 passed NotBefore Less Greater h k = absurd (omega arith)
@@ -40,7 +38,7 @@ passed After Equal Greater h k = absurd (omega arith)
 passed After Greater p h k = cc
 
 -- what stands after one that comes after all that are looked for does so too
-ahead : (s : Sought) (o p : Ordering) → comes_before s o ≡ false → is_sought s o ≡ false → ordering_index o ≤ ordering_index p → is_sought s p ≡ false
+ahead : (s : Which) (o p : Ordering) → comes_before s o ≡ false → is_sought s o ≡ false → ordering_index o ≤ ordering_index p → is_sought s p ≡ false
 ahead NotBefore Less p h e k = cc
 ahead NotBefore Equal p h e k = cc
 ahead NotBefore Greater p h e k = cc
@@ -53,7 +51,7 @@ ahead After Less p h e k = cc
 ahead After Equal p h e k = cc
 ahead After Greater p h e k = cc
 
-module _ (tally : ℕ → ℕ → ℕ) (c : Column) (side : Node → Ordering) (s : Sought) (whole : Tree) (n : Node) (link : Link) (found : Option Node) (o : Opens tally c (Rises side) (λ x. is_sought s (side x)) whole n link found) (order : Ordering) (is : side n ≡ order) where
+module _ (tally : ℕ → ℕ → ℕ) (c : Column) (side : Node → Ordering) (s : Which) (whole : Tree) (n : Node) (link : Link) (found : Option Node) (o : Opens tally c (Rises side) (λ x. is_sought s (side x)) whole n link found) (order : Ordering) (is : side n ≡ order) where
   pub sought_right : comes_before s order ≡ true → Nears tally c (Rises side) (λ x. is_sought s (side x)) whole link.b found
   sought_right h =
       let t : comes_before s (side n) ≡ true = ap (comes_before s) is ∙ h in
@@ -69,6 +67,18 @@ module _ (tally : ℕ → ℕ → ℕ) (c : Column) (side : Node → Ordering) (
       let u : is_sought s (side n) ≡ false = ap (is_sought s) is ∙ e in
       go_left tally c (Rises side) (λ x. is_sought s (side x)) whole n link found o u
       (All-map (Rises side n) (λ x. is_sought s (side x) ≡ false) (λ x k. ahead s (side n) (side x) t u k) (nodes o.right) o.pairs.back.0)
+
+-- what comes before all that are looked for is none of them
+not_both : (s : Which) (o : Ordering) → comes_before s o ≡ true → is_sought s o ≡ true → ⊥
+not_both s o h e = let no : true ≡ false = sym e ∙ passed s o o h (omega arith) in cc no
+
+module _ (tally : ℕ → ℕ → ℕ) (c : Column) (side : Node → Ordering) (s : Which) (whole : Tree) (n : Node) (link : Link) (found : Option Node) (o : Opens tally c (Rises side) (λ x. is_sought s (side x)) whole n link found) (order : Ordering) (is : side n ≡ order) where
+  -- the next node of the descent, and what was found so far
+  pub sought_on : (before here : Bool) → comes_before s order ≡ before → is_sought s order ≡ here → Nears tally c (Rises side) (λ x. is_sought s (side x)) whole (cond before link.b link.a) (cond here (Some n) found)
+  sought_on true true h e = absurd (not_both s order h e)
+  sought_on true false h e = sought_right tally c side s whole n link found o order is h
+  sought_on false true h e = sought_here tally c side s whole n link found o order is e
+  sought_on false false h e = sought_left tally c side s whole n link found o order is h e
 
 -- ---- the definitions by places
 

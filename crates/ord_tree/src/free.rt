@@ -1,10 +1,10 @@
 //! Where a record goes that has the key of no other.
-ghost use Rattle.std.specs.Prelude.{◌≡◌, cond, Some, None, IfOk, IfErr, OnOk};
+ghost use Rattle.std.specs.Prelude.{◌≡◌, Some, None, IfOk, IfErr, OnOk};
 ghost use Rattle.std.specs.Ordering.{is_le};
 ghost use Rattle.ord_tree.specs.Same.{equal_but};
 ghost use Rattle.ord_tree.specs.Last.{last_that};
 
-use crate::order::order_to_record;
+use crate::order::{either, order_to_record};
 use crate::tally::Tally;
 use crate::tree::OrdTree;
 use key_extract::Extract;
@@ -42,19 +42,11 @@ impl<T: Tally> OrdTree<T> {
             let before = order.is_lt();
             last = either(before, n, last);
             found = either(order.is_eq(), n, found);
-            at = if before { link.b } else { link.a };
+            at = store.side(n, self.col, before);
         }
         match found {
             Some(by) => Err(by),
             None => Ok(last),
         }
     }
-}
-
-// The one node where `first` holds, and else the other. A choice of values in place of a branch, which would be mispredicted.
-#[inline(always)]
-fn either(first: bool, one: Node, other: Option<Node>) -> Option<Node>
-    ensures { result ≡ cond first (Some one) other }
-{
-    if first { Some(one) } else { other }
 }

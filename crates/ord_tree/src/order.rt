@@ -1,9 +1,9 @@
 //! How records stand to keys, by their digests where those differ.
-ghost use Rattle.std.specs.Prelude.{◌≡◌, ◌/◌, ◌^◌, IsTrue};
+ghost use Rattle.std.specs.Prelude.{◌≡◌, ◌/◌, ◌^◌, IsTrue, Some, cond};
 ghost use Rattle.node_store.specs.Digest.{digest_number};
 
 use key_extract::Extract;
-use node_store::Digest;
+use node_store::{Digest, Node};
 use std::cmp::Ordering;
 
 /// How a record stands to a probe, where `own` is its digest and `sought` that of the probe. It reads the record only where
@@ -49,4 +49,12 @@ pub(crate) fn order_to_record<R, E: Extract<R>>(
         Ordering::Equal => keys.order(index, held, other),
         order => order,
     }
+}
+
+/// The one node where `first` holds, and else the other. A choice of values in place of a branch, which would be mispredicted.
+#[inline(always)]
+pub(crate) fn either(first: bool, one: Node, other: Option<Node>) -> Option<Node>
+    ensures { result ≡ cond first (Some one) other }
+{
+    if first { Some(one) } else { other }
 }

@@ -1,9 +1,9 @@
 //! Look-ups by a key.
 ghost use Rattle.std.specs.Prelude.{◌≡◌, ◌<◌, find};
 ghost use Rattle.list_model.specs.Place.{lower as the_lower, upper as the_upper, find_equal};
-ghost use Rattle.ord_tree.specs.Seek.{is_sought, comes_before};
+ghost use Rattle.ord_tree.specs.Seek.{Which, NotBefore, Same, After, is_sought, comes_before};
 
-use crate::order::order_to_probe;
+use crate::order::{either, order_to_probe};
 use crate::tally::Tally;
 use crate::tree::OrdTree;
 use key_extract::Extract;
@@ -11,36 +11,61 @@ use node_store::{Digest, Node, NodeStore};
 use std::cmp::Ordering;
 
 /// The nodes that a descent looks for, by how they stand to its key: it finds the first of them.
-#[derive(Clone, Copy)]
-pub(crate) enum Sought {
-    /// Those that have the key or come after it.
-    NotBefore,
-    /// Those that have the key.
-    Same,
-    /// Those that come after the key.
-    After,
-}
+pub(crate) trait Sought {
+    /// Which these are.
+    ghost which: { Which };
 
-impl Sought {
     /// Whether a node that stands so to the key is looked for.
-    fn is(self, order: Ordering) -> bool
-        ensures { result ≡ is_sought self order }
-    {
-        match self {
-            Sought::NotBefore => !order.is_lt(),
-            Sought::Same => order.is_eq(),
-            Sought::After => !order.is_le(),
-        }
-    }
+    fn is(order: Ordering) -> bool
+        ensures { result ≡ is_sought which order };
 
     /// Whether a node that stands so to the key comes before all that are looked for.
-    fn comes_after(self, order: Ordering) -> bool
-        ensures { result ≡ comes_before self order }
-    {
-        match self {
-            Sought::NotBefore | Sought::Same => order.is_lt(),
-            Sought::After => order.is_le(),
-        }
+    fn comes_after(order: Ordering) -> bool
+        ensures { result ≡ comes_before which order };
+}
+
+/// Those that have the key or come after it.
+pub(crate) struct FromKey;
+
+impl Sought for FromKey {
+    ghost which = { NotBefore };
+
+    fn is(order: Ordering) -> bool {
+        !order.is_lt()
+    }
+
+    fn comes_after(order: Ordering) -> bool {
+        order.is_lt()
+    }
+}
+
+/// Those that have the key.
+pub(crate) struct OfKey;
+
+impl Sought for OfKey {
+    ghost which = { Same };
+
+    fn is(order: Ordering) -> bool {
+        order.is_eq()
+    }
+
+    fn comes_after(order: Ordering) -> bool {
+        order.is_lt()
+    }
+}
+
+/// Those that come after the key.
+pub(crate) struct PastKey;
+
+impl Sought for PastKey {
+    ghost which = { After };
+
+    fn is(order: Ordering) -> bool {
+        !order.is_le()
+    }
+
+    fn comes_after(order: Ordering) -> bool {
+        order.is_le()
     }
 }
 
@@ -74,7 +99,7 @@ impl<T: Tally> OrdTree<T> {
             (nodes_of self.now store.now) }
         ensures few { AreFew result.1 (nodes_of self.now store.now) }
     {
-        self.descend(store, keys, probe, Sought::Same)
+        self.descend::<R, E, OfKey>(store, keys, probe)
     }
 
     /// The first node that does not come before the key. O(log n).
@@ -104,7 +129,7 @@ impl<T: Tally> OrdTree<T> {
             (nodes_of self.now store.now) }
         ensures few { AreFew result.1 (nodes_of self.now store.now) }
     {
-        self.descend(store, keys, probe, Sought::NotBefore)
+        self.descend::<R, E, FromKey>(store, keys, probe)
     }
 
     /// The first node that comes after the key. O(log n).
@@ -134,19 +159,18 @@ impl<T: Tally> OrdTree<T> {
             (nodes_of self.now store.now) }
         ensures few { AreFew result.1 (nodes_of self.now store.now) }
     {
-        self.descend(store, keys, probe, Sought::After)
+        self.descend::<R, E, PastKey>(store, keys, probe)
     }
 
     // The first node that is looked for, and how many were compared with the key.
-    fn descend<R, E: Extract<R>>(
+    fn descend<R, E: Extract<R>, S: Sought>(
         &self,
         store: &NodeStore<R>,
         keys: &E,
         probe: &E::Probe,
-        sought: Sought,
     ) -> (Option<Node>, u64)
         requires { CanSearch E.Extract self.now store.now keys.now probe.now }
-        ensures node { result.0 ≡ find (λ n. is_sought sought
+        ensures node { result.0 ≡ find (λ n. is_sought S.which
             (side_in E.Extract self.now store.now keys.now probe.now n))
             (nodes_of self.now store.now) }
         ensures few { AreFew result.1 (nodes_of self.now store.now) }
@@ -159,14 +183,8 @@ impl<T: Tally> OrdTree<T> {
             let link = store.link(n, self.col);
             let order = order_to_probe(keys, self.index, link.digest, store.get(n), digest, probe);
             comparisons += 1;
-            if sought.comes_after(order) {
-                at = link.b;
-            } else if sought.is(order) {
-                found = Some(n);
-                at = link.a;
-            } else {
-                at = link.a;
-            }
+            found = either(S::is(order), n, found);
+            at = store.side(n, self.col, S::comes_after(order));
         }
         (found, comparisons)
     }

@@ -183,6 +183,7 @@ fn rotate_left<T: Tally, R>(
 }
 
 /// Makes a balanced tree of two sides whose heights differ by at most two, with `n` between them.
+#[inline(never)]
 fn balance<T: Tally, R>(
     store: &mut NodeStore<R>,
     col: usize,
@@ -280,6 +281,7 @@ fn height_over<R>(
 
 /// Makes the subtree below `new`, which hangs under `n`, its child on this side, where that was of another height and
 /// tally, and balances `n`. Answers the root of the subtree that `n` was the root of, under the same parent.
+#[inline(always)]
 fn lift<T: Tally, R>(
     store: &mut NodeStore<R>,
     col: usize,
@@ -346,6 +348,7 @@ pub(crate) fn rise<T: Tally, R>(
 }
 
 /// The same, where the subtree below `new` hangs there. A level changes its own links alone where it stays in balance.
+#[inline(always)]
 fn climb<T: Tally, R>(
     store: &mut NodeStore<R>,
     col: usize,

@@ -190,7 +190,7 @@ impl<T: Tally> OrdTree<T> {
             parent = Some(m);
             let order = order_to_record(keys, self.index, link.digest, store.get(m), digest, own);
             on_right = order.is_le();
-            at = if on_right { link.b } else { link.a };
+            at = store.side(m, self.col, on_right);
         }
         (parent, on_right)
     }

@@ -10,10 +10,10 @@ use Rattle.ord_tree.proofs.Descent.{low}
 use Rattle.ord_tree.proofs.Heights.{height-bound}
 use Rattle.ord_tree.proofs.TreeLinks.{stored_height-is}
 use Rattle.ord_tree.proofs.KeySides.{Rises-from, side_of-is}
-use Rattle.ord_tree.proofs.Below.{all_below, parted}
+use Rattle.ord_tree.proofs.Below.{all_below, parted, parted_side}
 use Rattle.ord_tree.proofs.Digested.{own_is}
-use Rattle.ord_tree.proofs.Nearing.{Nears-start, Nears-node, Nears-end, Opens-from}
-use Rattle.ord_tree.proofs.Sought.{sought_right, sought_here, sought_left}
+use Rattle.ord_tree.proofs.Nearing.{Nears-start, Nears-node, Nears-end, Opens-from, opened_lower}
+use Rattle.ord_tree.proofs.Sought.{sought_on}
 use Rattle.ord_tree.proofs.tree.OrdTree.descend.Goals as goal
 
 pub loop-at-init : goal.loop-at-init
@@ -53,35 +53,21 @@ lower_still comparisons here below high h k = omega arith
 turned : (comparisons : ℕ) (c : Column) (at : Option Node) (n : Node) (below : Option Node) (high : ℕ) → comparisons + stored_height c at ≤ high → at ≡ Some n → stored_height c below < stored_height c (Some n) → comparisons + 1 + stored_height c below ≤ high
 turned comparisons c at n below high h e k = lower_still comparisons (stored_height c (Some n)) (stored_height c below) high (subst (λ (o : Option Node). comparisons + stored_height c o ≤ high) e h) k
 
-pub loop-at-preserved-then-comes_after : goal.loop-at-preserved-then-comes_after
-loop-at-preserved-then-comes_after g c =
-    let o = Opens-from g.T.Tally.of _ _ _ _ _ c.in-Some.n c.link-link.result _ c.loop-at.invariant.nears c.in-Some.is c.link-link.ensures in
-    let is = side_of-is (record_of c.args.store.now) (λ a. g.E.Extract.probe_order_of c.args.keys.now c.args.self.now.index a c.args.probe.now) c.in-Some.n _ c.get.ensures ∙ sym c.order_to_probe-order.ensures in
-    record {
-      nears = sought_right g.T.Tally.of _ _ c.args.sought _ c.in-Some.n c.link-link.result _ o c.order_to_probe-order.result is (sym c.comes_after.ensures ∙ c.if-comes_after.true);
-      below = (parted g.T.Tally.of _ _ _ c.in-Some.n c.link-link.result c.loop-at.invariant.below c.in-Some.is c.link-link.ensures).right;
-      few = turned c.loop-at.comparisons (column_of c.args.store.now c.args.self.now.col) c.loop-at.at c.in-Some.n c.link-link.result.b _ c.loop-at.invariant.few c.in-Some.is o.lower_right;
-    }
-
-pub loop-at-preserved-then-is : goal.loop-at-preserved-then-is
-loop-at-preserved-then-is g c =
-    let o = Opens-from g.T.Tally.of _ _ _ _ _ c.in-Some.n c.link-link.result _ c.loop-at.invariant.nears c.in-Some.is c.link-link.ensures in
-    let is = side_of-is (record_of c.args.store.now) (λ a. g.E.Extract.probe_order_of c.args.keys.now c.args.self.now.index a c.args.probe.now) c.in-Some.n _ c.get.ensures ∙ sym c.order_to_probe-order.ensures in
-    record {
-      nears = sought_here g.T.Tally.of _ _ c.args.sought _ c.in-Some.n c.link-link.result _ o c.order_to_probe-order.result is (sym c.is.ensures ∙ c.if-is.true);
-      below = (parted g.T.Tally.of _ _ _ c.in-Some.n c.link-link.result c.loop-at.invariant.below c.in-Some.is c.link-link.ensures).left;
-      few = turned c.loop-at.comparisons (column_of c.args.store.now c.args.self.now.col) c.loop-at.at c.in-Some.n c.link-link.result.a _ c.loop-at.invariant.few c.in-Some.is o.lower_left;
-    }
-
 pub loop-at-preserved : goal.loop-at-preserved
 loop-at-preserved g c =
     let o = Opens-from g.T.Tally.of _ _ _ _ _ c.in-Some.n c.link-link.result _ c.loop-at.invariant.nears c.in-Some.is c.link-link.ensures in
+    let p = parted g.T.Tally.of _ _ _ c.in-Some.n c.link-link.result c.loop-at.invariant.below c.in-Some.is c.link-link.ensures in
     let is = side_of-is (record_of c.args.store.now) (λ a. g.E.Extract.probe_order_of c.args.keys.now c.args.self.now.index a c.args.probe.now) c.in-Some.n _ c.get.ensures ∙ sym c.order_to_probe-order.ensures in
-    record {
-      nears = sought_left g.T.Tally.of _ _ c.args.sought _ c.in-Some.n c.link-link.result _ o c.order_to_probe-order.result is (sym c.comes_after.ensures ∙ c.if-comes_after.false) (sym c.is.ensures ∙ c.if-is.false);
-      below = (parted g.T.Tally.of _ _ _ c.in-Some.n c.link-link.result c.loop-at.invariant.below c.in-Some.is c.link-link.ensures).left;
-      few = turned c.loop-at.comparisons (column_of c.args.store.now c.args.self.now.col) c.loop-at.at c.in-Some.n c.link-link.result.a _ c.loop-at.invariant.few c.in-Some.is o.lower_left;
-    }
+    rw (c.side-at.ensures c.link-link.result c.link-link.ensures, c.either-found.ensures) (record {
+      nears = sought_on g.T.Tally.of _ _ g.S.Sought.which _ c.in-Some.n c.link-link.result _ o c.order_to_probe-order.result is c.comes_after.result c.is.result (sym c.comes_after.ensures) (sym c.is.ensures);
+      below = parted_side g.T.Tally.of _ _ c.in-Some.n c.link-link.result c.comes_after.result p;
+      few = turned c.loop-at.comparisons (column_of c.args.store.now c.args.self.now.col) c.loop-at.at c.in-Some.n _ _ c.loop-at.invariant.few c.in-Some.is (opened_lower g.T.Tally.of _ _ _ _ c.in-Some.n c.link-link.result _ o c.comes_after.result);
+    })
+
+pub loop-at-smaller : goal.loop-at-smaller
+loop-at-smaller g c =
+    let o = Opens-from g.T.Tally.of _ _ _ _ _ c.in-Some.n c.link-link.result _ c.loop-at.invariant.nears c.in-Some.is c.link-link.ensures in
+    rw (c.side-at.ensures c.link-link.result c.link-link.ensures, c.in-Some.is) (opened_lower g.T.Tally.of _ _ _ _ c.in-Some.n c.link-link.result _ o c.comes_after.result)
 
 pub returns-clause-node : goal.returns-clause-node
 returns-clause-node g c = Nears-end g.T.Tally.of _ _ _ _ _ _ c.loop-at.invariant.nears c.in_default.is

@@ -14,7 +14,7 @@ abbrev pub invariant-loop-at : goal.invariant-loop-at
 invariant-loop-at g l =
     let side = side_of (record_of l.store) (λ a. g.E.Extract.probe_order_of l.keys l.self.index a l.probe) in
     record {
-      nears : Nears g.T.Tally.of (column_of l.store l.self.col) (Rises side) (λ n. is_sought l.sought (side n)) (tree_of (column_of l.store) l.self) l.at l.found;
+      nears : Nears g.T.Tally.of (column_of l.store l.self.col) (Rises side) (λ n. is_sought g.S.Sought.which (side n)) (tree_of (column_of l.store) l.self) l.at l.found;
       below : AllBelow g.T.Tally.of (column_of l.store l.self.col) (KeepsDigest (g.E.Extract.digest_of l.keys l.self.index) l.store l.self.col) l.at;
       few : l.comparisons + stored_height (column_of l.store l.self.col) l.at ≤ height (tree_of (column_of l.store) l.self);
     }

@@ -1,12 +1,12 @@
-use Rattle.std.proofs.Common.{◌≡◌, sym, ap, ◌∙◌, true, false}
+use Rattle.std.proofs.Common.{sym, ap, ◌∙◌}
 use Rattle.std.specs.Ordering.{is_le}
 use Rattle.node_store.specs.ByNode.{record_of}
 use Rattle.node_store.proofs.ByNode.{node_of_column}
 use Rattle.ord_tree.specs.Side.{order_at}
 use Rattle.ord_tree.proofs.Laws.{the_tree}
-use Rattle.ord_tree.proofs.Below.{all_below, parted}
+use Rattle.ord_tree.proofs.Below.{all_below, parted, parted_side}
 use Rattle.ord_tree.proofs.Digested.{own_is}
-use Rattle.ord_tree.proofs.Seeking.{Seeks-start, Seeks-node, Turns-from, Place-from}
+use Rattle.ord_tree.proofs.Seeking.{Seeks-start, Seeks-node, Turns-from, turned_to, turned_lower, Place-from}
 use Rattle.ord_tree.proofs.Sides.{order_at_total, order_at_both, IsCut_at}
 use Rattle.ord_tree.proofs.tree.OrdTree.place_of.Goals as goal
 
@@ -29,17 +29,6 @@ order_to_record-order-requires-clause-own g c =
 pub returns : goal.returns
 returns g c = Place-from g.T.Tally.of _ _ _ _ _ _ c.loop-at.invariant.seeks c.in_default.is
 
-pub loop-at-preserved-then-on_right : goal.loop-at-preserved-then-on_right
-loop-at-preserved-then-on_right g c =
-    let records = record_of c.args.store.now in
-    let compare = g.E.Extract.order_of c.args.keys.now c.args.self.now.index in
-    let total = order_at_total records compare (g.met.E.Extract.order_total c.args.keys.now c.args.self.now.index c.requires.ordered.key) in
-    let cut = IsCut_at (order_at records compare) total c.args.n _ c.requires.ordered.order in
-    let t = Turns-from g.T.Tally.of _ _ _ _ _ _ c.in-Some.m c.link-link.result cut c.loop-at.invariant.seeks c.in-Some.is c.link-link.ensures in
-    let passes : c.is_le-on_right.result ≡ true = c.if-on_right.true in
-    let same = ap is_le (order_at_both records compare c.in-Some.m c.args.n c.get.result.now c.get-own.result.now c.get.ensures c.get-own.ensures ∙ sym c.order_to_record-order.ensures) ∙ sym c.is_le-on_right.ensures in
-    record { seeks = rw passes (t.right (same ∙ passes)); below = (parted g.T.Tally.of _ _ _ c.in-Some.m c.link-link.result c.loop-at.invariant.below c.in-Some.is c.link-link.ensures).right }
-
 pub loop-at-preserved : goal.loop-at-preserved
 loop-at-preserved g c =
     let records = record_of c.args.store.now in
@@ -47,6 +36,18 @@ loop-at-preserved g c =
     let total = order_at_total records compare (g.met.E.Extract.order_total c.args.keys.now c.args.self.now.index c.requires.ordered.key) in
     let cut = IsCut_at (order_at records compare) total c.args.n _ c.requires.ordered.order in
     let t = Turns-from g.T.Tally.of _ _ _ _ _ _ c.in-Some.m c.link-link.result cut c.loop-at.invariant.seeks c.in-Some.is c.link-link.ensures in
-    let passes : c.is_le-on_right.result ≡ false = c.if-on_right.false in
+    let p = parted g.T.Tally.of _ _ _ c.in-Some.m c.link-link.result c.loop-at.invariant.below c.in-Some.is c.link-link.ensures in
     let same = ap is_le (order_at_both records compare c.in-Some.m c.args.n c.get.result.now c.get-own.result.now c.get.ensures c.get-own.ensures ∙ sym c.order_to_record-order.ensures) ∙ sym c.is_le-on_right.ensures in
-    record { seeks = rw passes (t.left (same ∙ passes)); below = (parted g.T.Tally.of _ _ _ c.in-Some.m c.link-link.result c.loop-at.invariant.below c.in-Some.is c.link-link.ensures).left }
+    rw (c.side-at.ensures c.link-link.result c.link-link.ensures) (record {
+      seeks = turned_to g.T.Tally.of _ _ _ c.in-Some.m c.link-link.result c.is_le-on_right.result t same;
+      below = parted_side g.T.Tally.of _ _ c.in-Some.m c.link-link.result c.is_le-on_right.result p;
+    })
+
+pub loop-at-smaller : goal.loop-at-smaller
+loop-at-smaller g c =
+    let records = record_of c.args.store.now in
+    let compare = g.E.Extract.order_of c.args.keys.now c.args.self.now.index in
+    let total = order_at_total records compare (g.met.E.Extract.order_total c.args.keys.now c.args.self.now.index c.requires.ordered.key) in
+    let cut = IsCut_at (order_at records compare) total c.args.n _ c.requires.ordered.order in
+    let t = Turns-from g.T.Tally.of _ _ _ _ _ _ c.in-Some.m c.link-link.result cut c.loop-at.invariant.seeks c.in-Some.is c.link-link.ensures in
+    rw (c.side-at.ensures c.link-link.result c.link-link.ensures, c.in-Some.is) (turned_lower g.T.Tally.of _ _ _ c.in-Some.m c.link-link.result c.is_le-on_right.result t)
