@@ -1,10 +1,11 @@
 -- One chain more, with the nodes that go there.
-use Rattle.std.proofs.Common.{◌≡◌, ◌≢◌, ℕ, Bool, true, false, cond, not, ◌+◌, ◌-◌, ◌*◌, ◌%◌, ◌<◌, ◌≤◌, List, [], ◌∷◌, ◌++◌, length, map, get_or, set, Option, Some, None, refl, sym, ap, ◌∙◌, subst, arith, append_assoc, ⊎_elim}
+use Rattle.std.proofs.Common.{◌≡◌, ◌≢◌, ℕ, Bool, true, false, cond, not, ◌+◌, ◌-◌, ◌*◌, ◌%◌, ◌<◌, ◌≤◌, List, [], ◌∷◌, ◌++◌, length, map, set, Option, Some, None, refl, sym, ap, ◌∙◌, subst, arith, append_assoc, ⊎_elim}
 use Rattle.std.specs.Prelude.{filter, IsPermutation, ◌==◌}
-use Rattle.std.specs.List.{AllByRecursion}
+use Rattle.std.specs.List.{AllByRecursion, slice_get}
 use Rattle.std.specs.Option.{option_map, option_map_or}
 use Rattle.std.proofs.lemmas.Bool.{cases_eq}
-use Rattle.std.proofs.lemmas.List.{append-nil, length-set, map_push, map-set}
+use Rattle.std.proofs.lemmas.List.{append-nil, length-set, map_push, map-set, set-get_or}
+use Rattle.std.proofs.lemmas.Option.{get_or_from_slice_get}
 use Rattle.std.proofs.lemmas.List.Elements.{filter-append}
 use Rattle.std.proofs.lemmas.List.Sorted.{IsPermutation-trans, IsPermutation-append_left, IsPermutation-append_right, IsPermutation-append_comm, IsPermutation-filter_both, length_permutation}
 use Rattle.node_store.specs.declared.Node.{Node}
@@ -16,19 +17,18 @@ use Rattle.list_model.proofs.Lists.{All-both, All-join}
 use Rattle.list_model.proofs.InOrder.{All-map}
 use Rattle.list_model.proofs.Kept.{All-passed, All-filter}
 use Rattle.hash_index.specs.declared.HashIndex.{HashIndex}
-use Rattle.hash_index.specs.declared.chain.Chain.{Chain}
 use Rattle.hash_index.specs.declared.head.Head.{Head}
 use Rattle.hash_index.specs.Heads.{first_in, IsRight, AreRight}
 use Rattle.hash_index.specs.LinearHashing.{chain_of}
 use Rattle.hash_index.specs.Oldest.{IsOldestOf, IsOldest, AreOldest}
-use Rattle.hash_index.proofs.Oldest.{old_tags, old_cut, oldest_set}
+use Rattle.hash_index.proofs.Oldest.{old_tags, old_cut, oldest_set, cut_oldest}
 use Rattle.hash_index.specs.Chains.{tag_at, leads, members, IsIn, IsChain, AreChains, joined, KeepsTags}
 use Rattle.hash_index.specs.Spelled.{all_of, heads_of, Spells, IsSound, spelled, leads_to}
-use Rattle.hash_index.specs.Rising.{IsRising}
 use Rattle.hash_index.specs.Walks.{rest_of}
-use Rattle.hash_index.specs.Split.{Builds, IsSame, goes, left, taken}
+use Rattle.hash_index.specs.Split.{IsSame, goes, left, taken}
+use Rattle.hash_index.specs.Parts.{IsPart, IsParted}
 use Rattle.hash_index.proofs.Untagged.{leads_tag, leads_there, leads_elsewhere, in_tag}
-use Rattle.hash_index.proofs.Heads.{lacks_other, right_set}
+use Rattle.hash_index.proofs.Heads.{lacks_other, right_set, slice_first}
 use Rattle.hash_index.proofs.OneChain.{chains_same, Hangs, Focus, IsElsewhere, KeepsOtherChains}
 use Rattle.hash_index.proofs.Levels.{goes as goes_there, went, stays, leads_within}
 use Rattle.hash_index.proofs.Spelling.{Spells_from, IsSound_from, spelled_is, hangs_of, heads_count, Spells_nodes, focus_of, rest_is, none_long, empty_sound}
@@ -176,19 +176,13 @@ module _ (c : Column) (before after : ℕ → ℕ) (comes : (hash : ℕ) → bef
 
 -- ---- an index with one chain more
 
--- the heads of its chains, by those of the two that another became
-pub record CutsHeads (i j : HashIndex) (from : ℕ) (stay moved : Option Node) : Type 0 where
-  pub stays : Head
-  pub goes : Head
-  pub stay_is : first_in stays ≡ stay
-  pub moved_is : first_in goes ≡ moved
-  pub heads : all_of j ≡ set (all_of i) from stays ++ goes ∷ []
+firsts_are : (i j : HashIndex) (from : ℕ) (stay moved : Head) → all_of j ≡ set (all_of i) from stay ++ moved ∷ [] → heads_of j ≡ set (heads_of i) from (first_in stay) ++ first_in moved ∷ []
+firsts_are i j from stay moved heads =
+    ap (map first_in) heads ∙ (map_push first_in (set (all_of i) from stay) moved ∙ ap (λ z. z ++ first_in moved ∷ []) (map-set first_in (all_of i) from stay))
 
-cut_firsts : (i j : HashIndex) (from : ℕ) (stay moved : Option Node) → CutsHeads i j from stay moved → heads_of j ≡ set (heads_of i) from stay ++ moved ∷ []
-cut_firsts i j from stay moved cuts =
-    ap (map first_in) cuts.heads ∙ (map_push first_in (set (all_of i) from cuts.stays) cuts.goes
-    ∙ (ap (λ z. z ++ first_in cuts.goes ∷ []) (map-set first_in (all_of i) from cuts.stays)
-    ∙ (ap (λ o. set (heads_of i) from o ++ first_in cuts.goes ∷ []) cuts.stay_is ∙ ap (λ o. set (heads_of i) from stay ++ o ∷ []) cuts.moved_is)))
+-- a head that stays is as good as set
+pub head_kept : (hs : List Head) (b : ℕ) (head : Head) → slice_get hs b ≡ Some head → set hs b head ≡ hs
+head_kept hs b head at = ap (set hs b) (sym (get_or_from_slice_get hs b head head at)) ∙ set-get_or hs b head
 
 module _ (i j : HashIndex) (level : j.level ≡ i.level) (count : j.chains.len ≡ i.chains.len + 1) (some : 0 < i.chains.len) where
   into_is : (hash : ℕ) → leads_to j hash ≡ chain_of i.level (i.chains.len + 1) hash
@@ -213,10 +207,8 @@ module _ (i j : HashIndex) (level : j.level ≡ i.level) (count : j.chains.len �
       let bad : leads_to i hash ≡ i.chains.len = sym (into_stays hash ne) ∙ e in
       omega (arith, lt, bad)
 
-  module _ {ages : Node → ℕ} (cs ds : ℕ → Column) (stay moved : Chain) (head : Option Node) (from : ℕ) (h : IsSound ages cs i) (from_is : from ≡ i.chains.len - i.level) (at : head ≡ get_or (heads_of i) from None)
-      (stay_is : Builds ages (ds i.col) stay (left (cs i.col) i (rest_of cs i head))) (moved_is : Builds ages (ds i.col) moved (taken (cs i.col) i (rest_of cs i head))) (stay_rising : IsRising ages (ds i.col) (left (cs i.col) i (rest_of cs i head))) (moved_rising : IsRising ages (ds i.col) (taken (cs i.col) i (rest_of cs i head))) (tags : KeepsTags (cs i.col) (ds i.col)) (same : (m : Node) → Lacks (rest_of cs i head) m → ds i.col m ≡ cs i.col m)
-      (col : j.col ≡ i.col) (len : j.len ≡ i.len) (cuts : CutsHeads i j from stay.first moved.first) (stay_right : IsRight (ds i.col) cuts.stays) (moved_right : IsRight (ds i.col) cuts.goes)
-      (stay_old : 192 ≤ cuts.stays.mark → (n : Node) → first_in cuts.stays ≡ Some n → IsOldestOf ages (cs i.col) (spelled cs i) n) (moved_old : 192 ≤ cuts.goes.mark → (n : Node) → first_in cuts.goes ≡ Some n → IsOldestOf ages (cs i.col) (spelled cs i) n) where
+  module _ {ages : Node → ℕ} (cs ds : ℕ → Column) (head stay moved : Head) (from : ℕ) (h : IsSound ages cs i) (from_is : from ≡ i.chains.len - i.level) (at : slice_get (all_of i) from ≡ Some head) (parted : IsParted ages cs ds i head stay moved)
+      (col : j.col ≡ i.col) (len : j.len ≡ i.len) (heads : all_of j ≡ set (all_of i) from stay ++ moved ∷ []) where
     abbrev c : Column
     c = cs i.col
 
@@ -232,77 +224,77 @@ module _ (i j : HashIndex) (level : j.level ≡ i.level) (count : j.chains.len �
     focused : Focus ages c (leads_to i) 0 from from (heads_of i) (spelled cs i)
     focused = focus_of cs i (spelled cs i) from (omega (arith, from_is, some, i.some_level)) h
 
-    rest : rest_of cs i head ≡ focused.chain
-    rest = ap (λ o. rest_of cs i o) at ∙ (rest_is cs i (spelled cs i) from focused h.len).1
+    rest : rest_of cs i (first_in head) ≡ focused.chain
+    rest = ap (λ o. rest_of cs i o) (slice_first (heads_of i) (all_of i) from refl head at) ∙ (rest_is cs i (spelled cs i) from focused h.len).1
 
     stays_in : (n : Node) → IsIn c (leads_to i) from n → not (goes c i n) ≡ true → IsIn d (leads_to j) from n
     stays_in n inside kept =
         let t = in_tag c (leads_to i) from n inside in
         let ne : t.0 % (i.level * 2) ≢ i.chains.len = λ e. never_both (goes c i) n (leads_there c remainder last n t.0 t.1.0 e) kept in
-        ap (option_map (leads_to j)) (tags n ∙ t.1.0) ∙ ap Some (into_stays t.0 ne ∙ t.1.1)
+        ap (option_map (leads_to j)) (parted.tags n ∙ t.1.0) ∙ ap Some (into_stays t.0 ne ∙ t.1.1)
 
     goes_in : (n : Node) → goes c i n ≡ true → IsIn d (leads_to j) last n
-    goes_in n gone = let t = leads_tag c remainder last n gone in ap (option_map (leads_to j)) (tags n ∙ t.1.0) ∙ ap Some (into_goes t.0 t.1.1)
+    goes_in n gone = let t = leads_tag c remainder last n gone in ap (option_map (leads_to j)) (parted.tags n ∙ t.1.0) ∙ ap Some (into_goes t.0 t.1.1)
 
-    stay_chain : IsChain ages d (leads_to j) from stay.first (left c i focused.chain)
+    stay_chain : IsChain ages d (leads_to j) from (first_in stay) (left c i focused.chain)
     stay_chain =
-        let b = subst (λ z. Builds ages d stay (left c i z)) rest stay_is in
+        let b = subst (λ z. IsPart ages d head stay (left c i z)) rest parted.stays in
         record {
           first = b.first;
           runs = b.runs;
           members = All-map (λ n. IsIn c (leads_to i) from n × (not (goes c i n) ≡ true)) (IsIn d (leads_to j) from) (λ n e. stays_in n e.0 e.1) (left c i focused.chain)
               (All-both (IsIn c (leads_to i) from) (λ n. not (goes c i n) ≡ true) (left c i focused.chain) (All-filter (IsIn c (leads_to i) from) (λ n. not (goes c i n)) focused.chain focused.here.members) (All-passed (λ n. not (goes c i n)) focused.chain));
-          rising = subst (λ z. IsRising ages d (left c i z)) rest stay_rising;
+          rising = b.rising;
         }
 
-    moved_chain : IsChain ages d (leads_to j) last moved.first (taken c i focused.chain)
+    moved_chain : IsChain ages d (leads_to j) last (first_in moved) (taken c i focused.chain)
     moved_chain =
-        let b = subst (λ z. Builds ages d moved (taken c i z)) rest moved_is in
+        let b = subst (λ z. IsPart ages d head moved (taken c i z)) rest parted.moves in
         record {
           first = b.first;
           runs = b.runs;
           members = All-map (λ n. goes c i n ≡ true) (IsIn d (leads_to j) last) goes_in (taken c i focused.chain) (All-passed (goes c i) focused.chain);
-          rising = subst (λ z. IsRising ages d (taken c i z)) rest moved_rising;
+          rising = b.rising;
         }
 
     same_apart : (zs : List Node) → AreApart zs focused.chain → IsSameAt c d zs
     same_apart [] apart = tt
-    same_apart (z ∷ zs) apart = (same z (subst (λ l. Lacks l z) (sym rest) apart.0), same_apart zs apart.1)
+    same_apart (z ∷ zs) apart = (parted.kept z (subst (λ l. Lacks l z) (sym rest) apart.0), same_apart zs apart.1)
 
     abbrev new_list : List Node
     new_list = cut_list (goes c i) focused.front focused.chain focused.back
 
-    grown_hangs : Hangs ages d (leads_to j) 0 (set (heads_of i) from stay.first ++ moved.first ∷ []) new_list
+    grown_hangs : Hangs ages d (leads_to j) 0 (set (heads_of i) from (first_in stay) ++ first_in moved ∷ []) new_list
     grown_hangs =
         let a = apart_of focused.front focused.chain focused.back (subst IsDistinct focused.whole h.distinct) in
         let keeps = subst (KeepsOtherChains (leads_to i) (leads_to j)) (sym from_is) others_stay in
-        let one = focused.with_chain d (leads_to j) keeps stay.first (left c i focused.chain) (same_apart focused.front (AreApart-sym focused.chain focused.front a.before)) (same_apart focused.back (AreApart-sym focused.chain focused.back a.after)) stay_chain in
-        let place : last ≡ length (set (heads_of i) from stay.first) = omega (arith, heads_count i, length-set (heads_of i) from stay.first) in
-        hangs_last d (leads_to j) (set (heads_of i) from stay.first) (focused.front ++ (left c i focused.chain ++ focused.back)) moved.first (taken c i focused.chain) (subst (λ b. IsChain ages d (leads_to j) b moved.first (taken c i focused.chain)) place moved_chain) one
+        let one = focused.with_chain d (leads_to j) keeps (first_in stay) (left c i focused.chain) (same_apart focused.front (AreApart-sym focused.chain focused.front a.before)) (same_apart focused.back (AreApart-sym focused.chain focused.back a.after)) stay_chain in
+        let place : last ≡ length (set (heads_of i) from (first_in stay)) = omega (arith, heads_count i, length-set (heads_of i) from (first_in stay)) in
+        hangs_last d (leads_to j) (set (heads_of i) from (first_in stay)) (focused.front ++ (left c i focused.chain ++ focused.back)) (first_in moved) (taken c i focused.chain) (subst (λ b. IsChain ages d (leads_to j) b (first_in moved) (taken c i focused.chain)) place moved_chain) one
 
     grown_right : AreRight (ds j.col) (all_of j)
     grown_right =
         let k = hangs_of cs i (spelled cs i) h in
         let apart : (b : ℕ) (m : Node) → b ≢ from → IsIn c (leads_to i) b m → d m ≡ c m =
-        λ b m ne is. same m (subst (λ z. Lacks z m) (sym rest) (lacks_other c (leads_to i) from b focused.chain m focused.here.members is ne)) in
-        let most = right_set ages c d (leads_to i) (IsNode c) 0 from (all_of i) k.chains cuts.stays k.are (subst (AllByRecursion (IsNode c)) (sym k.whole) (each_node c (spelled cs i) (Spells_nodes cs i (spelled cs i) h)))
-        (λ b m ne node is. apart b m (λ e. ne (omega (arith, e))) is) stay_right h.right in
-        subst (λ b. AreRight (ds b) (all_of j)) (sym col) (subst (AreRight d) (sym cuts.heads) (All-join (IsRight d) (set (all_of i) from cuts.stays) (cuts.goes ∷ []) most (moved_right, tt)))
+        λ b m ne is. parted.kept m (subst (λ z. Lacks z m) (sym rest) (lacks_other c (leads_to i) from b focused.chain m focused.here.members is ne)) in
+        let most = right_set ages c d (leads_to i) (IsNode c) 0 from (all_of i) k.chains stay k.are (subst (AllByRecursion (IsNode c)) (sym k.whole) (each_node c (spelled cs i) (Spells_nodes cs i (spelled cs i) h)))
+        (λ b m ne node is. apart b m (λ e. ne (omega (arith, e))) is) parted.stays.right h.right in
+        subst (λ b. AreRight (ds b) (all_of j)) (sym col) (subst (AreRight d) (sym heads) (All-join (IsRight d) (set (all_of i) from stay) (moved ∷ []) most (parted.moves.right, tt)))
 
     old_there : (n : Node) → IsOldestOf ages c (spelled cs i) n → IsOldestOf ages d new_list n
-    old_there n old = old_tags ages c d new_list n tags (old_cut ages c (goes c i) focused.front focused.chain focused.back n (subst (λ z. IsOldestOf ages c z n) focused.whole old))
+    old_there n old = old_tags ages c d new_list n parted.tags (old_cut ages c (goes c i) focused.front focused.chain focused.back n (subst (λ z. IsOldestOf ages c z n) focused.whole old))
 
     grown_oldest : AreOldest ages (ds j.col) new_list (all_of j)
     grown_oldest =
         let k = hangs_of cs i (spelled cs i) h in
-        let most = oldest_set ages ages c d (leads_to i) (IsNode c) (spelled cs i) new_list 0 from (all_of i) k.chains cuts.stays k.are (subst (AllByRecursion (IsNode c)) (sym k.whole) (each_node c (spelled cs i) (Spells_nodes cs i (spelled cs i) h)))
-        (λ b m ne node is. old_there m) (λ says n first. old_there n (stay_old says n first)) h.oldest in
-        subst (λ b. AreOldest ages (ds b) new_list (all_of j)) (sym col) (subst (AreOldest ages d new_list) (sym cuts.heads)
-        (All-join (IsOldest ages d new_list) (set (all_of i) from cuts.stays) (cuts.goes ∷ []) most ((λ says n first. old_there n (moved_old says n first)), tt)))
+        let most = oldest_set ages ages c d (leads_to i) (IsNode c) (spelled cs i) new_list 0 from (all_of i) k.chains stay k.are (subst (AllByRecursion (IsNode c)) (sym k.whole) (each_node c (spelled cs i) (Spells_nodes cs i (spelled cs i) h)))
+        (λ b m ne node is. old_there m) (λ says n first. old_there n (cut_oldest ages c (all_of i) (spelled cs i) from head stay h.oldest at parted.stays.oldest parted.stays.same says n first)) h.oldest in
+        subst (λ b. AreOldest ages (ds b) new_list (all_of j)) (sym col) (subst (AreOldest ages d new_list) (sym heads)
+        (All-join (IsOldest ages d new_list) (set (all_of i) from stay) (moved ∷ []) most ((λ says n first. old_there n (cut_oldest ages c (all_of i) (spelled cs i) from head moved h.oldest at parted.moves.oldest parted.moves.same says n first)), tt)))
 
     grown_spells : Spells ages ds j new_list
     grown_spells =
-        let hangs = subst (λ k. Hangs ages (ds k) (leads_to j) 0 (heads_of j) new_list) (sym col) (subst (λ z. Hangs ages d (leads_to j) 0 z new_list) (sym (cut_firsts i j from stay.first moved.first cuts)) grown_hangs) in
+        let hangs = subst (λ k. Hangs ages (ds k) (leads_to j) 0 (heads_of j) new_list) (sym col) (subst (λ z. Hangs ages d (leads_to j) 0 z new_list) (sym (firsts_are i j from stay moved heads)) grown_hangs) in
         let count_kept = length_permutation _ _ (cut_moved (goes c i) focused.front focused.chain focused.back) in
         Spells_from ds j new_list hangs (cut_distinct (goes c i) focused.front focused.chain focused.back (subst IsDistinct focused.whole h.distinct))
         (omega (arith, len, h.len, ap length focused.whole, count_kept)) (omega (arith, len, h.load, count)) grown_right grown_oldest

@@ -15,4 +15,5 @@ pub mod AddedFirst
 pub mod Cutting
 pub mod Alone
 pub mod Growing
+pub mod Grown
 pub mod Laws

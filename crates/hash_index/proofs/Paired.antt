@@ -22,7 +22,7 @@ paired-at (x ∷ ms) [] j m n e h = cc
 paired-at (x ∷ ms) (y ∷ ns) zero m n e h = cc
 paired-at (x ∷ ms) (y ∷ ns) (suc j) m n e h = paired-at ms ns j m n e h
 
-mark_at : (ms : List ℕ) (ns : List (Option Node)) (j : ℕ) (h : Head) → slice_get (paired ms ns) j ≡ Some h → slice_get ms j ≡ Some h.mark
+pub mark_at : (ms : List ℕ) (ns : List (Option Node)) (j : ℕ) (h : Head) → slice_get (paired ms ns) j ≡ Some h → slice_get ms j ≡ Some h.mark
 mark_at [] ns j h e = cc
 mark_at (m ∷ ms) [] j h e = cc
 mark_at (m ∷ ms) (n ∷ ns) zero h e = let is : record { mark = m; node = n } ≡ h = cc in ap (λ (k : Head). Some k.mark) is

@@ -10,6 +10,10 @@ use Rattle.hash_index.specs.declared.head.Head.{Head}
 abbrev pub first_in : Head → Option Node
 first_in h = h.node
 
+-- the first node, if the mark says that no other comes after it
+abbrev pub alone_in : Head → Option Node
+alone_in h = cond (nat_lt h.mark 128) (first_in h) None
+
 -- where the mark says that the node is alone, no node comes after it, and the mark has the top bits of its hash
 abbrev pub IsRight : Column → Head → Type 0
 IsRight c h = h.mark < 128 → (n : Node) (l : Link) → first_in h ≡ Some n → c n ≡ Some l → (l.b ≡ None) × (h.mark ≡ l.tag / 2 ^ 58 + 64)
@@ -17,6 +21,10 @@ IsRight c h = h.mark < 128 → (n : Node) (l : Link) → first_in h ≡ Some n �
 -- each of the heads is right
 abbrev pub AreRight : Column → List Head → Type 0
 AreRight c hs = AllByRecursion (IsRight c) hs
+
+-- whether the mark says that there is no node
+abbrev pub is_empty : ℕ → Bool
+is_empty mark = nat_lt mark 64
 
 -- whether the mark says that no node may have this hash: there is none, or one that is alone and has other bits
 abbrev pub passes : ℕ → ℕ → Bool

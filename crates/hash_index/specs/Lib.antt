@@ -10,5 +10,7 @@ pub mod Spelled
 pub mod Split
 pub mod Hashed
 pub mod Walks
+pub mod Parts
 pub mod Stored
+pub mod Grown
 pub mod Put

@@ -6,7 +6,7 @@ ghost use Rattle.node_store.specs.declared.Node.{Node};
 ghost use Rattle.node_store.specs.Nodes.{IsDistinct};
 ghost use Rattle.node_store.specs.ByNode.{column_of, contents};
 ghost use Rattle.node_store.specs.Column.{KeepsOthers, KeepsNodes, IsNode, Column};
-ghost use Rattle.seq_index.specs.Links.{AreNodes, AreNodesOf, Runs, SetsNext, SetsPrev, end_beside};
+ghost use Rattle.seq_index.specs.Links.{AreNodes, AreNodesOf, SetsNext, SetsPrev, end_beside};
 ghost use Rattle.hash_index.specs.Chains.{untagged, tag_at, KeepsTags, KeepsOtherNodes};
 ghost use Rattle.hash_index.specs.Rising.{up_at, KeepsUps, IsRising};
 ghost use Rattle.hash_index.specs.Split.{Builds};
@@ -113,18 +113,6 @@ impl Chain {
         Chain {
             first: None,
             last: None,
-            rises: true,
-        }
-    }
-
-    // A chain of one node, where its link leads to no other.
-    pub(crate) fn of(n: Node) -> Chain
-        ensures { (ages : Node → ℕ) (c : Column) → Runs (untagged c) None (n ∷ []) None →
-            Builds ages c result (n ∷ []) }
-    {
-        Chain {
-            first: Some(n),
-            last: Some(n),
             rises: true,
         }
     }

@@ -1,18 +1,20 @@
 //! Growth of the buckets, one at a time: four chains.
-ghost use Rattle.std.specs.Prelude.{◌≡◌, ℕ, ◌+◌, ◌*◌, ◌<◌, ◌≤◌, None, OnOk, OnErr, IsPermutation, length};
+ghost use Rattle.std.specs.Prelude.{◌≡◌, ℕ, ◌+◌, ◌-◌, ◌*◌, ◌<◌, ◌≤◌, OnOk, OnErr, Some, IsPermutation, length, slice_get};
 ghost use Rattle.node_store.specs.declared.Node.{Node};
 ghost use Rattle.node_store.specs.ByNode.{column_of, contents};
 ghost use Rattle.node_store.specs.Store.{age_of};
 ghost use Rattle.node_store.specs.Column.{KeepsOthers};
 ghost use Rattle.node_store.specs.Nodes.{IsDistinct, Lacks};
-ghost use Rattle.hash_index.specs.Spelled.{col_of, buckets_of, grown, leads_to, HasRoom, KeepsTags};
+ghost use Rattle.hash_index.specs.Spelled.{col_of, all_of, buckets_of, grown, leads_to, HasRoom, KeepsTags};
 ghost use Rattle.hash_index.specs.Stored.{nodes_of, AreChainsOf, KeepsRest};
 ghost use Rattle.hash_index.specs.Walks.{rest_of, Ends};
-ghost use Rattle.hash_index.specs.Chains.{members, untagged};
+ghost use Rattle.hash_index.specs.Chains.{members};
 ghost use Rattle.hash_index.specs.Segments.{spare};
 ghost use Rattle.hash_index.specs.Split.{Builds, IsSame, left, taken};
+ghost use Rattle.hash_index.specs.Heads.{alone_in};
+ghost use Rattle.hash_index.specs.Grown.{IsGrown};
+ghost use Rattle.hash_index.specs.Parts.{Stands, IsParted};
 ghost use Rattle.hash_index.specs.Rising.{IsRising};
-ghost use Rattle.seq_index.specs.Links.{Runs};
 
 use crate::HashIndex;
 use crate::chain::Chain;
@@ -24,6 +26,7 @@ impl HashIndex {
     /// Makes room for one more node: where there are as many nodes as buckets, it adds one bucket, and moves those
     /// nodes of four other chains into it whose hashes lead there. Each chain keeps its order. Where memory is refused,
     /// everything is as before. Expected O(1): buckets that are there are not moved.
+    #[inline(never)]
     pub fn reserve_one<R>(&mut self, store: &mut NodeStore<R>) -> Result<(), AllocError>
         requires { AreChainsOf self.old store.old }
         ensures chain { AreChainsOf self.new store.new }
@@ -47,8 +50,7 @@ impl HashIndex {
             return Ok(());
         }
         self.reserve_chains()?;
-        self.grow_twice(store);
-        self.grow_twice(store);
+        self.add_bucket(store);
         Ok(())
     }
 
@@ -62,51 +64,38 @@ impl HashIndex {
         self.chains.reserve_bucket(self.alloc)
     }
 
-    // Adds two chains, for which there is room.
+    // Adds a bucket, for which there is room. All but the first one do not go past the level.
+    fn add_bucket<R>(&mut self, store: &mut NodeStore<R>)
+        requires chain { AreChainsOf self.old store.old }
+        requires room { 4 ≤ spare self.old.chains.segments.items }
+        ensures { IsGrown 4 self.old self.new store.old store.new }
+    {
+        self.raise_level();
+        if !self.chains.is_empty() && self.chains.len() + 4 <= self.level * 2 {
+            self.add_two(store);
+            self.add_two(store);
+        } else {
+            self.grow_twice(store);
+            self.grow_twice(store);
+        }
+    }
+
+    // Adds two chains, for which there is room, and which may go past the level.
     fn grow_twice<R>(&mut self, store: &mut NodeStore<R>)
         requires chain { AreChainsOf self.old store.old }
         requires room { 2 ≤ spare self.old.chains.segments.items }
-        ensures chain { AreChainsOf self.new store.new }
-        ensures list { IsPermutation (nodes_of self.old store.old) (nodes_of self.new store.new) }
-        ensures order { (b : ℕ) →
-            members (column_of store.old (col_of self.old)) (leads_to self.new) b
-            (nodes_of self.new store.new) ≡
-            members (column_of store.old (col_of self.old)) (leads_to self.new) b
-            (nodes_of self.old store.old) }
-        ensures tags { KeepsTags (column_of store.old (col_of self.old))
-            (column_of store.new (col_of self.old)) }
-        ensures leads { 0 < self.old.chains.len → (hash : ℕ) →
-            leads_to self.old (leads_to self.new hash) ≡ leads_to self.old hash }
-        ensures len { self.new.len ≡ self.old.len }
-        ensures count { self.new.chains.len ≡ self.old.chains.len + 2 }
-        ensures room { spare self.new.chains.segments.items + 2 ≡
-            spare self.old.chains.segments.items }
-        ensures rest { KeepsRest self.old self.new store.old store.new }
+        ensures { IsGrown 2 self.old self.new store.old store.new }
     {
         self.grow(store);
         self.grow(store);
     }
 
-    // Adds a chain, for which there is room. A hash led to the chain from which the one was cut that it leads to now.
+    // Adds a chain, for which there is room.
+    #[inline(never)]
     fn grow<R>(&mut self, store: &mut NodeStore<R>)
         requires chain { AreChainsOf self.old store.old }
         requires room { 0 < spare self.old.chains.segments.items }
-        ensures chain { AreChainsOf self.new store.new }
-        ensures list { IsPermutation (nodes_of self.old store.old) (nodes_of self.new store.new) }
-        ensures order { (b : ℕ) →
-            members (column_of store.old (col_of self.old)) (leads_to self.new) b
-            (nodes_of self.new store.new) ≡
-            members (column_of store.old (col_of self.old)) (leads_to self.new) b
-            (nodes_of self.old store.old) }
-        ensures tags { KeepsTags (column_of store.old (col_of self.old))
-            (column_of store.new (col_of self.old)) }
-        ensures leads { 0 < self.old.chains.len → (hash : ℕ) →
-            leads_to self.old (leads_to self.new hash) ≡ leads_to self.old hash }
-        ensures len { self.new.len ≡ self.old.len }
-        ensures count { self.new.chains.len ≡ self.old.chains.len + 1 }
-        ensures room { spare self.new.chains.segments.items + 1 ≡
-            spare self.old.chains.segments.items }
-        ensures rest { KeepsRest self.old self.new store.old store.new }
+        ensures { IsGrown 1 self.old self.new store.old store.new }
     {
         self.raise_level();
         if self.chains.is_empty() {
@@ -127,82 +116,108 @@ impl HashIndex {
         }
     }
 
+    // Adds two chains, for which there is room, and which do not go past the level.
+    fn add_two<R>(&mut self, store: &mut NodeStore<R>)
+        requires chain { AreChainsOf self.old store.old }
+        requires some { 0 < self.old.chains.len }
+        requires room { 2 ≤ spare self.old.chains.segments.items }
+        requires below { self.old.chains.len + 1 < self.old.level * 2 }
+        ensures grown { IsGrown 2 self.old self.new store.old store.new }
+        ensures level { self.new.level ≡ self.old.level }
+    {
+        self.add_chain(store);
+        self.add_chain(store);
+    }
+
     // Adds a chain, for which there is room, with the nodes that it takes over from the one `level` before it.
+    #[inline(always)]
     fn add_chain<R>(&mut self, store: &mut NodeStore<R>)
         requires chain { AreChainsOf self.old store.old }
         requires some { 0 < self.old.chains.len }
         requires room { 0 < spare self.old.chains.segments.items }
-        requires level { self.old.chains.len < self.old.level * 2 }
-        ensures chain { AreChainsOf self.new store.new }
-        ensures list { IsPermutation (nodes_of self.old store.old) (nodes_of self.new store.new) }
-        ensures order { (b : ℕ) →
-            members (column_of store.old (col_of self.old)) (leads_to self.new) b
-            (nodes_of self.new store.new) ≡
-            members (column_of store.old (col_of self.old)) (leads_to self.new) b
-            (nodes_of self.old store.old) }
-        ensures tags { KeepsTags (column_of store.old (col_of self.old))
-            (column_of store.new (col_of self.old)) }
-        ensures len { self.new.len ≡ self.old.len }
-        ensures leads { (hash : ℕ) →
-            leads_to self.old (leads_to self.new hash) ≡ leads_to self.old hash }
-        ensures count { self.new.chains.len ≡ self.old.chains.len + 1 }
-        ensures room { spare self.new.chains.segments.items + 1 ≡
-            spare self.old.chains.segments.items }
-        ensures rest { KeepsRest self.old self.new store.old store.new }
+        requires below { self.old.chains.len < self.old.level * 2 }
+        ensures grown { IsGrown 1 self.old self.new store.old store.new }
+        ensures level { self.new.level ≡ self.old.level }
     {
         let from = self.chains.len() - self.level;
-        let head = self.chains.head(from);
-        let (stay, moved) = self.cut(store, head.node());
-        let stay = self.head_of(store, stay.first);
-        let moved = self.head_of(store, moved.first);
-        self.chains.set(from, stay.cut_from(store, head));
-        self.chains.push_reserved(moved.cut_from(store, head));
+        if self.chains.is_empty_at(from) {
+            self.chains.push_reserved(Head::none());
+        } else {
+            self.hand_over(store, from);
+        }
     }
 
-    // Cuts a chain in two: the nodes that stay in it once there is one more, and those that go there. Where the chain has
-    // one node or none, as most have, nothing is written.
-    fn cut<R>(&self, store: &mut NodeStore<R>, at: Option<Node>) -> (Chain, Chain)
-        requires ends { Ends (column_of store.old) self.now at }
-        requires distinct { IsDistinct (rest_of (column_of store.old) self.now at) }
-        requires runs { Runs (untagged (column_of store.old (col_of self.now))) None
-            (rest_of (column_of store.old) self.now at) None }
-        requires rising { IsRising (age_of store.old) (column_of store.old (col_of self.now))
-            (rest_of (column_of store.old) self.now at) }
-        ensures stay { Builds (age_of store.old) (column_of store.new (col_of self.now)) result.0
-            (left (column_of store.old (col_of self.now)) self.now
-            (rest_of (column_of store.old) self.now at)) }
-        ensures moved { Builds (age_of store.old) (column_of store.new (col_of self.now)) result.1
-            (taken (column_of store.old (col_of self.now)) self.now
-            (rest_of (column_of store.old) self.now at)) }
-        ensures stay_rising { IsRising (age_of store.old) (column_of store.new (col_of self.now))
-            (left (column_of store.old (col_of self.now)) self.now
-            (rest_of (column_of store.old) self.now at)) }
-        ensures moved_rising { IsRising (age_of store.old) (column_of store.new (col_of self.now))
-            (taken (column_of store.old (col_of self.now)) self.now
-            (rest_of (column_of store.old) self.now at)) }
-        ensures tags { KeepsTags (column_of store.old (col_of self.now))
-            (column_of store.new (col_of self.now)) }
-        ensures same { (m : Node) → Lacks (rest_of (column_of store.old) self.now at) m →
-            column_of store.new (col_of self.now) m ≡ column_of store.old (col_of self.now) m }
+    // The same where that one has nodes.
+    #[inline(never)]
+    fn hand_over<R>(&mut self, store: &mut NodeStore<R>, from: usize)
+        requires chain { AreChainsOf self.old store.old }
+        requires some { 0 < self.old.chains.len }
+        requires room { 0 < spare self.old.chains.segments.items }
+        requires below { self.old.chains.len < self.old.level * 2 }
+        requires from { from ≡ self.old.chains.len - self.old.level }
+        ensures grown { IsGrown 1 self.old self.new store.old store.new }
+        ensures level { self.new.level ≡ self.old.level }
+    {
+        let head = self.chains.head(from);
+        match head.alone() {
+            Some(n) => self.hand_one(store, from, head, n),
+            None => self.hand_many(store, from, head),
+        }
+    }
+
+    // The same where it has one node: its hash says where that goes, and no link is written.
+    fn hand_one<R>(&mut self, store: &NodeStore<R>, from: usize, head: Head, n: Node)
+        requires chain { AreChainsOf self.old store.now }
+        requires some { 0 < self.old.chains.len }
+        requires room { 0 < spare self.old.chains.segments.items }
+        requires below { self.old.chains.len < self.old.level * 2 }
+        requires from { from ≡ self.old.chains.len - self.old.level }
+        requires head { slice_get (all_of self.old) from ≡ Some head }
+        requires alone { alone_in head ≡ Some n }
+        ensures grown { IsGrown 1 self.old self.new store.now store.now }
+        ensures level { self.new.level ≡ self.old.level }
+    {
+        if self.remainder(store.link(n, self.col).tag) == self.chains.len() {
+            self.chains.set(from, Head::none());
+            self.chains.push_reserved(head);
+        } else {
+            self.chains.push_reserved(Head::none());
+        }
+    }
+
+    // The same for any nodes, which are linked anew.
+    #[inline(never)]
+    fn hand_many<R>(&mut self, store: &mut NodeStore<R>, from: usize, head: Head)
+        requires chain { AreChainsOf self.old store.old }
+        requires some { 0 < self.old.chains.len }
+        requires room { 0 < spare self.old.chains.segments.items }
+        requires below { self.old.chains.len < self.old.level * 2 }
+        requires from { from ≡ self.old.chains.len - self.old.level }
+        requires head { slice_get (all_of self.old) from ≡ Some head }
+        ensures grown { IsGrown 1 self.old self.new store.old store.new }
+        ensures level { self.new.level ≡ self.old.level }
+    {
+        let (stay, moved) = self.part(store, head);
+        self.chains.set(from, stay);
+        self.chains.push_reserved(moved);
+    }
+
+    // Parts the nodes of a chain: those that stay in it once there is one more, and those that go there.
+    fn part<R>(&self, store: &mut NodeStore<R>, head: Head) -> (Head, Head)
+        requires { Stands (age_of store.old) (column_of store.old) self.now head }
+        ensures parted { IsParted (age_of store.old) (column_of store.old) (column_of store.new)
+            self.now head result.0 result.1 }
         ensures others { KeepsOthers (column_of store.old) (column_of store.new)
             (col_of self.now) }
         ensures contents { contents store.new ≡ contents store.old }
     {
-        let Some(n) = at else {
-            return (Chain::new(), Chain::new());
-        };
-        let Link { b, tag, .. } = store.link(n, self.col);
-        if b.is_some() {
-            return self.cut_links(store, at);
-        }
-        if self.remainder(tag) == self.chains.len() {
-            (Chain::new(), Chain::of(n))
-        } else {
-            (Chain::of(n), Chain::new())
-        }
+        let (stay, moved) = self.cut_links(store, head.node());
+        let stay = self.head_of(store, stay.first);
+        let moved = self.head_of(store, moved.first);
+        (stay.cut_from(store, head), moved.cut_from(store, head))
     }
 
-    // The same for a chain of any length, node by node.
+    // Cuts a chain in two, node by node.
     fn cut_links<R>(&self, store: &mut NodeStore<R>, at: Option<Node>) -> (Chain, Chain)
         requires ends { Ends (column_of store.old) self.now at }
         requires distinct { IsDistinct (rest_of (column_of store.old) self.now at) }

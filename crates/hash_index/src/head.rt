@@ -2,7 +2,7 @@
 ghost use Rattle.std.specs.Prelude.{◌≡◌, ◌↔◌, ◌+◌, ◌/◌, ◌<◌, ◌≤◌, ◌^◌, IsTrue, cond, IsSomeAnd, Some, None};
 ghost use Rattle.node_store.specs.declared.Node.{Node};
 ghost use Rattle.node_store.specs.Store.{IsNodeOf};
-ghost use Rattle.hash_index.specs.Heads.{first_in, hinted_in, passes};
+ghost use Rattle.hash_index.specs.Heads.{first_in, alone_in, hinted_in, is_empty, passes};
 
 use node_store::{Node, NodeStore};
 
@@ -35,6 +35,13 @@ pub(crate) fn passes(hash: u64, mark: u8) -> bool
     ensures { result ≡ passes hash mark }
 {
     mark < FOLLOWED && mark != top(hash) + ALONE
+}
+
+// Whether a mark says that there is no node.
+pub(crate) fn is_empty(mark: u8) -> bool
+    ensures { result ≡ is_empty mark }
+{
+    mark < ALONE
 }
 
 // Whether these are one node.
@@ -119,6 +126,17 @@ impl Head {
         ensures { IsTrue result ↔ 192 ≤ self.mark }
     {
         OLDEST <= self.mark
+    }
+
+    // The node, if the mark says that it is alone.
+    pub(crate) fn alone(self) -> Option<Node>
+        ensures { result ≡ alone_in self }
+    {
+        if self.mark < FOLLOWED {
+            self.node
+        } else {
+            None
+        }
     }
 
     // The node, if there is one.

@@ -1,7 +1,7 @@
 //! Heads of chains that lie side by side.
 ghost use Rattle.std.specs.Prelude.{◌≡◌, ◌≢◌, ◌-◌, ◌<◌, vec_len, vec_capacity, [], ◌∷◌, ◌++◌, length, slice_get, set, option_and_then, Some, None, IfOk};
 
-use crate::head::{Head, passes};
+use crate::head::{Head, is_empty, passes};
 use node_store::MaybeNode;
 use std::alloc::{AllocError, Global};
 
@@ -16,7 +16,8 @@ pub(crate) struct Segment {
 }
 
 impl Segment {
-    ghost use Rattle.hash_index.specs.Heads.{first_in, start_in};
+    ghost use Rattle.hash_index.specs.Heads.{first_in, is_empty, start_in};
+    ghost use Rattle.hash_index.specs.declared.head.Head.{Head};
     ghost use Rattle.hash_index.specs.Segments.{items_of, capacity_of};
 
     // No heads, and room for so many.
@@ -60,6 +61,14 @@ impl Segment {
             return Head::none();
         }
         self.head(place)
+    }
+
+    // Whether the mark at a place says that there is no node. No node is read.
+    pub(crate) fn is_empty_at(&self, place: usize) -> bool
+        requires { place < length (items_of self.now) }
+        ensures { (h : Head) → slice_get (items_of self.now) place ≡ Some h → result ≡ is_empty h.mark }
+    {
+        is_empty(self.marks[place])
     }
 
     // Sets the head at a place.

@@ -1,6 +1,7 @@
 //! The heads of the chains, in segments that are never moved.
 ghost use Rattle.std.specs.Prelude.{◌≡◌, ◌≢◌, ◌==◌, ◌+◌, ◌<◌, ◌≤◌, ◌^◌, vec_len, vec_capacity, [], ◌∷◌, ◌++◌, length, get_or, slice_get, set, option_and_then, Some, None, OnOk, OnErr};
-ghost use Rattle.hash_index.specs.Heads.{start_in};
+ghost use Rattle.hash_index.specs.declared.head.Head.{Head};
+ghost use Rattle.hash_index.specs.Heads.{is_empty, start_in};
 ghost use Rattle.hash_index.specs.Segments.{first_in, all_in, heads_in, spare, AreSegments, AreSegments_prop, IsAt};
 
 use crate::head::Head;
@@ -83,6 +84,15 @@ impl Segments {
         self.segments[segment].seen(place, hash)
     }
 
+    // Whether the mark of a chain says that it has no node. No node is read. O(1).
+    pub(crate) fn is_empty_at(&self, chain: usize) -> bool
+        requires { chain < self.now.len }
+        ensures { (h : Head) → slice_get (all_in self.now.segments.items) chain ≡ Some h → result ≡ is_empty h.mark }
+    {
+        let (segment, place) = locate(chain);
+        self.segments[segment].is_empty_at(place)
+    }
+
     // Gives a chain another head. O(1).
     pub(crate) fn set(&mut self, chain: usize, head: Head)
         requires { chain < self.old.len }
@@ -112,6 +122,8 @@ impl Segments {
     }
 
     // Takes the next segment, where all are full.
+    #[cold]
+    #[inline(never)]
     fn add_segment(&mut self, alloc: Global) -> Result<(), AllocError>
         requires { spare self.old.segments.items ≡ 0 }
         ensures heads { all_in self.new.segments.items ≡ all_in self.old.segments.items }
