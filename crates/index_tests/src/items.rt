@@ -1,8 +1,8 @@
 //! Records of a group, under an index of each kind.
 
 use indexed::{
-    Field, Fields, HASHED, Index, Indexed, ORDERED, RANDOM, RANKED, Rising, SEQUENCED, pick,
-    unsigned,
+    Field, Fields, HASHED, Hashed, Index, Indexed, ORDERED, Ordered, RANDOM, RANKED, Random,
+    Ranked, Rising, SEQUENCED, Sequenced, Tag, unsigned,
 };
 use std::alloc::Global;
 
@@ -12,15 +12,15 @@ pub struct Item {
     pub group: u64,
 }
 
-pub(crate) const BY_GROUP: usize = 0;
+pub(crate) const BY_GROUP: Tag<Ordered> = Tag(0, Ordered);
 
-pub(crate) const RANKS: usize = 1;
+pub(crate) const RANKS: Tag<Ranked> = Tag(1, Ranked);
 
-pub(crate) const GROUPS: usize = 2;
+pub(crate) const GROUPS: Tag<Hashed> = Tag(2, Hashed);
 
-pub(crate) const SEQUENCE: usize = 3;
+pub(crate) const SEQUENCE: Tag<Sequenced> = Tag(3, Sequenced);
 
-pub(crate) const ROW: usize = 4;
+pub(crate) const ROW: Tag<Random> = Tag(4, Random);
 
 const INDICES: &[Index] = &[
     Index(ORDERED, &[Rising(0)]),
@@ -39,7 +39,10 @@ impl Fields for Item {
     ghost indices = { ordered ∷ ranked ∷ hashed ∷ sequenced ∷ random ∷ [] };
 
     fn field(&self, column: usize) -> Option<Field<'_>> {
-        pick(column, &[unsigned(self.group)])
+        match column {
+            0 => Some(unsigned(self.group)),
+            _ => None,
+        }
     }
 }
 

@@ -22,6 +22,7 @@ mod slots;
 mod store;
 mod tens;
 mod tree;
+mod walks;
 
 use std::alloc::Global;
 use std::io;
@@ -72,7 +73,7 @@ fn of_stores(rt: &impl Threads, alloc: Global) -> [(&'static str, Option<bool>);
 }
 
 // The cases of one kind of index each.
-fn of_kinds(alloc: Global) -> [(&'static str, Option<bool>); 4] {
+fn of_kinds(alloc: Global) -> [(&'static str, Option<bool>); 5] {
     [
         (
             "drawn changes of a sequence agree with a plain list",
@@ -89,6 +90,10 @@ fn of_kinds(alloc: Global) -> [(&'static str, Option<bool>); 4] {
         (
             "the first of a key at each kind",
             equals::are_found_at_each_kind(alloc),
+        ),
+        (
+            "walks from both ends meet in the middle",
+            walks::meet_at_each_kind(alloc),
         ),
     ]
 }

@@ -2,7 +2,7 @@
 ghost use Rattle.std.specs.Prelude.{◌≡◌, ◌<◌, Err, IfErr, IfOk, IsTrue, None, Ok, OnErr, OnOk, Some, length, not};
 ghost use Rattle.std.specs.Fn.{FnOnceReturnsAtMut};
 ghost use Rattle.std.specs.Result.{MatchResult};
-ghost use Rattle.container_model.specs.State.{has_key_kind, is_hashed_kind, row_of};
+ghost use Rattle.container_model.specs.State.{is_hashed_kind, row_of};
 ghost use Rattle.container_model.specs.Change.{cleared, erase_refusal, erased_count, modify_refusal, next_in, replace_refusal, spent, with_erased, with_key_erased, with_modified, with_replaced};
 ghost use Rattle.container_model.specs.Insert.{ban};
 ghost use Rattle.linked_set.specs.Modified.{told};
@@ -10,6 +10,8 @@ ghost use Rattle.indexed.specs.Kinds.{kind_of};
 ghost use Rattle.indexed.specs.Orders.{by_key, to_search};
 
 use crate::container::Indexed;
+use crate::kinds::{Keyed, Tag, Walked};
+use crate::stop::check_search;
 use field_keys::{Fields, Search};
 use multi_index::{Erased, Handle, Modified, Refused, Why};
 
@@ -33,17 +35,18 @@ impl<R: Fields + Drop> Indexed<R> {
     /// Takes a record out of every index, and hands it over with the handle of the record after it in an index that is not
     /// hashed. `Stale` and `Spent` are refused, in this order, and change nothing. O(log n) for each index, but O(the records
     /// behind it) in one whose places can be counted.
-    pub fn erase_at(&mut self, number: usize, handle: Handle) -> Result<Erased<R>, Why>
-        requires kind { IsTrue (not (is_hashed_kind (kind_of R.indices number))) }
-        requires within { number < length R.indices }
+    pub fn erase_at<K: Walked>(&mut self, tag: Tag<K>, handle: Handle) -> Result<Erased<R>, Why>
+        requires within { tag.0 < length R.indices }
+        requires kind { kind_of R.indices tag.0 ≡ K.kind }
         ensures row { IfOk result (λ erased. row_of self.old.entries handle ≡ Some erased.row) }
-        ensures next { IfOk result (λ erased. erased.next ≡ next_in self.old number handle) }
-        ensures allowed { OnOk result (erase_refusal self.old handle (Some number) ≡ None) }
+        ensures next { IfOk result (λ erased. erased.next ≡ next_in self.old tag.0 handle) }
+        ensures allowed { OnOk result (erase_refusal self.old handle (Some tag.0) ≡ None) }
         ensures ok { OnOk result (self.new ≡ with_erased self.old handle) }
-        ensures why { IfErr result (λ why. Some why ≡ erase_refusal self.old handle (Some number)) }
+        ensures why { IfErr result (λ why. Some why ≡ erase_refusal self.old handle (Some tag.0)) }
         ensures unchanged { OnErr result (self.new ≡ self.old) }
     {
-        match self.records.erase(handle, Some(number)) {
+        self.check_tag(tag, "erase_at");
+        match self.records.erase(handle, Some(tag.0)) {
             Ok(erased) => Ok(erased),
             Err(refused) => Err(refused.why),
         }
@@ -51,20 +54,21 @@ impl<R: Fields + Drop> Indexed<R> {
 
     /// Takes out every record that has the key at the index, also a leading part of one, and answers how many there were.
     /// `Spent` alone refuses, and then nothing is changed. For each record that goes, O(log n) for each index.
-    pub fn erase_key(&mut self, number: usize, search: &Search) -> Result<u64, Why>
-        requires kind { IsTrue (has_key_kind (kind_of R.indices number)) }
-        requires whole { IsTrue (is_hashed_kind (kind_of R.indices number)) →
-            IsTrue (not search.now.leading) }
-        requires within { number < length R.indices }
+    pub fn erase_key<K: Keyed>(&mut self, tag: Tag<K>, search: &Search) -> Result<u64, Why>
+        requires within { tag.0 < length R.indices }
+        requires kind { kind_of R.indices tag.0 ≡ K.kind }
+        requires whole { IsTrue (is_hashed_kind K.kind) → IsTrue (not search.now.leading) }
         ensures count { IfOk result (λ count. count ≡
-            erased_count (to_search R.row_of) self.old number search.now) }
+            erased_count (to_search R.row_of) self.old tag.0 search.now) }
         ensures allowed { OnOk result (spent self.old ≡ None) }
         ensures ok { OnOk result (self.new ≡
-            with_key_erased (to_search R.row_of) self.old number search.now) }
+            with_key_erased (to_search R.row_of) self.old tag.0 search.now) }
         ensures why { IfErr result (λ why. Some why ≡ spent self.old) }
         ensures unchanged { OnErr result (self.new ≡ self.old) }
     {
-        match self.records.erase_key(number, search) {
+        self.check_tag(tag, "erase_key");
+        check_search::<K>(search, tag.0, "erase_key");
+        match self.records.erase_key(tag.0, search) {
             Ok(count) => Ok(count),
             Err(refused) => Err(refused.why),
         }

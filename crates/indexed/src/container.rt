@@ -4,31 +4,35 @@ ghost use Rattle.container_model.specs.State.{empty_with_most, row_of};
 ghost use Rattle.container_model.specs.Insert.{insert_refusal, new_handle, with_inserted};
 ghost use Rattle.container_model.specs.Change.{erase_refusal, with_erased};
 ghost use Rattle.field_keys.specs.Indices.{declared_keys, declared_specs};
-ghost use Rattle.indexed.specs.Kinds.{are_valid, have_fields};
+ghost use Rattle.indexed.specs.Kinds.{are_valid, have_fields, kind_of};
 ghost use Rattle.indexed.specs.Orders.{by_key};
 
+use crate::kinds::{IndexKind, Tag};
+use crate::stop::must;
 use crate::view::View;
 use field_keys::{FieldKeys, Fields, Index, specs_of};
 use multi_index::{Handle, MultiIndex, Refused, Why};
 use std::alloc::{AllocError, Global};
-use std::marker::Model;
+use std::marker::{Model, PhantomData};
 
 /// Records under the indices that they declare.
 #[derive(Drop)]
 pub struct Indexed<R: Fields + Drop> {
     pub(crate) records: MultiIndex<R, FieldKeys>,
+    indices: &'static [Index],
 }
 
 impl<R: Fields + Drop> Model for Indexed<R> {
     ghost use Rattle.std.specs.Prelude.{◌≡◌, List};
     ghost use Rattle.key_extract.specs.declared.key.Part.{Part};
     ghost use Rattle.container_model.specs.State.{State};
+    ghost use Rattle.indexed.specs.Viewed.{IsDeclared};
 
     ghost Value = { State (List (List Part)) R };
 
     ghost view = { λ c. c.records };
 
-    ghost invariant = { λ c. c.records.specs ≡ R.indices };
+    ghost invariant = { λ c. IsDeclared R.indices c.indices.now c.records };
 }
 
 impl<R: Fields + Drop> Indexed<R> {
@@ -45,6 +49,7 @@ impl<R: Fields + Drop> Indexed<R> {
         let keys = FieldKeys::declared(indices);
         Ok(Indexed {
             records: MultiIndex::with_most(alloc, specs, keys, indices.len(), max, 0)?,
+            indices,
         })
     }
 
@@ -70,13 +75,32 @@ impl<R: Fields + Drop> Indexed<R> {
     }
 
     /// One index, to look records up in. O(1).
-    pub fn index(&self, number: usize) -> View<'_, R>
-        requires { number < length R.indices }
-        ensures { result ≡ record { all = self.now; number = number } }
+    pub fn index<K: IndexKind>(&self, tag: Tag<K>) -> View<'_, R, K>
+        requires within { tag.0 < length R.indices }
+        requires kind { kind_of R.indices tag.0 ≡ K.kind }
+        ensures { result ≡ record { all = self.now; number = tag.0 } }
     {
+        self.check_tag(tag, "index");
         View {
             records: &self.records,
-            number,
+            number: tag.0,
+            kind: PhantomData,
+        }
+    }
+
+    // That there is an index of this number, and of the kind that its name says.
+    pub(crate) fn check_tag<K: IndexKind>(&self, tag: Tag<K>, call: &str)
+        requires within { tag.0 < length R.indices }
+        requires kind { kind_of R.indices tag.0 ≡ K.kind }
+    {
+        match self.indices.get(tag.0) {
+            Some(index) => must(
+                index.0.kind == K::kind(),
+                call,
+                tag.0,
+                "is of another kind than its name says",
+            ),
+            None => must(false, call, tag.0, "is not there"),
         }
     }
 

@@ -35,6 +35,7 @@ pub mod Restored
 pub mod Rewritten
 pub mod Rising
 pub mod Rows
+pub mod RowsAt
 pub mod SameNodes
 pub mod Seen
 pub mod Settling
@@ -47,6 +48,7 @@ pub mod There
 pub mod Thinned
 pub mod Undoing
 pub mod Walks
+pub mod WalksBack
 pub mod WalksLeft
 pub mod Whole
 pub mod Written

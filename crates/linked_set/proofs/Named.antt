@@ -110,7 +110,7 @@ module _ {E R : Type 0} {has_key : E → ℕ → Bool} {order : E → ℕ → R 
   told_stale g none = answered_stale h (g (is_handle h) (list_at r.lists index)) view (stale_seen set slots whole.linked h none)
 
   module _ (n : Node) (found : (item_at slots h.slot ≡ Some n) × IsTrue (is_handle h (handle_of (record_of set) n))) where
-    told_live : {A : Type 0} (g : (Handle → Bool) → List Handle → A) (a : A) → a ≡ g (is_handle h) (list_at (records_in set).lists index) → Ok a ≡ cond (is_live (alone r) h) (Ok (g (is_handle h) (list_at r.lists index))) (Err Stale)
+    pub told_live : {A : Type 0} (g : (Handle → Bool) → List Handle → A) (a : A) → a ≡ g (is_handle h) (list_at (records_in set).lists index) → Ok a ≡ cond (is_live (alone r) h) (Ok (g (is_handle h) (list_at r.lists index))) (Err Stale)
     told_live g a is = answered_live h (λ s. g (is_handle h) (list_at s.lists index)) a view (live_seen set slots whole.linked h n found.0 found.1) is
 
     -- where no index has the number, of no list

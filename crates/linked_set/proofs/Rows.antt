@@ -1,6 +1,6 @@
 -- The records of nodes with their handles: those of the handles, and what a walk has left of them.
 use Rattle.key_extract.specs.Digests.{Marks}
-use Rattle.std.proofs.Common.{◌≡◌, ◌≢◌, ◌⊎◌, inl, inr, ◌+◌, ◌<◌, ◌≤◌, ℕ, Bool, true, false, List, [], ◌∷◌, length, map, slice_get, Option, Some, None, refl, sym, ap, ◌∙◌, subst}
+use Rattle.std.proofs.Common.{◌≡◌, ◌≢◌, ◌⊎◌, inl, inr, ◌+◌, ◌<◌, ◌≤◌, ℕ, Bool, true, false, List, [], ◌∷◌, length, map, slice_get, Option, Some, None, refl, sym, ap, ◌∙◌, subst, arith}
 use Rattle.std.specs.Prelude.{IsTrue, not, is_some, option_map}
 use Rattle.std.specs.List.{AllByRecursion, filter_map, cons_option}
 use Rattle.std.proofs.lemmas.Bool.{cases_lt}
@@ -15,7 +15,7 @@ use Rattle.container_model.specs.declared.handle.Entry.{Entry}
 use Rattle.container_model.specs.declared.handle.Handle.{Handle}
 use Rattle.container_model.specs.declared.handle.Kind.{Kind}
 use Rattle.container_model.specs.declared.handle.Kind.TheVariants.{Sequenced, Random, Ordered, Ranked, Hashed}
-use Rattle.container_model.specs.State.{AreIndices, row_of, list_at, is_hashed_kind, is_sorted_kind}
+use Rattle.container_model.specs.State.{row_of, list_at, is_hashed_kind, is_sorted_kind}
 use Rattle.container_model.specs.Find.{probe_side}
 use Rattle.node_store.specs.declared.Node.{Node}
 use Rattle.node_store.specs.Nodes.{Holds, IsDistinct}
@@ -24,7 +24,7 @@ use Rattle.node_store.specs.ByNode.{same_node}
 use Rattle.node_store.proofs.ByNode.{same_node-refl, same_node-false}
 use Rattle.any_index.proofs.Runs.{next_is}
 use Rattle.index_set.specs.declared.parts.Parts.{Parts}
-use Rattle.index_set.specs.Set.{store_of, keys_of, specs_of, contents, record_of, list_of, lists_of}
+use Rattle.index_set.specs.Set.{store_of, specs_of, contents, record_of, list_of, lists_of}
 use Rattle.index_set.proofs.Members.{distinct_at, nodes_held_at, Holds_at}
 use Rattle.index_set.specs.declared.by_row.ByRow.{ByRow}
 use Rattle.linked_set.specs.Edges.{edge_of, node_edge}
@@ -35,8 +35,8 @@ use Rattle.linked_set.proofs.Reading.{known_at, list_seen}
 use Rattle.linked_set.proofs.Sides.{handle_known, row_known}
 use Rattle.linked_set.specs.Iteration.{is_one, nodes_left, rows_of_nodes, with_rows, IsWalk}
 use Rattle.linked_set.proofs.Rising.{range_seen}
-use Rattle.linked_set.proofs.There.{list_past, no_nodes, there_at}
-use Rattle.linked_set.proofs.WalksLeft.{all_left, none_left, one_left, past_end}
+use Rattle.linked_set.proofs.There.{there_at}
+use Rattle.linked_set.proofs.WalksLeft.{none_left, one_left, past_end}
 
 module _ {R : Type 0} (records : Node → Option (Entry R)) where
   -- one node more
@@ -66,6 +66,10 @@ other_one : (o : Option Node) (n : Node) → o ≢ Some n → is_one o n ≡ fal
 other_one None n apart = refl
 other_one (Some m) n apart = same_node-false m n (λ e. apart (ap Some e))
 
+-- what a test that says no does not hold
+pub told_apart : {A : Type 0} {test : Bool} → (A → test ≡ true) → test ≡ false → ¬ A
+told_apart says told a = let bad = sym (says a) ∙ told in cc
+
 module _ {E R : Type 0} {has_key : E → ℕ → Bool} (set : Parts (Entry R) (ByRow E)) (index : ℕ) (next end : Option Node) (w : IsWalk has_key set index next end) where
   abbrev list : List Node
   list = list_of set index
@@ -78,38 +82,64 @@ module _ {E R : Type 0} {has_key : E → ℕ → Bool} (set : Parts (Entry R) (B
   over e = ap rows e ∙ ap (rows_of_nodes (record_of set)) (past_end end list)
 
   module _ (n : Node) (is : next ≡ Some n) where
-    here : slice_get list w.begins.place ≡ Some n
-    here = sym w.begins.is ∙ is
+    pub here : slice_get list w.run.from ≡ Some n
+    here = sym w.run.begins ∙ is
 
     -- so the index is there
     pub within : index < length (specs_of set)
-    within = there_at set w.sound index w.begins.place n here
+    within = there_at set w.sound index w.run.from n here
 
-    distinct : IsDistinct list
+    pub distinct : IsDistinct list
     distinct = distinct_at set w.sound index within
 
     -- the next node is one of the index, and of the store
     pub held : Holds list n
-    held = Holds_at list w.begins.place n here
+    held = Holds_at list w.run.from n here
+
+    pub place_there : (place : ℕ) (m : Node) → slice_get list place ≡ Some m → IsNodeOf (store_of set) m
+    place_there place m = some_at (IsNodeOf (store_of set)) list place (nodes_held_at set w.sound index within) m
 
     pub there : IsNodeOf (store_of set) n
-    there = some_at (IsNodeOf (store_of set)) list w.begins.place (nodes_held_at set w.sound index within) n here
+    there = place_there w.run.from n here
 
     -- the node that ends the walk, if there is one, is of the store too
     pub end_there : (m : Node) → end ≡ Some m → IsNodeOf (store_of set) m
-    end_there m e = some_at (IsNodeOf (store_of set)) list w.ends.place (nodes_held_at set w.sound index within) m (sym w.ends.is ∙ e)
+    end_there m e = place_there w.run.to m (sym w.run.ends ∙ e)
+
+    pub end_held : (m : Node) → end ≡ Some m → Holds list m
+    end_held m e = Holds_at list w.run.to m (sym w.run.ends ∙ e)
 
     -- where it ends the walk, nothing is left
     pub ended : end ≡ Some n → rows next ≡ []
-    ended e = ap rows is ∙ ap (rows_of_nodes (record_of set)) (none_left list distinct end w.begins.place n here (ap (λ o. is_one o n) e ∙ same_node-refl n))
+    ended e = ap rows is ∙ ap (rows_of_nodes (record_of set)) (none_left list distinct end w.run.from n here (ap (λ o. is_one o n) e ∙ same_node-refl n))
 
-    -- where it does not, it is left, and what is left from the node after it on
+    -- where it does not, the walk ends past it, also from the node after it on
+    pub below_end : end ≢ Some n → w.run.from < w.run.to
+    below_end goes = by_place (cases_lt w.run.from w.run.to)
+      where
+        by_place : (w.run.from < w.run.to) ⊎ (w.run.to ≤ w.run.from) → w.run.from < w.run.to
+        by_place (inl below) = below
+        by_place (inr past) =
+            let same : w.run.to ≡ w.run.from = omega (arith, past, w.run.upward n is) in
+            absurd (goes (w.run.ends ∙ ap (slice_get list) same ∙ here))
+
+    pub walks_on : (after : Option Node) → end ≢ Some n → after ≡ node_after (same_node n) list → IsWalk has_key set index after end
+    walks_on after goes comes =
+        let below = below_end goes in
+        let at : after ≡ slice_get list (w.run.from + 1) = comes ∙ next_is list w.run.from n distinct here in
+        record {
+          sound = w.sound;
+          kind = w.kind;
+          run = record { from = w.run.from + 1; to = w.run.to; begins = at; ends = w.run.ends; upward = λ m e. omega (arith, below) };
+        }
+
+    -- it is then left, and what is left from the node after it on
     pub stepped : (e : Entry R) (after : Option Node) → end ≢ Some n → record_of set n ≡ Some e → after ≡ node_after (same_node n) list → rows next ≡ (e.handle, e.row) ∷ rows after
     stepped e after goes has comes =
-        let at : slice_get list (w.begins.place + 1) ≡ after = sym (comes ∙ next_is list w.begins.place n distinct here) in
+        let at : slice_get list (w.run.from + 1) ≡ after = sym (comes ∙ next_is list w.run.from n distinct here) in
         ap rows is
-        ∙ (ap (rows_of_nodes (record_of set)) (one_left list distinct end w.begins.place n here (other_one end n goes))
-        ∙ (row_more (record_of set) n (nodes_left (slice_get list (w.begins.place + 1)) end list) e has ∙ ap (λ o. (e.handle, e.row) ∷ rows o) at))
+        ∙ (ap (rows_of_nodes (record_of set)) (one_left list distinct end w.run.from n here (other_one end n goes))
+        ∙ (row_more (record_of set) n (nodes_left (slice_get list (w.run.from + 1)) end list) e has ∙ ap (λ o. (e.handle, e.row) ∷ rows o) at))
 
 -- ---- the records of an index
 
@@ -121,10 +151,6 @@ module _ {E R : Type 0} {has_key : E → ℕ → Bool} {order : E → ℕ → R 
   abbrev known : AllByRecursion (IsKnown (record_of set) (entries_in (contents set))) (list_of set index)
   known = known_at set slots linked index
 
-  -- all of them
-  pub whole_seen : rows_of_nodes (record_of set) (list_of set index) ≡ named (list_at (handles_in (record_of set) (lists_of set)) index)
-  whole_seen = rows_seen (record_of set) (entries_in (contents set)) (list_of set index) known ∙ ap named (list_seen set slots linked index)
-
   -- those between two bounds
   pub between_seen : {P : Type 0} (probe_order : E → ℕ → R → P → Ordering) (low high : Bound P) →
       rows_of_nodes (record_of set) (range (node_edge probe_order set index low) (node_edge probe_order set index high) (list_of set index))
@@ -132,18 +158,6 @@ module _ {E R : Type 0} {has_key : E → ℕ → Bool} {order : E → ℕ → R 
   between_seen probe_order low high =
       rows_seen (record_of set) (entries_in (contents set)) (range (node_edge probe_order set index low) (node_edge probe_order set index high) (list_of set index)) (All-filter (IsKnown (record_of set) (entries_in (contents set))) _ (list_of set index) known)
       ∙ ap named (range_seen set slots linked index within probe_order low high)
-
--- all of them, of an index that is there, and none of one that is not
-module _ {E R : Type 0} {has_key : E → ℕ → Bool} {order : E → ℕ → R → R → Ordering} {marks : E → ℕ → R → Marks} (set : Parts (Entry R) (ByRow E)) (slots : List (Option Node)) (linked : IsLinked has_key order marks set slots)
-    (index max writes : ℕ) (indices : AreIndices (order (keys_of set).keys) (entries_in (contents set)) 0 (specs_of set) (handles_in (record_of set) (lists_of set))) where
-  pub whole_left : rows_of_nodes (record_of set) (nodes_left (slice_get (list_of set index) 0) None (list_of set index)) ≡ with_rows (seen set max writes) (list_at (handles_in (record_of set) (lists_of set)) index)
-  whole_left = by_place (cases_lt index (length (specs_of set)))
-    where
-      by_place : (index < length (specs_of set)) ⊎ (length (specs_of set) ≤ index) → rows_of_nodes (record_of set) (nodes_left (slice_get (list_of set index) 0) None (list_of set index)) ≡ with_rows (seen set max writes) (list_at (handles_in (record_of set) (lists_of set)) index)
-      by_place (inl within) = ap (rows_of_nodes (record_of set)) (all_left (list_of set index) (distinct_at set linked.sound index within)) ∙ whole_seen set slots linked index within max writes
-      by_place (inr past) =
-          ap (λ list. rows_of_nodes (record_of set) (nodes_left (slice_get list 0) None list)) (no_nodes set linked.sound index past)
-          ∙ ap (with_rows (seen set max writes)) (sym (list_past (order (keys_of set).keys) (entries_in (contents set)) 0 (specs_of set) (handles_in (record_of set) (lists_of set)) index indices past))
 
 -- ---- their handles
 

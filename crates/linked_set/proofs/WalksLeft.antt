@@ -19,7 +19,7 @@ use Rattle.any_index.proofs.Runs.{place_is}
 use Rattle.linked_set.specs.Edges.{Rises, edge_of}
 use Rattle.linked_set.proofs.Ranges.{EachPair-drop, from_rises, to_falls, slice_get-drop, passed_is, skipped, before, none_kept}
 use Rattle.linked_set.proofs.Walks.{taken_all}
-use Rattle.linked_set.specs.Iteration.{is_one, nodes_left, StandsIn}
+use Rattle.linked_set.specs.Iteration.{is_one, nodes_left, IsRun}
 
 -- ---- lists
 
@@ -43,7 +43,7 @@ drop_all : {X : Type 0} (xs : List X) → drop (place_of (λ x. false) xs) xs �
 drop_all [] = refl
 drop_all (x ∷ xs) = let n : 1 + place_of (λ y. false) xs ≡ suc (place_of (λ y. false) xs) = omega arith in ap (λ k. drop k (x ∷ xs)) n ∙ drop_all xs
 
-take_all : {X : Type 0} (xs : List X) → take (place_of (λ x. false) xs) xs ≡ xs
+pub take_all : {X : Type 0} (xs : List X) → take (place_of (λ x. false) xs) xs ≡ xs
 take_all [] = refl
 take_all (x ∷ xs) = let n : 1 + place_of (λ y. false) xs ≡ suc (place_of (λ y. false) xs) = omega arith in ap (λ k. take k (x ∷ xs)) n ∙ ap (λ l. x ∷ l) (take_all xs)
 
@@ -74,11 +74,6 @@ past_unbounded side bound xs e = sym (ap (λ b. slice_get xs (count_by (is_to (e
 
 -- ---- a walk
 
--- a node that is let through stands where it stood
-pub passed_stands : (to : Node → Bool) (xs : List Node) (b : ℕ) (o : Option Node) → o ≡ option_and_then (λ n. cond (to n) (Some n) None) (slice_get xs b) → StandsIn xs o
-passed_stands to xs b None e = record { place = length xs; is = sym (at_length xs) }
-passed_stands to xs b (Some n) e = record { place = b; is = sym (passed_is to (slice_get xs b) n (sym e)).0 }
-
 module _ (xs : List Node) (distinct : IsDistinct xs) where
   pub left_from : (i : ℕ) → drop (place_of (is_one (slice_get xs i)) xs) xs ≡ drop i xs
   left_from i = by_node (slice_get xs i) refl
@@ -93,10 +88,6 @@ module _ (xs : List Node) (distinct : IsDistinct xs) where
       by_node : (o : Option Node) → slice_get xs c ≡ o → take (place_of (is_one o) xs) xs ≡ take c xs
       by_node (Some n) e = ap (λ k. take k xs) (place_is xs c n distinct e)
       by_node None e = take_all xs ∙ sym (taken_all xs c e)
-
-  -- from the first node on, with no node that ends it, it goes over all
-  pub all_left : nodes_left (slice_get xs 0) None xs ≡ xs
-  all_left = ap (λ ys. take (place_of (λ n. false) ys) ys) (left_from 0) ∙ take_all xs
 
   -- at the node that ends it, nothing is left
   pub none_left : (end : Option Node) (i : ℕ) (n : Node) → slice_get xs i ≡ Some n → is_one end n ≡ true → nodes_left (Some n) end xs ≡ []
@@ -141,7 +132,7 @@ run_before to (x ∷ xs) (suc b) n each here is =
     let rest = run_before to xs b n each.1 here is in
     count_by-cons to x xs ∙ (ap (λ t. cond t 1 0 + count_by to xs) one ∙ omega (arith, rest))
 
-distinct_drop : (i : ℕ) (xs : List Node) → IsDistinct xs → IsDistinct (drop i xs)
+pub distinct_drop : (i : ℕ) (xs : List Node) → IsDistinct xs → IsDistinct (drop i xs)
 distinct_drop zero xs h = h
 distinct_drop (suc i) [] h = tt
 distinct_drop (suc i) (x ∷ xs) h = distinct_drop i xs h.1
@@ -176,3 +167,14 @@ module _ (low high : Edge Node) (xs : List Node) (distinct : IsDistinct xs) (ris
       by_first : (o : Option Node) → first ≡ o → nodes_left first (slice_get xs (count_by (is_to high) xs)) xs ≡ range low high xs
       by_first (Some n) e = some_between n e
       by_first None e = ap (λ o. nodes_left o (slice_get xs (count_by (is_to high) xs)) xs) e ∙ (past_end _ xs ∙ sym (none_between e))
+
+  -- so its first node does not stand past the one that ends it
+  pub between_runs : (next end : Option Node) → next ≡ first → end ≡ slice_get xs (count_by (is_to high) xs) → IsRun xs next end
+  between_runs next end starts ends = by_first first refl
+    where
+      by_first : (o : Option Node) → first ≡ o → IsRun xs next end
+      by_first (Some n) e =
+          let p = passed_is (is_to high) (slice_get xs (before low xs)) n e in
+          let later = run_before (is_to high) xs (before low xs) n (to_falls high xs falls) p.0 p.1 in
+          record { from = before low xs; to = count_by (is_to high) xs; begins = starts ∙ e ∙ sym p.0; ends = ends; upward = λ m is. omega (arith, later) }
+      by_first None e = record { from = length xs; to = count_by (is_to high) xs; begins = starts ∙ e ∙ sym (at_length xs); ends = ends; upward = λ m is. let bad : None ≡ Some m = sym (starts ∙ e) ∙ is in absurd (cc) }

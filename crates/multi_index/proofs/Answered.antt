@@ -10,7 +10,7 @@ use Rattle.container_model.specs.declared.handle.Kind.TheVariants.{Sequenced, Ra
 use Rattle.container_model.specs.declared.refusal.Why.{Why}
 use Rattle.container_model.specs.declared.refusal.Why.TheVariants.{Kind, Stale}
 use Rattle.container_model.specs.State.{State, AreIndices, has_places_kind, is_random_kind, is_ranked_kind, list_at}
-use Rattle.container_model.specs.Find.{at_kinds, at_position, is_live, kind_at}
+use Rattle.container_model.specs.Find.{at_kinds, at_position, is_live, is_position, kind_at}
 use Rattle.linked_set.proofs.Indices.{as_many_each}
 
 -- the answer of a call at an index of its kind
@@ -31,6 +31,14 @@ answered_at kinds index answer {s} {t} h a same kind here is =
     ∙ (ap (λ u. cond (is_live u h) (Ok (answer u (Some h))) (Err Stale)) same
     ∙ (ap (λ b. cond b (cond (is_live t h) (Ok (answer t (Some h))) (Err Stale)) (Err Kind)) (sym kind)
     ∙ ap (λ p. at_position kinds t index p (answer t p)) (sym here)))
+
+-- and at either
+pub answered_by : {E R A : Type 0} (kinds : IndexKind → Bool) (index : ℕ) (position : Option Handle) (answer : State E R → A) {s t : State E R} (r : Result A Why) → s ≡ t → kinds (kind_at t index) ≡ true →
+    r ≡ cond (is_position s position) (Ok (answer s)) (Err Stale) → r ≡ at_position kinds t index position (answer t)
+answered_by kinds index position answer {s} {t} r same kind is =
+    is
+    ∙ (ap (λ u. cond (is_position u position) (Ok (answer u)) (Err Stale)) same
+    ∙ ap (λ b. cond b (cond (is_position t position) (Ok (answer t)) (Err Stale)) (Err Kind)) (sym kind))
 
 -- what a success keeps where only an error is replaced
 pub if_mapped : {A B C : Type 0} (P : A → Type 0) (r : Result A B) (q : Result A C) (G : B → Type 0) → MatchResult r (λ x. q ≡ Ok x) G → is_ok q ≡ is_ok r → IfOk r P → IfOk q P

@@ -11,7 +11,8 @@ ghost use Rattle.std.specs.Prelude.{◌≡◌, ◌∷◌, [], false};
 ghost use Rattle.indexed.specs.Declaration.{if_some, signed};
 
 use indexed::{
-    Falling, Field, Fields, Index, ORDERED, Rising, Search, UNIQUE_HASHED, Value, signed,
+    Falling, Field, Fields, Hashed, Index, ORDERED, Ordered, Rising, Search, Tag, UNIQUE_HASHED,
+    Value, signed,
 };
 
 /// A record of the table `bids`.
@@ -32,13 +33,13 @@ impl Bid {
 }
 
 /// Hashed and unique, by `number`.
-pub const BY_NUMBER: usize = 0;
+pub const BY_NUMBER: Tag<Hashed> = Tag(0, Hashed);
 
 /// Ordered, by `price` from the greatest down.
-pub const BY_PRICE: usize = 1;
+pub const BY_PRICE: Tag<Ordered> = Tag(1, Ordered);
 
 /// Ordered, by `ends`.
-pub const BY_END: usize = 2;
+pub const BY_END: Tag<Ordered> = Tag(2, Ordered);
 
 /// The most records that there may be.
 pub const MOST: u32 = 1000;

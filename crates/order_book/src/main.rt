@@ -1,4 +1,4 @@
-//! Bids by number, by price with the highest first, and by the day on which they end, if any: amended, cancelled, ended, and listed between two prices.
+//! Bids by number, by price with the highest first, and by the day on which they end, if any: amended, cancelled, ended, and listed between two prices, and upwards from a bid.
 #![tactic(auto)]
 
 mod bids;
@@ -61,11 +61,24 @@ fn list(rt: &HostRuntime, bids: &Indexed<Bid>, high: i64, low: i64) -> io::Resul
     Ok(())
 }
 
+// The bids that stand before this one, the nearest of them first.
+fn list_above(rt: &HostRuntime, bids: &Indexed<Bid>, number: i64) -> io::Result<()> {
+    let bid = bids.index(BY_NUMBER).find(&by_number(number));
+    println!(rt; "above {number}:")?;
+    if let Ok(above) = bids.index(BY_PRICE).iter_to(bid) {
+        for (_, bid) in above.rev() {
+            println!(rt; "  {} for {}", bid.number, bid.price)?;
+        }
+    }
+    Ok(())
+}
+
 fn main(rt: HostRuntime) -> io::Result<()> {
     let mut bids: Indexed<Bid> = Indexed::new(rt.alloc(), INDICES, MOST)?;
     place(&rt, &mut bids)?;
     amend(&rt, &mut bids, 3)?;
     cancel(&rt, &mut bids, 4)?;
     end_day(&rt, &mut bids, 1)?;
-    list(&rt, &bids, 320, 250)
+    list(&rt, &bids, 320, 250)?;
+    list_above(&rt, &bids, 1)
 }

@@ -9,7 +9,9 @@
 ghost use Rattle.std.specs.Prelude.{◌≡◌, ◌∷◌, [], false};
 ghost use Rattle.indexed.specs.Declaration.{signed};
 
-use indexed::{Field, Fields, Index, Rising, SEQUENCED, Search, UNIQUE_HASHED, signed};
+use indexed::{
+    Field, Fields, Hashed, Index, Rising, SEQUENCED, Search, Sequenced, Tag, UNIQUE_HASHED, signed,
+};
 
 /// A record of the table `pages`.
 #[derive(Clone, Copy, Debug)]
@@ -23,10 +25,10 @@ impl Page {
 }
 
 /// A sequence in an order of its own.
-pub const LATEST: usize = 0;
+pub const LATEST: Tag<Sequenced> = Tag(0, Sequenced);
 
 /// Hashed and unique, by `number`.
-pub const BY_NUMBER: usize = 1;
+pub const BY_NUMBER: Tag<Hashed> = Tag(1, Hashed);
 
 /// The most records that there may be.
 pub const MOST: u32 = 3;

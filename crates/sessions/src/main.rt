@@ -2,7 +2,8 @@
 #![tactic(auto)]
 
 use indexed::{
-    Field, Fields, Index, Indexed, RANKED, Rising, Search, UNIQUE_HASHED, pick, unsigned,
+    Field, Fields, Hashed, Index, Indexed, RANKED, Ranked, Rising, Search, Tag, UNIQUE_HASHED,
+    unsigned,
 };
 use std::io;
 
@@ -12,9 +13,9 @@ struct Session {
     end: u64,
 }
 
-const BY_NUMBER: usize = 0;
+const BY_NUMBER: Tag<Hashed> = Tag(0, Hashed);
 
-const BY_END: usize = 1;
+const BY_END: Tag<Ranked> = Tag(1, Ranked);
 
 const INDICES: &[Index] = &[
     Index(UNIQUE_HASHED, &[Rising(0)]),
@@ -30,7 +31,11 @@ impl Fields for Session {
     ghost indices = { unique_hashed ∷ ranked ∷ [] };
 
     fn field(&self, column: usize) -> Option<Field<'_>> {
-        pick(column, &[unsigned(self.number), unsigned(self.end)])
+        match column {
+            0 => Some(unsigned(self.number)),
+            1 => Some(unsigned(self.end)),
+            _ => None,
+        }
     }
 }
 

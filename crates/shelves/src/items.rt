@@ -11,7 +11,8 @@ ghost use Rattle.std.specs.Prelude.{◌≡◌, ◌∷◌, [], false, true};
 ghost use Rattle.indexed.specs.Declaration.{signed};
 
 use indexed::{
-    Falling, Field, Fields, Index, ORDERED, RANKED, Rising, Search, UNIQUE_HASHED, Value, signed,
+    Falling, Field, Fields, Hashed, Index, ORDERED, Ordered, RANKED, Ranked, Rising, Search, Tag,
+    UNIQUE_HASHED, Value, signed,
 };
 
 /// A record of the table `items`.
@@ -32,13 +33,13 @@ impl Item {
 }
 
 /// Hashed and unique, by `sku`.
-pub const BY_NUMBER: usize = 0;
+pub const BY_NUMBER: Tag<Hashed> = Tag(0, Hashed);
 
 /// Ordered, by `shelf`, then `due` from the greatest down.
-pub const BY_SHELF: usize = 1;
+pub const BY_SHELF: Tag<Ordered> = Tag(1, Ordered);
 
 /// Ordered with ranks, by `due`.
-pub const BY_DAY: usize = 2;
+pub const BY_DAY: Tag<Ranked> = Tag(2, Ranked);
 
 /// The most records that there may be.
 pub const MOST: u32 = 1000;

@@ -9,7 +9,7 @@
 ghost use Rattle.std.specs.Prelude.{◌≡◌, ◌∷◌, [], false, IfOk};
 ghost use Rattle.indexed.specs.Declaration.{text};
 
-use indexed::{Field, Fields, Index, Rising, Search, Text, UNIQUE_HASHED, text};
+use indexed::{Field, Fields, Hashed, Index, Rising, Search, Tag, Text, UNIQUE_HASHED, text};
 use std::alloc::{AllocError, Global};
 
 /// A record of the table `words`.
@@ -27,10 +27,10 @@ impl Word {
 }
 
 /// Hashed and unique, by `english`.
-pub const BY_ENGLISH: usize = 0;
+pub const BY_ENGLISH: Tag<Hashed> = Tag(0, Hashed);
 
 /// Hashed and unique, by `spanish`.
-pub const BY_SPANISH: usize = 1;
+pub const BY_SPANISH: Tag<Hashed> = Tag(1, Hashed);
 
 /// The most records that there may be.
 pub const MOST: u32 = 1000;

@@ -1,5 +1,4 @@
-use Rattle.std.proofs.Common.{◌≡◌, true, cond, None, Ok, Err, sym, ap, ◌∙◌, subst}
-use Rattle.std.specs.Result.{result_unwrap_or}
+use Rattle.std.proofs.Common.{◌≡◌, true, cond, Ok, Err, ap, ◌∙◌, subst}
 use Rattle.list_model.specs.Place.{find_equal}
 use Rattle.container_model.specs.State.{has_key_kind}
 use Rattle.container_model.specs.declared.refusal.Why.TheVariants.{Kind}
@@ -12,6 +11,7 @@ returns g c =
     let v : Viewed g.row.R.Denot = record { all = c.self.inside.records.now; number = c.self.inside.number } in
     let answer = find_equal (side g.R.Fields.row_of v c.args.search.now) (members v) in
     let keyed : has_key_kind (kind_of v.all.specs v.number) ≡ true =
-    ap (λ specs. has_key_kind (kind_of specs v.number)) c.self.invariant.declared ∙ subst (λ w. has_key_kind (kind_of g.R.Fields.indices w.number) ≡ true) (sym c.self.view_is) c.requires.kind in
-    subst (λ w. c.unwrap_or.result ≡ find_equal (side g.R.Fields.row_of w c.args.search.now) (members w)) c.self.view_is
-    (c.unwrap_or.ensures ∙ ap (λ r. result_unwrap_or r None) c.find.ensures ∙ ap (λ b. result_unwrap_or (cond b (Ok answer) (Err Kind)) None) keyed)
+    ap (λ specs. has_key_kind (kind_of specs v.number)) c.self.invariant.declared ∙ (ap has_key_kind c.self.invariant.kind_is ∙ g.met.K.Keyed.keyed) in
+    let found : c.find.result ≡ Ok answer = c.find.ensures ∙ ap (λ b. cond b (Ok answer) (Err Kind)) keyed in
+    let same : c.unwrap.result ≡ answer = cc in
+    subst (λ w. c.unwrap.result ≡ find_equal (side g.R.Fields.row_of w c.args.search.now) (members w)) c.self.view_is same

@@ -2,7 +2,7 @@ use Rattle.std.proofs.Common.{◌≡◌, [], ◌∙◌, length, ap, sym, subst, 
 use Rattle.list_model.specs.Walk.{next}
 use Rattle.node_store.specs.ByNode.{same_node}
 use Rattle.node_store.specs.Nodes.{Holds}
-use Rattle.linked_set.proofs.Rows.{over, held, there, end_there, ended, stepped}
+use Rattle.linked_set.proofs.Rows.{over, held, there, end_there, ended, stepped, told_apart, walks_on}
 use Rattle.linked_set.proofs.iter.IterIterator.next.Goals as goal
 
 pub returns-in_default-clause-steps : goal.returns-in_default-clause-steps
@@ -35,13 +35,18 @@ pub returns-clause-steps : goal.returns-clause-steps
 returns-clause-steps g c =
     let w = c.self.inside in
     sym c.self.view_is
-    ∙ stepped w.set.now w.index w.next w.end c.self.invariant c.in-Some.node c.in-Some.is c.get-entry.result.now c.next-self-inside.result (λ e. let bad = sym (c.is_node.ensures.1 e) ∙ c.if-is_node.false in cc) (rw c.store-store.ensures at c.get-entry.ensures) (c.next-self-inside.ensures ∙ ap (next (same_node c.in-Some.node)) c.at.ensures.list)
+    ∙ stepped w.set.now w.index w.next w.end c.self.invariant c.in-Some.node c.in-Some.is c.get-entry.result.now c.next-self-inside.result (told_apart c.is_node.ensures.1 c.if-is_node.false) (rw c.store-store.ensures at c.get-entry.ensures) (c.next-self-inside.ensures ∙ ap (next (same_node c.in-Some.node)) c.at.ensures.list)
 
 pub returns-clause-goes : goal.returns-clause-goes
 returns-clause-goes g c =
     let w = c.self.inside in
     let step =
     sym c.self.view_is
-    ∙ stepped w.set.now w.index w.next w.end c.self.invariant c.in-Some.node c.in-Some.is c.get-entry.result.now c.next-self-inside.result (λ e. let bad = sym (c.is_node.ensures.1 e) ∙ c.if-is_node.false in cc) (rw c.store-store.ensures at c.get-entry.ensures) (c.next-self-inside.ensures ∙ ap (next (same_node c.in-Some.node)) c.at.ensures.list) in
+    ∙ stepped w.set.now w.index w.next w.end c.self.invariant c.in-Some.node c.in-Some.is c.get-entry.result.now c.next-self-inside.result (told_apart c.is_node.ensures.1 c.if-is_node.false) (rw c.store-store.ensures at c.get-entry.ensures) (c.next-self-inside.ensures ∙ ap (next (same_node c.in-Some.node)) c.at.ensures.list) in
     let shorter = ap length step in
     search rules
+
+pub invariant_of-self : goal.invariant_of-self
+invariant_of-self g c =
+    let w = c.self.inside in
+    walks_on w.set.now w.index w.next w.end c.self.invariant c.in-Some.node c.in-Some.is c.next-self-inside.result (told_apart c.is_node.ensures.1 c.if-is_node.false) (c.next-self-inside.ensures ∙ ap (next (same_node c.in-Some.node)) c.at.ensures.list)

@@ -1,5 +1,5 @@
 use Rattle.std.proofs.Common.{◌∙◌, cond, Some, None, ap, refl, sym}
-use Rattle.std.specs.Prelude.{count_by, option_and_then}
+use Rattle.std.specs.Prelude.{option_and_then}
 use Rattle.std.specs.Range.Bound.{bound_map}
 use Rattle.list_model.specs.Place.{is_to, range}
 use Rattle.container_model.specs.State.{is_sorted_kind, list_at}
@@ -11,12 +11,11 @@ use Rattle.index_set.proofs.Members.{distinct_at}
 use Rattle.linked_set.specs.Edges.{edge_of, node_edge}
 use Rattle.linked_set.specs.Iteration.{nodes_left, rows_of_nodes, with_rows}
 use Rattle.linked_set.specs.Records.{alone}
-use Rattle.linked_set.proofs.Ranges.{before}
 use Rattle.linked_set.proofs.Rising.{bound_rises, has_key_here, node_rises}
 use Rattle.linked_set.proofs.Rows.{between_seen, sorted_walks}
 use Rattle.linked_set.proofs.Sought.{bounds, there}
 use Rattle.linked_set.proofs.There.{nodes_here}
-use Rattle.linked_set.proofs.WalksLeft.{between_left, passed_stands}
+use Rattle.linked_set.proofs.WalksLeft.{between_left, between_runs}
 use Rattle.linked_set.proofs.linked_set.LinkedSet.iter_range.Goals as goal
 
 pub up_to-requires-clause-has : goal.up_to-requires-clause-has
@@ -33,14 +32,25 @@ up_to-requires-clause-node g c n is =
 pub invariant_of-result : goal.invariant_of-result
 invariant_of-result g c =
     let set = c.self.inside.set in
-    let list = list_of set c.args.index in
-    let low = node_edge g.E.Extract.probe_order_of set c.args.index (bound_map (λ p. p.now) c.args.low) in
-    let high = node_edge g.E.Extract.probe_order_of set c.args.index (bound_map (λ p. p.now) c.args.high) in
+    let slots = c.self.inside.slots.items in
+    let linked = c.self.invariant.linked in
+    let listed = c.self.invariant.listed in
+    let index = c.args.index in
+    let list = list_of set index in
+    let order = g.E.Extract.probe_order_of in
+    let keys = (keys_of set).keys in
+    let low = bound_map (λ p. p.now) c.args.low in
+    let high = bound_map (λ p. p.now) c.args.high in
+    let asked = bounds set c.self.view_is c.requires in
+    let within = there set c.self.view_is is_sorted_kind refl c.requires.kind in
+    let has = has_key_here set slots linked index within order listed asked.kind in
+    let low_rises = bound_rises _ (g.E.Extract.does_fit keys index) list low asked.low_fits (λ probe fit. node_rises set slots linked index within order listed asked.kind probe (g.met.E.Extract.probe_cuts keys index probe has fit)) in
+    let high_rises = bound_rises _ (g.E.Extract.does_fit keys index) list high asked.high_fits (λ probe fit. node_rises set slots linked index within order listed asked.kind probe (g.met.E.Extract.probe_cuts keys index probe has fit)) in
+    let first = c.up_to.ensures ∙ ap (option_and_then (λ n. cond (is_to (node_edge order set index high) n) (Some n) None)) c.first_from-first.ensures in
     record {
-      sound = c.self.invariant.linked.sound;
-      kind = sorted_walks _ (bounds set c.self.view_is c.requires).kind;
-      begins = passed_stands (is_to high) list (before low list) c.up_to.result (c.up_to.ensures ∙ ap (option_and_then (λ n. cond (is_to high n) (Some n) None)) c.first_from-first.ensures);
-      ends = record { place = count_by (is_to high) list; is = c.first_past.ensures };
+      sound = linked.sound;
+      kind = sorted_walks _ asked.kind;
+      run = between_runs (node_edge order set index low) (node_edge order set index high) list (distinct_at set linked.sound index within) low_rises high_rises c.up_to.result c.first_past.result first c.first_past.ensures;
     }
 
 pub returns : goal.returns
