@@ -3,3 +3,4 @@ pub mod Spelling
 pub mod Parts
 pub mod Meaning
 pub mod Fits
+pub mod Tree

@@ -3,9 +3,11 @@
 
 mod fault;
 mod handle;
+mod number;
 mod op;
 mod parts;
 mod read;
+mod tree;
 
 pub use fault::CommandFault;
-pub use read::read_command;
+pub use read::{LineReader, read_command};

@@ -13,23 +13,53 @@ use crate::parts::{
     bound_of, changes_of, columns_if_given, count_of, end_of, handle_of, handles_of,
     index_if_given, key_of, kind_at, names_of, position_of, row_of, text_at, text_of, truth_of,
 };
+use crate::tree::tree_of;
+use json::Scratch;
 use key_extract::Text;
 use serde_json::{Map, Value as Json};
-use std::alloc::Global;
+use std::alloc::{AllocError, Global};
 use table_cmd::{Command, HandleText, Key};
 
-/// Reads a line as a command. The last of repeated names counts. O(n · log n) for n bytes.
+/// Reads lines as commands. What reading needs of memory is kept from line to line: 16 KiB, and as many bytes as the longest line.
+#[derive(Drop)]
+pub struct LineReader {
+    alloc: Global,
+    scratch: Box<Scratch>,
+}
+
+impl LineReader {
+    /// A reader of lines.
+    pub fn new(alloc: Global) -> Result<LineReader, AllocError> {
+        let scratch = Box::new(alloc, Scratch::new(alloc))?;
+        Ok(LineReader { alloc, scratch })
+    }
+
+    /// Reads a line as a command. The last of repeated names counts. O(n · log n) for n bytes.
+    pub fn read(&mut self, line: &[u8]) -> Result<Command, CommandFault>
+        ensures means { Gives result (meaning line.now) }
+        ensures fits { IfOk result CommandFits }
+    {
+        read_with(self.alloc, line, &mut self.scratch)
+    }
+}
+
+/// Reads a line as a command, as a `LineReader` does. Who reads many lines keeps such a reader.
 pub fn read_command(alloc: Global, line: &[u8]) -> Result<Command, CommandFault>
     ensures means { Gives result (meaning line.now) }
     ensures fits { IfOk result CommandFits }
 {
-    match Json::from_slice(alloc, line) {
-        Ok(value) => command_of(alloc, &value),
-        Err(error) => if error.is_memory() {
-            Err(CommandFault::Memory)
-        } else {
-            Err(CommandFault::Json)
-        },
+    let mut scratch = Scratch::new(alloc);
+    read_with(alloc, line, &mut scratch)
+}
+
+// Reads a line as a command, over memory that is lent.
+fn read_with(alloc: Global, line: &[u8], scratch: &mut Scratch) -> Result<Command, CommandFault>
+    ensures means { Gives result (meaning line.now) }
+    ensures fits { IfOk result CommandFits }
+{
+    match tree_of(alloc, line, scratch)? {
+        Some(value) => command_of(alloc, &value),
+        None => Err(CommandFault::Json),
     }
 }
 
