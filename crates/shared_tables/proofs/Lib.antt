@@ -1,6 +1,7 @@
 pub mod Entries
 pub mod Pushed
 pub mod Kept
+pub mod Looked
 pub mod Calls
 pub mod Hears
 pub mod Schemas

@@ -1,7 +1,8 @@
 -- What holds of each table behind a lock.
-use Rattle.std.specs.Prelude.{◌≡◌, ℕ, ◌<◌, ◌≤◌, List, [], length, slice_index_or}
+use Rattle.std.specs.Prelude.{◌≡◌, ℕ, ◌<◌, ◌≤◌, List, [], length, slice_index_or, Option, All}
 use Rattle.table_schema.specs.Shape.{TableShape}
 use Rattle.table_step.specs.Step.{TableState}
+use Rattle.shared_tables.specs.Gathered.{LooksFit}
 use Rattle.shared_tables.specs.Journal.{AnsweredData, EntryData, IsLegal, last_number, own, replay}
 use Rattle.shared_tables.specs.declared.tally.Tally.{Tally}
 
@@ -20,3 +21,8 @@ pub record IsKept (shape : TableShape) (table : TableState) (journal : List Entr
   pub counted : (session : ℕ) → session < length tallies → IsTally (slice_index_or tallies session idle) (own session journal)
   pub few : length tallies < 4294967296
   pub others : (session : ℕ) → length tallies ≤ session → own session journal ≡ []
+
+-- a look of each session, where there is one, which fits the journal
+pub record AreKept (shape : TableShape) (journal : List EntryData) (workers : ℕ) (looks : List (Option AnsweredData)) : Type 0 where
+  pub each : length looks ≡ workers
+  pub fit : All (LooksFit shape journal) looks

@@ -1,6 +1,6 @@
 //! A table with the journal of its writes.
 
-ghost use Rattle.std.specs.Prelude.{◌≡◌, ◌+◌, ◌<◌, ◌≤◌, ◌↔◌, ◌∷◌, ◌++◌, [], ℕ, false, length, vec_len, vec_capacity, OnErr, OnOk, IfOk, IfSome, IsTrue};
+ghost use Rattle.std.specs.Prelude.{◌≡◌, ◌+◌, ◌<◌, ◌≤◌, ◌↔◌, ◌∷◌, ◌++◌, [], false, length, vec_len, vec_capacity, OnErr, OnOk, IfOk, IfSome, IsTrue};
 ghost use Rattle.table_changes.specs.Change.{is_change};
 ghost use Rattle.table_reply.specs.Ready.{IsBehind};
 ghost use Rattle.shared_tables.specs.Journal.{IsLegal, own};
@@ -10,6 +10,7 @@ use crate::canonical::Canonical;
 use crate::entry::Entry;
 use crate::fault::CallFault;
 use crate::line::{KEPT, first_bytes};
+use crate::look::{KeptLook, put_look};
 use crate::pass::{Pass, Track};
 use crate::same::is_same_table;
 use crate::stored::{Asked, Line};
@@ -24,13 +25,15 @@ use table_schema::TableSpec;
 use table_step::{Outcome, Table, is_change, refuse_memory};
 
 /// A table, its declaration, the number of sessions, and the journal of the accepted writes. The table is what the
-/// journal's commands make of an empty one, and each of them was accepted with the answer that the journal has.
+/// journal's commands make of an empty one, and each of them was accepted with the answer that the journal has. The looks
+/// are the last ones of the sessions: each shows how the answer after its number of entries begins.
 #[derive(Drop)]
 pub struct TableCell {
     pub(crate) spec: TableSpec,
     pub(crate) table: Table,
     pub(crate) journal: Vec<Entry>,
     pub(crate) tallies: Vec<Tally>,
+    pub(crate) looks: Vec<KeptLook>,
     /// Room for the next answer that is long. The next line is printed in it, too.
     pub(crate) room: Vec<u8>,
 }
@@ -38,16 +41,17 @@ pub struct TableCell {
 impl Model for TableCell {
     ghost use Rattle.std.specs.Prelude.{length};
     ghost use Rattle.shared_tables.specs.Call.{CellData};
-    ghost use Rattle.shared_tables.specs.Kept.{IsKept};
+    ghost use Rattle.shared_tables.specs.Kept.{AreKept, IsKept};
 
     ghost Value = { CellData };
 
     ghost view = { λ c. record { shape = c.spec; workers = length c.tallies.items; journal = c.journal.items } };
 
-    ghost invariant = { λ c. IsKept c.spec c.table c.journal.items c.tallies.items };
+    ghost invariant = { λ c. IsKept c.spec c.table c.journal.items c.tallies.items × AreKept c.spec c.journal.items (length c.tallies.items) c.looks.items };
 }
 
 // A command that may become a write: once for the journal, and once for the pass.
+#[derive(Drop)]
 struct Twins {
     journal: Arc<Canonical>,
     pass: Arc<Canonical>,
@@ -81,26 +85,36 @@ fn prepare(
     Some(Twins { journal, pass })
 }
 
-// Puts an accepted write at the end of a journal, for which there is room, and counts it.
-fn append(
+// Puts an accepted write at the end of a journal and of what its session knows, for which there is room, and counts it.
+fn accept(
     journal: &mut Vec<Entry>,
     tally: &mut Tally,
+    writes: &mut Writes,
     session: u32,
-    command: Arc<Canonical>,
+    twins: Twins,
     room: &mut Vec<u8>,
     answer: &[u8],
 )
-    requires room { vec_len journal.old < vec_capacity journal.old }
+    requires entry { vec_len journal.old < vec_capacity journal.old }
     requires count { tally.old.count ≤ vec_len journal.old }
+    requires write { 0 < writes.old.rows }
+    requires bytes { length answer.now ≤ writes.old.bytes }
     requires answer { length answer.now ≤ vec_capacity room.old }
-    ensures entry { journal.new.items ≡ journal.old.items ++ record { session = session; serial = tally.old.count + 1; command = command.value; answer = answer.now } ∷ [] }
+    ensures entry { journal.new.items ≡ journal.old.items ++ record { session = session; serial = tally.old.count + 1; command = twins.journal.value; answer = answer.now } ∷ [] }
     ensures tally { tally.new ≡ record { count = tally.old.count + 1; last = vec_len journal.old + 1 } }
+    ensures write { writes.new.items ≡ writes.old.items ++ record { number = vec_len journal.old + 1; command = twins.pass.value; answer = answer.now } ∷ [] }
 {
+    let Twins {
+        journal: command,
+        pass,
+    } = twins;
     let serial = tally.count + 1;
+    let number = journal.len() as u64 + 1;
     *tally = Tally {
         count: serial,
-        last: journal.len() as u64 + 1,
+        last: number,
     };
+    writes.push(number, pass, answer);
     journal.push_reserved(Entry {
         session,
         serial,
@@ -115,6 +129,7 @@ impl TableCell {
         ensures { IfOk result (λ cell. cell ≡ record { shape = spec.now; workers = workers; journal = [] }) }
     {
         let tallies = vec![in alloc; Tally { count: 0, last: 0 }; workers as usize]?;
+        let looks = KeptLook::none(alloc, workers)?;
         let table = Table::new(alloc, spec)?;
         let spec = spec.copy()?;
         Ok(TableCell {
@@ -122,6 +137,7 @@ impl TableCell {
             table,
             journal: Vec::new(alloc),
             tallies,
+            looks,
             room: Vec::new(alloc),
         })
     }
@@ -201,27 +217,45 @@ impl TableCell {
         ensures answered { TrackTold self.old session track.old command out.entry.out.now.bytes result.out.now.bytes self.new track.new }
         ensures behind { IsBehind out.entry result }
     {
+        if track.make_room(*self.room.allocator()).is_err() {
+            drop(command);
+            return refuse_memory(out);
+        }
         if is_change(&command) {
             self.change(session, track, command, out)
         } else {
-            self.read(track, command, out)
+            self.read(session, track, command, out)
         }
     }
 
-    // The same of a command that changes no table, of any session. It is not copied, and room is made for no entry.
-    fn read<'o>(&self, track: &mut Track, command: Command, out: Ready<'o>) -> Told<'o, Outcome>
-        requires { is_change command ≡ false }
-        ensures answered { (session : ℕ) → TrackTold self.now session track.old command out.entry.out.now.bytes result.out.now.bytes self.now track.new }
+    // The same of a command that changes no table. It is not copied, and room is made for no entry.
+    fn read<'o>(
+        &mut self,
+        session: u32,
+        track: &mut Track,
+        command: Command,
+        out: Ready<'o>,
+    ) -> Told<'o, Outcome>
+        requires session { session < self.old.workers }
+        requires read { is_change command ≡ false }
+        ensures answered { TrackTold self.old session track.old command out.entry.out.now.bytes result.out.now.bytes self.new track.new }
         ensures behind { IsBehind out.entry result }
     {
+        let Some(next) = Arc::get_mut(&mut track.looks.next) else {
+            drop(command);
+            return refuse_memory(out);
+        };
         let start = out.out.bytes().len();
         let told = self.table.read(&command, out);
         if let Outcome::Memory = told.what {
             drop(command);
             return told;
         }
+        let number = self.journal.len() as u64;
         let line = first_bytes(told.out, start);
-        track.set_look(self.journal.len() as u64, Asked::Own(command), line);
+        put_look(next, number, Asked::Own(command), line);
+        track.seen = number;
+        track.looks.turn(&mut self.looks[session as usize]);
         told
     }
 
@@ -237,6 +271,10 @@ impl TableCell {
         ensures answered { TrackTold self.old session track.old command out.entry.out.now.bytes result.out.now.bytes self.new track.new }
         ensures behind { IsBehind out.entry result }
     {
+        let Some(next) = Arc::get_mut(&mut track.looks.next) else {
+            drop(command);
+            return refuse_memory(out);
+        };
         let Some(twins) = prepare(
             &mut self.journal,
             &mut self.room,
@@ -245,12 +283,8 @@ impl TableCell {
         ) else {
             return refuse_memory(out);
         };
-        let Twins {
-            journal: command,
-            pass: twin,
-        } = twins;
         let start = out.out.bytes().len();
-        let told = self.table.step(command.command(), out);
+        let told = self.table.step(twins.journal.command(), out);
         let outcome = told.what;
         if let Outcome::Memory = outcome {
             return told;
@@ -258,20 +292,22 @@ impl TableCell {
         let number = self.journal.len() as u64;
         let line = first_bytes(told.out, start);
         if let Outcome::Write = outcome {
-            let tally = &mut self.tallies[session as usize];
-            append(
+            accept(
                 &mut self.journal,
-                tally,
+                &mut self.tallies[session as usize],
+                &mut track.writes,
                 session,
-                command,
+                twins,
                 &mut self.room,
                 line,
             );
-            track.writes.push(number + 1, twin, line);
             track.seen = number + 1;
             return told;
         }
-        track.set_look(number, Asked::Shared(twin), line);
+        let Twins { journal: _, pass } = twins;
+        put_look(next, number, Asked::Shared(pass), line);
+        track.seen = number;
+        track.looks.turn(&mut self.looks[session as usize]);
         told
     }
 
@@ -294,6 +330,7 @@ impl TableCell {
             table: _,
             journal,
             tallies: _,
+            looks: _,
             room: _,
         } = self;
         journal

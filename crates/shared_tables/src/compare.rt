@@ -92,8 +92,8 @@ impl TableCell {
         first_beyond(passes, workers)
     }
 
-    /// The least session with whose pass the journal does not agree. O(sessions · (passes + entries)), and for the looks one
-    /// replay of the entries before the last that is not a read at the journal's end.
+    /// The least session with whose pass the journal does not agree. O(sessions · (passes + entries)), and for each look that is
+    /// not the table's a replay of the entries before it.
     pub(crate) fn first_failure(
         &self,
         alloc: Global,

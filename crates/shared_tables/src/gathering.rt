@@ -20,9 +20,9 @@ pub struct GatherFault<G: Gate> {
 /// Takes the journals out, where they are what the passes know of them: each session's entries are its pass's writes, and
 /// each pass's last look fits. Otherwise it hands all back.
 ///
-/// What it takes memory for are looks: where one is not of a read at the journal's end, a second table, the replay of the
-/// entries before it; and for each what its command takes, and an answer of more than 512 bytes. O(tables · sessions · (passes + entries)),
-/// and one replay of each table that has such a look.
+/// A pass's last look is compared with the one that the table has of its session, which takes no memory. Where it is another
+/// one, as of a pass of other tables, it takes a second table, the replay of the entries before it, what its command takes, and
+/// an answer of more than 512 bytes. O(tables · sessions · (passes + entries)), and a replay for each such look.
 pub fn gather<G: Gate + Drop>(
     alloc: Global,
     shared: Shared<G>,

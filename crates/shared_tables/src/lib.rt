@@ -13,6 +13,7 @@ mod journals;
 mod law;
 mod line;
 mod locks;
+mod look;
 mod looks;
 mod pass;
 mod request;

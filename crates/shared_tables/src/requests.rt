@@ -1,15 +1,20 @@
 //! Lines that are read and wait to be carried out.
 
-ghost use Rattle.std.specs.Prelude.{◌≡◌, ◌<◌, ◌++◌, ◌∷◌, [], IfNone, IfOk, IfSome, length, nat_le};
+ghost use Rattle.std.specs.Prelude.{◌≡◌, ◌<◌, ◌++◌, ◌∷◌, [], IfNone, IfOk, IfSome, Option, length, nat_le};
 ghost use Rattle.std.specs.Option.{option_to_list};
 ghost use Rattle.table_cmd.specs.Command.{table_in};
+ghost use Rattle.table_engine.specs.Lines.{short, added};
+ghost use Rattle.shared_tables.specs.Requests.{Asks};
+ghost use Rattle.shared_tables.specs.declared.request.Request.{Request};
 ghost use Rattle.shared_tables.specs.declared.request.Request.TheVariants as requests;
 
-use crate::request::Request;
+use crate::request::{Request, end_line, take_line};
+use command_lines::LineReader;
 use std::alloc::{AllocError, Global};
 use std::collections::VecDeque;
 use std::marker::Model;
 use table_cmd::Command;
+use table_engine::LineCutter;
 
 /// The most lines that wait.
 pub(crate) const MOST: usize = 128;
@@ -17,6 +22,7 @@ pub(crate) const MOST: usize = 128;
 /// What lines ask, in their order. There is room for `MOST` of them.
 #[derive(Drop)]
 pub(crate) struct Requests {
+    reader: LineReader,
     waiting: VecDeque<Request>,
 }
 
@@ -39,7 +45,8 @@ impl Requests {
         ensures { IfOk result (λ requests. requests ≡ []) }
     {
         let waiting = VecDeque::with_capacity(alloc, MOST)?;
-        Ok(Requests { waiting })
+        let reader = LineReader::new(alloc)?;
+        Ok(Requests { reader, waiting })
     }
 
     /// Whether there is no room for one more. O(1).
@@ -49,8 +56,28 @@ impl Requests {
         self.waiting.len() >= MOST
     }
 
-    /// Puts one behind the others, if there is one. O(1).
-    pub(crate) fn put(&mut self, request: Option<Request>)
+    /// Takes bytes and the newline after them, and puts what the line asks that they end behind the others.
+    pub(crate) fn take_line(&mut self, cutter: &mut LineCutter, line: &[u8])
+        requires { length self.old < 128 }
+        ensures asks { (asked : Option Request) × Asks (added line.now cutter.old.unfinished) asked × (self.new ≡ self.old ++ option_to_list asked) }
+        ensures ended { cutter.new.unfinished ≡ short [] }
+    {
+        let asked = take_line(&mut self.reader, cutter, line);
+        self.put(asked);
+    }
+
+    /// Takes a newline, and puts what the line asks that it ends behind the others.
+    pub(crate) fn end_line(&mut self, cutter: &mut LineCutter)
+        requires { length self.old < 128 }
+        ensures asks { (asked : Option Request) × Asks cutter.old.unfinished asked × (self.new ≡ self.old ++ option_to_list asked) }
+        ensures ended { cutter.new.unfinished ≡ short [] }
+    {
+        let asked = end_line(&mut self.reader, cutter);
+        self.put(asked);
+    }
+
+    // Puts one behind the others, if there is one.
+    fn put(&mut self, request: Option<Request>)
         requires { length self.old < 128 }
         ensures { self.new ≡ self.old ++ option_to_list request }
     {

@@ -14,7 +14,6 @@ ghost use Rattle.shared_tables.specs.declared.request.Request.{Request};
 
 use crate::fault::{CallFault, ServeFault};
 use crate::pass::Pass;
-use crate::request::{end_line, take_line};
 use crate::requests::Requests;
 use crate::shared::{Gate, Shared};
 use crate::waiting::{grow_ahead, make_room, write_out};
@@ -129,7 +128,7 @@ impl<G: Gate> Shared<G> {
             (λ why. (told : List ℕ) × Meets (HearsText self.now) (RefusesText self.now) pass.old cutter.old.unfinished [] told pass.new why × AppendsFront (W.contents sink.old.inner) (W.contents sink.new.inner) told) }
         ensures failures { sink.new.failures ≡ failures_after_stop result sink.old.failures }
     {
-        requests.put(end_line(self.alloc, cutter));
+        requests.end_line(cutter);
         match self.answer_all(rt, pass, requests, sink, out) {
             Ok(()) => {}
             Err(stopped) => return Err(stopped),
@@ -201,7 +200,7 @@ impl<G: Gate> Shared<G> {
             (λ why. (asked : Option Request) × Asks (added line.now cutter.old.unfinished) asked × (text : List ℕ) × HearsUntil self.now pass.old (requests.old ++ option_to_list asked) text pass.new why × AppendsFront (W.contents sink.old.inner) (W.contents sink.new.inner) (out.old.bytes ++ text)) }
         ensures failures { sink.new.failures ≡ failures_after_stop result sink.old.failures }
     {
-        requests.put(take_line(self.alloc, cutter, line));
+        requests.take_line(cutter, line);
         if requests.is_full() {
             return self.answer_all(rt, pass, requests, sink, out);
         }

@@ -1,15 +1,16 @@
 -- What a fault of the program is told as.
-use Rattle.std.specs.Prelude.{ℕ, List, codes, string_bytes}
+use Rattle.std.specs.Prelude.{◌≡◌, ◌⊎◌, ℕ, List, Option, Result, Ok, Err, codes, string_bytes}
 use Rattle.std.specs.declared.io.ErrorKind.{ErrorKind}
 use Rattle.std.specs.declared.io.ErrorKind.TheVariants.{OutOfMemory}
+use Rattle.std.specs.Io.KnownBytes.{Appends}
+use Rattle.table_engine.specs.Devices.{AppendsFront, raised}
+use Rattle.table_engine.specs.declared.sink.Sink.{Sink}
 use Rattle.program_words.specs.declared.asked.WordsFault.{WordsFault}
 use Rattle.program_words.specs.declared.asked.WordsFault.TheVariants as words
 use Rattle.table_schema.specs.declared.fault.SchemaFault.{SchemaFault}
 use Rattle.table_schema.specs.declared.fault.SchemaFault.TheVariants as schema
 use Rattle.table_engine.specs.declared.stream.StreamFault.{StreamFault}
 use Rattle.table_engine.specs.declared.stream.StreamFault.TheVariants as stream
-use Rattle.shared_tables.specs.declared.fault.GatherWhy.{GatherWhy}
-use Rattle.shared_tables.specs.declared.fault.GatherWhy.TheVariants as gathering
 use Rattle.table_server.specs.declared.fault.Fault.{Fault}
 use Rattle.table_server.specs.declared.fault.Fault.TheVariants.{Read, Write, Listen, Memory, Words, Address, Schema, Mismatch}
 
@@ -71,7 +72,18 @@ abbrev pub of_written : ErrorKind → Fault
 of_written OutOfMemory = Memory
 of_written _ = Write
 
--- the fault of journals that are not gathered
-abbrev pub of_gathering : GatherWhy → Fault
-of_gathering gathering.Memory = Memory
-of_gathering (gathering.Mismatch table session) = Mismatch
+-- the exit status of a call that ends so
+abbrev pub status_after : Result (Unit {0}) Fault → ℕ
+status_after (Ok _) = 0
+status_after (Err fault) = status_of fault
+
+-- The text is written whole, or a write failed behind a front of it.
+abbrev pub IsTold : {W : Type 0} → (W → Option (List ℕ)) → Sink W → Sink W → List ℕ → Type 0
+IsTold written faults faults' text =
+    Appends (written faults.inner) (written faults'.inner) text
+    ⊎ ((faults'.failures ≡ raised faults.failures) × AppendsFront (written faults.inner) (written faults'.inner) text)
+
+-- the text of a call that ends so is told, if there is one
+abbrev pub Tells : {W : Type 0} → (W → Option (List ℕ)) → Sink W → Sink W → Result (Unit {0}) Fault → Type 0
+Tells written faults faults' (Ok _) = faults' ≡ faults
+Tells written faults faults' (Err fault) = IsTold written faults faults' (text_of fault)

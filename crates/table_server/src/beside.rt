@@ -1,5 +1,5 @@
 //! Files that are made beside the path at which they are to stand, and put there once they are whole.
-ghost use Rattle.std.specs.Prelude.{◌≡◌, ◌<◌, ◌++◌, IfOk, codes, string_bytes};
+ghost use Rattle.std.specs.Prelude.{◌≡◌, ◌≢◌, ◌<◌, ◌++◌, IfOk, codes, string_bytes, ⊤};
 ghost use Rattle.std.specs.Fmt.{decimal};
 
 use crate::opens::Makes;
@@ -10,6 +10,7 @@ use std::io::{BufWriter, ErrorKind, Write};
 use std::os::unix::fs::{MetadataExt, chown};
 use std::rt::Files;
 use std::{fs, io};
+use table_engine::Sink;
 
 /// How many names of a file beside a path are tried.
 const NAMES: u32 = 10_000;
@@ -146,49 +147,56 @@ impl<R: Files + Drop> Write for Made<R> {
     }
 }
 
-/// Nothing is known of the host's files. A path at which nothing or a regular file stands gets a file of its own: it is
+/// The host's files, of which nothing is known. A path at which nothing or a regular file stands gets a file of its own: it is
 /// made beside the path, as `PATH.part` or with a number behind that, before anything is written, and put there once it is
 /// whole and the system has written it. What stood there stays until then. It is removed where it is not put there, but
 /// where it is whole and only that fails. An old file has to be one that can be written, and the new one gets its
 /// permissions; a link to it stays. A pipe or a device is opened at the end and written in place, and so is a regular file that
 /// is the program's own standard output or standard error, at its end. A folder, a socket, a link that leads to nothing, the
 /// empty path and the file that is read are refused. Only `begin` takes memory.
-impl<R: Files + AllocGlobal + Clone + Drop> Makes for R {
+#[derive(Drop)]
+pub struct HostFiles<'a, R> {
+    pub rt: &'a R,
+}
+
+impl<'a, R: Files + AllocGlobal + Clone + Drop> Makes for HostFiles<'a, R> {
     type Begun = Begun<R>;
 
     type Made = Made<R>;
 
-    ghost use Rattle.std.specs.Prelude.{⊤};
+    ghost use Rattle.table_server.specs.Making.{unknown};
 
-    ghost is_begun = { λ _ _ _. ⊤ };
+    ghost known = { unknown };
 
-    ghost is_made = { λ _ _ _. ⊤ };
-
-    ghost is_put = { λ _ _ _. ⊤ };
-
-    fn begin(&self, path: &str, read: &str) -> io::Result<Begun<R>> {
-        match Place::at(self, path, read)?.way() {
+    fn begin(&mut self, path: &str, read: &str) -> io::Result<Begun<R>> {
+        let rt = self.rt;
+        match Place::at(rt, path, read)?.way() {
             Way::New => {
-                let path = String::from_str(self.alloc(), path)?;
-                Ok(Begun::Beside(Beside::new(self, path)?))
+                let path = String::from_str(rt.alloc(), path)?;
+                Ok(Begun::Beside(Beside::new(rt, path)?))
             }
-            Way::Instead => Ok(Begun::Beside(Beside::instead(self, path)?)),
+            Way::Instead => Ok(Begun::Beside(Beside::instead(rt, path)?)),
             Way::Append => Ok(Begun::Append),
             Way::Refused => Err(io::Error::from(ErrorKind::InvalidInput)),
         }
     }
 
-    fn make(&self, path: &str, begun: Begun<R>) -> io::Result<Made<R>> {
+    fn make(&mut self, path: &str, begun: Begun<R>) -> io::Result<Made<R>> {
         match begun {
             Begun::Beside(beside) => Ok(Made::Beside(beside)),
-            Begun::Append => Ok(Made::Append(OpenOptions::new().append(true).open(self, path)?)),
+            Begun::Append => Ok(Made::Append(OpenOptions::new().append(true).open(self.rt, path)?)),
         }
     }
 
-    fn put(&self, _path: &str, made: Made<R>) -> io::Result<()> {
+    fn put(&mut self, _path: &str, made: Made<R>) -> io::Result<()> {
         match made {
             Made::Beside(beside) => beside.put(),
             Made::Append(_file) => Ok(()),
         }
     }
+
+    fn leave(&mut self, _path: &str, _made: Sink<Made<R>>)
+        requires { _made.failures ≢ 0 }
+        ensures { ⊤ }
+    {}
 }

@@ -1,14 +1,13 @@
 //! Why the program ends before its lines do.
 ghost use Rattle.std.specs.Prelude.{◌≡◌};
 ghost use Rattle.std.specs.IoError.{error_kind};
-ghost use Rattle.table_server.specs.Fault.{of_file, of_gathering, of_schema, of_stream, of_words, of_written, status_of, text_of};
+ghost use Rattle.table_server.specs.Fault.{IsTold, of_file, of_schema, of_stream, of_words, of_written, status_of, text_of};
 
 use program_words::WordsFault;
-use shared_tables::GatherWhy;
 use std::alloc::AllocError;
 use std::io;
 use std::io::{ErrorKind, Write};
-use table_engine::StreamFault;
+use table_engine::{Sink, StreamFault};
 use table_schema::SchemaFault;
 
 /// Why the program ends before its lines do.
@@ -34,8 +33,9 @@ pub enum Fault {
 
 impl Fault {
     /// Writes the fault's text, as far as the writer takes it, and gives the exit status.
-    pub fn report<E: Write>(&self, faults: &mut E) -> u8
-        ensures { result ≡ status_of self.now }
+    pub fn report<E: Write>(&self, faults: &mut Sink<E>) -> u8
+        ensures status { result ≡ status_of self.now }
+        ensures told { IsTold E.contents faults.old faults.new (text_of self.now) }
     {
         let _ = faults.write_all(self.text().as_bytes());
         self.status()
@@ -140,17 +140,6 @@ impl From<StreamFault> for Fault {
             StreamFault::Read => Fault::Read,
             StreamFault::Write => Fault::Write,
             StreamFault::Memory => Fault::Memory,
-        }
-    }
-}
-
-impl From<GatherWhy> for Fault {
-    ghost from_gives = { λ given fault. fault ≡ of_gathering given };
-
-    fn from(why: GatherWhy) -> Fault {
-        match why {
-            GatherWhy::Memory => Fault::Memory,
-            GatherWhy::Mismatch { .. } => Fault::Mismatch,
         }
     }
 }

@@ -1,9 +1,9 @@
 //! The file of the journals.
-ghost use Rattle.std.specs.Prelude.{◌≡◌, ℕ, List, IfErr, IfOk, IfSome, OnOk, Some, option_map};
+ghost use Rattle.std.specs.Prelude.{◌≡◌, ◌⊎◌, ℕ, List, Err, IfErr, IfOk, OnErr, OnOk, Some, option_map};
 ghost use Rattle.std.specs.Io.KnownBytes.{Appends};
 ghost use Rattle.shared_tables.specs.Text.{journals_text};
-ghost use Rattle.table_server.specs.Fault.{status_of};
-ghost use Rattle.table_server.specs.Serving.{IsWritten};
+ghost use Rattle.table_engine.specs.Devices.{AppendsFront, failures_after_stream};
+ghost use Rattle.table_server.specs.Keeping.{Begins, IsNotBegun, IsRefused, IsWritten};
 
 use crate::fault::Fault;
 use crate::opens::Makes;
@@ -19,37 +19,40 @@ pub(crate) struct Journal<'a, B> {
 }
 
 /// Tries the journal's path, if there is one, which is not that of the schema.
-pub(crate) fn begin<'a, R: Makes>(
-    rt: &R,
+pub(crate) fn begin<'a, M: Makes>(
+    files: &mut M,
     path: Option<&'a str>,
     schema: &str,
-) -> Result<Option<Journal<'a, R::Begun>>, Fault>
-    ensures path { IfOk result (λ journal. option_map (λ j. j.path.now) journal ≡ option_map (λ s. s.now) path.entry) }
-    ensures begun { IfOk result (λ journal. IfSome journal (λ j. R.is_begun rt.now j.path.now j.begun)) }
-    ensures fault { IfErr result (λ fault. status_of fault ≡ 1) }
+) -> Result<Option<Journal<'a, M::Begun>>, Fault>
+    ensures begun { IfOk result (λ journal. Begins M.known (option_map (λ s. s.now) path.entry) schema.now files.old files.new
+        (option_map (λ j. record { path = j.path.now; begun = j.begun }) journal)) }
+    ensures refused { OnErr result (IsNotBegun M.known (option_map (λ s. s.now) path.entry) schema.now files.old files.new) }
+    ensures fault { IfErr result (λ fault. (fault ≡ Fault.Memory) ⊎ (fault ≡ Fault.Write)) }
 {
     let Some(path) = path else {
         return Ok(None);
     };
-    let begun = rt.begin(path, schema).map_err(Fault::of_write)?;
+    let begun = files.begin(path, schema).map_err(Fault::of_write)?;
     Ok(Some(Journal { path, begun }))
 }
 
 /// Writes a text to the file for a path, and puts it there.
-pub(crate) fn write<R: Makes, T: Text>(
-    rt: &R,
+pub(crate) fn write<M: Makes, T: Text>(
+    files: &mut M,
     text: &T,
-    journal: Journal<'_, R::Begun>,
+    journal: Journal<'_, M::Begun>,
 ) -> Result<(), Fault>
-    requires { R.is_begun rt.now journal.path.now journal.begun }
-    ensures written { OnOk result (IsWritten (R.is_made rt.now) (R.is_put rt.now) R.Made.contents
-        (Some journal.entry.path.now) (T.text text.now)) }
-    ensures fault { IfErr result (λ fault. status_of fault ≡ 1) }
+    ensures written { OnOk result (IsWritten M.known M.Made.contents (Some (record { path = journal.entry.path.now; begun = journal.entry.begun })) (T.text text.now) files.old files.new) }
+    ensures refused { OnErr result (IsRefused M.known M.Made.contents (Some (record { path = journal.entry.path.now; begun = journal.entry.begun })) (T.text text.now) files.old files.new) }
+    ensures fault { IfErr result (λ fault. (fault ≡ Fault.Memory) ⊎ (fault ≡ Fault.Write)) }
 {
     let Journal { path, begun } = journal;
-    let mut sink = Sink::new(rt.make(path, begun).map_err(Fault::of_write)?);
-    text.write(&mut sink)?;
-    rt.put(path, sink.into_inner()).map_err(Fault::of_write)?;
+    let mut sink = Sink::new(files.make(path, begun).map_err(Fault::of_write)?);
+    if text.write(&mut sink).is_err() {
+        files.leave(path, sink);
+        return Err(Fault::Write);
+    }
+    files.put(path, sink.into_inner()).map_err(Fault::of_write)?;
     Ok(())
 }
 
@@ -58,9 +61,12 @@ pub(crate) trait Text {
     /// The text.
     ghost text: { Self → List ℕ };
 
-    /// Writes the text. It takes no memory.
+    /// Writes the text. It takes no memory. Only a write that fails ends it before.
     fn write<W: Write>(&self, sink: &mut Sink<W>) -> Result<(), StreamFault>
-        ensures { OnOk result (Appends (W.contents sink.old.inner) (W.contents sink.new.inner) (text self.now)) };
+        ensures written { OnOk result (Appends (W.contents sink.old.inner) (W.contents sink.new.inner) (text self.now)) }
+        ensures front { OnErr result (AppendsFront (W.contents sink.old.inner) (W.contents sink.new.inner) (text self.now)) }
+        ensures cause { IfErr result (λ fault. fault ≡ StreamFault.Write) }
+        ensures failures { sink.new.failures ≡ failures_after_stream result sink.old.failures };
 }
 
 impl Text for Journals {

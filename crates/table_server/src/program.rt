@@ -2,9 +2,10 @@
 ghost use Rattle.std.specs.Prelude.{◌≡◌, ◌≢◌, ◌≤◌, ◌⊎◌, Some, None, IfErr, IfOk, IsErrAnd, OnOk, List, ℕ, option_map};
 ghost use Rattle.table_engine.specs.Devices.{raised};
 ghost use Rattle.program_words.specs.Asked.{asking_of, files, texts};
-ghost use Rattle.table_server.specs.Asking.{AsksNothing, AsksService, DoesAsked, LeavesInput, NamesSchema, OnlyAnnounces};
+ghost use Rattle.table_server.specs.Asking.{AsksNothing, AsksService, DoesAsked, EndsAsked, LeavesInput, NamesSchema, OnlyAnnounces};
 ghost use Rattle.table_server.specs.Done.{AreOfFile, Done, EndsInput, IsSchema, ReadsAll, Serves, ServesLines};
-ghost use Rattle.table_server.specs.Fault.{status_of};
+ghost use Rattle.table_server.specs.Fault.{Tells, status_after, status_of};
+ghost use Rattle.table_server.specs.Keeping.{Outcome};
 
 use crate::fault::Fault;
 use crate::opens::{Listens, Makes, Opens};
@@ -37,42 +38,54 @@ pub fn given_words<R: Env + AllocGlobal>(rt: &R) -> Result<Vec<String>, Fault>
 /// address, schema, the journal's path and connections, and the first fault ends it; of those of
 /// connections that are served the one of the greatest status.
 pub fn main_with<
-    R: AllocGlobal + Opens + Makes + Listens + Threads + Wait + Sync,
+    R: AllocGlobal + Opens + Listens + Threads + Wait + Sync,
+    M: Makes,
     I: Read,
     O: Write,
     E: Write,
->(rt: &R, words: &[String], input: &mut Source<I>, output: &mut Sink<O>, faults: &mut E) -> u8
-    ensures done { result ≡ 0 → DoesAsked (R.is_at rt.now) R.Opened.remaining (R.is_made rt.now) (R.is_put rt.now) R.Made.contents (asking_of (texts words.now))
+>(
+    rt: &R,
+    files: &mut M,
+    words: &[String],
+    input: &mut Source<I>,
+    output: &mut Sink<O>,
+    faults: &mut Sink<E>,
+) -> u8
+    ensures done { result ≡ 0 → DoesAsked (R.is_at rt.now) R.Opened.remaining M.known M.Made.contents (R.is_listening rt.now) R.Listener.known (asking_of (texts words.now)) files.old files.new
         (I.remaining input.old.inner) (I.remaining input.new.inner) (O.contents output.old.inner) (O.contents output.new.inner) }
+    ensures ends { (outcome : Outcome) × (result ≡ status_after outcome) × EndsAsked (R.is_at rt.now) R.Opened.remaining M.known M.Made.contents (R.is_listening rt.now) R.Listener.known O.contents (asking_of (texts words.now)) files.old files.new output.old output.new outcome
+        × Tells E.contents faults.old faults.new outcome }
     ensures input { result ≡ 0 → LeavesInput (asking_of (texts words.now)) input.old input.new }
     ensures words { result ≡ 2 → AsksNothing (asking_of (texts words.now)) }
     ensures wrong_words { AsksNothing (asking_of (texts words.now)) → (result ≡ 2) ⊎ (result ≡ 1) }
-    ensures untouched { AsksNothing (asking_of (texts words.now)) → (input.new ≡ input.old) × (output.new ≡ output.old) }
+    ensures untouched { AsksNothing (asking_of (texts words.now)) → (input.new ≡ input.old) × (output.new ≡ output.old) × (files.new ≡ files.old) }
     ensures announces { OnlyAnnounces (asking_of (texts words.now)) input.old input.new (O.contents output.old.inner) (O.contents output.new.inner) }
     ensures schema { result ≡ 3 → NamesSchema (asking_of (texts words.now)) }
     ensures mismatch { result ≡ 4 → AsksService (asking_of (texts words.now)) }
     ensures status { result ≤ 4 }
 {
-    match run(rt, words, input, output) {
+    match run(rt, files, words, input, output) {
         Ok(()) => 0,
         Err(fault) => fault.report(faults),
     }
 }
 
 /// Does what the words ask for.
-fn run<R: AllocGlobal + Opens + Makes + Listens + Threads + Wait + Sync, I: Read, O: Write>(
+fn run<R: AllocGlobal + Opens + Listens + Threads + Wait + Sync, M: Makes, I: Read, O: Write>(
     rt: &R,
+    files: &mut M,
     words: &[String],
     input: &mut Source<I>,
     output: &mut Sink<O>,
 ) -> Result<(), Fault>
-    ensures done { OnOk result (DoesAsked (R.is_at rt.now) R.Opened.remaining (R.is_made rt.now) (R.is_put rt.now) R.Made.contents (asking_of (texts words.now))
+    ensures done { OnOk result (DoesAsked (R.is_at rt.now) R.Opened.remaining M.known M.Made.contents (R.is_listening rt.now) R.Listener.known (asking_of (texts words.now)) files.old files.new
         (I.remaining input.old.inner) (I.remaining input.new.inner) (O.contents output.old.inner) (O.contents output.new.inner)) }
+    ensures ends { EndsAsked (R.is_at rt.now) R.Opened.remaining M.known M.Made.contents (R.is_listening rt.now) R.Listener.known O.contents (asking_of (texts words.now)) files.old files.new output.old output.new result }
     ensures input { OnOk result (LeavesInput (asking_of (texts words.now)) input.old input.new) }
     ensures words { IfErr result (λ fault. status_of fault ≡ 2 → AsksNothing (asking_of (texts words.now))) }
     ensures wrong_words { AsksNothing (asking_of (texts words.now))
         → IsErrAnd result (λ fault. (status_of fault ≡ 2) ⊎ (fault ≡ Fault.Memory)) }
-    ensures untouched { AsksNothing (asking_of (texts words.now)) → (input.new ≡ input.old) × (output.new ≡ output.old) }
+    ensures untouched { AsksNothing (asking_of (texts words.now)) → (input.new ≡ input.old) × (output.new ≡ output.old) × (files.new ≡ files.old) }
     ensures announces { OnlyAnnounces (asking_of (texts words.now)) input.old input.new (O.contents output.old.inner) (O.contents output.new.inner) }
     ensures schema { IfErr result (λ fault. status_of fault ≡ 3 → NamesSchema (asking_of (texts words.now))) }
     ensures mismatch { IfErr result (λ fault. status_of fault ≡ 4 → AsksService (asking_of (texts words.now))) }
@@ -88,6 +101,7 @@ fn run<R: AllocGlobal + Opens + Makes + Listens + Threads + Wait + Sync, I: Read
             journal,
         } => serve_connections(
             rt,
+            files,
             &Serving {
                 schema,
                 listen,

@@ -1,16 +1,17 @@
 //! Connections that are served, and the journals that are kept of them.
-ghost use Rattle.std.specs.Prelude.{◌≡◌, ◌≢◌, ◌≤◌, ◌⊎◌, Err, IfErr, OnOk, option_map};
-ghost use Rattle.std.specs.Option.{ForSome};
+ghost use Rattle.std.specs.Prelude.{◌≡◌, ◌≢◌, ◌⊎◌, IfErr, OnOk, option_map};
 ghost use Rattle.table_engine.specs.Devices.{AppendsFront};
-ghost use Rattle.table_server.specs.Fault.{of_gathering, status_of};
-ghost use Rattle.table_server.specs.Serving.{IsKept, Served, announcement};
+ghost use Rattle.table_server.specs.Fault.{status_of};
+ghost use Rattle.table_server.specs.Keeping.{IsUncompared, Keeps, KeepsAfter, later_of};
+ghost use Rattle.table_server.specs.Serving.{IsUntold, Served, announcement};
 
 use crate::fault::Fault;
 use crate::journal::{Journal, begin, write};
 use crate::opens::{Listens, Makes, Opens};
 use crate::program::schema_of;
 use program_words::Address;
-use shared_tables::{Gate, GatherFault, OpenGate, Pass, Shared, gather};
+use shared_tables::{Gate, GatherFault, GatherWhy, OpenGate, Pass, Shared, gather};
+use std::alloc::Global;
 use std::io::{ErrorKind, Write};
 use std::sync::Wait;
 use std::thread::Threads;
@@ -32,12 +33,17 @@ pub struct Serving<'a> {
 /// status is answered.
 #[tactic(auto, using(crate::proofs::Passes::fresh_count))]
 pub fn serve_connections<
-    R: AllocGlobal + Opens + Makes + Listens + Threads + Wait + Sync,
+    R: AllocGlobal + Opens + Listens + Threads + Wait + Sync,
+    M: Makes,
     O: Write,
->(rt: &R, serving: &Serving<'_>, output: &mut Sink<O>) -> Result<(), Fault>
-    ensures done { OnOk result (Served (R.is_at rt.now) R.Opened.remaining (R.is_made rt.now) (R.is_put rt.now) R.Made.contents
-        serving.now.schema.now serving.now.workers serving.now.each (option_map (λ s. s.now) serving.now.journal)
-        (O.contents output.old.inner) (O.contents output.new.inner)) }
+>(rt: &R, files: &mut M, serving: &Serving<'_>, output: &mut Sink<O>) -> Result<(), Fault>
+    ensures done { OnOk result (Served (R.is_at rt.now) R.Opened.remaining M.known M.Made.contents (R.is_listening rt.now) R.Listener.known
+        serving.now.schema.now serving.now.listen serving.now.workers serving.now.each (option_map (λ s. s.now) serving.now.journal)
+        files.old files.new (O.contents output.old.inner) (O.contents output.new.inner) End.Fine result) }
+    ensures ends { IsUntold M.known O.contents serving.now.schema.now (option_map (λ s. s.now) serving.now.journal) files.old files.new output.old output.new result
+        ⊎ ((end : End) × Served (R.is_at rt.now) R.Opened.remaining M.known M.Made.contents (R.is_listening rt.now) R.Listener.known
+        serving.now.schema.now serving.now.listen serving.now.workers serving.now.each (option_map (λ s. s.now) serving.now.journal)
+        files.old files.new (O.contents output.old.inner) (O.contents output.new.inner) end result) }
     ensures announces { AppendsFront (O.contents output.old.inner) (O.contents output.new.inner) announcement }
     ensures fault { IfErr result (λ fault. status_of fault ≢ 2) }
 {
@@ -48,28 +54,24 @@ pub fn serve_connections<
         Err(error) if error.kind() == ErrorKind::OutOfMemory => return Err(Fault::Memory),
         Err(_) => return Err(Fault::Listen),
     };
-    let mut journal = begin(rt, serving.journal, serving.schema)?;
+    let journal = begin(files, serving.journal, serving.schema)?;
     if output.write_all(b"listening\n").is_err() {
         return Err(Fault::Write);
     }
     let done = serve_on(rt, listening, shared, passes, serving.each);
-    keep_done(rt, done, &mut journal)
+    keep_done(rt.alloc(), files, done, journal)
 }
 
 /// Keeps the journals, but where a pass and a journal did not fit: there nothing comes of what was begun.
-fn keep_done<R: AllocGlobal + Makes, G: Gate + Drop>(
-    rt: &R,
+fn keep_done<M: Makes, G: Gate + Drop>(
+    alloc: Global,
+    files: &mut M,
     done: Done<G>,
-    journal: &mut Option<Journal<'_, R::Begun>>,
+    journal: Option<Journal<'_, M::Begun>>,
 ) -> Result<(), Fault>
-    requires { ForSome journal.old (λ j. R.is_begun rt.now j.path.now j.begun) }
-    ensures kept { OnOk result (IsKept (R.is_made rt.now) (R.is_put rt.now) R.Made.contents
-        (option_map (λ j. j.path.now) journal.old) done.shared.schema done.shared.workers done.passes.items) }
+    ensures kept { KeepsAfter M.known M.Made.contents (option_map (λ j. record { path = j.path.now; begun = j.begun }) journal.entry)
+        done.shared.schema done.shared.workers done.passes.items files.old files.new done.end result }
     ensures fine { OnOk result (done.end ≡ End.Fine) }
-    ensures memory { done.end ≡ End.Memory → IfErr result (λ fault. status_of fault ≤ 1 → fault ≡ Fault.Memory) }
-    ensures listen { done.end ≡ End.Listen → IfErr result (λ fault. status_of fault ≤ 1 → fault ≡ Fault.Listen) }
-    ensures mismatch { done.end ≡ End.Mismatch → result ≡ Err Fault.Mismatch }
-    ensures unwritten { result ≡ Err Fault.Mismatch → journal.new ≡ journal.old }
     ensures fault { IfErr result (λ fault. (status_of fault ≡ 1) ⊎ (status_of fault ≡ 4)) }
 {
     let Done {
@@ -78,19 +80,16 @@ fn keep_done<R: AllocGlobal + Makes, G: Gate + Drop>(
         end,
     } = done;
     match end {
-        End::Fine => keep(rt, shared, passes, journal),
-        End::Memory => later(Fault::Memory, keep(rt, shared, passes, journal)),
-        End::Listen => later(Fault::Listen, keep(rt, shared, passes, journal)),
+        End::Fine => keep(alloc, files, shared, passes, journal),
+        End::Memory => later(Fault::Memory, keep(alloc, files, shared, passes, journal)),
+        End::Listen => later(Fault::Listen, keep(alloc, files, shared, passes, journal)),
         End::Mismatch => Err(Fault::Mismatch),
     }
 }
 
 /// The fault of the greater status, and of equals the first.
 fn later(first: Fault, second: Result<(), Fault>) -> Result<(), Fault>
-    ensures one { (result ≡ Err first) ⊎ (result ≡ second) }
-    ensures fails { OnOk result ⊥ }
-    ensures greatest { IfErr result (λ fault. (status_of first ≤ status_of fault) × IfErr second (λ other. status_of other ≤ status_of fault)) }
-    ensures first { IfErr second (λ other. status_of other ≤ status_of first → result ≡ Err first) }
+    ensures { result ≡ later_of first second }
 {
     match second {
         Err(second) if second.status() > first.status() => Err(second),
@@ -99,44 +98,43 @@ fn later(first: Fault, second: Result<(), Fault>) -> Result<(), Fault>
 }
 
 /// Gathers the journals, and writes them to the file of a path, if there is one.
-fn keep<R: AllocGlobal + Makes, G: Gate + Drop>(
-    rt: &R,
+fn keep<M: Makes, G: Gate + Drop>(
+    alloc: Global,
+    files: &mut M,
     shared: Shared<G>,
     passes: Vec<Pass>,
-    journal: &mut Option<Journal<'_, R::Begun>>,
+    journal: Option<Journal<'_, M::Begun>>,
 ) -> Result<(), Fault>
-    requires { ForSome journal.old (λ j. R.is_begun rt.now j.path.now j.begun) }
-    ensures kept { OnOk result (IsKept (R.is_made rt.now) (R.is_put rt.now) R.Made.contents
-        (option_map (λ j. j.path.now) journal.old) shared.schema shared.workers passes.items) }
-    ensures unwritten { result ≡ Err Fault.Mismatch → journal.new ≡ journal.old }
-    ensures fault { IfErr result (λ fault. (status_of fault ≡ 1) ⊎ (status_of fault ≡ 4)) }
+    ensures { Keeps M.known M.Made.contents (option_map (λ j. record { path = j.path.now; begun = j.begun }) journal.entry)
+        shared.schema shared.workers passes.items files.old files.new result }
 {
-    match gather(rt.alloc(), shared, passes) {
-        Ok(journals) => match journal.take() {
+    match gather(alloc, shared, passes) {
+        Ok(journals) => match journal {
             None => Ok(()),
-            Some(journal) => write(rt, &journals, journal),
+            Some(journal) => write(files, &journals, journal),
         },
-        Err(fault) => Err(not_gathered(rt, fault, journal)),
+        Err(fault) => Err(not_gathered(files, fault, journal)),
     }
 }
 
 /// The fault of journals that are not gathered. Where memory was refused before they were compared they are written as they
-/// stand, as far as that succeeds.
-fn not_gathered<R: Makes, G: Gate + Drop>(
-    rt: &R,
+/// stand, as far as that succeeds. Where they can't be taken as they stand, the tables are not those of the schema: that is a mismatch.
+fn not_gathered<M: Makes, G: Gate + Drop>(
+    files: &mut M,
     fault: GatherFault<G>,
-    journal: &mut Option<Journal<'_, R::Begun>>,
+    journal: Option<Journal<'_, M::Begun>>,
 ) -> Fault
-    requires { ForSome journal.old (λ j. R.is_begun rt.now j.path.now j.begun) }
-    ensures fault { result ≡ of_gathering fault.why }
-    ensures unwritten { result ≡ Fault.Mismatch → journal.new ≡ journal.old }
+    ensures mismatch { (fault.why ≢ GatherWhy.Memory) → result ≡ Fault.Mismatch }
+    ensures memory { result ≡ Fault.Memory → fault.why ≡ GatherWhy.Memory }
+    ensures ends { ((result ≡ Fault.Mismatch) × (files.new ≡ files.old))
+        ⊎ ((result ≡ Fault.Memory) × IsUncompared M.known M.Made.contents (option_map (λ j. record { path = j.path.now; begun = j.begun }) journal.entry)
+        fault.shared.schema fault.shared.workers files.old files.new) }
 {
-    let told = Fault::from(fault.why);
     let Ok(journals) = fault.into_uncompared() else {
-        return told;
+        return Fault::Mismatch;
     };
-    if let Some(journal) = journal.take() {
-        let _ = write(rt, &journals, journal);
+    if let Some(journal) = journal {
+        let _ = write(files, &journals, journal);
     }
-    told
+    Fault::Memory
 }

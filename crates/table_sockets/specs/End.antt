@@ -1,5 +1,5 @@
 -- How threads end.
-use Rattle.std.specs.Prelude.{ℕ, Option, Some, None, nat_le, if◌then◌else◌}
+use Rattle.std.specs.Prelude.{ℕ, Option, Some, None, Result, Ok, Err, nat_le, if◌then◌else◌}
 use Rattle.shared_tables.specs.declared.fault.ServeFault.{ServeFault}
 use Rattle.shared_tables.specs.declared.fault.ServeFault.TheVariants as fault
 use Rattle.table_sockets.specs.declared.end.End.{End}
@@ -18,6 +18,11 @@ ended_by fault.Read = None
 ended_by fault.Write = None
 ended_by fault.Memory = Some Memory
 ended_by (fault.Call why) = Some Mismatch
+
+-- how the serving of a connection ends its thread, if it does
+abbrev pub end_after : Result (Unit {0}) ServeFault → Option End
+end_after (Ok _) = None
+end_after (Err why) = ended_by why
 
 -- the later of two ends
 abbrev pub later : End → End → End

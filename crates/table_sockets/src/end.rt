@@ -1,6 +1,6 @@
 //! How threads end.
 ghost use Rattle.std.specs.Prelude.{◌≡◌, ◌≤◌, ◌⊎◌};
-ghost use Rattle.table_sockets.specs.End.{ended_by, later};
+ghost use Rattle.table_sockets.specs.End.{end_after, ended_by, later};
 
 use shared_tables::{Gate, Pass, ServeFault, Shared};
 
@@ -34,6 +34,16 @@ impl End {
             ServeFault::Read | ServeFault::Write => None,
             ServeFault::Memory => Some(End::Memory),
             ServeFault::Call(_) => Some(End::Mismatch),
+        }
+    }
+
+    /// The end that the serving of a connection makes of its thread.
+    pub(crate) fn after(served: Result<(), ServeFault>) -> Option<End>
+        ensures { result ≡ end_after served }
+    {
+        match served {
+            Ok(()) => None,
+            Err(fault) => End::by(fault),
         }
     }
 

@@ -3,8 +3,8 @@ ghost use Rattle.std.specs.Prelude.{◌≡◌, ◌<◌, ◌≤◌, ◌++◌, ◌
 ghost use Rattle.table_sockets.specs.End.{later};
 ghost use Rattle.table_sockets.specs.Serving.{AreServed, Leaves};
 
+use crate::accepts::Accepts;
 use crate::end::{Done, End};
-use crate::listening::Listening;
 use crate::worker::{Left, Promised, Work};
 use core::thread::Stack;
 use shared_tables::{Gate, Pass, Shared};
@@ -21,16 +21,16 @@ const STACK: usize = 2 << 20;
 /// end. A fault of a connection's reads or writes ends that connection alone. A thread ends where no connection can be
 /// accepted, memory is refused or a call is; the others go on. Returns when all threads have ended. Takes no memory but the
 /// threads' own.
-pub fn serve_on<G: Gate + Drop + Sync, R: Threads + Wait + Sync>(
+pub fn serve_on<L: Accepts + Drop + Sync, G: Gate + Drop + Sync, R: Threads + Wait + Sync>(
     rt: &R,
-    listening: Listening,
+    listening: L,
     shared: Shared<G>,
     passes: Vec<Pass>,
     each: u32,
 ) -> Done<G>
     ensures shared { result.shared ≡ shared }
     ensures passes { vec_len result.passes ≡ vec_len passes }
-    ensures served { AreServed shared each passes.items result.passes.items result.end }
+    ensures served { AreServed (L.known listening) shared each passes.items result.passes.items result.end }
 {
     let work = Work {
         listening,
@@ -53,34 +53,34 @@ pub fn serve_on<G: Gate + Drop + Sync, R: Threads + Wait + Sync>(
 }
 
 // Lets each pass serve its connections in a thread of its own.
-fn serve_all<G: Gate + Sync, R: Threads + Wait + Sync>(
+fn serve_all<L: Accepts + Sync, G: Gate + Sync, R: Threads + Wait + Sync>(
     rt: &R,
-    work: &Work<G>,
+    work: &Work<L, G>,
     passes: Vec<Pass>,
 ) -> (Vec<Pass>, End)
     ensures passes { vec_len result.0 ≡ vec_len passes }
-    ensures served { AreServed work.now.shared work.now.each passes.items result.0.items result.1 }
+    ensures served { AreServed (L.known work.now.listening) work.now.shared work.now.each passes.items result.0.items result.1 }
 {
     thread::scope(
         thread::scope_env(),
         rt,
         |scope| -> (Vec<Pass>, End)
             ensures passes { vec_len result.0 ≡ vec_len passes }
-            ensures served { AreServed work.entry.now.shared work.entry.now.each passes.items result.0.items result.1 }
+            ensures served { AreServed (L.known work.entry.now.listening) work.entry.now.shared work.entry.now.each passes.items result.0.items result.1 }
         { serve_rest(scope, rt, work, passes) },
     )
 }
 
 // Starts a thread for each of these passes, and waits for them all.
-fn serve_rest<'s, E, G: Gate + Sync, R: Threads + Wait + Sync>(
+fn serve_rest<'s, E, L: Accepts + Sync, G: Gate + Sync, R: Threads + Wait + Sync>(
     scope: &Scope<'s, E>,
     rt: &'s R,
-    work: &'s Work<G>,
+    work: &'s Work<L, G>,
     mut passes: Vec<Pass>,
 ) -> (Vec<Pass>, End)
     ensures room { vec_capacity passes ≤ vec_capacity result.0 }
     ensures passes { vec_len result.0 ≡ vec_len passes }
-    ensures served { AreServed work.now.shared work.now.each passes.items result.0.items result.1 }
+    ensures served { AreServed (L.known work.now.listening) work.now.shared work.now.each passes.items result.0.items result.1 }
 {
     let number = passes.len();
     let Some(pass) = passes.pop() else {
@@ -96,17 +96,18 @@ fn serve_rest<'s, E, G: Gate + Sync, R: Threads + Wait + Sync>(
 }
 
 // Starts the thread of this number. Where it can't be started, its pass comes back as it is.
-fn begin<'s, E, G: Gate + Sync, R: Threads + Wait + Sync>(
+fn begin<'s, E, L: Accepts + Sync, G: Gate + Sync, R: Threads + Wait + Sync>(
     scope: &Scope<'s, E>,
     rt: &'s R,
-    work: &'s Work<G>,
+    work: &'s Work<L, G>,
     number: usize,
     pass: Pass,
-) -> Result<PromisedHandle<Left, Promised<G>>, Left>
-    ensures begun { IfOk result (λ thread. (thread.promise.shared.value ≡ work.now.shared) × (thread.promise.each ≡ work.now.each) × (thread.promise.pass.value ≡ pass)) }
-    ensures refused { IfErr result (λ left. Leaves work.now.shared work.now.each pass left.pass left.end) }
+) -> Result<PromisedHandle<Left, Promised<L, G>>, Left>
+    ensures begun { IfOk result (λ thread. (thread.promise.listening.value ≡ work.now.listening) × (thread.promise.shared.value ≡ work.now.shared) × (thread.promise.each ≡ work.now.each) × (thread.promise.pass.value ≡ pass)) }
+    ensures refused { IfErr result (λ left. Leaves (L.known work.now.listening) work.now.shared work.now.each pass left.pass left.end) }
 {
     let promise = Promised {
+        listening: Snapshot::of(&work.listening),
         shared: Snapshot::of(&work.shared),
         pass: Snapshot::of(&pass),
         each: work.each,
@@ -115,7 +116,7 @@ fn begin<'s, E, G: Gate + Sync, R: Threads + Wait + Sync>(
         scope,
         promise,
         move || -> Left
-            ensures { Leaves work.entry.now.shared work.entry.now.each pass result.pass result.end }
+            ensures { Leaves (L.known work.entry.now.listening) work.entry.now.shared work.entry.now.each pass result.pass result.end }
         { work.leave(rt, number, pass) },
     );
     match begun {

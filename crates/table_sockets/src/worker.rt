@@ -2,8 +2,9 @@
 ghost use Rattle.std.specs.Prelude.{◌≡◌};
 ghost use Rattle.table_sockets.specs.Serving.{GoesOn, LeavesPass, Leaves};
 
+use crate::accepts::Accepts;
 use crate::end::End;
-use crate::listening::{Connection, Listening};
+use crate::halves::{Reading, Writing};
 use shared_tables::{Gate, Pass, ServeFault, Shared};
 use std::io::{Read, Write};
 use std::snapshot::Snapshot;
@@ -13,8 +14,8 @@ use std::thread::Promise;
 use table_engine::{Sink, Source};
 
 /// What the threads of a service share.
-pub(crate) struct Work<G: Gate> {
-    pub(crate) listening: Listening,
+pub(crate) struct Work<L: Accepts, G: Gate> {
+    pub(crate) listening: L,
     pub(crate) shared: Shared<G>,
     /// How many connections each thread serves.
     pub(crate) each: u32,
@@ -29,40 +30,44 @@ pub(crate) struct Left {
     pub(crate) end: End,
 }
 
-/// What is known of what a thread leaves: the tables and the pass that it began with, and how many connections it was to serve.
+/// What is known of what a thread leaves: what it accepts from, the tables and the pass that it began with, and how many
+/// connections it was to serve.
 #[derive(Drop)]
-pub(crate) struct Promised<G: Gate> {
+pub(crate) struct Promised<L: Accepts, G: Gate> {
+    pub(crate) listening: Snapshot<L>,
     pub(crate) shared: Snapshot<Shared<G>>,
     pub(crate) pass: Snapshot<Pass>,
     pub(crate) each: u32,
 }
 
-impl<G: Gate> Promise<Left> for Promised<G> {
+impl<L: Accepts, G: Gate> Promise<Left> for Promised<L, G> {
     ghost use Rattle.table_sockets.specs.Serving.{Leaves};
 
-    ghost kept_by = { λ p left. Leaves p.shared.value p.each p.pass.value left.pass left.end };
+    ghost kept_by = { λ p left. Leaves (L.known p.listening.value) p.shared.value p.each p.pass.value left.pass left.end };
 }
 
-impl<G: Gate> Work<G> {
+impl<L: Accepts, G: Gate> Work<L, G> {
     /// What the thread of this number leaves. One that could not be started leaves its pass as it is.
     pub(crate) fn leave(&self, rt: &impl Wait, number: usize, pass: Pass) -> Left
-        ensures { Leaves self.now.shared self.now.each pass result.pass result.end }
+        ensures { Leaves (L.known self.now.listening) self.now.shared self.now.each pass result.pass result.end }
     {
+        let turn = self.listening.begin();
         if self.refused.load(Ordering::SeqCst) == number {
             return Left {
                 pass,
                 end: End::Memory,
             };
         }
-        self.serve_each(rt, pass)
+        self.serve_each(rt, turn, pass)
     }
 
     // Accepts so many connections and serves them.
-    fn serve_each(&self, rt: &impl Wait, mut pass: Pass) -> Left
-        ensures { Leaves self.now.shared self.now.each pass result.pass result.end }
+    fn serve_each(&self, rt: &impl Wait, mut turn: L::Turn, mut pass: Pass) -> Left
+        requires { (L.known self.now.listening).begun turn }
+        ensures { Leaves (L.known self.now.listening) self.now.shared self.now.each pass result.pass result.end }
     {
         for _ in 0..self.each {
-            if let Some(end) = self.serve_next(rt, &mut pass) {
+            if let Some(end) = self.serve_next(rt, &mut turn, &mut pass) {
                 return Left { pass, end };
             }
         }
@@ -73,24 +78,24 @@ impl<G: Gate> Work<G> {
     }
 
     // Accepts a connection, serves it, and says how that ends the thread, if it does.
-    fn serve_next(&self, rt: &impl Wait, pass: &mut Pass) -> Option<End>
-        ensures { GoesOn self.now.shared pass.old pass.new result }
+    fn serve_next(&self, rt: &impl Wait, turn: &mut L::Turn, pass: &mut Pass) -> Option<End>
+        ensures { GoesOn (L.known self.now.listening) self.now.shared
+            (record { turn = turn.old; pass = pass.old }) (record { turn = turn.new; pass = pass.new }) result }
     {
-        let Ok(connection) = self.listening.accept() else {
+        let Ok((connection, input, output)) = self.listening.accept(turn) else {
             return Some(End::Listen);
         };
-        let served = match &connection {
-            Connection::Unix(stream) => serve(rt, &self.shared, pass, stream, stream),
-            Connection::Tcp(stream) => {
-                // Answers are written in whole pieces, so there is nothing to wait for.
-                let _ = stream.set_nodelay(true);
-                serve(rt, &self.shared, pass, stream, stream)
-            }
+        let reader = Reading {
+            listening: &self.listening,
+            connection: &connection,
+            input,
         };
-        match served {
-            Ok(()) => None,
-            Err(fault) => End::by(fault),
-        }
+        let writer = Writing {
+            listening: &self.listening,
+            connection: &connection,
+            output,
+        };
+        End::after(serve(rt, &self.shared, pass, reader, writer))
     }
 }
 
@@ -102,7 +107,7 @@ fn serve<G: Gate, I: Read + Drop, O: Write + Drop>(
     reader: I,
     writer: O,
 ) -> Result<(), ServeFault>
-    ensures { LeavesPass shared.now pass.old pass.new result }
+    ensures { LeavesPass shared.now (I.remaining reader) (O.contents writer) pass.old pass.new result }
 {
     shared.serve(rt, pass, &mut Source::new(reader), &mut Sink::new(writer))
 }

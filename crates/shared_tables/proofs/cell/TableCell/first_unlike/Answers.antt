@@ -7,7 +7,7 @@ use Rattle.shared_tables.proofs.cell.TableCell.first_unlike.Goals as goal
 
 pub overflow_cast-session-end : goal.overflow_cast-session-end
 overflow_cast-session-end c =
-    let few : length c.self.inside.tallies.items < 4294967296 = c.self.invariant.few in
+    let few : length c.self.inside.tallies.items < 4294967296 = c.self.invariant.0.few in
     let count : c.len-workers.result ≡ length c.self.inside.tallies.items = c.len-workers.ensures ∙ c.self.inside.tallies.ok.0 in
     omega arith
 
@@ -19,5 +19,5 @@ returns c =
     let count : c.len-workers.result ≡ length c.self.inside.tallies.items = c.len-workers.ensures ∙ c.self.inside.tallies.ok.0 in
     first_of_all cell c.args.passes.now c.first_beyond.result
     (λ session h. c.loop-session.invariant session (let end = c.loop-session-test.false in omega arith))
-    (λ session h. ap (own session) (sym journal) ∙ c.self.invariant.others session (omega arith))
+    (λ session h. ap (own session) (sym journal) ∙ c.self.invariant.0.others session (omega arith))
     (subst (λ (n : ℕ). FirstFailure (λ session. n ≤ session → passes_of session c.args.passes.now ≡ []) c.first_beyond.result) (count ∙ sym workers) c.first_beyond.ensures)

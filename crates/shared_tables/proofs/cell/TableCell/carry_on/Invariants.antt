@@ -1,6 +1,0 @@
-use Rattle.std.proofs.Common.{◌≡◌, take}
-use Rattle.shared_tables.specs.Journal.{replay}
-use Rattle.shared_tables.proofs.cell.TableCell.carry_on.Given as goal
-
-abbrev pub invariant-loop-index : goal.invariant-loop-index
-invariant-loop-index l = l.table ≡ replay l.self.shape (take l.index l.self.journal)
