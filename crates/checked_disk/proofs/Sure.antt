@@ -69,18 +69,12 @@ module _ (base : Link) (es : List Entry) (synced : ℕ) where
 pub other_is_slot : (at : ℕ) → IsSlot (other_slot at)
 other_is_slot at = elim (at == 0) as (λ b. IsSlot (cond b 512 0)) [ true ↦ inr refl | false ↦ inl refl ]
 
--- a mark of the last line, where all are sure
-pub marks_sure : (base : Link) (bytes : List ℕ) (synced : ℕ) (last : Link) (at : ℕ) (old new : Left → Type 0) → LinkFits last → last ≡ last_link base (whole base (ended bytes))
-    → last.number ≤ synced → IsSlot at → IsSure base bytes synced old → Follows (Marked at (slot_of last)) old new → AllLeft new (Stands base (whole base (ended bytes)) synced)
-marks_sure base bytes synced last at old new fits is few slot sure follows c left =
+-- a mark of a line, where those up to it are sure
+pub marks_sure : (base : Link) (bytes : List ℕ) (synced : ℕ) (last : Link) (at : ℕ) (old new : Left → Type 0) → LinkFits last → IsServed base (Some last) (whole base (ended bytes)) synced
+    → IsSlot at → IsSure base bytes synced old → Follows (Marked at (slot_of last)) old new → AllLeft new (Stands base (whole base (ended bytes)) synced)
+marks_sure base bytes synced last at old new fits served slot sure follows c left =
     let es = whole base (ended bytes) in
-    let served = sure.served in
-    let number = last_number base es served.chain in
-    let here : last.number ≡ (last_link base es).number = ap (λ (l : Link). l.number) is in
-    let all : base.number + length es ≡ synced = omega (arith, few, served.within, number, here) in
-    let put : IsServed base (slot_mark (slot_of last)) es synced =
-    subst (λ (o : Option Link). IsServed base o es synced) (sym (slot_mark-text last fits ∙ ap Some is))
-    (subst (λ (n : ℕ). IsServed base (Some (last_link base es)) es n) all (served_mark base None es (subst (λ (n : ℕ). IsServed base None es n) (sym all) served))) in
+    let put : IsServed base (slot_mark (slot_of last)) es synced = subst (λ (o : Option Link). IsServed base o es synced) (sym (slot_mark-text last fits)) served in
     let from = follows c left in
     marked_at base es synced at (slot_of last) from.0 c slot put (sure.each from.0 from.1) from.2
 

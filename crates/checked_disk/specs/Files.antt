@@ -58,6 +58,11 @@ LeavesLess old new = (c : Left) → new c → old c
 abbrev pub IsSettled : Option (List ℕ) → (ℕ → Bool) → (Left → Type 0) → Type 0
 IsSettled contents written may_leave = (c : Left) (bytes : List ℕ) (p : ℕ) → may_leave c → contents ≡ Some bytes → written p ≡ true → p < length bytes → IsAt c.log p (slice_index bytes p)
 
+-- the same of places among the first so many
+abbrev pub IsSettledTo : ℕ → Option (List ℕ) → (ℕ → Bool) → (Left → Type 0) → Type 0
+IsSettledTo count contents written may_leave =
+    (c : Left) (bytes : List ℕ) (p : ℕ) → may_leave c → contents ≡ Some bytes → written p ≡ true → p < count → p < length bytes → IsAt c.log p (slice_index bytes p)
+
 -- ---- places that were written
 
 -- no other places were written

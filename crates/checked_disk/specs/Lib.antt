@@ -3,6 +3,7 @@ pub mod Plain
 pub mod Reading
 pub mod Stands
 pub mod Kept
+pub mod Begun
 pub mod Resumed
 pub mod Safe
 pub mod Same

@@ -54,6 +54,15 @@ impl<L: LogFile, M: MarkFile> LogFiles for Beside<L, M> {
         self.log.settle()
     }
 
+    fn begin_settle(&mut self) {}
+
+    fn end_settle(&mut self) -> io::Result<u64> {
+        match self.log.settle() {
+            Ok(()) => Ok(u64::MAX),
+            Err(error) => Err(error),
+        }
+    }
+
     fn put_mark(&mut self, at: u64, slot: &[u8]) -> io::Result<()> {
         self.mark.put(at, slot)
     }

@@ -1,11 +1,12 @@
 //! A disk that checks itself.
 
-ghost use Rattle.std.specs.Prelude.{◌≡◌, ◌⊎◌, ◌+◌, ◌<◌, ◌≤◌, ◌++◌, ◌∷◌, [], true, false, ℕ, List, Some, IfOk, OnErr, OnOk, length, option_map, take};
+ghost use Rattle.std.specs.Prelude.{◌≡◌, ◌⊎◌, ◌+◌, ◌<◌, ◌≤◌, ◌++◌, ◌∷◌, [], true, false, ℕ, List, Some, IfOk, IsTrue, OnErr, OnOk, length, option_map, take};
 ghost use Rattle.table_engine.specs.Devices.{failures_after, raised};
 ghost use Rattle.table_log.specs.Disk.{AppendsAll, Cuts, Reads, synced_after};
 ghost use Rattle.file_disk.specs.File.{over};
 ghost use Rattle.checked_log.specs.Line.{is_plain};
 ghost use Rattle.checked_log.specs.Mark.{LinkFits};
+ghost use Rattle.checked_disk.specs.Begun.{CountsBegun, HasLines, IsBegun};
 ghost use Rattle.checked_disk.specs.Files.{LeavesOnly, WritesNone, other_slot};
 ghost use Rattle.checked_disk.specs.Kept.{AppendsFront, AppendsLine, IsKept, Renews, link_at, log_after, slot_of};
 ghost use Rattle.checked_disk.specs.Plain.{plain_contents};
@@ -41,6 +42,17 @@ fn link(number: u64, digest: u64) -> Link
     Link { number, digest }
 }
 
+// Whether more of a log is sure of which the first so many bytes are, and which was this before.
+fn is_more(log: Log, was: Log, count: u64) -> bool
+    ensures { IsTrue result → (log.is_settled ≡ true) × (was.end ≤ count) × (log.durable < was.last.number) × (was.last.number ≤ log.last.number) × (log.synced ≤ was.size) }
+{
+    log.is_settled
+        && was.end <= count
+        && log.durable < was.last.number
+        && was.last.number <= log.last.number
+        && log.synced <= was.size
+}
+
 /// What is known of a log.
 #[derive(Clone, Copy)]
 pub(crate) struct Log {
@@ -70,6 +82,8 @@ pub struct CheckedDisk<F: LogFiles> {
     pub(crate) failures: u64,
     // Whether a sync failed.
     pub(crate) is_over: bool,
+    // What the log was when a sync was begun that goes on beside the calls.
+    pub(crate) begun: Option<Log>,
     ghost kept: { (bytes : List ℕ) → F.contents disk.files ≡ Some bytes → IsKept texts.base bytes log.last log.end log.size },
     ghost reading: { IsReading (F.contents disk.files) texts },
     ghost within: { log.end ≤ disk.size },
@@ -77,6 +91,7 @@ pub struct CheckedDisk<F: LogFiles> {
     ghost tail: { IsTail (F.contents disk.files) texts },
     ghost durable: { texts.reader.durable ≤ log.durable },
     ghost sure: { SyncedAreDurable texts.base (F.contents disk.files) log },
+    ghost had: { IsBegun texts.base (F.contents disk.files) begun },
     ghost written: { is_over ≡ false → log.is_settled ≡ true → (p : ℕ) → texts.reader.tail ≤ p → p < log.end → F.written disk.files p ≡ true },
 }
 
@@ -91,6 +106,7 @@ impl<F: LogFiles> Drop for CheckedDisk<F> {
             line: _line,
             failures: _,
             is_over: _,
+            begun: _,
         } = self;
     }
 }
@@ -106,6 +122,13 @@ impl<F: LogFiles> CheckedDisk<F> {
         self.log.last
     }
 
+    /// The files of the log and its mark, which are lent. O(1).
+    pub fn files(&self) -> &F
+        ensures { result.now ≡ self.now.disk.files }
+    {
+        &self.disk.files
+    }
+
     /// The files of the log and its mark. O(1).
     pub fn into_files(self) -> F
         ensures { result ≡ self.disk.files }
@@ -118,6 +141,7 @@ impl<F: LogFiles> CheckedDisk<F> {
             line: _,
             failures: _,
             is_over: _,
+            begun: _,
         } = self;
         let Held { files, size: _ } = disk;
         files
@@ -200,6 +224,7 @@ impl<F: LogFiles> CheckedDisk<F> {
         if self.log.is_settled {
             return Ok(());
         }
+        self.begun = None;
         self.texts.rewind();
         self.disk.shorten(self.log.end)?;
         rewrite_from(
@@ -210,26 +235,28 @@ impl<F: LogFiles> CheckedDisk<F> {
         Ok(())
     }
 
-    // Puts the mark of the last write.
-    fn put_mark(&mut self) -> Result<(), DiskFailed>
+    // Puts the mark of a write that the log has.
+    fn put_mark(&mut self, last: Link) -> Result<(), DiskFailed>
+        requires fits { LinkFits last }
+        requires lines { (bytes : List ℕ) → F.contents self.old.disk.files ≡ Some bytes → HasLines self.old.texts.base bytes last }
         ensures contents { F.contents self.new.disk.files ≡ F.contents self.old.disk.files }
         ensures log { self.new.log ≡ self.old.log }
         ensures base { self.new.texts ≡ self.old.texts }
+        ensures begun { self.new.begun ≡ self.old.begun }
         ensures is_over { self.new.is_over ≡ self.old.is_over }
         ensures failures { self.new.failures ≡ self.old.failures }
         ensures settles { F.settles self.new.disk.files ≡ F.settles self.old.disk.files }
-        ensures mark { OnOk result (F.mark self.new.disk.files ≡ option_map (over self.old.next (slot_of self.old.log.last)) (F.mark self.old.disk.files)) }
+        ensures mark { OnOk result (F.mark self.new.disk.files ≡ option_map (over self.old.next (slot_of last)) (F.mark self.old.disk.files)) }
         ensures puts { OnOk result (F.puts self.new.disk.files ≡ raised (F.puts self.old.disk.files)) }
         ensures next { OnOk result (self.new.next ≡ other_slot self.old.next) }
         ensures next_err { OnErr result (self.new.next ≡ self.old.next) }
         ensures places { WritesNone (F.written self.old.disk.files) (F.written self.new.disk.files) }
-        ensures sure { (synced : ℕ) → IsSafe self.old.texts.base (F.contents self.old.disk.files) self.old.next self.old.log.last.number synced (F.may_leave self.old.disk.files)
+        ensures sure { (synced : ℕ) → IsSafe self.old.texts.base (F.contents self.old.disk.files) self.old.next last.number synced (F.may_leave self.old.disk.files)
             → LeavesOnly F.moment F.left_since self.old.disk.files self.new.disk.files (StandsFrom self.old.texts.base (entries_of self.old.texts.base (F.contents self.old.disk.files)) synced)
-            × IsSafe self.old.texts.base (F.contents self.new.disk.files) self.new.next self.old.log.last.number synced (F.may_leave self.new.disk.files) }
+            × IsSafe self.old.texts.base (F.contents self.new.disk.files) self.new.next last.number synced (F.may_leave self.new.disk.files) }
     {
-        let link = link(self.log.last.number, self.log.last.digest);
         self.line.clear();
-        let Ok(()) = push_mark(&mut self.line, link) else {
+        let Ok(()) = push_mark(&mut self.line, last) else {
             return Err(DiskFailed);
         };
         self.disk.put_mark(self.next as u64, &self.line)?;
@@ -260,11 +287,43 @@ impl<F: LogFiles> CheckedDisk<F> {
         self.renew()?;
         self.is_over = true;
         self.disk.settle()?;
-        self.put_mark()?;
+        let last = link(self.log.last.number, self.log.last.digest);
+        self.put_mark(last)?;
         self.log = Log {
             durable: self.log.last.number,
             is_settled: true,
             synced: self.log.size,
+            ..self.log
+        };
+        self.is_over = false;
+        Ok(())
+    }
+
+    // Makes sure of the lines that the log had when a sync was begun, as far as that made sure of the log's first bytes, and marks the last of them behind that.
+    fn count_begun(&mut self, was: Log) -> Result<(), DiskFailed>
+        requires { self.old.begun ≡ Some was }
+        ensures contents { plain_contents self.new.texts.base (F.contents self.new.disk.files) ≡ plain_contents self.old.texts.base (F.contents self.old.disk.files) }
+        ensures failures { self.new.failures ≡ self.old.failures }
+        ensures log { CountsBegun result self.old.begun self.old.log self.new.log }
+        ensures synced { OnOk result (self.old.log.synced ≤ self.new.log.synced) }
+        ensures file { F.contents self.new.disk.files ≡ F.contents self.old.disk.files }
+        ensures base { self.new.texts.base ≡ self.old.texts.base }
+        ensures sure { KeepsSure self.old self.new }
+    {
+        if self.is_over {
+            return Err(DiskFailed);
+        }
+        self.is_over = true;
+        let count = self.disk.end_settle()?;
+        if !is_more(self.log, was, count) {
+            self.is_over = false;
+            return Ok(());
+        }
+        let last = link(was.last.number, was.last.digest);
+        self.put_mark(last)?;
+        self.log = Log {
+            durable: was.last.number,
+            synced: was.size,
             ..self.log
         };
         self.is_over = false;
@@ -373,6 +432,41 @@ impl<F: LogFiles> Disk for CheckedDisk<F> {
         ensures over { OnOk result (self.old.is_over ≡ false) }
     {
         match self.make_sure() {
+            Ok(()) => Ok(()),
+            Err(failed) => {
+                self.failures = self.failures.saturating_add(1);
+                Err(failed)
+            }
+        }
+    }
+
+    fn begin_sync(&mut self)
+        ensures contents { F.contents self.new.disk.files ≡ F.contents self.old.disk.files }
+        ensures log { self.new.log ≡ self.old.log }
+        ensures base { self.new.texts.base ≡ self.old.texts.base }
+        ensures failures { self.new.failures ≡ self.old.failures }
+        ensures begun { self.new.begun ≡ Some self.old.log }
+        ensures sure { KeepsSure self.old self.new }
+    {
+        self.disk.begin_settle();
+        self.begun = Some(self.log);
+    }
+
+    fn end_sync(&mut self) -> Result<(), DiskFailed>
+        ensures contents { plain_contents self.new.texts.base (F.contents self.new.disk.files) ≡ plain_contents self.old.texts.base (F.contents self.old.disk.files) }
+        ensures size { self.new.log.size ≡ self.old.log.size }
+        ensures synced { OnOk result (self.old.log.synced ≤ self.new.log.synced) }
+        ensures kept { OnErr result (self.new.log.synced ≡ self.old.log.synced) }
+        ensures failures { self.new.failures ≡ failures_after result self.old.failures }
+        ensures log { CountsBegun result self.old.begun self.old.log self.new.log }
+        ensures file { F.contents self.new.disk.files ≡ F.contents self.old.disk.files }
+        ensures base { self.new.texts.base ≡ self.old.texts.base }
+        ensures sure { KeepsSure self.old self.new }
+    {
+        let Some(was) = self.begun else {
+            return Ok(());
+        };
+        match self.count_begun(was) {
             Ok(()) => Ok(()),
             Err(failed) => {
                 self.failures = self.failures.saturating_add(1);

@@ -6,7 +6,7 @@ ghost use Rattle.table_engine.specs.Devices.{raised};
 ghost use Rattle.file_disk.specs.File.{ReadsFrom, over, written_at};
 ghost use Rattle.checked_log.specs.Mark.{LinkFits, mark_text};
 ghost use Rattle.checked_log.specs.declared.recovery.Link.{Link};
-ghost use Rattle.checked_disk.specs.Files.{Elapses, Follows, IsSettled, IsSlot, Left, LeavesLess, Marked, Shortened, Writes, WritesNone, Wrote, taken};
+ghost use Rattle.checked_disk.specs.Files.{Elapses, Follows, IsSettled, IsSettledTo, IsSlot, Left, LeavesLess, Marked, Shortened, Writes, WritesNone, Wrote, taken};
 
 use std::io;
 
@@ -85,6 +85,27 @@ pub trait LogFiles: Drop {
         ensures places { OnOk result (WritesNone (written self.old) (written self.new)) }
         ensures forgotten { OnErr result ((p : ℕ) → written self.new p ≡ true → written self.old p ≡ true) }
         ensures durable { OnOk result (IsSettled (contents self.old) (written self.old) (may_leave self.new)) }
+        ensures crash { LeavesLess (may_leave self.old) (may_leave self.new) }
+        ensures time { Elapses (moment self.old) (moment self.new) (left_since self.old) (left_since self.new) (may_leave self.new) };
+
+    /// Begins a settle that goes on beside the calls of these files. It waits for nothing.
+    fn begin_settle(&mut self)
+        ensures kept { contents self.new ≡ contents self.old }
+        ensures mark { mark self.new ≡ mark self.old }
+        ensures settles { settles self.new ≡ settles self.old }
+        ensures puts { puts self.new ≡ puts self.old }
+        ensures places { WritesNone (written self.old) (written self.new) }
+        ensures crash { LeavesLess (may_leave self.old) (may_leave self.new) }
+        ensures time { Elapses (moment self.old) (moment self.new) (left_since self.old) (left_since self.new) (may_leave self.new) };
+
+    /// How many of the log's first bytes the settle made sure of that was begun last: those that were there, as far as none of them was written again. None where it did not
+    /// come to its end. It fails where that failed, with all that a failed settle means.
+    fn end_settle(&mut self) -> io::Result<u64>
+        ensures kept { contents self.new ≡ contents self.old }
+        ensures mark { mark self.new ≡ mark self.old }
+        ensures puts { puts self.new ≡ puts self.old }
+        ensures places { IfOk result (λ _. WritesNone (written self.old) (written self.new)) }
+        ensures durable { IfOk result (λ count. IsSettledTo count (contents self.old) (written self.old) (may_leave self.new)) }
         ensures crash { LeavesLess (may_leave self.old) (may_leave self.new) }
         ensures time { Elapses (moment self.old) (moment self.new) (left_since self.old) (left_since self.new) (may_leave self.new) };
 

@@ -7,7 +7,7 @@ ghost use Rattle.table_log.specs.Disk.{Reads};
 ghost use Rattle.file_disk.specs.File.{over, written_at};
 ghost use Rattle.checked_log.specs.Mark.{LinkFits, mark_text};
 ghost use Rattle.checked_log.specs.declared.recovery.Link.{Link};
-ghost use Rattle.checked_disk.specs.Files.{Elapses, Follows, IsQuiet, IsSettled, IsSlot, LeavesLess, Marked, Shortened, Writes, WritesNone, taken};
+ghost use Rattle.checked_disk.specs.Files.{Elapses, Follows, IsQuiet, IsSettled, IsSettledTo, IsSlot, LeavesLess, Marked, Shortened, Writes, WritesNone, taken};
 ghost use Rattle.checked_disk.specs.Stands.{WriteLasts};
 
 use crate::again::{read_again, write_again};
@@ -137,6 +137,37 @@ impl<F: LogFiles> Held<F> {
     {
         match self.files.settle() {
             Ok(()) => Ok(()),
+            Err(_) => Err(DiskFailed),
+        }
+    }
+
+    /// Begins to make sure of what was written, beside the calls. O(1).
+    pub(crate) fn begin_settle(&mut self)
+        ensures contents { F.contents self.new.files ≡ F.contents self.old.files }
+        ensures size { self.new.size ≡ self.old.size }
+        ensures mark { F.mark self.new.files ≡ F.mark self.old.files }
+        ensures settles { F.settles self.new.files ≡ F.settles self.old.files }
+        ensures puts { F.puts self.new.files ≡ F.puts self.old.files }
+        ensures places { WritesNone (F.written self.old.files) (F.written self.new.files) }
+        ensures crash { LeavesLess (F.may_leave self.old.files) (F.may_leave self.new.files) }
+        ensures time { Elapses (F.moment self.old.files) (F.moment self.new.files) (F.left_since self.old.files) (F.left_since self.new.files) (F.may_leave self.new.files) }
+    {
+        self.files.begin_settle();
+    }
+
+    /// How many of the first bytes were made sure of beside the calls. O(1).
+    pub(crate) fn end_settle(&mut self) -> Result<u64, DiskFailed>
+        ensures contents { F.contents self.new.files ≡ F.contents self.old.files }
+        ensures size { self.new.size ≡ self.old.size }
+        ensures mark { F.mark self.new.files ≡ F.mark self.old.files }
+        ensures puts { F.puts self.new.files ≡ F.puts self.old.files }
+        ensures places { IfOk result (λ _. WritesNone (F.written self.old.files) (F.written self.new.files)) }
+        ensures durable { IfOk result (λ count. IsSettledTo count (F.contents self.old.files) (F.written self.old.files) (F.may_leave self.new.files)) }
+        ensures crash { LeavesLess (F.may_leave self.old.files) (F.may_leave self.new.files) }
+        ensures time { Elapses (F.moment self.old.files) (F.moment self.new.files) (F.left_since self.old.files) (F.left_since self.new.files) (F.may_leave self.new.files) }
+    {
+        match self.files.end_settle() {
+            Ok(count) => Ok(count),
             Err(_) => Err(DiskFailed),
         }
     }

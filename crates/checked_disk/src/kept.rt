@@ -123,6 +123,7 @@ impl<F: LogFiles> CheckedDisk<F> {
             line,
             failures: 0,
             is_over: false,
+            begun: None,
         })
     }
 }

@@ -186,6 +186,7 @@ impl<F: LogFiles> CheckedDisk<F> {
                 line,
                 failures: 0,
                 is_over: false,
+                begun: None,
             },
             recovered,
         })

@@ -187,6 +187,12 @@ impl<F: LogFile> Disk for FileDisk<F> {
         Ok(())
     }
 
+    fn begin_sync(&mut self) {}
+
+    fn end_sync(&mut self) -> Result<(), DiskFailed> {
+        Ok(())
+    }
+
     fn cut(&mut self, count: u64) -> Result<(), DiskFailed>
         requires { count ≤ self.old.size }
         ensures contents { Cuts result count (F.contents self.old.file) (F.contents self.new.file) self.new.size self.new.synced }

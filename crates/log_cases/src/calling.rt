@@ -85,9 +85,30 @@ impl<D: Disk> Caller<D> {
             None => Err(Over),
             Some(logged) => logged.sync(),
         };
-        report.texts(&[match synced {
-            Ok(()) => b"  synced\n",
-            Err(Over) => b"  over\n",
-        }])
+        tell_synced(synced, report)
     }
+
+    /// Begins a sync beside the calls.
+    pub fn begin(&mut self) {
+        if let Some(logged) = &mut self.logged {
+            logged.begin_sync();
+        }
+    }
+
+    /// Ends the sync that was begun.
+    pub fn end(&mut self, report: &mut Report) -> Result<(), AllocError> {
+        let synced = match &mut self.logged {
+            None => Err(Over),
+            Some(logged) => logged.end_sync(),
+        };
+        tell_synced(synced, report)
+    }
+}
+
+// Adds how a sync ended.
+fn tell_synced(synced: Result<(), Over>, report: &mut Report) -> Result<(), AllocError> {
+    report.texts(&[match synced {
+        Ok(()) => b"  synced\n",
+        Err(Over) => b"  over\n",
+    }])
 }

@@ -78,6 +78,8 @@ impl CheckedCase<'_> {
             b"open" => return self.open(report),
             b"call" => return self.caller.call(text, report),
             b"sync" => return self.caller.sync(report),
+            b"begin" => self.caller.begin(),
+            b"end" => return self.caller.end(report),
             b"close" => return self.close(report),
             b"ends" | b"holes" | b"flips" | b"lines" => return self.sweep(verb, report),
             b"mark" => self.rest.set_mark(self.alloc, text)?,

@@ -7,7 +7,7 @@ use Rattle.std.proofs.lemmas.List.Elements.{All-push}
 use Rattle.std.proofs.lemmas.Option.{get_or_from_slice_get, slice_get_within}
 use Rattle.table_log.specs.declared.logged.Mark.{Mark}
 use Rattle.table_log.specs.Logged.{LogData}
-use Rattle.logged_tables.specs.Found.{AreCovered, AreSynced, IsCovered, IsFound, IsSynced, IsUnsynced}
+use Rattle.logged_tables.specs.Found.{AreCovered, IsCovered, IsFound, IsSynced, IsSyncedSoFar, IsUnsynced}
 use Rattle.logged_tables.specs.Standing.{IsSettled, StopsSync, SyncsTo}
 use Rattle.logged_tables.specs.declared.fault.OverAt.{OverAt}
 
@@ -68,19 +68,30 @@ pub synced_by : (names : List (List ℕ)) (place number : ℕ) (mark : Mark) (ol
 synced_by names place number mark old new found long h =
     record { number = number; old = old; new = new; found = found; synced = subst (λ n. SyncsTo (record { bytes = n }) old new) long h }
 
+-- the same up to the end that it was seen with
+pub synced_so_far : (names : List (List ℕ)) (place number number_then : ℕ) (mark : Mark) (seen old new : LogData) → IsFound names place number seen → mark.bytes ≡ seen.size
+    → IsFound names place number_then old → SyncsTo mark old new → IsSyncedSoFar names place
+synced_so_far names place number number_then mark seen old new found long found_then h =
+    record {
+      number = number;
+      log = seen;
+      found = found;
+      covered = record { number = number_then; old = old; new = new; found = found_then; synced = subst (λ n. SyncsTo (record { bytes = n }) old new) long h };
+    }
+
 -- one table more was tried
-pub synced_more : (names : List (List ℕ)) (place count : ℕ) (first next : Result (Unit {0}) OverAt) → place < count → IfErr next (λ at. at.table ≡ place) → OnOk next (IsSynced names place)
-    → IfErr first (λ at. at.table < count) × OnOk first ((p : ℕ) → p < place → IsSynced names p)
-    → IfErr (result_and first next) (λ at. at.table < count) × OnOk (result_and first next) ((p : ℕ) → p < place + 1 → IsSynced names p)
-synced_more names place count (Ok x) (Ok y) less over synced h =
-    (tt, λ p before. ⊎_elim (λ same. subst (λ q. IsSynced names q) (sym same) synced) (λ front. h.1 p front) (below_next p place (omega arith)))
-synced_more names place count (Ok x) (Err at) less over synced h = (subst (λ k. k < count) (sym over) less, tt)
-synced_more names place count (Err at) next less over synced h = h
+pub synced_more : (Holds : ℕ → Type 0) (place count : ℕ) (first next : Result (Unit {0}) OverAt) → place < count → IfErr next (λ at. at.table ≡ place) → OnOk next (Holds place)
+    → IfErr first (λ at. at.table < count) × OnOk first ((p : ℕ) → p < place → Holds p)
+    → IfErr (result_and first next) (λ at. at.table < count) × OnOk (result_and first next) ((p : ℕ) → p < place + 1 → Holds p)
+synced_more Holds place count (Ok x) (Ok y) less over synced h =
+    (tt, λ p before. ⊎_elim (λ same. subst Holds (sym same) synced) (λ front. h.1 p front) (below_next p place (omega arith)))
+synced_more Holds place count (Ok x) (Err at) less over synced h = (subst (λ k. k < count) (sym over) less, tt)
+synced_more Holds place count (Err at) next less over synced h = h
 
 -- all were tried
-pub synced_all : (names : List (List ℕ)) (place : ℕ) (first : Result (Unit {0}) OverAt) → length names ≤ place → OnOk first ((p : ℕ) → p < place → IsSynced names p) → OnOk first (AreSynced names)
-synced_all names place (Ok x) all h = λ p before. h p (omega arith)
-synced_all names place (Err at) all h = tt
+pub synced_all : (Holds : ℕ → Type 0) (count place : ℕ) (first : Result (Unit {0}) OverAt) → count ≤ place → OnOk first ((p : ℕ) → p < place → Holds p) → OnOk first ((p : ℕ) → p < count → Holds p)
+synced_all Holds count place (Ok x) all h = λ p before. h p (omega arith)
+synced_all Holds count place (Err at) all h = tt
 
 -- a log that could not be synced up to the mark that stood is that of the table of this number
 pub unsynced_by : (names : List (List ℕ)) (place number : ℕ) (stood : Option (Option Mark)) (old new : LogData) → IsFound names place number old

@@ -40,6 +40,16 @@ pub record IsSynced (names : List (List ℕ)) (place : ℕ) : Type 0 where
   pub found : IsFound names place number old
   pub synced : SyncsTo (mark_of old) old new
 
+-- It is synced to the end that it was found with.
+pub record IsSyncedSoFar (names : List (List ℕ)) (place : ℕ) : Type 0 where
+  pub number : ℕ
+  pub log : LogData
+  pub found : IsFound names place number log
+  pub covered : IsCovered names place (mark_of log)
+
 -- the same of each table
 abbrev pub AreSynced : List (List ℕ) → Type 0
 AreSynced names = (place : ℕ) → place < length names → IsSynced names place
+
+abbrev pub AreSyncedSoFar : List (List ℕ) → Type 0
+AreSyncedSoFar names = (place : ℕ) → place < length names → IsSyncedSoFar names place

@@ -10,11 +10,13 @@ mod seat;
 mod serve;
 mod standing;
 mod synced;
+mod syncer;
 mod syncing;
 mod tables;
 
 pub use fault::{OverAt, ServeFault};
 pub use seat::Seat;
 pub use serve::Served;
+pub use syncer::Syncer;
 pub use syncing::Syncing;
 pub use tables::LoggedTables;

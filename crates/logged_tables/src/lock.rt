@@ -2,9 +2,10 @@
 
 use crate::long::is_long;
 use crate::numbered::Numbered;
+use crate::syncer::Syncer;
 use std::sync::{Condvar, Mutex, MutexGuard, Wait};
 use table_cmd::Command;
-use table_log::{Disk, LoggedTable};
+use table_log::{Disk, LoggedTable, Mark};
 
 /// A table with its log behind a lock. A sync may let the calls go first that came before it, and makes sure of theirs too. Calls that may
 /// take long stand in a row, and only its head is at the lock. So short calls and syncs wait there for few of them.
@@ -83,6 +84,27 @@ impl<D: Disk> TableLock<D> {
         self.begin(rt);
         let table = self.table.lock(rt);
         self.end(rt);
+        table
+    }
+
+    /// Locks the table once its log is synced up to a mark, where somebody waits for its disk: calls go on meanwhile, and what they append is not synced by that.
+    pub(crate) fn lock_synced<S: Syncer>(
+        &self,
+        rt: &impl Wait,
+        syncer: Option<&mut S>,
+        mark: Mark,
+    ) -> MutexGuard<'_, Numbered<D>> {
+        let mut table = self.lock(rt);
+        if let Some(syncer) = syncer
+            && !table.log.is_synced(mark)
+        {
+            table.log.begin_sync();
+            drop(table);
+            syncer.wait();
+            table = self.lock(rt);
+            // Where it failed the log is over, which who holds it finds.
+            let _ = table.log.end_sync();
+        }
         table
     }
 

@@ -11,7 +11,7 @@ use crate::fault::{OverAt, ServeFault};
 use crate::peer::Peer;
 use crate::seat::Seat;
 use crate::synced::Synced;
-use command_lines::{CommandFault, read_command};
+use command_lines::{CommandFault, LineReader};
 use std::io::{Read, Write};
 use std::marker::Model;
 use std::sync::Wait;
@@ -27,9 +27,11 @@ pub struct Served<W> {
     pub end: Result<(), ServeFault>,
 }
 
-/// What answers the lines of a session. It knows nothing: its seat does.
+/// What answers the lines of a session. It knows nothing of tables: its seat does.
 #[derive(Drop)]
-pub(crate) struct Lines;
+pub(crate) struct Lines {
+    reader: LineReader,
+}
 
 impl Model for Lines {
     ghost Value = { Unit {0} };
@@ -52,7 +54,7 @@ impl<'a, D: Disk, T: Wait> Answers<Seat<'a, D, T>> for Lines {
         line: &[u8],
         out: Ready<'o>,
     ) -> Told<'o, Result<(), OverAt>> {
-        match read_command(seat.alloc(), line) {
+        match self.reader.read(line) {
             Ok(command) => {
                 let told = seat.call(&command, out);
                 drop(command);
@@ -87,6 +89,12 @@ impl<'a, D: Disk, T: Wait> Seat<'a, D, T> {
             ⊎ IsRefused R.remaining W.contents source.old source.new (whole_sink writer) (whole_sink result.writer) (λ bytes text. StopsNext self.now.names bytes text at) }
         ensures memory { result.end ≡ Err ServeFault.Memory → (source.new ≡ source.old) × (result.writer ≡ writer) }
     {
+        let Ok(reader) = LineReader::new(self.alloc()) else {
+            return Served {
+                writer,
+                end: Err(ServeFault::Memory),
+            };
+        };
         let mut cutter = LineCutter::new();
         let mut sink = Sink::new(Synced {
             seat: self,
@@ -94,7 +102,7 @@ impl<'a, D: Disk, T: Wait> Seat<'a, D, T> {
         });
         let served = serve_lines(
             self.alloc(),
-            &mut Lines,
+            &mut Lines { reader },
             self,
             &mut cutter,
             source,

@@ -10,7 +10,7 @@ use table_log::{Disk, LoggedTable, Mark, Over};
 pub enum Syncing {
     /// Before an answer leaves: the logs of all tables that it rests on.
     Each,
-    /// By `LoggedTables::sync_all`, which the program calls once a second.
+    /// By `LoggedTables::sync_beside`, which the program calls once a second.
     Second,
     /// By the system.
     Never,

@@ -1,12 +1,13 @@
 //! Tables with their logs, each behind a lock of its own.
 
 ghost use Rattle.std.specs.Prelude.{◌≡◌, ◌≤◌, ◌<◌, IfErr, IfNone, IfOk, IfSome, IsTrue, OnOk, Some, length, map, slice_get, vec_len};
-ghost use Rattle.logged_tables.specs.Found.{AreSynced, IsFound, IsSynced};
+ghost use Rattle.logged_tables.specs.Found.{AreSynced, AreSyncedSoFar, IsFound, IsSynced, IsSyncedSoFar};
 ghost use Rattle.logged_tables.specs.Hears.{place_of};
 
 use crate::fault::OverAt;
 use crate::lock::TableLock;
 use crate::numbered::Numbered;
+use crate::syncer::Syncer;
 use crate::syncing::sync_to;
 use key_extract::Text;
 use std::alloc::{AllocError, Global};
@@ -152,6 +153,49 @@ impl<D: Disk> LoggedTables<D> {
         match sync_to(&mut held.log, mark) {
             Ok(()) => Ok(()),
             Err(Over) => Err(OverAt { table: place }),
+        }
+    }
+
+    /// The same, up to the end that each log has when it is looked at. The syncers are those of the first tables' disks: calls go on
+    /// while they wait. The other logs are synced while their tables are locked.
+    pub fn sync_beside<S: Syncer>(&self, rt: &impl Wait, syncers: &mut [S]) -> Result<(), OverAt>
+        ensures synced { OnOk result (AreSyncedSoFar self.now) }
+        ensures over { IfErr result (λ at. at.table < length self.now) }
+    {
+        let mut first = Ok(());
+        for (place, lock) in self.locks.iter().enumerate() {
+            first = first.and(self.sync_one_beside(rt, lock, syncers.get_mut(place), place));
+        }
+        first
+    }
+
+    // Syncs the log of the table of this number, behind its lock.
+    fn sync_one_beside<S: Syncer>(
+        &self,
+        rt: &impl Wait,
+        lock: &TableLock<D>,
+        syncer: Option<&mut S>,
+        place: usize,
+    ) -> Result<(), OverAt>
+        ensures synced { OnOk result (IsSyncedSoFar self.now place) }
+        ensures over { IfErr result (λ at. at.table ≡ place) }
+    {
+        let over = OverAt { table: place };
+        let seen = lock.lock(rt);
+        let found: &Numbered<D> = &seen;
+        if !self.is_at(place, found) {
+            return Err(over);
+        }
+        let mark = found.log.mark();
+        drop(seen);
+        let mut guard = lock.lock_synced(rt, syncer, mark);
+        let held: &mut Numbered<D> = &mut guard;
+        if !self.is_at(place, held) {
+            return Err(over);
+        }
+        match sync_to(&mut held.log, mark) {
+            Ok(()) => Ok(()),
+            Err(Over) => Err(over),
         }
     }
 

@@ -1,5 +1,5 @@
 -- A table with its log.
-use Rattle.std.specs.Prelude.{◌≡◌, ◌⊎◌, ℕ, ◌+◌, List, ◌++◌, codes, length, Bool, true, false, IsSome, Option, Some}
+use Rattle.std.specs.Prelude.{◌≡◌, ◌⊎◌, ℕ, ◌+◌, ◌≤◌, List, ◌++◌, codes, length, Bool, true, false, IsSome, Option, Some}
 use Rattle.std.specs.Io.KnownBytes.{append_known}
 use Rattle.std.specs.Option.{option_map_or}
 use Rattle.command_text.specs.Text.{command_text}
@@ -85,3 +85,7 @@ synced_log log =
 abbrev pub failed_log : LogData → LogData
 failed_log log =
     record { declared = log.declared; table = log.table; bytes = log.bytes; size = log.size; synced = log.synced; failures = raised log.failures; is_over = true }
+
+-- no fewer bytes are synced, and nothing else is changed
+abbrev pub IsSyncedOn : LogData → LogData → Type 0
+IsSyncedOn old new = (old.synced ≤ new.synced) × (new ≡ record old { synced = new.synced })

@@ -1,6 +1,6 @@
 //! Where the bytes of a log are.
 
-ghost use Rattle.std.specs.Prelude.{◌≡◌, ◌+◌, ◌≤◌, ℕ, List, Option, Some, IfOk, OnOk, length};
+ghost use Rattle.std.specs.Prelude.{◌≡◌, ◌+◌, ◌≤◌, ℕ, List, Option, Some, IfOk, OnErr, OnOk, length};
 ghost use Rattle.table_engine.specs.Devices.{failures_after};
 ghost use Rattle.table_log.specs.Disk.{AppendsAll, Cuts, Reads, synced_after};
 
@@ -61,6 +61,21 @@ pub trait Disk: Drop {
         ensures contents { contents self.new ≡ contents self.old }
         ensures size { size self.new ≡ size self.old }
         ensures synced { synced self.new ≡ synced_after result (size self.old) (synced self.old) }
+        ensures failures { failures self.new ≡ failures_after result (failures self.old) };
+
+    /// Begins a sync that goes on beside the calls of this disk: who waits for it needs no call of the disk. It makes sure of the bytes so far.
+    fn begin_sync(&mut self)
+        ensures contents { contents self.new ≡ contents self.old }
+        ensures size { size self.new ≡ size self.old }
+        ensures synced { synced self.new ≡ synced self.old }
+        ensures failures { failures self.new ≡ failures self.old };
+
+    /// Counts what the sync that was begun last made sure of, if it came to its end.
+    fn end_sync(&mut self) -> Result<(), DiskFailed>
+        ensures contents { contents self.new ≡ contents self.old }
+        ensures size { size self.new ≡ size self.old }
+        ensures synced { OnOk result (synced self.old ≤ synced self.new) }
+        ensures kept { OnErr result (synced self.new ≡ synced self.old) }
         ensures failures { failures self.new ≡ failures_after result (failures self.old) };
 
     /// Takes away what stands behind the first bytes, and makes sure of those. At an `Err` it may have been taken away.

@@ -5,7 +5,7 @@ ghost use Rattle.table_log.specs.Loading.{IsLoading, IsUnloaded, Grows, GrowsTo,
 
 use crate::disk::Disk;
 use crate::fault::OpenWhy;
-use command_lines::{CommandFault, read_command};
+use command_lines::{CommandFault, LineReader};
 use std::alloc::Global;
 use table_reply::{Out, OutOfRoom};
 use table_step::{Outcome, Table};
@@ -21,6 +21,7 @@ pub(crate) struct Loader {
     pub(crate) line: Vec<u8>,
     /// How many lines were carried out.
     pub(crate) number: u64,
+    reader: LineReader,
     out: Out,
 }
 
@@ -30,22 +31,24 @@ impl Loader {
         ensures loading { IfOk result (λ loader. IsLoading start [] loader) }
         ensures none { IfOk result (λ loader. (loader.line.items ≡ []) × (loader.number ≡ 0)) }
     {
+        let reader = LineReader::new(alloc).map_err(|_| OutOfRoom)?;
         let out = Out::new(alloc)?;
         Ok(Loader {
             table: start,
             line: Vec::new(alloc),
             number: 0,
+            reader,
             out,
         })
     }
 
     // Carries out the line that a newline ends now.
-    fn end_line(&mut self, alloc: Global) -> Result<(), OpenWhy>
+    fn end_line(&mut self) -> Result<(), OpenWhy>
         requires { self.old.number < 2 ^ 64 - 1 }
         ensures loaded { OnOk result (LoadsLine self.old self.new) }
         ensures refused { IfErr result (λ why. RefusesLine self.old why) }
     {
-        let command = match read_command(alloc, &self.line) {
+        let command = match self.reader.read(&self.line) {
             Ok(command) => command,
             Err(CommandFault::Memory) => return Err(OpenWhy::Memory),
             Err(_) => return Err(OpenWhy::Line(self.number + 1)),
@@ -64,14 +67,14 @@ impl Loader {
     }
 
     // Loads one further byte.
-    fn take_byte(&mut self, alloc: Global, byte: u8) -> Result<(), OpenWhy>
+    fn take_byte(&mut self, byte: u8) -> Result<(), OpenWhy>
         requires { self.old.number < 2 ^ 64 - 1 }
         ensures loaded { OnOk result (Loads self.old (byte ∷ []) self.new) }
         ensures grows { OnOk result (Grows self.old 1 self.new) }
         ensures refused { IfErr result (λ why. Refuses self.old (byte ∷ []) why) }
     {
         if byte == b'\n' {
-            return self.end_line(alloc);
+            return self.end_line();
         }
         match self.line.push(byte) {
             Ok(()) => Ok(()),
@@ -80,14 +83,14 @@ impl Loader {
     }
 
     // Loads further bytes.
-    fn take(&mut self, alloc: Global, piece: &[u8]) -> Result<(), OpenWhy>
+    fn take(&mut self, piece: &[u8]) -> Result<(), OpenWhy>
         requires { self.old.number + length piece.now < 2 ^ 64 }
         ensures loaded { OnOk result (Loads self.old piece.now self.new) }
         ensures grows { OnOk result (Grows self.old (length piece.now) self.new) }
         ensures refused { IfErr result (λ why. Refuses self.old piece.now why) }
     {
         for byte in piece {
-            match self.take_byte(alloc, *byte) {
+            match self.take_byte(*byte) {
                 Ok(()) => {}
                 Err(why) => return Err(why),
             }
@@ -98,7 +101,6 @@ impl Loader {
 
 // Reads bytes of a disk from a place on, loads them, and says up to where.
 fn load_piece<D: Disk>(
-    alloc: Global,
     disk: &mut D,
     at: u64,
     piece: &mut [u8],
@@ -123,19 +125,14 @@ fn load_piece<D: Disk>(
         Err(_) => return Err(OpenWhy::Disk),
     };
     let (front, _) = piece.split_at(count);
-    match loader.take(alloc, front) {
+    match loader.take(front) {
         Ok(()) => Ok(at + count as u64),
         Err(why) => Err(why),
     }
 }
 
 // Loads the bytes of a disk.
-fn load_all<D: Disk>(
-    alloc: Global,
-    disk: &mut D,
-    piece: &mut [u8],
-    loader: &mut Loader,
-) -> Result<(), OpenWhy>
+fn load_all<D: Disk>(disk: &mut D, piece: &mut [u8], loader: &mut Loader) -> Result<(), OpenWhy>
     requires room { 0 < length piece.old }
     requires number { loader.old.number ≡ 0 }
     requires line { loader.old.line.items ≡ [] }
@@ -151,7 +148,7 @@ fn load_all<D: Disk>(
     let end = disk.size();
     let mut at = 0;
     while at < end {
-        match load_piece(alloc, disk, at, piece, loader) {
+        match load_piece(disk, at, piece, loader) {
             Ok(next) => at = next,
             Err(why) => return Err(why),
         }
@@ -172,7 +169,7 @@ pub(crate) fn load<D: Disk>(alloc: Global, start: Table, disk: &mut D) -> Result
 {
     let mut piece = vec![in alloc; 0u8; PIECE]?;
     let mut loader = Loader::new(alloc, start)?;
-    match load_all(alloc, disk, &mut piece, &mut loader) {
+    match load_all(disk, &mut piece, &mut loader) {
         Ok(()) => Ok(loader),
         Err(why) => Err(why),
     }

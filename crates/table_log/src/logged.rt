@@ -6,7 +6,7 @@ ghost use Rattle.table_changes.specs.Change.{is_change};
 ghost use Rattle.table_reply.specs.Ready.{IsBehind};
 ghost use Rattle.table_log.specs.declared.fault.OpenWhy.TheVariants.{Memory};
 ghost use Rattle.table_log.specs.Log.{after_command};
-ghost use Rattle.table_log.specs.Logged.{AppendsAnswer, IsKept, LeavesTable, Stops, Tells, failed_log, log_line, synced_log};
+ghost use Rattle.table_log.specs.Logged.{AppendsAnswer, IsKept, IsSyncedOn, LeavesTable, Stops, Tells, failed_log, log_line, synced_log};
 
 use crate::disk::Disk;
 use crate::fault::{OpenFault, OpenWhy, Over};
@@ -176,6 +176,28 @@ impl<D: Disk> LoggedTable<D> {
             return Err(Over);
         }
         if self.disk.sync().is_err() {
+            self.is_over = true;
+            return Err(Over);
+        }
+        Ok(())
+    }
+
+    /// Begins a sync of all writes so far that goes on beside the calls. O(1).
+    pub fn begin_sync(&mut self)
+        ensures { self.new ≡ self.old }
+    {
+        self.disk.begin_sync();
+    }
+
+    /// Counts what the sync that was begun last made sure of, if it came to its end. Where it failed the log is over. O(what the disk takes).
+    pub fn end_sync(&mut self) -> Result<(), Over>
+        ensures synced { OnOk result ((self.old.is_over ≡ false) × IsSyncedOn self.old self.new) }
+        ensures over { OnErr result (self.new ≡ (if self.old.is_over then self.old else failed_log self.old)) }
+    {
+        if self.is_over {
+            return Err(Over);
+        }
+        if self.disk.end_sync().is_err() {
             self.is_over = true;
             return Err(Over);
         }

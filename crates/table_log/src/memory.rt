@@ -95,6 +95,12 @@ impl Disk for MemoryDisk {
         Ok(())
     }
 
+    fn begin_sync(&mut self) {}
+
+    fn end_sync(&mut self) -> Result<(), DiskFailed> {
+        Ok(())
+    }
+
     fn cut(&mut self, count: u64) -> Result<(), DiskFailed> {
         self.bytes.truncate(count as usize);
         self.synced = count;

@@ -48,7 +48,7 @@ fn read_count<D: Disk>(
     ensures finds { Seeks (D.contents disk.old) source.old (λ count. line_of (count_command spec.now name.now count)) (λ count. CommandFits (count_command spec.now name.now count)) (λ count. count) result }
     ensures reads { ReadsOn D.Disk disk.old disk.new source.new result }
 {
-    let command = source.next_command(alloc, disk)?;
+    let command = source.next_command(disk)?;
     let said = count_in(&command);
     drop(command);
     let Some(count) = said else {
@@ -120,7 +120,7 @@ fn read_index<D: Disk>(
     ensures fits { IfOk result (λ index. IsNewIndex spec.now.columns indices.now index) }
     ensures reads { ReadsOn D.Disk disk.old disk.new source.new result }
 {
-    let command = source.next_command(alloc, disk)?;
+    let command = source.next_command(disk)?;
     let said = index_in(spec.columns(), indices, &command);
     drop(command);
     match said {
@@ -224,7 +224,7 @@ fn read_record<D: Disk>(
     ensures finds { Seeks (D.contents disk.old) source.old (λ entry. line_of (record_command spec.now entry)) (EntryFits spec.now) (λ entry. entry) result }
     ensures reads { ReadsOn D.Disk disk.old disk.new source.new result }
 {
-    let command = source.next_command(alloc, disk)?;
+    let command = source.next_command(disk)?;
     let said = entry_in(alloc, spec.columns(), &command);
     drop(command);
     let Some(entry) = said? else {
@@ -294,7 +294,7 @@ fn read_order<D: Disk>(
     ensures finds { Seeks (D.contents disk.old) source.old (λ handles. line_of (order_command spec.now index.now handles)) (λ handles. CommandFits (order_command spec.now index.now handles)) (λ handles. handles.items) result }
     ensures reads { ReadsOn D.Disk disk.old disk.new source.new result }
 {
-    let command = source.next_command(alloc, disk)?;
+    let command = source.next_command(disk)?;
     let said = order_in(alloc, &command);
     drop(command);
     let Some(handles) = said? else {

@@ -9,7 +9,7 @@ ghost use Rattle.table_state.specs.State.{line_of};
 ghost use Rattle.table_state.specs.Writing.{IsInterruption, failures_of_state};
 
 use crate::fault::StateWhy;
-use command_lines::{CommandFault, read_command};
+use command_lines::{CommandFault, LineReader};
 use command_text::write_command;
 use std::alloc::{AllocError, Global};
 use table_cmd::Command;
@@ -36,6 +36,7 @@ pub(crate) struct Source {
     /// Its number, from 1.
     pub(crate) number: u64,
     text: Out,
+    reader: LineReader,
     alloc: Global,
 }
 
@@ -54,6 +55,7 @@ impl Source {
             line: Vec::new(alloc),
             number: 0,
             text: Out::new(alloc).map_err(|_| AllocError)?,
+            reader: LineReader::new(alloc)?,
             alloc,
         })
     }
@@ -145,11 +147,7 @@ impl Source {
     }
 
     /// Takes the next line with its newline, and reads it as a command.
-    pub(crate) fn next_command<D: Disk>(
-        &mut self,
-        alloc: Global,
-        disk: &mut D,
-    ) -> Result<Command, StateWhy>
+    pub(crate) fn next_command<D: Disk>(&mut self, disk: &mut D) -> Result<Command, StateWhy>
         requires within { IsWithin (D.size disk.old) self.old }
         ensures takes { OnOk result (Takes (D.contents disk.old) self.old (self.new.line.items ++ codes "\n") self.new) }
         ensures back { (command : Command) (bytes rest : List ℕ) → D.contents disk.old ≡ Some bytes → CommandFits command
@@ -157,7 +155,7 @@ impl Source {
         ensures reads { ReadsOn D.Disk disk.old disk.new self.new result }
     {
         self.next_line(disk)?;
-        match read_command(alloc, &self.line) {
+        match self.reader.read(&self.line) {
             Ok(command) => Ok(command),
             Err(CommandFault::Memory) => Err(StateWhy::Memory),
             Err(CommandFault::Json) => Err(self.wrong()),

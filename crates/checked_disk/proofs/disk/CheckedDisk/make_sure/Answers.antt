@@ -1,9 +1,12 @@
-use Rattle.std.proofs.Common.{◌≡◌, ◌≤◌, ℕ, true, refl, ap, subst, sym, ◌∙◌, arith}
+use Rattle.std.proofs.Common.{◌≡◌, ◌≤◌, ℕ, List, Option, true, refl, ap, subst, sym, ◌∙◌, arith}
 use Rattle.checked_log.specs.declared.recovery.Link.{Link}
+use Rattle.checked_disk.specs.Kept.{IsKept}
+use Rattle.checked_disk.specs.Reading.{IsReading}
 use Rattle.checked_disk.specs.Safe.{IsSafe, IsSure, entries_of}
 use Rattle.checked_disk.specs.Stands.{StandsFrom}
 use Rattle.checked_disk.specs.declared.disk.Log.{Log}
 use Rattle.checked_disk.specs.declared.texts.Texts.{Texts}
+use Rattle.checked_disk.proofs.Begun.{begun_moved, has_all}
 use Rattle.checked_disk.proofs.Moments.{goes_on, joined, weaker}
 use Rattle.checked_disk.proofs.Sure.{safe_less, safe_stands, settled_sure, stands_before, sure_last}
 use Rattle.checked_disk.proofs.Synced.{synced_all}
@@ -50,8 +53,10 @@ returns-in_err-put_mark-clause-sure g c = λ synced safe.
     let after =
     goes_on g.F.LogFiles.may_leave g.F.LogFiles.moment g.F.LogFiles.left_since first mid.disk.files settled P (record { now = before; moments = r.0 }) c.settle.ensures.time
     (λ d left. before d (c.settle.ensures.crash d left)) in
-    let last = mid.log.last in
-    let kept = mid.kept r.1.2.bytes r.1.2.known in
+    let last = c.link-last.result in
+    let same : last ≡ mid.log.last = c.link-last.ensures.is in
+    let number = ap (λ (l : Link). l.number) same in
+    let kept = subst (λ (l : Link). IsKept mid.texts.base r.1.2.bytes l mid.log.end mid.log.size) (sym same) (mid.kept r.1.2.bytes r.1.2.known) in
     let sure =
     settled_sure mid.texts.base r.1.2.bytes last mid.log.end mid.log.size kept mid_contents r.1.2.known (g.F.LogFiles.written mid.disk.files) mid.texts.reader.tail mid.texts.reader.durable r.1.0
     (mid.tail r.1.2.bytes r.1.2.known) (omega (arith, mid.durable, r.1.2.enough))
@@ -79,7 +84,7 @@ returns-in_err-put_mark-clause-sure g c = λ synced safe.
           bytes = m.1.bytes;
           known = m.1.known;
           slot = m.1.slot;
-          enough = omega (arith, ap (λ (l : Log). l.durable) c.put_mark.ensures.log, mid.told);
+          enough = omega (arith, ap (λ (l : Log). l.durable) c.put_mark.ensures.log, mid.told, number);
           sure = subst (λ (b : Link). IsSure b m.1.bytes last.number leaves) (sym base_is) m.1.sure;
         },
       ),
@@ -101,8 +106,10 @@ returns-clause-sure g c = λ synced safe.
     let after =
     goes_on g.F.LogFiles.may_leave g.F.LogFiles.moment g.F.LogFiles.left_since first mid.disk.files settled P (record { now = before; moments = r.0 }) c.settle.ensures.time
     (λ d left. before d (c.settle.ensures.crash d left)) in
-    let last = mid.log.last in
-    let kept = mid.kept r.1.2.bytes r.1.2.known in
+    let last = c.link-last.result in
+    let same : last ≡ mid.log.last = c.link-last.ensures.is in
+    let number = ap (λ (l : Link). l.number) same in
+    let kept = subst (λ (l : Link). IsKept mid.texts.base r.1.2.bytes l mid.log.end mid.log.size) (sym same) (mid.kept r.1.2.bytes r.1.2.known) in
     let sure =
     settled_sure mid.texts.base r.1.2.bytes last mid.log.end mid.log.size kept mid_contents r.1.2.known (g.F.LogFiles.written mid.disk.files) mid.texts.reader.tail mid.texts.reader.durable r.1.0
     (mid.tail r.1.2.bytes r.1.2.known) (omega (arith, mid.durable, r.1.2.enough))
@@ -130,7 +137,7 @@ returns-clause-sure g c = λ synced safe.
           bytes = m.1.bytes;
           known = m.1.known;
           slot = m.1.slot;
-          enough = omega (arith, ap (λ (l : Log). l.last.number) c.put_mark.ensures.log, mid.told);
+          enough = omega (arith, ap (λ (l : Log). l.last.number) c.put_mark.ensures.log, mid.told, number);
           sure = subst (λ (b : Link). IsSure b m.1.bytes last.number leaves) (sym base_is) m.1.sure;
         },
       ),
@@ -152,8 +159,10 @@ returns-clause-durable g c = λ synced safe.
     let after =
     goes_on g.F.LogFiles.may_leave g.F.LogFiles.moment g.F.LogFiles.left_since first mid.disk.files settled P (record { now = before; moments = r.0 }) c.settle.ensures.time
     (λ d left. before d (c.settle.ensures.crash d left)) in
-    let last = mid.log.last in
-    let kept = mid.kept r.1.2.bytes r.1.2.known in
+    let last = c.link-last.result in
+    let same : last ≡ mid.log.last = c.link-last.ensures.is in
+    let number = ap (λ (l : Link). l.number) same in
+    let kept = subst (λ (l : Link). IsKept mid.texts.base r.1.2.bytes l mid.log.end mid.log.size) (sym same) (mid.kept r.1.2.bytes r.1.2.known) in
     let sure =
     settled_sure mid.texts.base r.1.2.bytes last mid.log.end mid.log.size kept mid_contents r.1.2.known (g.F.LogFiles.written mid.disk.files) mid.texts.reader.tail mid.texts.reader.durable r.1.0
     (mid.tail r.1.2.bytes r.1.2.known) (omega (arith, mid.durable, r.1.2.enough))
@@ -173,12 +182,12 @@ returns-clause-durable g c = λ synced safe.
     (stands_before base mid.texts.base old (g.F.LogFiles.contents settled) mid.next mid.log.durable last.number synced (g.F.LogFiles.may_leave settled) c.renew.ensures.base
     (ap (entries_of mid.texts.base) c.settle.ensures.contents ∙ c.renew.ensures.entries) upto) m.0 in
     let moments = joined g.F.LogFiles.may_leave g.F.LogFiles.moment g.F.LogFiles.left_since first settled marked.disk.files P after.moments marks in
-    let all : last.number ≡ c.args.self.now.log.last.number = ap (λ (l : Log). l.last.number) c.renew.ensures.log in
+    let all : last.number ≡ c.args.self.now.log.last.number = number ∙ ap (λ (l : Log). l.last.number) c.renew.ensures.log in
     let is : IsSafe marked.texts.base (g.F.LogFiles.contents marked.disk.files) marked.next marked.log.last.number last.number leaves = record {
       bytes = m.1.bytes;
       known = m.1.known;
       slot = m.1.slot;
-      enough = omega (arith, ap (λ (l : Log). l.last.number) c.put_mark.ensures.log, mid.told);
+      enough = omega (arith, ap (λ (l : Log). l.last.number) c.put_mark.ensures.log, mid.told, number);
       sure = subst (λ (b : Link). IsSure b m.1.bytes last.number leaves) (sym base_is) m.1.sure;
     } in
     subst (λ (n : ℕ). IsSafe marked.texts.base (g.F.LogFiles.contents marked.disk.files) marked.next marked.log.last.number n leaves) all is
@@ -188,3 +197,24 @@ invariant_of-self-2-clause-sure g c =
     let marked = c.put_mark.new.self in
     let then = record marked.log { durable = marked.log.last.number; is_settled = true; synced = marked.log.size } in
     synced_all marked.texts.base (g.F.LogFiles.contents marked.disk.files) marked.log marked.kept then refl refl
+
+pub put_mark-requires-clause-lines : goal.put_mark-requires-clause-lines
+put_mark-requires-clause-lines g c = λ bytes known.
+    let mid = c.renew.new.self in
+    has_all mid.texts.base bytes c.link-last.result (c.link-last.ensures.is ∙ (mid.kept bytes (sym c.settle.ensures.contents ∙ known)).is_last)
+
+pub invariant_of-self : goal.invariant_of-self
+invariant_of-self g c =
+    let old = c.renew.new.self in
+    let same = c.settle.ensures.contents in
+    record {
+      kept = λ bytes known. old.kept bytes (sym same ∙ known);
+      reading = subst (λ (o : Option (List ℕ)). IsReading o old.texts) (sym same) old.reading;
+      within = omega (arith, old.within, c.settle.ensures.size);
+      told = old.told;
+      tail = λ bytes known. old.tail bytes (sym same ∙ known);
+      durable = old.durable;
+      had = begun_moved old.texts.base old.texts.base (g.F.LogFiles.contents old.disk.files) (g.F.LogFiles.contents c.settle.new.self.files) old.begun refl same old.had;
+      written = λ over. cc over;
+      sure = λ bytes known. old.sure bytes (sym same ∙ known);
+    }

@@ -8,6 +8,7 @@ use Rattle.checked_log.specs.declared.recovery.Link.{Link}
 use Rattle.checked_disk.specs.Plain.{plain_contents}
 use Rattle.checked_disk.specs.Safe.{IsSure}
 use Rattle.checked_disk.specs.Stands.{sure_text}
+use Rattle.checked_disk.proofs.Begun.{begun_more, begun_moved}
 use Rattle.checked_disk.proofs.Logs.{Counts, append_none, front_lacks, keeps_front, keeps_line, kept_at}
 use Rattle.checked_disk.proofs.Over.{known_behind}
 use Rattle.checked_disk.proofs.Sure.{appended, behind_agrees, from_lasts, front_sure, line_sure, tail_front, tail_line, tail_moved}
@@ -49,6 +50,7 @@ invariant_of-self-in-Err-write g c =
           (appended old front bytes (λ b. tail ≤ length (sure_text base (whole base (ended b)) durable))
           (λ b b_is. tail_front base b log.last log.end log.size (c.args.self.now.kept b b_is) (sym (counts b b_is)) front lacks durable tail (c.args.self.now.tail b b_is)) (sym is ∙ known));
       durable = omega (arith, texts.durable, c.args.self.now.durable);
+      had = begun_moved base c.rewind.new.self.base (append_known old front) (g.F.LogFiles.contents c.write.new.self.files) c.args.self.now.begun texts.base is (begun_more base old front c.args.self.now.begun c.args.self.now.had);
       written = λ over settled p low high. c.in-Err.ensures.some.kept p (c.args.self.now.written over settled p (omega (arith, texts.tail, low)) high);
       sure = λ bytes known.
           synced_moved base c.rewind.new.self.base log log bytes texts.base refl refl
@@ -173,6 +175,7 @@ invariant_of-self-in-Ok-write g c =
           tail_line base b log.last log.end log.size (c.args.self.now.kept b b_is) (sym (counts b b_is)) e fits number refl durable tail (omega (arith, c.args.self.now.durable)) (c.args.self.now.tail b b_is))
           (sym is ∙ known));
       durable = omega (arith, texts.durable, c.args.self.now.durable);
+      had = begun_moved base c.rewind.new.self.base (append_known old (whole_line e)) (g.F.LogFiles.contents c.write.new.self.files) c.args.self.now.begun texts.base is (begun_more base old (whole_line e) c.args.self.now.begun c.args.self.now.had);
       written = λ over settled p low high.
           ⊎_elim (λ below. wrote.places.kept p (c.args.self.now.written over settled p (omega (arith, texts.tail, low)) below)) (λ past. wrote.places.here p past (omega (arith, end, high, long)))
           (cases_lt p log.end);

@@ -18,6 +18,7 @@ invariant_of-result g c =
       told = c.in-Ok.ensures.told;
       tail = λ bytes is. omega (arith, tail.0);
       durable = omega (arith, tail.1);
+      had = λ was is. cc is;
       written = λ over settled. cc settled;
       sure = λ bytes is. omega arith;
     }

@@ -27,6 +27,7 @@ invariant_of-self g c =
           tail_moved base c.rewind.new.self.base c.args.self.now.texts.reader.durable c.rewind.new.self.reader.durable c.args.self.now.texts.reader.tail c.rewind.new.self.reader.tail bytes texts.base
           texts.durable texts.tail (c.args.self.now.tail bytes (sym same.0 ∙ is));
       durable = omega (arith, texts.durable, c.args.self.now.durable);
+      had = λ was is. cc is;
       written = λ over settled. cc (c.if-self.false, settled);
       sure = λ bytes is. synced_moved base c.rewind.new.self.base log log bytes texts.base refl refl (c.args.self.now.sure bytes (sym same.0 ∙ is));
     }
@@ -52,6 +53,7 @@ invariant_of-self-2 g c =
           (was_cut old log.end bytes (λ b. tail ≤ length (sure_text base (whole base (ended b)) durable))
           (λ b b_is. tail_cut base b log.end durable tail (c.args.self.now.kept b b_is).is_end (c.args.self.now.tail b b_is)) (sym is ∙ known));
       durable = omega (arith, texts.durable, c.args.self.now.durable);
+      had = λ was is. cc is;
       written = λ over settled. cc (c.if-self.false, settled);
       sure = λ bytes known.
           synced_moved base c.rewind.new.self.base log log bytes texts.base refl refl (synced_cut base old log c.args.self.now.kept c.args.self.now.sure bytes (sym is ∙ known));

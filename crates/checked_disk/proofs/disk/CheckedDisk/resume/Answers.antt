@@ -24,6 +24,7 @@ invariant_of-result-2 g c =
           (subst (λ (n : ℕ). texts.reader.tail ≤ length (sure_text kept.base (whole kept.base (ended bytes)) n)) (sym tail.1)
           (subst (λ (n : ℕ). n ≤ length (sure_text kept.base (whole kept.base (ended bytes)) kept.log.durable)) (sym tail.0) (c.requires.kept bytes is).sure));
       durable = omega (arith, tail.1);
+      had = λ was is. cc is;
       written = λ over settled. cc settled;
       sure = λ bytes is. omega arith;
     }

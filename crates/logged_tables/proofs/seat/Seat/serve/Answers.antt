@@ -10,7 +10,7 @@ returns-clause-served g c =
     let names = c.args.self.now.names in
     ends_well names _ _ c.serve_lines-served.result c.end_of.result c.end_of.ensures
     (served_within g.R.Read.remaining g.W.Write.contents (λ v. v.peer.inner) c.args.source.now c.serve_lines-served.new.source c.new-sink.result c.serve_lines-served.new.sink c.args.writer c.into_inner-2.result
-    (ap (λ s. s.inner.peer.inner) c.new-sink.ensures ∙ ap (λ p. p.inner) c.new.ensures) (ap (λ s. s.peer.inner) (sym c.into_inner.ensures) ∙ sym c.into_inner-2.ensures) _ _
+    (ap (λ s. s.inner.peer.inner) c.new-sink.ensures ∙ ap (λ p. p.inner) c.new-2.ensures) (ap (λ s. s.peer.inner) (sym c.into_inner.ensures) ∙ sym c.into_inner-2.ensures) _ _
     (λ bytes text told. heard_all names bytes text (subst (λ line. TellsAll (TellsText names) tt line bytes text tt) c.new-cutter.ensures told.0)))
     c.serve_lines-served.ensures.served
 
@@ -18,7 +18,7 @@ pub returns-clause-read : goal.returns-clause-read
 returns-clause-read g c = λ is.
     let names = c.args.self.now.names in
     unread_within g.R.Read.remaining g.W.Write.contents (λ v. v.peer.inner) c.args.source.now c.serve_lines-served.new.source c.new-sink.result c.serve_lines-served.new.sink c.args.writer c.into_inner-2.result
-    (ap (λ s. s.inner.peer.inner) c.new-sink.ensures ∙ ap (λ p. p.inner) c.new.ensures) (ap (λ s. s.peer.inner) (sym c.into_inner.ensures) ∙ sym c.into_inner-2.ensures) _ _
+    (ap (λ s. s.inner.peer.inner) c.new-sink.ensures ∙ ap (λ p. p.inner) c.new-2.ensures) (ap (λ s. s.peer.inner) (sym c.into_inner.ensures) ∙ sym c.into_inner-2.ensures) _ _
     (λ bytes text told. heard_ended names bytes text (subst (λ line. Starts (TellsText names) tt line bytes text tt) c.new-cutter.ensures told.0))
     (c.serve_lines-served.ensures.read (was_unread names c.serve_lines-served.result c.end_of.result c.end_of.ensures is))
 
@@ -26,7 +26,7 @@ pub returns-clause-write : goal.returns-clause-write
 returns-clause-write g c = λ is.
     let names = c.args.self.now.names in
     unwritten_within g.R.Read.remaining g.W.Write.contents (λ v. v.peer.inner) c.args.source.now c.serve_lines-served.new.source c.new-sink.result c.serve_lines-served.new.sink c.args.writer c.into_inner-2.result
-    (ap (λ s. s.inner.peer.inner) c.new-sink.ensures ∙ ap (λ p. p.inner) c.new.ensures) (ap (λ s. s.peer.inner) (sym c.into_inner.ensures) ∙ sym c.into_inner-2.ensures) _ _
+    (ap (λ s. s.inner.peer.inner) c.new-sink.ensures ∙ ap (λ p. p.inner) c.new-2.ensures) (ap (λ s. s.peer.inner) (sym c.into_inner.ensures) ∙ sym c.into_inner-2.ensures) _ _
     (λ bytes text told. heard_front names bytes text (subst (λ line. Breaks (TellsText names) tt line bytes text tt) c.new-cutter.ensures told.0))
     (c.serve_lines-served.ensures.write (was_unwritten names c.serve_lines-served.result c.end_of.result c.end_of.ensures is))
 
@@ -38,12 +38,12 @@ returns-clause-over g c = λ at is.
     (λ e. inl (
       e.0,
       unwritten_within g.R.Read.remaining g.W.Write.contents (λ v. v.peer.inner) c.args.source.now c.serve_lines-served.new.source c.new-sink.result c.serve_lines-served.new.sink c.args.writer c.into_inner-2.result
-          (ap (λ s. s.inner.peer.inner) c.new-sink.ensures ∙ ap (λ p. p.inner) c.new.ensures) inner _ _
+          (ap (λ s. s.inner.peer.inner) c.new-sink.ensures ∙ ap (λ p. p.inner) c.new-2.ensures) inner _ _
           (λ bytes text told. heard_front names bytes text (subst (λ line. Breaks (TellsText names) tt line bytes text tt) c.new-cutter.ensures told.0))
           (c.serve_lines-served.ensures.write e.1),
     ))
     (λ e. inr (refused_within g.R.Read.remaining g.W.Write.contents (λ v. v.peer.inner) c.args.source.now c.serve_lines-served.new.source c.new-sink.result c.serve_lines-served.new.sink c.args.writer c.into_inner-2.result
-    (ap (λ s. s.inner.peer.inner) c.new-sink.ensures ∙ ap (λ p. p.inner) c.new.ensures) inner _ _
+    (ap (λ s. s.inner.peer.inner) c.new-sink.ensures ∙ ap (λ p. p.inner) c.new-2.ensures) inner _ _
     (λ bytes text told. heard_stop names bytes text at (subst (λ line. Meets (TellsText names) (RefusesTold names) tt line bytes text tt at) c.new-cutter.ensures told.0))
     (c.serve_lines-served.ensures.refused at e)))
     (was_over names c.serve_lines-served.result c.end_of.result at c.end_of.ensures is)

@@ -12,5 +12,5 @@ returns-then-byte-eq10-clause-refused c = refused_newline c.end_line.result c.ar
 pub returns-in-Ok-clause-loaded : goal.returns-in-Ok-clause-loaded
 returns-in-Ok-clause-loaded c =
     let old : Loader = c.args.self.now in
-    let new : Loader = record { table = old.table; line = c.push.new.self; number = old.number; out = old.out } in
+    let new : Loader = record old { line = c.push.new.self } in
     loads_byte old new c.args.byte (is_other c.args.byte c.if-byte-eq10.false) c.in-Ok.ensures.items refl refl
