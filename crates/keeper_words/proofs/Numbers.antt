@@ -49,15 +49,17 @@ pub no-word : {o : Option Text} → o ≡ None → option_and_then when_named o 
 no-word absent = rw absent refl
 
 -- what options that are all there say
-pub given : (rows : List Row) (schema : Text) (listen : Option Text) (place : Text) (workers : ℕ) (sync : When) (idle : ℕ) (compact : Bool) (printed taken : Option Text) (upgrade : Bool)
+pub given : (rows : List Row) (schema : Text) (listen : Option Text) (place : Text) (workers : ℕ) (sync : When) (idle : ℕ) (compact : Bool) (printed taken shown by : Option Text) (csv upgrade : Bool) (new fill : Option Text)
     → Some schema ≡ first_of (codes "schema") rows → listen ≡ first_of (codes "listen") rows → Some place ≡ first_of (codes "data") rows
     → Some workers ≡ option_and_then (number_in 1 256) (one_of (codes "workers") rows)
     → Some sync ≡ option_and_then when_named (first_of (codes "sync") rows)
     → Some idle ≡ option_and_then (number_in 0 1000000) (one_of (codes "idle") rows)
     → compact ≡ is_true (first_of (codes "compact") rows)
-    → printed ≡ first_of (codes "export") rows → taken ≡ first_of (codes "import") rows → upgrade ≡ is_true (first_of (codes "upgrade") rows)
-    → ◌≡◌ {A = Option Options} (Some (record { schema = schema; listen = listen; folder = place; workers = workers; sync = sync; idle = idle; compact = compact; export = printed; import = taken; upgrade = upgrade })) (given_in rows)
-given rows schema listen place workers sync idle compact printed taken upgrade a b c d e f g h i j = rw (← a, b, ← c, ← d, ← e, ← f, g, h, i, j) refl
+    → printed ≡ first_of (codes "export") rows → taken ≡ first_of (codes "import") rows
+    → shown ≡ first_of (codes "dump") rows → by ≡ first_of (codes "by") rows → csv ≡ is_true (first_of (codes "csv") rows) → upgrade ≡ is_true (first_of (codes "upgrade") rows)
+    → new ≡ first_of (codes "alter") rows → fill ≡ first_of (codes "fill") rows
+    → ◌≡◌ {A = Option Options} (Some (record { schema = schema; listen = listen; folder = place; workers = workers; sync = sync; idle = idle; compact = compact; export = printed; import = taken; dump = shown; by = by; csv = csv; upgrade = upgrade; alter = new; fill = fill })) (given_in rows)
+given rows schema listen place workers sync idle compact printed taken shown by csv upgrade new fill a b c d e f g h i j k l m n o = rw (← a, b, ← c, ← d, ← e, ← f, g, h, i, j, k, l, m, n, o) refl
 
 -- there is nothing where one is missing
 pub no_schema : (rows : List Row) → first_of (codes "schema") rows ≡ None → None ≡ given_in rows

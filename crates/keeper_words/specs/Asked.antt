@@ -9,7 +9,7 @@ use Rattle.program_words.specs.declared.asked.WordsFault.{WordsFault}
 use Rattle.program_words.specs.declared.asked.WordsFault.TheVariants.{Words, Listen, Memory}
 use Rattle.keeper_words.specs.Keeper.{keeper}
 use Rattle.keeper_words.specs.declared.asked.Asked.{Asked}
-use Rattle.keeper_words.specs.declared.asked.Asked.TheVariants.{Keep, Compact, Export, Import, Upgrade}
+use Rattle.keeper_words.specs.declared.asked.Asked.TheVariants.{Keep, Compact, Export, Import, Dump, Upgrade, Alter}
 use Rattle.keeper_words.specs.declared.asked.When.{When}
 use Rattle.keeper_words.specs.declared.asked.When.TheVariants.{Each, Second, Never}
 use Rattle.keeper_words.specs.declared.read.Given.{Given}
@@ -41,13 +41,37 @@ pub record OneTable : Type 0 where
   pub folder : List ℕ
   pub table : List ℕ
 
+-- one of them, and whether rows of CSV are taken into it
+pub record Intake : Type 0 where
+  pub schema : List ℕ
+  pub folder : List ℕ
+  pub table : List ℕ
+  pub csv : Bool
+
+-- one of them, the index in whose order its records are printed, and whether as rows of CSV
+pub record Print : Type 0 where
+  pub schema : List ℕ
+  pub folder : List ℕ
+  pub table : List ℕ
+  pub by : Option (List ℕ)
+  pub csv : Bool
+
+-- the tables of a folder, the schema file of those that they are to be, and the values of added columns
+pub record Change : Type 0 where
+  pub schema : List ℕ
+  pub folder : List ℕ
+  pub new : List ℕ
+  pub fill : Option (List ℕ)
+
 -- what is asked for
 pub data Asking : Type 0 where
   keep : Serving → Asking
   compact : Tables → Asking
   export : OneTable → Asking
-  import : OneTable → Asking
+  import : Intake → Asking
+  dump : Print → Asking
   upgrade : Tables → Asking
+  alter : Change → Asking
 
 -- what the options say
 pub record Options : Type 0 where
@@ -60,7 +84,12 @@ pub record Options : Type 0 where
   pub compact : Bool
   pub export : Option (List ℕ)
   pub import : Option (List ℕ)
+  pub dump : Option (List ℕ)
+  pub by : Option (List ℕ)
+  pub csv : Bool
   pub upgrade : Bool
+  pub alter : Option (List ℕ)
+  pub fill : Option (List ℕ)
 
 -- the text of a flag that is set
 abbrev pub is_true : Option (List ℕ) → Bool
@@ -84,7 +113,12 @@ given_in rows =
       compact = is_true (first_of (codes "compact") rows);
       export = first_of (codes "export") rows;
       import = first_of (codes "import") rows;
+      dump = first_of (codes "dump") rows;
+      by = first_of (codes "by") rows;
+      csv = is_true (first_of (codes "csv") rows);
       upgrade = is_true (first_of (codes "upgrade") rows);
+      alter = first_of (codes "alter") rows;
+      fill = first_of (codes "fill") rows;
     })
     (option_and_then (number_in 0 1000000) (one_of (codes "idle") rows)))
     (option_and_then when_named (first_of (codes "sync") rows)))
@@ -111,17 +145,31 @@ tables_of options = record { schema = options.schema; folder = options.folder }
 abbrev pub table_of : Options → List ℕ → OneTable
 table_of options table = record { schema = options.schema; folder = options.folder; table = table }
 
--- what options ask for that have one of five words, and no other of them
-abbrev pub one_choice : Options → Option (List ℕ) → Bool → Option (List ℕ) → Option (List ℕ) → Bool → Option Asking
-one_choice options (Some listen) false None None false = Some (keep (serving_of options listen))
-one_choice options None true None None false = Some (compact (tables_of options))
-one_choice options None false (Some table) None false = Some (export (table_of options table))
-one_choice options None false None (Some table) false = Some (import (table_of options table))
-one_choice options None false None None true = Some (upgrade (tables_of options))
-one_choice options _ _ _ _ _ = None
+-- what is taken into the table of this name
+abbrev pub intake_of : Options → List ℕ → Intake
+intake_of options table = record { schema = options.schema; folder = options.folder; table = table; csv = options.csv }
+
+-- how the records of the table of this name are printed
+abbrev pub print_of : Options → List ℕ → Print
+print_of options table = record { schema = options.schema; folder = options.folder; table = table; by = options.by; csv = options.csv }
+
+-- the change to the schema of this file
+abbrev pub change_of : Options → List ℕ → Change
+change_of options new = record { schema = options.schema; folder = options.folder; new = new; fill = options.fill }
+
+-- what options ask for that have one of seven words, and no other of them
+abbrev pub one_choice : Options → Option (List ℕ) → Bool → Option (List ℕ) → Option (List ℕ) → Option (List ℕ) → Bool → Option (List ℕ) → Option Asking
+one_choice options (Some listen) false None None None false None = Some (keep (serving_of options listen))
+one_choice options None true None None None false None = Some (compact (tables_of options))
+one_choice options None false (Some table) None None false None = Some (export (table_of options table))
+one_choice options None false None (Some table) None false None = Some (import (intake_of options table))
+one_choice options None false None None (Some table) false None = Some (dump (print_of options table))
+one_choice options None false None None None true None = Some (upgrade (tables_of options))
+one_choice options None false None None None false (Some new) = Some (alter (change_of options new))
+one_choice options _ _ _ _ _ _ _ = None
 
 abbrev pub choice : Options → Option Asking
-choice options = one_choice options options.listen options.compact options.export options.import options.upgrade
+choice options = one_choice options options.listen options.compact options.export options.import options.dump options.upgrade options.alter
 
 -- what matches ask for
 abbrev pub asked_in : List Row → Option Asking
@@ -144,8 +192,12 @@ Gives asking (Keep keeping) =
     })))
 Gives asking (Compact tables) = asking ≡ Some (compact (record { schema = tables.schema.now; folder = tables.folder.now }))
 Gives asking (Export one) = asking ≡ Some (export (record { schema = one.schema.now; folder = one.folder.now; table = one.table.now }))
-Gives asking (Import one) = asking ≡ Some (import (record { schema = one.schema.now; folder = one.folder.now; table = one.table.now }))
+Gives asking (Import one) = asking ≡ Some (import (record { schema = one.schema.now; folder = one.folder.now; table = one.table.now; csv = one.csv }))
+Gives asking (Dump one) =
+    asking ≡ Some (dump (record { schema = one.schema.now; folder = one.folder.now; table = one.table.now; by = option_map (λ s. s.now) one.by; csv = one.csv }))
 Gives asking (Upgrade tables) = asking ≡ Some (upgrade (record { schema = tables.schema.now; folder = tables.folder.now }))
+Gives asking (Alter change) =
+    asking ≡ Some (alter (record { schema = change.schema.now; folder = change.folder.now; new = change.new.now; fill = option_map (λ s. s.now) change.fill }))
 
 -- serving is asked for at a text that is no address
 abbrev pub HasNoAddress : Option Asking → Type 0
@@ -170,7 +222,12 @@ giving_of given = record {
   compact = given.compact;
   export = option_map (λ s. s.now) given.export;
   import = option_map (λ s. s.now) given.import;
+  dump = option_map (λ s. s.now) given.dump;
+  by = option_map (λ s. s.now) given.by;
+  csv = given.csv;
   upgrade = given.upgrade;
+  alter = option_map (λ s. s.now) given.alter;
+  fill = option_map (λ s. s.now) given.fill;
 }
 
 -- the numbers lie in their bounds

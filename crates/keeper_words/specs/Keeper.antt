@@ -39,6 +39,11 @@ keeper =
     (with_rule
     (with_rule
     (with_rule
+    (with_rule
+    (with_rule
+    (with_rule
+    (with_rule
+    (with_rule
     (with_rule no_option (required_named (codes "schema")))
     (option_named (codes "listen")))
     (required_named (codes "data")))
@@ -48,7 +53,12 @@ keeper =
     (flag_named (codes "compact")))
     (option_named (codes "export")))
     (option_named (codes "import")))
-    (flag_named (codes "upgrade"))
+    (option_named (codes "dump")))
+    (option_named (codes "by")))
+    (flag_named (codes "csv")))
+    (flag_named (codes "upgrade")))
+    (option_named (codes "alter")))
+    (option_named (codes "fill"))
 
 -- the words that ask for the version or for help are told it
 abbrev pub ShowsTexts : App → Type 0

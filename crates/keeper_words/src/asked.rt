@@ -38,10 +38,14 @@ pub enum Asked<'a> {
     Compact(Tables<'a>),
     /// Print the writes of a table's log.
     Export(OneTable<'a>),
-    /// Take a journal into the log of an empty table.
-    Import(OneTable<'a>),
+    /// Take a journal or rows into the log of an empty table.
+    Import(Importing<'a>),
+    /// Print the records of a table.
+    Dump(Dumping<'a>),
     /// Take over a folder of an older program.
     Upgrade(Tables<'a>),
+    /// Change the tables to those of another schema.
+    Alter(Altering<'a>),
 }
 
 /// Tables that are served and kept.
@@ -68,6 +72,47 @@ pub struct Tables<'a> {
     pub schema: &'a str,
     /// The folder of the logs.
     pub folder: &'a str,
+}
+
+/// The tables of a folder, and those that they are to be.
+#[derive(Clone, Copy, Debug, PartialEq, Eq)]
+pub struct Altering<'a> {
+    /// The file of the schema that the folder has.
+    pub schema: &'a str,
+    /// The folder of the logs.
+    pub folder: &'a str,
+    /// The file of the new schema.
+    pub new: &'a str,
+    /// The values of columns that are added, as an object of JSON.
+    pub fill: Option<&'a str>,
+}
+
+/// One table of a folder, and what is taken into it.
+#[derive(Clone, Copy, Debug, PartialEq, Eq)]
+pub struct Importing<'a> {
+    /// The file of the schema.
+    pub schema: &'a str,
+    /// The folder of the logs.
+    pub folder: &'a str,
+    /// The table's name.
+    pub table: &'a str,
+    /// Whether it is rows of CSV.
+    pub csv: bool,
+}
+
+/// One table of a folder, and how its records are printed.
+#[derive(Clone, Copy, Debug, PartialEq, Eq)]
+pub struct Dumping<'a> {
+    /// The file of the schema.
+    pub schema: &'a str,
+    /// The folder of the logs.
+    pub folder: &'a str,
+    /// The table's name.
+    pub table: &'a str,
+    /// The name of the index in whose order they are, the first if not said.
+    pub by: Option<&'a str>,
+    /// Whether they are rows of CSV.
+    pub csv: bool,
 }
 
 /// One table of a folder.

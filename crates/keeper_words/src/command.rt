@@ -53,10 +53,39 @@ pub(crate) fn command<'a>(alloc: Global) -> Result<Command<'a>, AllocError>
             "NAME",
             "In place of --listen: take a journal from standard input into this table, which is empty, and end",
         ))?
+        .arg(option(
+            alloc,
+            "dump",
+            "NAME",
+            "In place of --listen: print the records of this table as commands that insert them, and end",
+        ))?
+        .arg(option(
+            alloc,
+            "by",
+            "INDEX",
+            "With --dump: the index in whose order they are, if not the first",
+        ))?
+        .arg(flag(
+            alloc,
+            "csv",
+            "With --dump and --import: rows of CSV under the names of the columns",
+        ))?
         .arg(flag(
             alloc,
             "upgrade",
             "In place of --listen: take over a folder of an older program, and end",
+        ))?
+        .arg(option(
+            alloc,
+            "alter",
+            "NEW",
+            "In place of --listen: change the tables to those of this schema file, and end",
+        ))?
+        .arg(option(
+            alloc,
+            "fill",
+            "OBJECT",
+            "With --alter: the values of added columns, as an object of JSON under TABLE.COLUMN",
         ))
 }
 

@@ -9,8 +9,10 @@ table_keeper --schema FILE --listen unix:PATH|tcp:IP:PORT --data FOLDER [--worke
                     [--sync each|second|never] [--idle SECONDS]
        table_keeper --schema FILE --data FOLDER --compact
        table_keeper --schema FILE --data FOLDER --export NAME
-       table_keeper --schema FILE --data FOLDER --import NAME
-       table_keeper --schema FILE --data FOLDER --upgrade";
+       table_keeper --schema FILE --data FOLDER --import NAME [--csv]
+       table_keeper --schema FILE --data FOLDER --dump NAME [--by INDEX] [--csv]
+       table_keeper --schema FILE --data FOLDER --upgrade
+       table_keeper --schema FILE --data FOLDER --alter NEW [--fill OBJECT]";
 
 /// What stands at the end of the program's help.
 pub(crate) const EXAMPLES: &str = "\
@@ -24,8 +26,13 @@ Examples:
   Print the writes of a table's log, and take them into an empty table of another folder:
     table_keeper --schema tables.toml --data data --export people > people.jsonl
     table_keeper --schema tables.toml --data other --import people < people.jsonl
+  Print the records of a table in the order of an index as CSV, and take such rows into an empty table:
+    table_keeper --schema tables.toml --data data --dump people --by by_name --csv > people.csv
+    table_keeper --schema tables.toml --data other --import people --csv < people.csv
   Take over a folder of an older table_keeper:
     table_keeper --schema tables.toml --data data --upgrade
+  Change the kept tables to those of another schema, where each town that was there gets the size 0:
+    table_keeper --schema tables.toml --data data --alter wider.toml --fill '{\"towns.size\":0}'
 
 It serves until it is ended by a signal. Every signal will do. The same words start it again with what was answered.
-With another of the five words in place of --listen it ends by itself. The other options are the same then, and no more than read.";
+With another of the seven words in place of --listen it ends by itself. The other options are the same then, and no more than read.";

@@ -6,5 +6,5 @@ mod command;
 mod help;
 mod read;
 
-pub use asked::{Asked, Keeping, OneTable, Tables, When};
+pub use asked::{Altering, Asked, Dumping, Importing, Keeping, OneTable, Tables, When};
 pub use read::read_words;

@@ -34,7 +34,7 @@ marked_last mark base (e ∷ es) marked =
     marked_last mark (link_of e) es (and_parts (agrees mark base) (agrees mark (link_of e) && list_all (λ x. agrees mark (link_of x)) es) marked).1
 
 -- behind a write that is no earlier than the mark, an empty log opens, and ends with that write
-opens_empty : (mark : Option Link) (last : Link) → agrees mark last ≡ true → marked_number mark ≤ last.number → recovered_of last mark [] ≡ Ok (recovered_with last mark 0 [] [])
+pub opens_empty : (mark : Option Link) (last : Link) → agrees mark last ≡ true → marked_number mark ≤ last.number → recovered_of last mark [] ≡ Ok (recovered_with last mark 0 [] [])
 opens_empty mark last agree below =
     let found = recovered_with last mark 0 [] [] in
     let marked : is_marked last mark [] ≡ true = and_from (agrees mark last) true agree refl in

@@ -7,6 +7,7 @@ mod Earlier
 mod Finding
 mod Firsts
 mod Fronts
+mod Installed
 mod Joining
 mod Judging
 mod Latest

@@ -18,3 +18,4 @@ pub mod Settling
 pub mod StateFile
 pub mod StateIn
 pub mod Synced
+pub mod Installing

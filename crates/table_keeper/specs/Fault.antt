@@ -16,7 +16,7 @@ use Rattle.table_log.specs.declared.fault.OpenWhy.TheVariants as opening
 use Rattle.table_schema.specs.declared.fault.SchemaFault.{SchemaFault}
 use Rattle.table_schema.specs.declared.fault.SchemaFault.TheVariants as schema
 use Rattle.table_keeper.specs.declared.fault.Fault.{Fault}
-use Rattle.table_keeper.specs.declared.fault.Fault.TheVariants.{Words, Address, File, Output, Listen, Memory, Schema, Taken, Log, Line, Declared, StateLine, State, Behind, Lacking, Missing, Unwritten, Input, Hurt, Mark, Old, Beside, Filled}
+use Rattle.table_keeper.specs.declared.fault.Fault.TheVariants.{Words, Address, File, Output, Listen, Memory, Schema, Taken, Log, Line, Declared, StateLine, State, Behind, Lacking, Missing, Unwritten, Input, Hurt, Mark, Old, Beside, Filled, Rows, Unaltered}
 
 -- the exit status
 abbrev pub status_of : Fault → ℕ
@@ -43,6 +43,8 @@ status_of (Mark path) = 8
 status_of (Old path) = 8
 status_of (Beside path) = 8
 status_of (Filled path) = 8
+status_of (Rows why) = 6
+status_of (Unaltered why) = 10
 
 -- the fault of words that are not read
 abbrev pub of_words : WordsFault → Fault

@@ -19,7 +19,7 @@ pub(crate) fn export(rt: &HostRuntime, asked: &OneTable<'_>) -> Result<(), Fault
     if !is_there(rt, asked.folder) {
         return Err(Fault::Missing(String::from_str(rt.alloc(), asked.folder)?));
     }
-    let folder = Folder::take(rt, asked.folder)?;
+    let folder = Folder::taken(rt, asked.folder)?;
     let FoundLog {
         mut disk,
         about,

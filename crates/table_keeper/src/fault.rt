@@ -60,6 +60,10 @@ pub enum Fault {
     Beside(String),
     /// A journal is for a table that has a state or a write. The path of the log.
     Filled(String),
+    /// A row of CSV is not taken in. Its line, and why.
+    Rows(String),
+    /// A table can't have its new declaration. The table, and why.
+    Unaltered(String),
 }
 
 impl Fault {
@@ -93,6 +97,8 @@ impl Fault {
             Fault::Old(path) => write!(faults, "old: {path}\n"),
             Fault::Beside(path) => write!(faults, "old: others beside: {path}\n"),
             Fault::Filled(path) => write!(faults, "filled: {path}\n"),
+            Fault::Rows(why) => write!(faults, "csv: {why}\n"),
+            Fault::Unaltered(why) => write!(faults, "alter: {why}\n"),
         };
         self.status()
     }
@@ -106,7 +112,7 @@ impl Fault {
             Fault::Words(_) | Fault::Address => 2,
             Fault::Schema(_) | Fault::Declared(_) => 3,
             Fault::Log(_) => 5,
-            Fault::Line(_, _) | Fault::Hurt(_, _, _) => 6,
+            Fault::Line(_, _) | Fault::Hurt(_, _, _) | Fault::Rows(_) => 6,
             Fault::Taken(_) => 7,
             Fault::StateLine(_, _)
             | Fault::State(_)
@@ -118,6 +124,7 @@ impl Fault {
             | Fault::Beside(_)
             | Fault::Filled(_) => 8,
             Fault::Unwritten(_) => 9,
+            Fault::Unaltered(_) => 10,
         }
     }
 

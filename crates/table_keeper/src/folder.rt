@@ -1,5 +1,6 @@
 //! The folder of the logs.
 
+use crate::decided::carry_out;
 use crate::declaration::declares;
 use crate::fault::Fault;
 use crate::files::FILE_MODE;
@@ -27,7 +28,7 @@ pub(crate) struct Folder {
 
 impl Folder {
     /// Takes the folder at a path, and makes it where nothing stands there.
-    pub(crate) fn take(rt: &HostRuntime, path: &str) -> Result<Folder, Fault> {
+    fn take(rt: &HostRuntime, path: &str) -> Result<Folder, Fault> {
         if let Err(error) = make(rt, path) {
             return Err(Fault::of_file(&error, String::from_str(rt.alloc(), path)?));
         }
@@ -48,6 +49,13 @@ impl Folder {
             Err(TryLockError::WouldBlock) => Err(Fault::Taken(path)),
             Err(TryLockError::Error(error)) => Err(Fault::of_file(&error, name)),
         }
+    }
+
+    /// The same, where a change of its tables that was decided is carried out.
+    pub(crate) fn taken(rt: &HostRuntime, path: &str) -> Result<Folder, Fault> {
+        let folder = Folder::take(rt, path)?;
+        carry_out(rt, &folder)?;
+        Ok(folder)
     }
 
     /// Its path.

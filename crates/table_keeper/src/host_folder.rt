@@ -5,6 +5,7 @@ use crate::files::{FILE_MODE, Found, make_empty, open, size_of};
 use crate::folder::Folder;
 use crate::mark::KeptMark;
 use crate::shown::Shown;
+use crate::syncer::{FileSyncer, Turns};
 use checked_disk::{LogFiles, MarkFile};
 use file_disk::LogFile;
 use std::alloc::Global;
@@ -50,6 +51,14 @@ impl LogFile for HostFile {
 pub(crate) struct HostLog {
     log: Shown,
     mark: KeptMark,
+    turns: Turns,
+}
+
+impl HostLog {
+    /// Who waits for the system beside the calls of this log, once its mark was put. There is one of a log at most.
+    pub(crate) fn syncer(&self, rt: HostRuntime) -> io::Result<FileSyncer> {
+        self.turns.syncer(rt, self.log.path(), self.mark.path())
+    }
 }
 
 impl LogFiles for HostLog {
@@ -80,18 +89,31 @@ impl LogFiles for HostLog {
     }
 
     fn write_at(&mut self, at: u64, bytes: &[u8]) -> io::Result<usize> {
-        self.log.write_at(at, bytes)
+        let count = self.log.write_at(at, bytes)?;
+        self.turns.write(at, count);
+        Ok(count)
     }
 
     fn shorten(&mut self, count: u64) -> io::Result<()> {
-        self.log.shorten(count)
+        self.log.shorten(count)?;
+        self.turns.shorten(count);
+        Ok(())
     }
 
     fn settle(&mut self) -> io::Result<()> {
         self.log.settle()
     }
 
+    fn begin_settle(&mut self) {
+        self.turns.begin();
+    }
+
+    fn end_settle(&mut self) -> io::Result<u64> {
+        self.turns.end()
+    }
+
     fn put_mark(&mut self, at: u64, slot: &[u8]) -> io::Result<()> {
+        self.mark.is_left = self.turns.is_taken();
         self.mark.put(at, slot)
     }
 }
@@ -233,7 +255,8 @@ impl table_folder::Folder for TableFiles<'_> {
             Err(error) => return Err(error),
         };
         let log = Shown::new(self.rt, file, path, 0, size);
-        Ok((HostLog { log, mark }, size))
+        let turns = Turns::new(self.rt.alloc(), size)?;
+        Ok((HostLog { log, mark, turns }, size))
     }
 
     fn close_log(&mut self, _begin: Option<u64>, _log: HostLog) {}

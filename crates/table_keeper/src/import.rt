@@ -1,15 +1,16 @@
-//! Takes a journal into the log of an empty table.
+//! Takes a journal or rows of CSV into the log of an empty table.
 
 use crate::fault::Fault;
 use crate::folder::Folder;
 use crate::host_folder::{HostFile, TableFiles};
 use crate::logs::{Declared, OpenLog, start};
 use crate::mark::NoMark;
+use crate::rows::take_rows;
 use crate::schema::{schema_of, table_named};
 use checked_disk::{Beside, CheckedDisk};
 use checked_log::read_marks;
 use command_lines::{CommandFault, read_command};
-use keeper_words::OneTable;
+use keeper_words::Importing;
 use std::io;
 use std::io::{BufRead, BufReader, ErrorKind};
 use table_folder::{Base, FileName, Folder as _};
@@ -21,16 +22,16 @@ use table_schema::TableSpec;
 const INPUT: &str = "standard input";
 
 /// A log that is not at its name yet.
-type DraftDisk = CheckedDisk<Beside<HostFile, NoMark>>;
+pub(crate) type DraftDisk = CheckedDisk<Beside<HostFile, NoMark>>;
 
-/// Takes a journal from standard input into the log of a table that has neither a state nor a write: all of it or nothing.
-pub(crate) fn import(rt: &HostRuntime, asked: &OneTable<'_>) -> Result<(), Fault> {
+/// Takes a journal or rows of CSV from standard input into the log of a table that has neither a state nor a write: all of it or nothing.
+pub(crate) fn import(rt: &HostRuntime, asked: &Importing<'_>) -> Result<(), Fault> {
     let schema = schema_of(rt, asked.schema)?;
     let table = table_named(rt, &schema, asked.table)?;
-    let folder = Folder::take(rt, asked.folder)?;
+    let folder = Folder::taken(rt, asked.folder)?;
     refuse_filled(rt, &folder, start(rt, &folder, &schema)?, table.name())?;
     let mut files = TableFiles::new(*rt, &folder, table.name());
-    if let Err(fault) = put_log(rt, &folder, &mut files, table) {
+    if let Err(fault) = put_log(rt, &folder, &mut files, table, asked.csv) {
         let _ = files.remove(FileName::LogDraft);
         return Err(fault);
     }
@@ -56,12 +57,13 @@ fn refuse_filled(
     Ok(())
 }
 
-// Takes a journal into a log beside, and puts it at its name once the system has it.
+// Takes a journal or rows of CSV into a log beside, and puts it at its name once the system has it.
 fn put_log(
     rt: &HostRuntime,
     folder: &Folder,
     files: &mut TableFiles<'_>,
     table: &TableSpec,
+    csv: bool,
 ) -> Result<(), Fault> {
     let path = folder.log_draft_of(rt.alloc(), table.name())?;
     let draft = match files.begin(FileName::LogDraft) {
@@ -69,7 +71,11 @@ fn put_log(
         Err(error) => return Err(Fault::of_file(&error, path)),
     };
     let mut logged = open_draft(rt, table, draft, path.as_str())?;
-    take_lines(rt, &mut logged, path.as_str())?;
+    if csv {
+        take_rows(rt, table, &mut logged, path.as_str())?;
+    } else {
+        take_lines(rt, &mut logged, path.as_str())?;
+    }
     if logged.sync().is_err() {
         return Err(Fault::Log(path));
     }
@@ -127,7 +133,9 @@ fn take_lines(
         line.clear();
         match reader.read_until(b'\n', &mut line) {
             Ok(0) => break,
-            Ok(_) => take_line(rt, logged, draft, text_of(&line), number, &mut out)?,
+            Ok(_) => if !take_line(rt, logged, draft, text_of(&line), &mut out)? {
+                return Err(wrong(rt, number));
+            },
             Err(error) => return Err(of_input(&error)),
         }
     }
@@ -150,19 +158,18 @@ fn of_input(error: &io::Error) -> Fault {
     }
 }
 
-// Carries out a line, which has to be an accepted write.
-fn take_line(
+/// Carries out a line, and says whether it is an accepted write.
+pub(crate) fn take_line(
     rt: &HostRuntime,
     logged: &mut LoggedTable<DraftDisk>,
     draft: &str,
     text: &[u8],
-    number: u64,
     out: &mut Out,
-) -> Result<(), Fault> {
+) -> Result<bool, Fault> {
     let command = match read_command(rt.alloc(), text) {
         Ok(command) => command,
         Err(CommandFault::Memory) => return Err(Fault::Memory),
-        Err(_) => return Err(wrong(rt, number)),
+        Err(_) => return Ok(false),
     };
     let before = logged.mark();
     let Ok(ready) = out.emptied();
@@ -170,11 +177,11 @@ fn take_line(
         return Err(Fault::Log(String::from_str(rt.alloc(), draft)?));
     }
     if logged.mark() != before {
-        Ok(())
+        Ok(true)
     } else if out.bytes() == memory_line() {
         Err(Fault::Memory)
     } else {
-        Err(wrong(rt, number))
+        Ok(false)
     }
 }
 

@@ -40,6 +40,11 @@ impl<'a> Declared<'a> {
         })
     }
 
+    /// The text of its declaration.
+    pub(crate) fn text(&self) -> &str {
+        self.text.as_str()
+    }
+
     /// The digest of its declaration.
     pub(crate) fn digest(&self) -> u64 {
         self.digest
@@ -79,8 +84,8 @@ pub(crate) fn start<'a>(
     Ok(logs)
 }
 
-// A table, where the declaration that is there is its own, and no file is one of an older program.
-fn compared<'a>(
+/// A table, where the declaration that is there is its own, and no file is one of an older program.
+pub(crate) fn compared<'a>(
     rt: &HostRuntime,
     folder: &Folder,
     table: &'a TableSpec,

@@ -1,11 +1,15 @@
 //! Keeps the tables of a schema in a folder, and answers lines of commands on them.
 #![tactic(auto)]
 
+mod alter;
 mod compact;
+mod decided;
 mod declaration;
+mod dump;
 mod export;
 mod fault;
 mod files;
+mod fill;
 mod folder;
 mod frame;
 mod host;
@@ -18,9 +22,12 @@ mod names;
 mod patient;
 mod program;
 mod request;
+mod rows;
 mod schema;
 mod serve;
 mod shown;
+mod syncer;
+mod told;
 mod upgrade;
 
 use program::run;

@@ -17,6 +17,8 @@ pub(crate) struct KeptMark {
     path: String,
     file: Option<File>,
     synced: Option<Instant>,
+    /// Whether another syncs it.
+    pub(crate) is_left: bool,
     pub(crate) puts: u64,
 }
 
@@ -28,8 +30,14 @@ impl KeptMark {
             path,
             file: None,
             synced: None,
+            is_left: false,
             puts: 0,
         }
+    }
+
+    /// Its path.
+    pub(crate) fn path(&self) -> &str {
+        self.path.as_str()
     }
 
     // Opens the file, and makes it whole.
@@ -93,7 +101,7 @@ impl MarkFile for KeptMark {
             return Err(io::Error::from(ErrorKind::NotFound));
         };
         file.write_all_at(slot, at)?;
-        if self.is_due() {
+        if !self.is_left && self.is_due() {
             self.sync()?;
         }
         self.puts = self.puts.saturating_add(1);

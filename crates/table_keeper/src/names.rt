@@ -19,6 +19,12 @@ const PLAIN_LOG: &str = ".jsonl";
 /// How that name ends once the log is left.
 const PLAIN_LOG_LEFT: &str = ".jsonl.old";
 
+/// How the name of a state ends that stands beside.
+const BESIDE: &str = ".alter.state";
+
+/// How that name goes on while the state is written.
+const STATE_DRAFT_END: &str = ".new";
+
 impl Folder {
     /// The path of a table's log: the one behind the state of this write number, or the one that begins with the empty table.
     pub(crate) fn log_of(
@@ -147,23 +153,42 @@ impl Folder {
         end: &str,
     ) -> Result<Vec<Option<u64>>, Fault> {
         let mut begins = Vec::new(rt.alloc());
-        let names = match fs::read_dir(rt, self.path()) {
-            Ok(names) => names,
+        for name in self.names(rt)? {
+            if let Some(begin) = begin_in(name.as_str(), table, end) {
+                begins.push(begin)?;
+            }
+        }
+        Ok(begins)
+    }
+
+    /// The tables of which a state stands beside, whole or not, that is of a change to another schema. O(names in the folder).
+    pub(crate) fn besides(&self, rt: &HostRuntime) -> Result<Vec<String>, Fault> {
+        let mut tables = Vec::new(rt.alloc());
+        for name in self.names(rt)? {
+            let name = name.as_str();
+            let name = name.strip_suffix(STATE_DRAFT_END).unwrap_or(name);
+            if let Some(table) = name.strip_suffix(BESIDE) {
+                tables.push(String::from_str(rt.alloc(), table)?)?;
+            }
+        }
+        Ok(tables)
+    }
+
+    // The names of the folder. One that is no text is not of this program.
+    fn names(&self, rt: &HostRuntime) -> Result<Vec<String>, Fault> {
+        let mut names = Vec::new(rt.alloc());
+        let entries = match fs::read_dir(rt, self.path()) {
+            Ok(entries) => entries,
             Err(error) => return Err(self.unlisted(rt, &error)),
         };
-        for entry in names {
+        for entry in entries {
             match entry {
-                Ok(entry) => {
-                    if let Some(begin) = begin_in(entry.file_name(), table, end) {
-                        begins.push(begin)?;
-                    }
-                }
-                // A name that is no text is not of this program.
+                Ok(entry) => names.push(String::from_str(rt.alloc(), entry.file_name())?)?,
                 Err(error) if error.kind() == ErrorKind::InvalidFilename => {}
                 Err(error) => return Err(self.unlisted(rt, &error)),
             }
         }
-        Ok(begins)
+        Ok(names)
     }
 
     // The fault of names that can't be read.

@@ -2,7 +2,9 @@
 ghost use Rattle.std.specs.Prelude.{◌≡◌};
 ghost use Rattle.table_keeper.specs.Fault.{asked_syncing};
 
+use crate::alter::alter;
 use crate::compact::compact;
+use crate::dump::dump;
 use crate::export::export;
 use crate::fault::Fault;
 use crate::folder::Folder;
@@ -12,6 +14,7 @@ use crate::listen::Listening;
 use crate::logs::{LogDisk, OpenLog, start};
 use crate::schema::schema_of;
 use crate::serve::{Served, serve};
+use crate::syncer::FileSyncer;
 use crate::upgrade::upgrade;
 use keeper_words::{Asked, Keeping, Tables, When, read_words};
 use logged_tables::{LoggedTables, OverAt, Syncing};
@@ -26,8 +29,10 @@ pub(crate) fn run<R: Host>(rt: &HostRuntime, threads: &R) -> Result<(), Fault> {
         Asked::Keep(keeping) => keep(rt, threads, &keeping),
         Asked::Compact(tables) => begin_anew(rt, &tables),
         Asked::Export(one) => export(rt, &one),
-        Asked::Import(one) => import(rt, &one),
+        Asked::Import(importing) => import(rt, &importing),
+        Asked::Dump(dumping) => dump(rt, &dumping),
         Asked::Upgrade(tables) => upgrade(rt, &tables),
+        Asked::Alter(altering) => alter(rt, &altering),
     }
 }
 
@@ -43,7 +48,7 @@ fn given_words(rt: &HostRuntime) -> Result<Vec<String>, Fault> {
 // Starts, and writes the state of each table with an empty log behind it.
 fn begin_anew(rt: &HostRuntime, asked: &Tables<'_>) -> Result<(), Fault> {
     let schema = schema_of(rt, asked.schema)?;
-    let folder = Folder::take(rt, asked.folder)?;
+    let folder = Folder::taken(rt, asked.folder)?;
     let logs = start(rt, &folder, &schema)?;
     compact(rt, &folder, logs)
 }
@@ -51,18 +56,20 @@ fn begin_anew(rt: &HostRuntime, asked: &Tables<'_>) -> Result<(), Fault> {
 // Starts, listens and serves.
 fn keep<R: Host>(rt: &HostRuntime, threads: &R, keeping: &Keeping<'_>) -> Result<(), Fault> {
     let schema = schema_of(rt, keeping.schema)?;
-    let folder = Folder::take(rt, keeping.folder)?;
+    let folder = Folder::taken(rt, keeping.folder)?;
     let logs = start(rt, &folder, &schema)?;
     let Ok(listening) = Listening::at(rt, keeping.listen) else {
         return Err(Fault::Listen);
     };
+    let syncing = syncing_of(keeping.sync);
+    let syncers = syncers_of(rt, &folder, &logs, syncing)?;
     let Kept { tables, paths } = behind_locks(rt, &folder, logs)?;
     let served = Arc::new(
         rt.alloc(),
         Served {
             tables,
             listening,
-            syncing: syncing_of(keeping.sync),
+            syncing,
             idle: keeping.idle,
             over: Mutex::new(None),
             told: Condvar::new(),
@@ -71,7 +78,7 @@ fn keep<R: Host>(rt: &HostRuntime, threads: &R, keeping: &Keeping<'_>) -> Result
     if println!(rt; "listening").is_err() {
         return Err(Fault::Output);
     }
-    let at = serve(threads, &served, keeping.workers)?;
+    let at = serve(threads, &served, keeping.workers, syncers)?;
     Err(over(rt, &paths, at))
 }
 
@@ -80,6 +87,30 @@ fn keep<R: Host>(rt: &HostRuntime, threads: &R, keeping: &Keeping<'_>) -> Result
 struct Kept {
     tables: LoggedTables<LogDisk>,
     paths: Vec<String>,
+}
+
+// Who waits for the logs, where all are synced once a second.
+fn syncers_of(
+    rt: &HostRuntime,
+    folder: &Folder,
+    logs: &[OpenLog<'_>],
+    syncing: Syncing,
+) -> Result<Vec<FileSyncer>, Fault> {
+    let mut syncers = Vec::new(rt.alloc());
+    if syncing != Syncing::Second {
+        return Ok(syncers);
+    }
+    for log in logs {
+        match log.disk.files().syncer(*rt) {
+            Ok(syncer) => syncers.push(syncer)?,
+            Err(error) => {
+                let state = log.about.base.state();
+                let path = folder.log_of(rt.alloc(), log.table.name(), state)?;
+                return Err(Fault::of_file(&error, path));
+            }
+        }
+    }
+    Ok(syncers)
 }
 
 // Puts tables behind locks.

@@ -6,6 +6,7 @@ use crate::host::Host;
 use crate::listen::Listening;
 use crate::logs::LogDisk;
 use crate::patient::{Sending, Taking};
+use crate::syncer::FileSyncer;
 use logged_tables::{LoggedTables, OverAt, Seat, ServeFault, Syncing};
 use std::alloc::Global;
 use std::sync::{Arc, Condvar, Mutex};
@@ -33,9 +34,10 @@ pub(crate) fn serve<R: Host>(
     rt: &R,
     served: &Arc<Served, Global>,
     workers: u32,
+    syncers: Vec<FileSyncer>,
 ) -> Result<OverAt, Fault> {
     if served.syncing == Syncing::Second {
-        start(rt, served, false)?;
+        start_syncing(rt, served, syncers)?;
     }
     let started = start_workers(rt, served, workers);
     if started == 0 {
@@ -53,24 +55,37 @@ fn start_workers<R: Host>(rt: &R, served: &Arc<Served, Global>, workers: u32) ->
 {
     let mut started = 0;
     for _ in 0..workers {
-        if start(rt, served, true).is_ok() {
+        if start(rt, served).is_ok() {
             started += 1;
         }
     }
     started
 }
 
-// Starts a thread that serves, or one that syncs.
-fn start<R: Host>(rt: &R, served: &Arc<Served, Global>, serves: bool) -> Result<(), Fault> {
+// Starts a thread that serves.
+fn start<R: Host>(rt: &R, served: &Arc<Served, Global>) -> Result<(), Fault> {
     let theirs = Arc::try_clone(served)?;
     let own = *rt;
-    let started = Builder::new().stack_size(STACK).spawn(rt, move || {
-        if serves {
-            work(&own, &theirs)
-        } else {
-            keep_synced(&own, &theirs)
-        }
-    });
+    let started = Builder::new()
+        .stack_size(STACK)
+        .spawn(rt, move || work(&own, &theirs));
+    match started {
+        Ok(_) => Ok(()),
+        Err(_) => Err(Fault::Memory),
+    }
+}
+
+// Starts a thread that syncs.
+fn start_syncing<R: Host>(
+    rt: &R,
+    served: &Arc<Served, Global>,
+    syncers: Vec<FileSyncer>,
+) -> Result<(), Fault> {
+    let theirs = Arc::try_clone(served)?;
+    let own = *rt;
+    let started = Builder::new()
+        .stack_size(STACK)
+        .spawn(rt, move || keep_synced(&own, &theirs, syncers));
     match started {
         Ok(_) => Ok(()),
         Err(_) => Err(Fault::Memory),
@@ -101,10 +116,11 @@ fn tell<R: Host>(rt: &R, served: &Served, at: OverAt) {
 }
 
 // Syncs all logs once a second.
-fn keep_synced<R: Host>(rt: &R, served: &Served) {
+fn keep_synced<R: Host>(rt: &R, served: &Served, syncers: Vec<FileSyncer>) {
+    let mut syncers = syncers;
     for _ in rt.forever() {
         thread::sleep(rt, Duration::from_secs(1));
-        if let Err(at) = served.tables.sync_all(rt) {
+        if let Err(at) = served.tables.sync_beside(rt, &mut syncers) {
             tell(rt, served, at);
         }
     }

@@ -42,6 +42,11 @@ impl Shown {
         }
     }
 
+    /// Its path.
+    pub(crate) fn path(&self) -> &str {
+        self.path.as_str()
+    }
+
     // The file, where it is there.
     fn there(&self) -> io::Result<&File> {
         match &self.file {

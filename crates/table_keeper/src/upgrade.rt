@@ -21,7 +21,7 @@ struct ToTake<'a> {
 /// decided before one is changed, and it may be done again where it was broken off.
 pub(crate) fn upgrade(rt: &HostRuntime, asked: &Tables<'_>) -> Result<(), Fault> {
     let schema = schema_of(rt, asked.schema)?;
-    let folder = Folder::take(rt, asked.folder)?;
+    let folder = Folder::taken(rt, asked.folder)?;
     let older = find_all(rt, &folder, &schema)?;
     folder.sync(rt)?;
     for table in older {

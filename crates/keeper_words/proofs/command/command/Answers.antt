@@ -24,8 +24,13 @@ returns-clause-words c =
     let with_compact = c.in_ok-arg-7.ensures.shape c.flag.ensures.local ∙ ap₂ with_rule with_idle c.flag.ensures.rule in
     let with_export = c.in_ok-arg-8.ensures.shape c.option.ensures.local ∙ ap₂ with_rule with_compact c.option.ensures.rule in
     let with_import = c.in_ok-arg-9.ensures.shape c.option-2.ensures.local ∙ ap₂ with_rule with_export c.option-2.ensures.rule in
-    IfOk-weaker c.arg-10.result _ _ (λ m h. h.shape c.flag-2.ensures.local ∙ ap₂ with_rule with_import c.flag-2.ensures.rule) c.arg-10.ensures
+    let with_dump = c.in_ok-arg-10.ensures.shape c.option-3.ensures.local ∙ ap₂ with_rule with_import c.option-3.ensures.rule in
+    let with_by = c.in_ok-arg-11.ensures.shape c.option-4.ensures.local ∙ ap₂ with_rule with_dump c.option-4.ensures.rule in
+    let with_csv = c.in_ok-arg-12.ensures.shape c.flag-2.ensures.local ∙ ap₂ with_rule with_by c.flag-2.ensures.rule in
+    let with_upgrade = c.in_ok-arg-13.ensures.shape c.flag-3.ensures.local ∙ ap₂ with_rule with_csv c.flag-3.ensures.rule in
+    let with_alter = c.in_ok-arg-14.ensures.shape c.option-5.ensures.local ∙ ap₂ with_rule with_upgrade c.option-5.ensures.rule in
+    IfOk-weaker c.arg-15.result _ _ (λ m h. h.shape c.option-6.ensures.local ∙ ap₂ with_rule with_alter c.option-6.ensures.rule) c.arg-15.ensures
 
 pub returns-clause-texts : goal.returns-clause-texts
 returns-clause-texts c =
-    IfOk-weaker c.arg-10.result _ _ (λ m is. subst ShowsTexts (sym is) shows_texts-keeper) (returns-clause-words c)
+    IfOk-weaker c.arg-15.result _ _ (λ m is. subst ShowsTexts (sym is) shows_texts-keeper) (returns-clause-words c)

@@ -68,7 +68,9 @@ returns-clause-answers c =
     let found = found_of c.args.options.now in
     let word = c.in_ok-get_str-3.ensures ∙ first_value-rows found (codes "sync") in
     given (rows_of found) c.in_ok-get_str.field-0.now (option_map (λ s. s.now) c.get_str-2.result) c.in_ok-get_str-2.field-0.now c.in_ok-number.field-0 c.in_ok-read.field-0
-    c.in_ok-number-2.field-0 c.is_set.result (option_map (λ s. s.now) c.get_str-6.result) (option_map (λ s. s.now) c.get_str-7.result) c.is_set-2.result
+    c.in_ok-number-2.field-0 c.is_set.result (option_map (λ s. s.now) c.get_str-6.result) (option_map (λ s. s.now) c.get_str-7.result)
+    (option_map (λ s. s.now) c.get_str-8.result) (option_map (λ s. s.now) c.get_str-9.result) c.is_set-2.result c.is_set-3.result
+    (option_map (λ s. s.now) c.get_str-12.result) (option_map (λ s. s.now) c.get_str-13.result)
     (c.in_ok-get_str.ensures ∙ first_value-rows found (codes "schema")) (c.get_str-2.ensures ∙ first_value-rows found (codes "listen"))
     (c.in_ok-get_str-2.ensures ∙ first_value-rows found (codes "data"))
     (c.in_ok-number.ensures.number ∙ ap (option_and_then (number_in 1 256)) (one_text-rows found (codes "workers")))
@@ -76,4 +78,7 @@ returns-clause-answers c =
     (c.in_ok-number-2.ensures.number ∙ ap (option_and_then (number_in 0 1000000)) (one_text-rows found (codes "idle")))
     (c.is_set.ensures ∙ ap is_true (c.get_str-5.ensures ∙ first_value-rows found (codes "compact")))
     (c.get_str-6.ensures ∙ first_value-rows found (codes "export")) (c.get_str-7.ensures ∙ first_value-rows found (codes "import"))
-    (c.is_set-2.ensures ∙ ap is_true (c.get_str-8.ensures ∙ first_value-rows found (codes "upgrade")))
+    (c.get_str-8.ensures ∙ first_value-rows found (codes "dump")) (c.get_str-9.ensures ∙ first_value-rows found (codes "by"))
+    (c.is_set-2.ensures ∙ ap is_true (c.get_str-10.ensures ∙ first_value-rows found (codes "csv")))
+    (c.is_set-3.ensures ∙ ap is_true (c.get_str-11.ensures ∙ first_value-rows found (codes "upgrade")))
+    (c.get_str-12.ensures ∙ first_value-rows found (codes "alter")) (c.get_str-13.ensures ∙ first_value-rows found (codes "fill"))

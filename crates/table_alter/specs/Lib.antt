@@ -1,0 +1,4 @@
+pub mod Sources
+pub mod Same
+pub mod Altered
+pub mod Scaffold
