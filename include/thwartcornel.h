@@ -88,15 +88,22 @@ enum tc_status {
     TC_ROOM = 8,     /* what is told is longer than the room */
     TC_NONE = 9,     /* there is no such record */
     TC_ROW = 10,     /* the cells are no row of the table */
-    TC_SEARCH = 11,  /* the cells are no search key of the index */
+    TC_SEARCH = 11,  /* the cells are no search key of the index, or the parts no order */
     TC_KIND = 12,    /* no index has the number, or it is of a kind that has no such call */
     TC_STALE = 13,   /* the handle names no record */
     TC_BANNED = 14,  /* another record has the key at a unique index */
     TC_LOST = 15,    /* the same, and the record was taken out */
     TC_FULL = 16,    /* there are as many records as the schema allows */
     TC_SPENT = 17,   /* there were as many changes as can be numbered */
-    TC_TABLE = 18    /* no table of the schema has the number */
+    TC_TABLE = 18,   /* no table of the schema has the number */
+    TC_PLACE = 19    /* the place is greater than the number of records */
 };
+
+/* A column of an order: from its least cell up, where null is least, or from its greatest down. */
+typedef struct tc_part {
+    size_t column;
+    bool falls;
+} tc_part;
 
 /* Opens the empty tables of a schema file, of which this is the text. A closed handle is then open.
    Answers TC_OK, or TC_MEMORY, TC_TOML to TC_KEY, or TC_HANDLE for a handle that is open. Then all is as before. */
@@ -140,6 +147,15 @@ uint8_t tc_rows_open(tc_rows *rows, const void *schema, size_t length, size_t ta
    not just these bytes. Or TC_FULL, TC_SPENT, TC_MEMORY. */
 uint8_t tc_rows_insert(tc_rows *rows, const tc_cell *cells, size_t count, const void *texts, size_t length, tc_handle *handle, size_t *index);
 
+/* Puts many records in: one for each of the handles, of which there are `records`. Their cells stand one after another, a cell for each
+   column, and so do the bytes of their texts. Each is put in as tc_rows_insert does, in their order, until one is refused: *inserted is
+   how many are in, and their handles are in the first places, of which the others are left alone. The last record has all cells and
+   bytes that are left, so that too many are no row, and too few neither.
+   Answers TC_OK, and all are in. Or what tc_rows_insert answers to the first that is refused; of TC_BANNED *by is the record that has
+   the key, and *index the index. TC_HANDLE: *inserted is 0. After TC_MEMORY the records from *inserted on can be handed in again. */
+uint8_t tc_rows_insert_all(tc_rows *rows, const tc_cell *cells, size_t count, const void *texts, size_t length, tc_handle *handles, size_t records,
+                           size_t *inserted, tc_handle *by, size_t *index);
+
 /* Gives the record *handle other cells, all of them; its handle stays.
    Answers TC_OK. Where another record has the new key at a unique index, *index is the first such index and *handle that record: with
    rollback that is TC_BANNED, and nothing is changed; without, it is TC_LOST, and the record is taken out. Or TC_ROW, TC_STALE,
@@ -149,8 +165,20 @@ uint8_t tc_rows_modify(tc_rows *rows, tc_handle *handle, const tc_cell *cells, s
 /* Takes a record out. Answers TC_OK, TC_STALE or TC_SPENT. It takes no memory. */
 uint8_t tc_rows_erase(tc_rows *rows, const tc_handle *handle);
 
+/* Takes all records out that have a search key at an index, as tc_rows_find takes one. Answers TC_OK, and *number is how many they
+   were. Or TC_KIND, TC_SEARCH, TC_SPENT, TC_MEMORY, and *number is 0. */
+uint8_t tc_rows_erase_key(tc_rows *rows, size_t index, const tc_cell *key, size_t count, const void *texts, size_t length, uint64_t *number);
+
 /* Takes all records out. Answers TC_OK or TC_SPENT. It takes no memory. */
 uint8_t tc_rows_clear(tc_rows *rows);
+
+/* Puts a record of a sequenced or a random index before the one at a place, counted from 0 while it still stands where it stood. The
+   place that is the number of records is the end. Answers TC_OK, or TC_KIND, TC_STALE, TC_PLACE, TC_SPENT. It takes no memory. */
+uint8_t tc_rows_move(tc_rows *rows, size_t index, const tc_handle *handle, uint64_t place);
+
+/* Sorts a sequenced or a random index by one to four columns. Records that are equal by them stay as they stand. Records that come
+   later are last all the same. Answers TC_OK, or TC_KIND, TC_SEARCH for other parts, TC_SPENT, TC_MEMORY. */
+uint8_t tc_rows_sort(tc_rows *rows, size_t index, const tc_part *by, size_t count);
 
 /* Tells the number of records. Answers TC_OK; TC_HANDLE tells 0. */
 uint8_t tc_rows_size(tc_rows *rows, uint64_t *size);
@@ -169,6 +197,10 @@ uint8_t tc_rows_find(tc_rows *rows, size_t index, const tc_cell *key, size_t cou
 uint8_t tc_rows_lower(tc_rows *rows, size_t index, const tc_cell *key, size_t count, const void *texts, size_t length, tc_handle *handle);
 uint8_t tc_rows_upper(tc_rows *rows, size_t index, const tc_cell *key, size_t count, const void *texts, size_t length, tc_handle *handle);
 
+/* Tells how many records have a search key. An ordered index steps over each, and a hashed one too. Answers TC_OK; TC_KIND, TC_SEARCH,
+   TC_MEMORY and TC_HANDLE tell 0. */
+uint8_t tc_rows_count(tc_rows *rows, size_t index, const tc_cell *key, size_t count, const void *texts, size_t length, uint64_t *number);
+
 /* Find the first or the last record of an index, in its order, or the one after or before *handle. A hashed index has no order.
    They answer TC_OK, and *handle is the record's. Or TC_NONE, TC_KIND, and of a given handle TC_STALE. They take no memory. */
 uint8_t tc_rows_first(tc_rows *rows, size_t index, tc_handle *handle);
@@ -180,9 +212,10 @@ uint8_t tc_rows_previous(tc_rows *rows, size_t index, tc_handle *handle);
    TC_KIND. It takes no memory. */
 uint8_t tc_rows_nth(tc_rows *rows, size_t index, uint64_t rank, tc_handle *handle);
 
-/* Tells the rank of a record in a ranked index, counted from 0. Answers TC_OK; TC_KIND, TC_STALE and TC_HANDLE tell 0. It takes no
-   memory. */
+/* Tell where a record stands, counted from 0: its rank in a ranked index, its place in a random one. They answer TC_OK; TC_KIND,
+   TC_STALE and TC_HANDLE tell 0. They take no memory. */
 uint8_t tc_rows_rank(tc_rows *rows, size_t index, const tc_handle *handle, uint64_t *rank);
+uint8_t tc_rows_place(tc_rows *rows, size_t index, const tc_handle *handle, uint64_t *place);
 
 /* Ends the container, and gives all its memory back. The handle is closed, and may be opened again. On a closed one it does nothing. */
 void tc_rows_close(tc_rows *rows);

@@ -61,7 +61,8 @@ enum class status : std::uint8_t {
     lost = TC_LOST,
     full = TC_FULL,
     spent = TC_SPENT,
-    table = TC_TABLE
+    table = TC_TABLE,
+    place = TC_PLACE
 };
 
 // A status, and a number of bytes: those taken, those written, or those that wait.
@@ -265,6 +266,11 @@ class cell {
     cell(tc_cell said, const char *text) noexcept : value(said), bytes(text) {}
 };
 
+// A column of an order, by its number: {2} from its least cell up, or {2, true} from its greatest down.
+struct part : tc_part {
+    part(std::size_t column, bool falls = false) noexcept : tc_part{column, falls} {}
+};
+
 // What a change tells: the handle of the record that was put in; or of status::banned and status::lost the record that has the key at the
 // unique index of this number.
 struct [[nodiscard]] change {
@@ -318,6 +324,20 @@ class rows {
     status erase(thwartcornel::handle record) noexcept { return status{tc_rows_erase(held, &record)}; }
     status clear() noexcept { return status{tc_rows_clear(held)}; }
 
+    // tc_rows_erase_key: takes all records of a key out, and tells how many they were.
+    std::optional<std::uint64_t> erase_key(std::size_t index, cells key, status *why = nullptr) noexcept { return numbered(tc_rows_erase_key, index, key, why); }
+    std::optional<std::uint64_t> erase_key(std::size_t index, list key, status *why = nullptr) noexcept { return erase_key(index, cells(key.begin(), key.size()), why); }
+
+    // The order of a sequenced or a random index: a record is put before the one at a place, or all are sorted by columns.
+    status move(std::size_t index, thwartcornel::handle record, std::uint64_t place) noexcept { return status{tc_rows_move(held, index, &record, place)}; }
+    status sort(std::size_t index, std::span<const part> by) noexcept
+    {
+        // (no pointer may be null)
+        static constexpr tc_part none{};
+        return status{tc_rows_sort(held, index, by.empty() ? &none : by.data(), by.size())};
+    }
+    status sort(std::size_t index, std::initializer_list<part> by) noexcept { return sort(index, std::span(by.begin(), by.size())); }
+
     // How many records there are; 0 where this is closed.
     std::uint64_t size() noexcept
     {
@@ -353,24 +373,26 @@ class rows {
     found lower(std::size_t index, list key, status *why = nullptr) noexcept { return lower(index, cells(key.begin(), key.size()), why); }
     found upper(std::size_t index, list key, status *why = nullptr) noexcept { return upper(index, cells(key.begin(), key.size()), why); }
 
+    // How many records have a key.
+    std::optional<std::uint64_t> count(std::size_t index, cells key, status *why = nullptr) noexcept { return numbered(tc_rows_count, index, key, why); }
+    std::optional<std::uint64_t> count(std::size_t index, list key, status *why = nullptr) noexcept { return count(index, cells(key.begin(), key.size()), why); }
+
     // Records along an index that is not hashed.
     found first(std::size_t index, status *why = nullptr) noexcept { return walked(tc_rows_first, index, {}, why); }
     found last(std::size_t index, status *why = nullptr) noexcept { return walked(tc_rows_last, index, {}, why); }
     found next(std::size_t index, thwartcornel::handle at, status *why = nullptr) noexcept { return walked(tc_rows_next, index, at, why); }
     found previous(std::size_t index, thwartcornel::handle at, status *why = nullptr) noexcept { return walked(tc_rows_previous, index, at, why); }
 
-    // The record at a place of a ranked or a random index, and the rank of a record in a ranked one, both counted from 0.
+    // The record at a place of a ranked or a random index, the rank of a record in a ranked one, and its place in a random one, all counted
+    // from 0.
     found nth(std::size_t index, std::uint64_t place, status *why = nullptr) noexcept
     {
         thwartcornel::handle at{};
         return is_ok(tc_rows_nth(held, index, place, &at), why) ? found(at) : std::nullopt;
     }
 
-    std::optional<std::uint64_t> rank(std::size_t index, thwartcornel::handle at, status *why = nullptr) noexcept
-    {
-        std::uint64_t place = 0;
-        return is_ok(tc_rows_rank(held, index, &at, &place), why) ? std::optional(place) : std::nullopt;
-    }
+    std::optional<std::uint64_t> rank(std::size_t index, thwartcornel::handle at, status *why = nullptr) noexcept { return placed(tc_rows_rank, index, at, why); }
+    std::optional<std::uint64_t> place(std::size_t index, thwartcornel::handle at, status *why = nullptr) noexcept { return placed(tc_rows_place, index, at, why); }
 
     // The handles along an index, from a record on and up to another, or to the end: for (auto at : people.along(by_age)). There are none
     // where the index is hashed. The records are neither changed nor taken out, and the container is not moved, until the walk is done.
@@ -479,6 +501,22 @@ class rows {
         if (pack(key, said))
             how = call(held, index, said.cells, said.count, said.texts, said.length, &at);
         return is_ok(how, why) ? found(at) : std::nullopt;
+    }
+
+    template <class Call> std::optional<std::uint64_t> numbered(Call call, std::size_t index, cells key, status *why) noexcept
+    {
+        std::uint64_t number = 0;
+        packed said;
+        std::uint8_t how = TC_MEMORY;
+        if (pack(key, said))
+            how = call(held, index, said.cells, said.count, said.texts, said.length, &number);
+        return is_ok(how, why) ? std::optional(number) : std::nullopt;
+    }
+
+    template <class Call> std::optional<std::uint64_t> placed(Call call, std::size_t index, thwartcornel::handle at, status *why) noexcept
+    {
+        std::uint64_t place = 0;
+        return is_ok(call(held, index, &at, &place), why) ? std::optional(place) : std::nullopt;
     }
 
     template <class Call> found walked(Call call, std::size_t index, thwartcornel::handle at, status *why) noexcept

@@ -13,6 +13,8 @@ KINDS: dict[type, int] = {type(None): NULL, int: INTEGER, str: TEXT, bool: BOOLE
 # A tc_cell of thwartcornel.h.
 CELL, SIZE_OF_CELL = "q B 7x ", 16
 MOST_CELLS = 16
+# A cell of no kind.
+NO_CELL = struct.pack("=" + CELL, 0, 255)
 # Numbers of cells, as the library takes them.
 SIZES = [ctypes.c_size_t(it) for it in range(MOST_CELLS + 1)]
 
@@ -20,6 +22,26 @@ SIZES = [ctypes.c_size_t(it) for it in range(MOST_CELLS + 1)]
 def kind_of(value: Any) -> int | None:
     """The kind of a value whose type is none of those, such as a number with a name; or None where it is no cell."""
     return next((kind for base, kind in KINDS.items() if isinstance(value, base)), None)
+
+
+def spelled(values: Sequence[Any]) -> tuple[list[int], bytes] | None:
+    """The numbers and kinds of values, and the bytes of their texts; or None where a value is no cell."""
+    said: list[int] = []
+    texts = b""
+    for it in values:
+        kind = KINDS[type(it)] if type(it) in KINDS else kind_of(it)
+        if kind == TEXT:
+            try:
+                text = it.encode()
+            except UnicodeEncodeError:
+                return None
+            texts += text
+            said += (len(text), TEXT)
+        elif kind is None:
+            return None
+        else:
+            said += (it or 0, kind)
+    return said, texts
 
 
 class Cells:
@@ -33,27 +55,25 @@ class Cells:
     def put(self, values: Sequence[Any]) -> bytes | None:
         """Puts values in, and returns the bytes of their texts, of which `texts_length` is the number; or None where a value is no cell, or
         there are too many."""
-        said: list[int] = []
-        texts = b""
-        for it in values:
-            kind = KINDS[type(it)] if type(it) in KINDS else kind_of(it)
-            if kind == TEXT:
-                try:
-                    text = it.encode()
-                except UnicodeEncodeError:
-                    return None
-                texts += text
-                said += (len(text), TEXT)
-            elif kind is None:
-                return None
-            else:
-                said += (it or 0, kind)
+        if (read := spelled(values)) is None:
+            return None
+        said, texts = read
         try:
             self._forms[len(values)].pack_into(self.cells, 0, *said)
         except (struct.error, IndexError):
             return None
         self.texts_length.value = len(texts)
         return texts
+
+    def packed(self, values: Sequence[Any]) -> tuple[bytes, bytes] | None:
+        """The bytes of the values' cells, and those of their texts; or None where `put` gives it."""
+        if (read := spelled(values)) is None:
+            return None
+        said, texts = read
+        try:
+            return self._forms[len(values)].pack(*said), texts
+        except (struct.error, IndexError):
+            return None
 
 
 class Record(Cells):

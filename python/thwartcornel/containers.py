@@ -3,17 +3,18 @@ from __future__ import annotations
 
 import ctypes
 import tomllib
-from collections.abc import Iterator, Mapping, Sequence
+from collections.abc import Iterable, Iterator, Mapping, Sequence
 from typing import Any, Generic, TypeVar, overload
 
-from .cells import SIZES, Cells, Record
-from .faults import BadKey, BadRow, Fault, NoIndex, Overflow, SchemaError, WrongKind, fault_of
-from .library import NONE, OK, ROW_FAULTS, ROWS, Held, Named, Schema, text_of
+from .cells import NO_CELL, SIZES, Cells, Record
+from .faults import BadRow, Fault, NoIndex, Overflow, SchemaError, WrongKind, fault_of
+from .library import NAMED, NONE, OK, ROW_FAULTS, ROWS, SIZE_OF_NAMED, Held, Named, Part, Schema, text_of
 from .records import OPEN, Bound, Records, bounds_of
 from .schemas import NAME, Column, Index, is_number, schema_text
 from .values import Cell, Handle, R, RecordType, Row, handle_at
 
 C = TypeVar("C", bound="Container[Any]")
+K = TypeVar("K")
 
 
 class Along:
@@ -21,7 +22,7 @@ class Along:
 
     def __init__(self, number: int, said: Mapping[str, Any]) -> None:
         self.number, self.kind = ctypes.c_size_t(number), said["kind"]
-        self.key = tuple(said.get("key", ()))
+        self.key: tuple[str, ...] = tuple(said.get("key", ()))
         self.unique = said.get("unique", False)
 
     def precedes(self, one: tuple[Sequence[Cell], bool], other: tuple[Sequence[Cell], bool]) -> bool:
@@ -38,6 +39,13 @@ class Along:
 def weight(cell: Cell) -> tuple[bool, Any]:
     """What tells how a cell stands to others of its column: null before all, and texts by their bytes."""
     return cell is not None, cell.encode() if isinstance(cell, str) else cell
+
+
+def number_of(place: int) -> ctypes.c_uint64:
+    """A place, as the library reads it."""
+    if not 0 <= place < 2**64:
+        raise IndexError(place)
+    return ctypes.c_uint64(place)
 
 
 class Container(Records[R], Generic[R]):
@@ -75,7 +83,7 @@ class Container(Records[R], Generic[R]):
 
     @overload
     @classmethod
-    def of_schema(cls, schema: Schema, table: str | None = None, *, kind: type[R], library: str | None = None) -> Container[R]: ...
+    def of_schema(cls, schema: Schema, table: str | None = None, *, kind: type[K], library: str | None = None) -> Container[K]: ...
 
     @classmethod
     def of_schema(cls, schema: Any, table: Any = None, *, kind: Any = Row, library: Any = None) -> Any:
@@ -90,9 +98,10 @@ class Container(Records[R], Generic[R]):
         # (what the library takes is a schema)
         held.open(schema, 0)
         tables = tomllib.loads(schema.decode())["table"]
-        number = 0 if table is None else next((k for k, it in enumerate(tables) if it["name"] == table), None)
-        if number is None:
+        names = [it["name"] for it in tables]
+        if table is not None and table not in names:
             raise SchemaError("table")
+        number = 0 if table is None else names.index(table)
         if number:
             held.close()
             held.open(schema, number)
@@ -186,6 +195,36 @@ class Container(Records[R], Generic[R]):
         self._done(self._calls["insert"](self._to, *self._to_put, texts, self._put.texts_length, self._to_named, self._to_at))
         return self._told()
 
+    def insert_all(self, records: Iterable[R | Mapping[str, Cell]], /) -> list[Handle]:
+        self._held.look()
+        cells, texts, count, is_bad = [], [], 0, False
+        for it in records:
+            values = self._written(it, {})
+            if (packed := None if values is None else self._put.packed(values)) is None:
+                is_bad = True
+                break
+            cells.append(packed[0])
+            texts.append(packed[1])
+            count += 1
+        # (the program's own code may have run meanwhile)
+        self._held.look()
+        status, handles = self._put_all(b"".join(cells), b"".join(texts), count)
+        if status != OK or is_bad:
+            why = self._fault(status) if status != OK else BadRow({"err": "row"})
+            why.inserted = handles
+            raise why
+        return handles
+
+    def _put_all(self, cells: bytes, texts: bytes, count: int) -> tuple[int, list[Handle]]:
+        """Puts so many records in, whose cells and texts are these, and returns the status with the handles of those that are in."""
+        room = ctypes.create_string_buffer(count * SIZE_OF_NAMED or 1)
+        sizes = ctypes.c_size_t(count * len(self._columns)), ctypes.c_size_t(len(texts)), ctypes.c_size_t(count)
+        self._changes += 1
+        put = self._calls["insert_all"]
+        status = put(self._to, cells, sizes[0], texts, sizes[1], room, sizes[2], ctypes.byref(self._count), self._to_named, self._to_at)
+        told = room.raw[: self._count.value * SIZE_OF_NAMED]
+        return status, [handle_at(slot, stamp) for stamp, slot in NAMED.iter_unpack(told)]
+
     def _read(self, handle: Any) -> list[Any]:
         """The values of a record."""
         self._done(self._calls["get"](self._to, handle, *self._to_got))
@@ -216,7 +255,7 @@ class Container(Records[R], Generic[R]):
             raise BadRow({"err": "row"})
         if not all(it in self._columns and self._columns[it].cell == "int" and is_number(term) for it, term in terms.items()):
             raise BadRow({"err": "row"})
-        row = self._row(handle) | cells
+        row: dict[str, Any] = {**self._row(handle), **cells}
         row |= {name: row[name] + term for name, term in terms.items() if row[name] is not None}
         if not all(is_number(row[it]) for it in terms if row[it] is not None):
             raise Overflow({"err": "overflow"})
@@ -226,6 +265,11 @@ class Container(Records[R], Generic[R]):
         self._held.look()
         self._changes += 1
         self._done(self._calls["erase"](self._to, self._name(handle)))
+
+    def erase_key(self, index: str, /, *key: Cell) -> int:
+        along = self._index(index)
+        self._changes += 1
+        return self._counted("erase_key", along, key)
 
     # ---- all records
 
@@ -239,13 +283,38 @@ class Container(Records[R], Generic[R]):
         self._done(self._calls["size"](self._to, self._to_number))
         return self._number.value
 
+    def move(self, index: str, handle: Handle, place: int, /) -> None:
+        along, before = self._index(index), number_of(place)
+        self._changes += 1
+        self._done(self._calls["move"](self._to, along.number, self._name(handle), before))
+
+    def sort(self, index: str, /, *columns: str) -> None:
+        along, parts = self._index(index), [self._part(it) for it in columns]
+        self._changes += 1
+        self._done(self._calls["sort"](self._to, along.number, (Part * len(parts))(*parts), ctypes.c_size_t(len(parts))))
+
+    def _part(self, column: str) -> Part:
+        """A part of an order. (A name that no column has is told by a number that none has.)"""
+        names = list(self._columns)
+        name = column.removeprefix("-")
+        return Part(names.index(name) if name in names else len(names), column.startswith("-"))
+
     # ---- through an index
 
+    def _counted(self, call: str, along: Along, key: Sequence[Cell]) -> int:
+        """What a call tells of the records of a key."""
+        self._done(self._calls[call](self._to, along.number, *self._keyed(key), self._to_number))
+        return self._number.value
+
     def _search(self, call: str, index: Along, key: Sequence[Cell]) -> Handle | None:
+        return self._found(self._calls[call](self._to, index.number, *self._keyed(key), self._to_named))
+
+    def _keyed(self, key: Sequence[Cell]) -> tuple[Any, ...]:
+        """A key as the library reads it. (What is no key goes as a cell that is none, since an index without keys is told first.)"""
         texts = self._put.put(key)
         if texts is None:
-            raise BadKey({"err": "key"})
-        return self._found(self._calls[call](self._to, index.number, self._put.cells, SIZES[len(key)], texts, self._put.texts_length, self._to_named))
+            return NO_CELL, SIZES[1], b"", SIZES[0]
+        return self._put.cells, SIZES[len(key)], texts, self._put.texts_length
 
     def _along(self, call: str, index: Along) -> Handle | None:
         return self._found(self._calls[call](self._to, index.number, self._to_named))
@@ -260,15 +329,7 @@ class Container(Records[R], Generic[R]):
         return self._search("upper", self._index(index), key)
 
     def count(self, index: str, /, *key: Cell) -> int:
-        """How many records have the key. In an ordered index each is stepped over. Of hashed ones the index has to be unique."""
-        along = self._index(index)
-        if along.kind == "ranked":
-            return self.upper_rank(index, *key) - self.lower_rank(index, *key)
-        if along.kind == "hashed" and along.unique:
-            return 0 if self._search("find", along, key) is None else 1
-        if along.kind != "ordered":
-            raise WrongKind({"err": "kind"})
-        return sum(1 for _ in self._steps(self._changes, along, self._search("lower", along, key), self._search("upper", along, key), False))
+        return self._counted("count", self._index(index), key)
 
     def first(self, index: str, /) -> Handle | None:
         """The first record of an index that is not hashed."""
@@ -290,10 +351,8 @@ class Container(Records[R], Generic[R]):
         return self._along("previous", along)
 
     def nth(self, index: str, place: int, /) -> Handle | None:
-        along = self._index(index)
-        if not 0 <= place < 2**64:
-            raise IndexError(place)
-        return self._found(self._calls["nth"](self._to, along.number, ctypes.c_uint64(place), self._to_named))
+        along, at = self._index(index), number_of(place)
+        return self._found(self._calls["nth"](self._to, along.number, at, self._to_named))
 
     def rank(self, index: str, handle: Handle | None, /) -> int:
         along = self._index(index)
@@ -302,14 +361,26 @@ class Container(Records[R], Generic[R]):
         self._done(self._calls["rank"](self._to, along.number, self._name(handle or Handle(0, 0)), self._to_number))
         return self._number.value
 
+    def place(self, index: str, handle: Handle, /) -> int:
+        along = self._index(index)
+        self._done(self._calls["place"](self._to, along.number, self._name(handle), self._to_number))
+        return self._number.value
+
+    def _rank_of(self, call: str, index: str, key: Sequence[Cell]) -> int:
+        """The rank of what a search finds."""
+        along = self._index(index)
+        if along.kind != "ranked":
+            raise WrongKind({"err": "kind"})
+        return self.rank(index, self._search(call, along, key))
+
     def find_rank(self, index: str, /, *key: Cell) -> int:
-        return self.rank(index, self.find(index, *key))
+        return self._rank_of("find", index, key)
 
     def lower_rank(self, index: str, /, *key: Cell) -> int:
-        return self.rank(index, self.lower(index, *key))
+        return self._rank_of("lower", index, key)
 
     def upper_rank(self, index: str, /, *key: Cell) -> int:
-        return self.rank(index, self.upper(index, *key))
+        return self._rank_of("upper", index, key)
 
     def range(
         self, index: str, low: Bound = OPEN, high: Bound = OPEN, /, *, ge: Bound = OPEN, gt: Bound = OPEN, le: Bound = OPEN, lt: Bound = OPEN
@@ -324,21 +395,21 @@ class Container(Records[R], Generic[R]):
             ends[side], found[side] = (key, is_behind), self._search("upper" if is_behind else "lower", along, key)
         if ends[0] and ends[1] and along.precedes(ends[1], ends[0]):
             found[0] = None
-        return self._steps(self._changes, along, *found)
+        return self._steps(self._changes, along, found[0], found[1])
 
     def walk(self, index: str, /) -> Iterator[tuple[Handle, R]]:
         """All records with their handles, in the order of an index that is not hashed."""
         along = self._index(index)
         return self._steps(self._changes, along, self._along("first", along), None)
 
-    def _steps(self, changes: int, along: Along, at: Handle | None, end: Handle | None, reads: bool = True) -> Iterator[tuple[Handle, Any]]:
+    def _steps(self, changes: int, along: Along, at: Handle | None, end: Handle | None) -> Iterator[tuple[Handle, R]]:
         """The records from one on, up to an end, with their handles, while there are so many changes."""
         following, number = self._calls["next"], along.number
         step = Named(at.stamp, at.slot) if at else Named()
         named, stop = ctypes.byref(step), end.stamp if end else None
         self._still(changes)
         while at is not None and step.stamp != stop:
-            yield handle_at(step.slot, step.stamp), self._record(self._read(named)) if reads else None
+            yield handle_at(step.slot, step.stamp), self._record(self._read(named))
             self._still(changes)
             status = following(self._to, number, named)
             if status:

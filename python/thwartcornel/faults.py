@@ -34,18 +34,20 @@ class Closed(ValueError):
 
 
 class Fault(Exception):
-    """A command that was not done as it was asked for. `answer` is its answer, and `err` what that tells, as "banned"."""
+    """A command that was not done as it was asked for. `answer` is its answer, and `err` what that tells, as "banned". Of an `insert_all`
+    `inserted` has the handles of the records before it."""
 
     told: ClassVar[str] = ""
 
     def __init__(self, answer: dict[str, Any]) -> None:
         super().__init__(answer)
         self.answer = answer
+        self.inserted: list[Handle] = []
 
     @property
     def err(self) -> str:
         """The fault by its name in docs/PROTOCOL.md."""
-        return self.answer["err"]
+        return str(self.answer["err"])
 
     def __str__(self) -> str:
         return f"{self.err}: {self.told}" if self.told else json.dumps(self.answer)
@@ -63,7 +65,7 @@ class InTheWay(Fault):
     @property
     def index(self) -> str:
         """The name of the unique index."""
-        return self.answer["by"]
+        return str(self.answer["by"])
 
     @property
     def handle(self) -> Handle:

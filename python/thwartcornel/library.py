@@ -4,6 +4,7 @@ from __future__ import annotations
 import ctypes
 import functools
 import os
+import struct
 import threading
 from typing import Union
 
@@ -17,7 +18,7 @@ PLACES = [f"{HERE}/{FILE}", f"{HERE}/../../out/{FILE}"]
 OK, MEMORY, HANDLE, ROOM, NONE = 0, 1, 7, 8, 9
 SCHEMA_FAULTS = {2: "toml", 3: "shape", 4: "limit", 5: "name", 6: "key"}
 # The faults of calls on typed records, by their names in docs/PROTOCOL.md.
-ROW_FAULTS = {MEMORY: "memory", 10: "row", 11: "key", 12: "kind", 13: "handle", 14: "banned", 15: "erased", 16: "full", 17: "spent", 18: "table"}
+ROW_FAULTS = {MEMORY: "memory", 10: "row", 11: "key", 12: "kind", 13: "handle", 14: "banned", 15: "erased", 16: "full", 17: "spent", 18: "table", 19: "place"}
 
 class Opened(ctypes.Structure):
     """The library's handle of tables, or of typed records. It begins as zeros, and is never copied."""
@@ -31,9 +32,19 @@ class Named(ctypes.Structure):
     _fields_ = [("stamp", ctypes.c_uint64), ("slot", ctypes.c_uint32)]
 
 
+# Many of these, one after another.
+NAMED, SIZE_OF_NAMED = struct.Struct("=QI4x"), 16
+
+
+class Part(ctypes.Structure):
+    """A column of an order, as the library has it."""
+
+    _fields_ = [("column", ctypes.c_size_t), ("falls", ctypes.c_bool)]
+
+
 # The calls on tables by lines, and on typed records, by their names behind the prefix.
 LINES = ("tc_", "open call end take close")
-ROWS = ("tc_rows_", "open insert modify erase clear size get find lower upper first last next previous nth rank close")
+ROWS = ("tc_rows_", "open insert insert_all modify erase erase_key clear size move sort get find lower upper count first last next previous nth rank place close")
 
 
 # A schema file, or its text.

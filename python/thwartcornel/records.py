@@ -3,10 +3,10 @@ from __future__ import annotations
 
 import abc
 import contextlib
-from collections.abc import Iterator, Mapping
+from collections.abc import Iterable, Iterator, Mapping
 from typing import Any, Generic, Union
 
-from .faults import Stale
+from .faults import Fault, Stale
 from .values import Cell, Handle, R, RecordType, changes
 
 # A bound of a range: a key's first value, or a tuple or list of its first values.
@@ -49,6 +49,18 @@ class Records(abc.ABC, Generic[R]):
     def insert(self, record: R | Mapping[str, Cell] | None = None, /, **cells: Cell) -> Handle:
         """Puts a record in: `insert(id=1, name="Ann")`, or a mapping, or a record of the table's type. Raises Banned, and Full."""
 
+    def insert_all(self, records: Iterable[R | Mapping[str, Cell]], /) -> list[Handle]:
+        """Puts records in, each as `insert` does, and gives their handles in the same order. Where one is refused, those before it are in, and
+        `inserted` of what is raised has their handles. A Container makes one call of them all."""
+        handles: list[Handle] = []
+        try:
+            for it in records:
+                handles.append(self.insert(it))
+        except Fault as why:
+            why.inserted = handles
+            raise
+        return handles
+
     @abc.abstractmethod
     def get(self, handle: Handle, /) -> R:
         """The record of a handle, as `records[handle]`. Raises Stale."""
@@ -65,6 +77,10 @@ class Records(abc.ABC, Generic[R]):
     @abc.abstractmethod
     def erase(self, handle: Handle, /) -> None:
         """Takes a record out, as `del records[handle]`. Raises Stale."""
+
+    @abc.abstractmethod
+    def erase_key(self, index: str, /, *key: Cell) -> int:
+        """Takes out all records of a key, and tells how many they were."""
 
     def update(self, handle: Handle, /, **cells: Cell) -> None:
         """Gives some cells of a record other values. Raises Stale, or Banned: then it is as it was."""
@@ -97,6 +113,14 @@ class Records(abc.ABC, Generic[R]):
     @abc.abstractmethod
     def size(self) -> int:
         """How many records there are, as `len(records)`."""
+
+    @abc.abstractmethod
+    def move(self, index: str, handle: Handle, place: int, /) -> None:
+        """Puts a record before the one at a place of a sequence or an index of random access. Raises Stale, and BadPlace."""
+
+    @abc.abstractmethod
+    def sort(self, index: str, /, *columns: str) -> None:
+        """Sorts a sequence or an index of random access by columns, each with `-` before it where it falls."""
 
     # ---- through an index
 
@@ -144,6 +168,10 @@ class Records(abc.ABC, Generic[R]):
     @abc.abstractmethod
     def rank(self, index: str, handle: Handle | None, /) -> int:
         """How many records stand before another in a ranked index; of None, how many there are."""
+
+    @abc.abstractmethod
+    def place(self, index: str, handle: Handle, /) -> int:
+        """The place of a record in an index of random access, counted from 0."""
 
     @abc.abstractmethod
     def find_rank(self, index: str, /, *key: Cell) -> int:

@@ -29,7 +29,8 @@ class Stream:
 
     def exchange(self, lines: bytes, count: int) -> list[bytes]:
         """Sends lines, and returns their answers. Raises TimeoutError and ConnectionError, and then the stream is of no more use."""
-        left, answers = memoryview(lines), []
+        left = memoryview(lines)
+        answers: list[bytes] = []
         while left or len(answers) < count:
             if left:
                 left = left[self._sent(left) :]

@@ -50,7 +50,11 @@ def nothing_of(_: dict[str, Any]) -> None:
 
 
 def number_of(answer: dict[str, Any]) -> int:
-    return answer["n"]
+    return int(answer["n"])
+
+
+def row_of(answer: dict[str, Any]) -> dict[str, Any]:
+    return dict(answer["r"])
 
 
 def handle_of(answer: dict[str, Any]) -> Handle | None:
@@ -105,14 +109,12 @@ class Table(Records[R]):
         return self._ask("erase", next_of, h=str(handle), i=index)
 
     def erase_key(self, index: str, /, *key: Cell) -> int:
-        """Takes out all records of a key, and tells how many they were."""
         return self._ask("erase_key", number_of, i=index, k=key)
 
     def clear(self) -> None:
         return self._ask("clear", nothing_of)
 
     def move(self, index: str, handle: Handle, place: int, /) -> None:
-        """Puts a record before the one at a place of a sequence or an index of random access."""
         return self._ask("move", nothing_of, i=index, h=str(handle), p=place)
 
     def rearrange(self, index: str, handles: Iterable[Handle], /) -> None:
@@ -124,7 +126,6 @@ class Table(Records[R]):
         return self._ask("reverse", nothing_of, i=index)
 
     def sort(self, index: str, /, *columns: str) -> None:
-        """Sorts a sequence or an index of random access by columns, each with `-` before it where it falls."""
         return self._ask("sort", nothing_of, i=index, by=columns)
 
     def add_index(self, index: str, kind: str, /, *key: str, unique: bool = False) -> None:
@@ -141,7 +142,7 @@ class Table(Records[R]):
         return self._ask("get", lambda answer: self._type.record(answer["r"]), h=str(handle))
 
     def _row(self, handle: Handle) -> dict[str, Any]:
-        return self._ask("get", lambda answer: answer["r"], h=str(handle))
+        return self._ask("get", row_of, h=str(handle))
 
     def size(self) -> int:
         return self._ask("size", number_of)
@@ -183,7 +184,6 @@ class Table(Records[R]):
         return self._ask("rank", number_of, i=index, h=text_or_null(handle))
 
     def place(self, index: str, handle: Handle, /) -> int:
-        """The place of a record in an index of random access, counted from 0."""
         return self._ask("place", number_of, i=index, h=str(handle))
 
     def find_rank(self, index: str, /, *key: Cell) -> int:
@@ -285,7 +285,8 @@ class PipelinedTable:
     def __getattr__(self, name: str) -> Callable[..., Later[Any]]:
         if name not in COMMANDS:
             raise AttributeError(f"{name} is no call of one line, and has no place in a pipeline")
-        return getattr(self._table, name)
+        call: Callable[..., Later[Any]] = getattr(self._table, name)
+        return call
 
 
 class Pipeline:

@@ -50,19 +50,22 @@ class RecordType(Generic[R]):
     def __init__(self, made: type[R]) -> None:
         if made is not Row and not dataclasses.is_dataclass(made):
             raise TypeError(f"{made!r} is no dataclass")
-        self.made = made
-        self._names = [] if made is Row else [it.name for it in dataclasses.fields(made)]  # type: ignore[arg-type]
+        # (a type checker does not know that it makes records of a row's cells)
+        self.made: Callable[..., R] = made
+        self._kind, self._is_row = made, made is Row
+        self._fields = dataclasses.fields(made) if dataclasses.is_dataclass(made) else ()
+        self._names = [it.name for it in self._fields]
 
     def record(self, row: dict[str, Any]) -> R:
         """The record of a row."""
-        return self.made(row) if self.made is Row else self.made(**row)  # type: ignore[call-arg]
+        return self.made(row) if self._is_row else self.made(**row)
 
     def reader(self, names: Sequence[str]) -> Callable[[Sequence[Any]], R]:
         """Makes records of the values of these columns."""
-        made: Any = self.made
-        if made is Row:
+        made = self.made
+        if self._is_row:
             return lambda values: made(zip(names, values))
-        if self._names == list(names) and not any(it.kw_only for it in dataclasses.fields(made)):
+        if self._names == list(names) and not any(it.kw_only for it in self._fields):
             return lambda values: made(*values)
         return lambda values: made(**dict(zip(names, values)))
 
@@ -74,7 +77,7 @@ class RecordType(Generic[R]):
         def written(record: Any, cells: Mapping[str, Cell]) -> Sequence[Any] | None:
             if picked and is_whole and type(record) is self.made and not cells:
                 return picked(record)
-            row = cells if record is None and self.made is Row else self.row(record, cells)
+            row = cells if record is None and self._is_row else self.row(record, cells)
             try:
                 return [row[it] for it in names] if len(row) == len(names) else None
             except KeyError:
@@ -85,10 +88,10 @@ class RecordType(Generic[R]):
     def row(self, record: Any, cells: Mapping[str, Cell]) -> dict[str, Any]:
         """The row of a record, which is handed in as one, as a mapping, or as its cells by their names."""
         if record is None:
-            record = cells if self.made is Row else self.made(**cells)
+            record = cells if self._is_row else self.made(**cells)
         elif cells:
             raise TypeError("a record is handed in as one, or as its cells by their names, and not as both")
-        if self.made is not Row and isinstance(record, self.made):
+        if not self._is_row and isinstance(record, self._kind):
             return {name: getattr(record, name) for name in self._names}
         return dict(record)
 

@@ -3,3 +3,4 @@ pub mod Values
 pub mod RowValues
 pub mod Spelled
 pub mod Holding
+pub mod Batches

@@ -6,7 +6,7 @@ use Rattle.std.specs.Prelude.{IsUtf8, option_map, option_and_then, slice_set}
 use Rattle.std.specs.Str.{is_utf8}
 use Rattle.key_extract.specs.declared.cell.Cell.{Cell}
 use Rattle.tables_c.specs.declared.cells.RowCell.{RowCell}
-use Rattle.tables_c.specs.Cells.{all_texts, cell_told, first_cell, spelled, text_bytes}
+use Rattle.tables_c.specs.Cells.{all_texts, behind, behind_text, cell_told, first_cell, spelled, text_bytes}
 
 -- bytes that are no text
 pub no_text : (bytes : List ℕ) → ¬ (IsUtf8 bytes) → is_utf8 bytes ≡ false
@@ -91,3 +91,11 @@ pub read_none : (cs : List RowCell) (i : ℕ) (d : RowCell) (texts : List ℕ) �
 read_none [] i d texts within e = absurd (omega arith)
 read_none (c ∷ cs) zero d texts within e = ap (then_rest cs) e
 read_none (c ∷ cs) (suc i) d texts within e = read_none cs i d texts (omega arith) e
+
+-- one text more is stepped over
+pub behind_more : (cs : List RowCell) (i : ℕ) (d : RowCell) (texts : List ℕ) → i < length cs → behind (drop i cs) texts ≡ behind (drop (i + 1) cs) (behind_text (get_or cs i d) texts)
+behind_more [] i d texts within = absurd (omega arith)
+behind_more (c ∷ cs) zero d texts within = refl
+behind_more (c ∷ cs) (suc i) d texts within =
+    let n : suc i + 1 ≡ suc (i + 1) = omega arith in
+    subst (λ n. behind (drop i cs) texts ≡ behind (drop n (c ∷ cs)) (behind_text (get_or cs i d) texts)) (sym n) (behind_more cs i d texts (omega arith))

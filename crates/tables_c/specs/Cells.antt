@@ -1,5 +1,5 @@
 -- Cells as arrays spell them.
-use Rattle.std.specs.Prelude.{ℕ, zero, suc, ◌==◌, ◌^◌, ◌-◌, Bool, true, false, ◌&&◌, if◌then◌else◌, List, [], ◌∷◌, ◌++◌, length, take, drop, min, nat_le, ℤ, pos, negsuc, Option, Some, None, option_map, option_and_then, slice_get}
+use Rattle.std.specs.Prelude.{ℕ, zero, suc, ◌==◌, ◌^◌, ◌-◌, Bool, true, false, ◌&&◌, if◌then◌else◌, List, [], ◌∷◌, ◌++◌, length, take, drop, min, nat_le, ℤ, pos, negsuc, Option, Some, None, option_map, option_and_then, slice_get, unwrap_or}
 use Rattle.std.specs.Option.{option_map_or}
 use Rattle.std.specs.Str.{is_utf8}
 use Rattle.key_extract.specs.declared.cell.Cell.{Cell}
@@ -51,6 +51,18 @@ plain_cell c =
 -- the cell that a kind and a number are, with its text in front of these bytes, and the bytes behind it
 abbrev pub first_cell : RowCell → List ℕ → Option (Cell × List ℕ)
 first_cell c texts = if c.kind == TEXT then first_text c.number texts else option_map (λ cell. (cell, texts)) (plain_cell c)
+
+-- how many bytes the text of a cell has
+abbrev pub text_length : RowCell → ℕ
+text_length c = if c.kind == TEXT then unwrap_or (natural c.number) 0 else 0
+
+-- the bytes behind the text of a cell, and behind those of some; none where they have more than there are
+abbrev pub behind_text : RowCell → List ℕ → List ℕ
+behind_text c texts = option_map_or (λ parts. parts.1) (cut texts (text_length c)) []
+
+abbrev pub behind : List RowCell → List ℕ → List ℕ
+behind [] texts = texts
+behind (c ∷ cs) texts = behind cs (behind_text c texts)
 
 -- the cells that these are, where each is one, and no byte is left
 abbrev pub spelled : List RowCell → List ℕ → Option (List Cell)

@@ -1,21 +1,27 @@
 -- What each call on one container does.
-use Rattle.std.specs.Prelude.{◌≡◌, ◌⊎◌, ℕ, ◌&&◌, min, Bool, true, false, not, if◌then◌else◌, List, length, map, drop, ◌++◌, nat_le, slice_get, Option, None, Some, option_map, unwrap_or, Result, Ok, Err}
+use Rattle.std.specs.Prelude.{◌≡◌, ◌⊎◌, ℕ, ◌&&◌, min, Bool, true, false, not, if◌then◌else◌, List, length, map, drop, ◌++◌, nat_le, nat_lt, slice_get, Option, None, Some, option_map, unwrap_or, Result, Ok, Err}
 use Rattle.std.specs.Option.{option_map_or}
-use Rattle.container_model.specs.Change.{cleared, erase_refusal, modify_refusal, replace_refusal, spent, with_erased, with_modified, with_replaced}
-use Rattle.container_model.specs.Find.{found, found_lower, found_upper, nth, project_next, project_prev, rank}
+use Rattle.container_model.specs.Change.{cleared, erase_key_refusal, erase_refusal, erased_count, modify_refusal, replace_refusal, spent, with_erased, with_key_erased, with_modified, with_replaced}
+use Rattle.container_model.specs.Find.{counted, found, found_lower, found_upper, nth, place, project_next, project_prev, rank}
 use Rattle.container_model.specs.Insert.{ban, insert_refusal, new_handle, with_inserted}
-use Rattle.container_model.specs.State.{State, has_key_kind, is_hashed_kind, is_sorted_kind, list_at, row_of}
+use Rattle.container_model.specs.Sequence.{relocate_refusal, sequence_refusal, with_relocated, with_sorted}
+use Rattle.container_model.specs.State.{State, has_key_kind, is_hashed_kind, is_sequence_kind, is_sorted_kind, list_at, row_of}
 use Rattle.container_model.specs.declared.handle.Handle.{Handle}
 use Rattle.container_model.specs.declared.handle.Kind.{Kind}
 use Rattle.container_model.specs.declared.refusal.Why.{Why}
 use Rattle.container_model.specs.declared.refusal.Why.TheVariants as whys
+use Rattle.key_extract.specs.Keys.{key_cmp}
+use Rattle.key_extract.specs.declared.key.Part.{Part}
 use Rattle.linked_set.specs.Iteration.{with_rows}
+use Rattle.table_schema.specs.Draft.{all_of}
 use Rattle.table_schema.specs.Shape.{TableShape}
+use Rattle.table_schema.specs.declared.column.Column.{Column}
 use Rattle.table_schema.specs.declared.fault.SchemaFault.{SchemaFault}
 use Rattle.table_terms.specs.Table.{Cells, Keys, TableState, new_table, probe_order, row_order}
 use Rattle.tables_c.specs.Calls.{number_of}
 use Rattle.tables_c.specs.Cells.{all_texts, cell_told, key_spelled, most, row_spelled}
 use Rattle.tables_c.specs.declared.cells.RowCell.{RowCell}
+use Rattle.tables_c.specs.declared.order.RowPart.{RowPart}
 use Rattle.tables_c.specs.declared.rows.Rows.{Rows}
 use Rattle.tables_c.specs.declared.search.Search.{Search}
 use Rattle.tables_c.specs.declared.search.Search.TheVariants as searches
@@ -23,7 +29,7 @@ use Rattle.tables_c.specs.declared.told.RowHandle.{RowHandle}
 use Rattle.tables_c.specs.declared.told.Told.{Told}
 use Rattle.tables_c.specs.declared.walk.Walk.{Walk}
 use Rattle.tables_c.specs.declared.walk.Walk.TheVariants as walks
-use Rattle.tables_c.specs.declared.status.TheConstants.{BANNED, FULL, HANDLE, KIND, LOST, MEMORY, NONE, OK, ROOM, ROW, SEARCH, SPENT, STALE, TABLE}
+use Rattle.tables_c.specs.declared.status.TheConstants.{BANNED, FULL, HANDLE, KIND, LOST, MEMORY, NONE, OK, PLACE, ROOM, ROW, SEARCH, SPENT, STALE, TABLE}
 
 -- what a handle leads to: the records of a table, or nothing
 abbrev pub led : Rows → Option TableState
@@ -38,7 +44,7 @@ handle_of h = record { slot = h.slot; stamp = h.stamp }
 
 -- ---- what is told
 
--- the status of a refusal; the last four are of no call that is made here
+-- the status of a refusal; the last three are of no call that is made here
 abbrev pub refusal_number : Why → ℕ
 refusal_number whys.Stale = STALE
 refusal_number (whys.Banned index by) = BANNED
@@ -47,7 +53,7 @@ refusal_number whys.Spent = SPENT
 refusal_number whys.Memory = MEMORY
 refusal_number whys.Kind = KIND
 refusal_number whys.Definition = KIND
-refusal_number whys.Place = KIND
+refusal_number whys.Place = PLACE
 refusal_number whys.Order = KIND
 refusal_number (whys.Clash first second) = KIND
 
@@ -74,7 +80,7 @@ refusal_told whys.Spent = status_told SPENT
 refusal_told whys.Memory = status_told MEMORY
 refusal_told whys.Kind = status_told KIND
 refusal_told whys.Definition = status_told KIND
-refusal_told whys.Place = status_told KIND
+refusal_told whys.Place = status_told PLACE
 refusal_told whys.Order = status_told KIND
 refusal_told (whys.Clash first second) = status_told KIND
 
@@ -113,8 +119,12 @@ OpensRows None meant status after =
 abbrev pub change_step : TableState → Option Why → Told → State Keys Cells → Told × TableState
 change_step t refusal told records = option_map_or (λ why. (refusal_told why, t)) refusal (told, record t { records = records })
 
-abbrev pub insert_row : TableState → Cells → Told × TableState
-insert_row t row = change_step t (insert_refusal row_order t.records row) (record_told (new_handle t.records)) (with_inserted row_order t.records None row)
+-- a row is put in: its handle, or what its refusal tells
+abbrev pub insert_row : TableState → Cells → Result Handle Told × TableState
+insert_row t row =
+    option_map_or
+    (λ why. (Err (refusal_told why), t))
+    (insert_refusal row_order t.records row) (Ok (new_handle t.records), record t { records = with_inserted row_order t.records None row })
 
 -- a record is lost where another has its key
 abbrev pub lost_told : Option (ℕ × Handle) → Told
@@ -142,8 +152,16 @@ clear_step t = change_step t (spent t.records) (status_told OK) (cleared t.recor
 abbrev pub with_spelled : TableState → List RowCell → List ℕ → (Cells → Told × TableState) → Told × TableState
 with_spelled t cs texts step = option_map_or step (row_spelled t.shape.columns cs texts) (status_told ROW, t)
 
+-- the row that cells spell is put in
+abbrev pub insert_one : TableState → List RowCell → List ℕ → Result Handle Told × TableState
+insert_one t cs texts = option_map_or (insert_row t) (row_spelled t.shape.columns cs texts) (Err (status_told ROW), t)
+
+abbrev pub inserted_told : Result Handle Told → Told
+inserted_told (Ok h) = record_told h
+inserted_told (Err told) = told
+
 abbrev pub insert_step : TableState → List RowCell → List ℕ → Told × TableState
-insert_step t cs texts = with_spelled t cs texts (insert_row t)
+insert_step t cs texts = (inserted_told (insert_one t cs texts).0, (insert_one t cs texts).1)
 
 abbrev pub modify_step : TableState → Handle → List RowCell → List ℕ → Bool → Told × TableState
 modify_step t h cs texts rollback = with_spelled t cs texts (modify_row rollback t h)
@@ -151,6 +169,9 @@ modify_step t h cs texts rollback = with_spelled t cs texts (modify_row rollback
 -- that was done, or memory was refused and nothing was done
 abbrev pub Does : TableState → Told × TableState → Told → TableState → Type 0
 Does t step told after = ((told ≡ step.0) × (after ≡ step.1)) ⊎ ((told ≡ status_told MEMORY) × (after ≡ t))
+
+abbrev pub Inserts : TableState → Result Handle Told × TableState → Result Handle Told → TableState → Type 0
+Inserts t step result after = ((result ≡ step.0) × (after ≡ step.1)) ⊎ ((result ≡ Err (status_told MEMORY)) × (after ≡ t))
 
 -- what is told is put into its places, which stay where nothing is told of them
 abbrev pub PutsHandle : Told → ℕ → RowHandle → RowHandle → Type 0
@@ -196,6 +217,75 @@ search_at t search index (Err status) = status_told status
 abbrev pub search_step : TableState → Search → ℕ → List RowCell → List ℕ → Told
 search_step t search index cs texts = search_at t search index (key_there t search index cs texts)
 
+-- ---- all records of a key
+
+-- how many have it
+abbrev pub count_found : TableState → ℕ → Cells → ℕ × ℕ
+count_found t index key = number_told (counted probe_order t.records index key)
+
+abbrev pub count_there : TableState → ℕ → Result Cells ℕ → ℕ × ℕ
+count_there t index (Ok key) = count_found t index key
+count_there t index (Err status) = (status, 0)
+
+abbrev pub count_step : TableState → ℕ → List RowCell → List ℕ → ℕ × ℕ
+count_step t index cs texts = count_there t index (key_there t searches.Find index cs texts)
+
+-- they are taken out, and told how many they were
+abbrev pub erase_found : TableState → ℕ → Cells → (ℕ × ℕ) × TableState
+erase_found t index key =
+    option_map_or
+    (λ why. ((refusal_number why, 0), t))
+    (erase_key_refusal t.records index) ((OK, erased_count probe_order t.records index key), record t { records = with_key_erased probe_order t.records index key })
+
+abbrev pub erase_key_there : TableState → ℕ → Result Cells ℕ → (ℕ × ℕ) × TableState
+erase_key_there t index (Ok key) = erase_found t index key
+erase_key_there t index (Err status) = ((status, 0), t)
+
+abbrev pub erase_key_step : TableState → ℕ → List RowCell → List ℕ → (ℕ × ℕ) × TableState
+erase_key_step t index cs texts = erase_key_there t index (key_there t searches.Find index cs texts)
+
+-- that was done and its number told, or memory was refused and nothing was done
+abbrev pub DoesCounted : TableState → (ℕ × ℕ) × TableState → ℕ × ℕ → TableState → Type 0
+DoesCounted t step told after = ((told ≡ step.0) × (after ≡ step.1)) ⊎ ((told ≡ (MEMORY, 0)) × (after ≡ t))
+
+abbrev pub Numbers : Option TableState → (TableState → (ℕ × ℕ) × TableState) → ℕ → ℕ → Option TableState → Type 0
+Numbers None step status number after = (status ≡ HANDLE) × (number ≡ 0) × (after ≡ None)
+Numbers (Some t) step status number after = (new : TableState) × (after ≡ Some new) × DoesCounted t (step t) (status, number) new
+
+-- ---- the order of a sequence
+
+-- whether there is an index of the number whose order may be changed
+abbrev pub is_sequenced : TableState → ℕ → Bool
+is_sequenced t index = option_map_or (λ i. is_sequence_kind i.kind) (slice_get t.shape.indices index) false
+
+-- a record is moved before a place
+abbrev pub moved_row : TableState → ℕ → ℕ → Handle → Told × TableState
+moved_row t index place h = change_step t (relocate_refusal t.records index place h) (status_told OK) (with_relocated t.records index place h)
+
+abbrev pub move_step : TableState → ℕ → ℕ → Handle → Told × TableState
+move_step t index place h = if is_sequenced t index then moved_row t index place h else (status_told KIND, t)
+
+-- the part of a key, where there is such a column
+abbrev pub part_of : List Column → RowPart → Option Part
+part_of columns p = if nat_lt p.column (length columns) then Some (record { column = p.column; falling = p.falls }) else None
+
+-- the key of one to four parts, where there are such columns
+abbrev pub key_of_parts : List Column → List RowPart → Option (List Part)
+key_of_parts columns ps = if nat_le 1 (length ps) && nat_le (length ps) 4 then all_of (map (part_of columns) ps) else None
+
+-- the records are put into the order of a key, and equal ones stay as they stand
+abbrev pub sorted_rows : TableState → ℕ → List Part → Told × TableState
+sorted_rows t index key = change_step t (sequence_refusal t.records index) (status_told OK) (with_sorted (key_cmp key) t.records index)
+
+abbrev pub sort_step : TableState → ℕ → List RowPart → Told × TableState
+sort_step t index ps =
+    if is_sequenced t index then option_map_or (sorted_rows t index) (key_of_parts t.shape.columns ps) (status_told SEARCH, t) else (status_told KIND, t)
+
+-- a change of which the status alone is told, and which takes memory
+abbrev pub Sorts : Option TableState → (TableState → Told × TableState) → ℕ → Option TableState → Type 0
+Sorts None step status after = (status ≡ HANDLE) × (after ≡ None)
+Sorts (Some t) step status after = (told : Told) × (new : TableState) × (after ≡ Some new) × Does t (step t) told new × (status ≡ told.status)
+
 -- ---- walks and places
 
 -- whether there is an index of the number whose records have an order
@@ -238,6 +328,9 @@ size_step t = (OK, length t.records.entries)
 
 abbrev pub rank_step : ℕ → Handle → TableState → ℕ × ℕ
 rank_step index h t = number_told (rank t.records index (Some h))
+
+abbrev pub place_step : ℕ → Handle → TableState → ℕ × ℕ
+place_step index h t = number_told (place t.records index h)
 
 -- ---- a record's cells
 

@@ -1,7 +1,7 @@
 //! Cells as a C program has them: a kind and a number each, and the bytes of all texts one after another.
 
 ghost use Rattle.std.specs.Prelude.{◌≡◌, ◌≤◌, ◌<◌, ◌++◌, IfOk, MatchOption, drop, length, map, option_map};
-ghost use Rattle.tables_c.specs.Cells.{all_texts, cell_told, cut, first_cell, first_text, length_told, most, natural, plain_cell, spelled, text_bytes, text_of, truth};
+ghost use Rattle.tables_c.specs.Cells.{all_texts, behind, behind_text, cell_told, cut, first_cell, first_text, length_told, most, natural, plain_cell, spelled, text_bytes, text_length, text_of, truth};
 
 use key_extract::{Cell, Text};
 use std::alloc::{AllocError, Global};
@@ -115,6 +115,39 @@ fn first_cell(
         Some(cell) => Ok(Some((cell, texts))),
         None => Ok(None),
     }
+}
+
+// How many bytes the text of a cell has.
+fn text_length(cell: RowCell) -> usize
+    ensures { result ≡ text_length cell }
+{
+    if cell.kind == TEXT {
+        natural(cell.number).unwrap_or(0)
+    } else {
+        0
+    }
+}
+
+// The bytes behind the text of a cell. None where it has more than there are.
+fn behind_text(cell: RowCell, texts: &[u8]) -> &[u8]
+    ensures { result.now ≡ behind_text cell texts.now }
+{
+    match cut(texts, text_length(cell)) {
+        Some((_, behind)) => behind,
+        None => &[],
+    }
+}
+
+/// The bytes behind the texts of cells. None where these have more than there are. O(cells).
+#[tactic(auto, using(crate::proofs::Spelled::behind_more))]
+pub(crate) fn behind<'t>(cells: &[RowCell], texts: &'t [u8]) -> &'t [u8]
+    ensures { result.now ≡ behind cells.now texts.now }
+{
+    let mut rest = texts;
+    for cell in cells {
+        rest = behind_text(*cell, rest);
+    }
+    rest
 }
 
 /// The cells that these are with their texts, where each is one and no byte is left. O(cells + bytes).

@@ -2,7 +2,7 @@
 
 ghost use Rattle.std.specs.Prelude.{◌≡◌, IfOk, Some};
 ghost use Rattle.tables_c.specs.Cells.{hold_row, row_spelled};
-ghost use Rattle.tables_c.specs.Rows.{Does, change_row, clear_step, erase_step, insert_row, insert_step, modify_row, modify_step, replace_row};
+ghost use Rattle.tables_c.specs.Rows.{Does, Inserts, change_row, clear_step, erase_step, insert_one, insert_row, insert_step, modify_row, modify_step, replace_row};
 
 use crate::cells::{RowCell, read_cells};
 use crate::status::{LOST, MEMORY, OK, ROW};
@@ -49,12 +49,28 @@ fn row_of(
     }
 }
 
-fn insert_row(records: &mut Records, row: Row) -> Told
-    ensures { Does records.old (insert_row records.old row) result records.new }
+fn insert_row(records: &mut Records, row: Row) -> Result<Handle, Told>
+    ensures { Inserts records.old (insert_row records.old row) result records.new }
 {
     match records.insert(None, row) {
-        Ok(handle) => Told::record(handle),
-        Err(why) => Told::refusal(why),
+        Ok(handle) => Ok(handle),
+        Err(why) => Err(Told::refusal(why)),
+    }
+}
+
+/// Puts the row of the cells in, and gives its handle.
+pub(crate) fn insert_one(
+    alloc: Global,
+    records: &mut Records,
+    cells: &[RowCell],
+    texts: &[u8],
+) -> Result<Handle, Told>
+    ensures { Inserts records.old (insert_one records.old cells.now texts.now) result records.new }
+{
+    match row_of(alloc, records.spec().columns(), cells, texts) {
+        Ok(Some(row)) => insert_row(records, row),
+        Ok(None) => Err(Told::status(ROW)),
+        Err(_) => Err(Told::status(MEMORY)),
     }
 }
 
@@ -67,10 +83,9 @@ pub(crate) fn insert_step(
 ) -> Told
     ensures { Does records.old (insert_step records.old cells.now texts.now) result records.new }
 {
-    match row_of(alloc, records.spec().columns(), cells, texts) {
-        Ok(Some(row)) => insert_row(records, row),
-        Ok(None) => Told::status(ROW),
-        Err(_) => Told::status(MEMORY),
+    match insert_one(alloc, records, cells, texts) {
+        Ok(handle) => Told::record(handle),
+        Err(told) => told,
     }
 }
 

@@ -5,12 +5,15 @@ ghost use Rattle.std.specs.Prelude.{◌≡◌, None};
 ghost use Rattle.schema_file.specs.Meaning.{schema_of};
 ghost use Rattle.tables_c.specs.Calls.{Calls, Ends, Opens, Takes, led};
 
+mod batch;
 mod cells;
 mod change;
 mod get;
 mod handle;
 mod held;
+mod keyed;
 mod made;
+mod order;
 mod parts;
 mod row_calls;
 mod rows;
@@ -22,11 +25,12 @@ mod walk;
 pub use cells::{BOOLEAN, INTEGER, NULL, RowCell, TEXT};
 pub use handle::Handle;
 use held::Held;
+pub use order::RowPart;
 pub use rows::Rows;
 use status::number_of;
 pub use status::{
-    BANNED, FULL, HANDLE, KEY, KIND, LIMIT, LOST, MEMORY, NAME, NONE, OK, ROOM, ROW, SEARCH, SHAPE,
-    SPENT, STALE, TABLE, TOML,
+    BANNED, FULL, HANDLE, KEY, KIND, LIMIT, LOST, MEMORY, NAME, NONE, OK, PLACE, ROOM, ROW, SEARCH,
+    SHAPE, SPENT, STALE, TABLE, TOML,
 };
 use std::alloc::Global;
 pub use told::RowHandle;

@@ -2,19 +2,23 @@
 
 ghost use Rattle.std.specs.Prelude.{◌≡◌, None};
 ghost use Rattle.schema_file.specs.Meaning.{schema_of};
-ghost use Rattle.tables_c.specs.Rows.{Changes, Counts, Gets, OpensRows, Reads, Searches, Turns, clear_step, erase_step, handle_of, insert_step, led, modify_step, nth_step, rank_step, search_step, size_step, table_meant, walk_step};
+ghost use Rattle.tables_c.specs.Batch.{ChangesAll};
+ghost use Rattle.tables_c.specs.Rows.{Changes, Counts, Gets, Numbers, OpensRows, Reads, Searches, Sorts, Turns, clear_step, count_step, erase_key_step, erase_step, handle_of, insert_step, led, modify_step, move_step, nth_step, place_step, rank_step, search_step, size_step, sort_step, table_meant, walk_step};
 ghost use Rattle.tables_c.specs.declared.search.Search.TheVariants as searches;
 ghost use Rattle.tables_c.specs.declared.walk.Walk.TheVariants as walks;
 
+use crate::batch::insert_all;
 use crate::cells::RowCell;
 use crate::change::{clear_step, erase_step, insert_step, modify_step};
 use crate::get::get_got;
+use crate::keyed::{count_step, erase_key_step};
 use crate::made::records_of;
+use crate::order::{RowPart, move_step, sort_step};
 use crate::rows::Rows;
 use crate::search::{Search, search_step};
 use crate::status::{HANDLE, MEMORY, OK};
 use crate::told::RowHandle;
-use crate::walk::{Walk, nth_step, rank_step, walk_step};
+use crate::walk::{Walk, nth_step, place_step, rank_step, walk_step};
 use std::alloc::Global;
 
 /// Opens the empty container of the table of a number in a schema file.
@@ -80,6 +84,30 @@ pub extern "C" fn tc_rows_insert(
     told.put(handle, index)
 }
 
+/// Puts many records in, one for each handle, in their order until one is refused, and tells how many are in.
+#[unsafe(no_mangle)]
+pub extern "C" fn tc_rows_insert_all(
+    alloc: Global,
+    rows: &mut Rows,
+    cells: &[RowCell],
+    texts: &[u8],
+    handles: &mut [RowHandle],
+    inserted: &mut usize,
+    by: &mut RowHandle,
+    index: &mut usize,
+) -> u8
+    ensures { ChangesAll (led rows.old) cells.now texts.now handles.old handles.new result inserted.new by.old by.new index.old index.new (led rows.new) }
+{
+    let Some(mut records) = rows.take(alloc) else {
+        *inserted = 0;
+        return HANDLE;
+    };
+    let (told, count) = insert_all(alloc, &mut records, cells, texts, handles);
+    rows.put(alloc, records);
+    *inserted = count;
+    told.put(by, index)
+}
+
 /// Gives a record other cells. Where another record is in the way, it is refused with `rollback`, and else the record is lost.
 #[unsafe(no_mangle)]
 pub extern "C" fn tc_rows_modify(
@@ -125,6 +153,82 @@ pub extern "C" fn tc_rows_clear(alloc: Global, rows: &mut Rows) -> u8
     let told = clear_step(&mut records);
     rows.put(alloc, records);
     told.status
+}
+
+/// Takes out all records of a key, and tells how many they were.
+#[unsafe(no_mangle)]
+pub extern "C" fn tc_rows_erase_key(
+    alloc: Global,
+    rows: &mut Rows,
+    index: usize,
+    key: &[RowCell],
+    texts: &[u8],
+    number: &mut u64,
+) -> u8
+    ensures { Numbers (led rows.old) (λ t. erase_key_step t index key.now texts.now) result number.new (led rows.new) }
+{
+    let Some(mut records) = rows.take(alloc) else {
+        *number = 0;
+        return HANDLE;
+    };
+    let (status, erased) = erase_key_step(alloc, &mut records, index, key, texts);
+    rows.put(alloc, records);
+    *number = erased;
+    status
+}
+
+/// Puts a record before the one at a place of a sequence, counted from 0 before the move.
+#[unsafe(no_mangle)]
+pub extern "C" fn tc_rows_move(
+    alloc: Global,
+    rows: &mut Rows,
+    index: usize,
+    handle: &RowHandle,
+    place: u64,
+) -> u8
+    ensures { Turns (led rows.old) (λ t. move_step t index place (handle_of handle.now)) result (led rows.new) }
+{
+    let Some(mut records) = rows.take(alloc) else {
+        return HANDLE;
+    };
+    let told = move_step(&mut records, index, place, handle.handle());
+    rows.put(alloc, records);
+    told.status
+}
+
+/// Sorts a sequence by columns. Records that are equal by them stay as they stand.
+#[unsafe(no_mangle)]
+pub extern "C" fn tc_rows_sort(alloc: Global, rows: &mut Rows, index: usize, by: &[RowPart]) -> u8
+    ensures { Sorts (led rows.old) (λ t. sort_step t index by.now) result (led rows.new) }
+{
+    let Some(mut records) = rows.take(alloc) else {
+        return HANDLE;
+    };
+    let told = sort_step(&mut records, index, by);
+    rows.put(alloc, records);
+    told.status
+}
+
+/// Tells how many records have a key.
+#[unsafe(no_mangle)]
+pub extern "C" fn tc_rows_count(
+    alloc: Global,
+    rows: &mut Rows,
+    index: usize,
+    key: &[RowCell],
+    texts: &[u8],
+    number: &mut u64,
+) -> u8
+    ensures { Numbers (led rows.old) (λ t. (count_step t index key.now texts.now, t)) result number.new (led rows.new) }
+{
+    let Some(records) = rows.take(alloc) else {
+        *number = 0;
+        return HANDLE;
+    };
+    let (status, counted) = count_step(alloc, &records, index, key, texts);
+    rows.put(alloc, records);
+    *number = counted;
+    status
 }
 
 // Finds a record by a key.
@@ -293,6 +397,27 @@ pub extern "C" fn tc_rows_rank(
         return HANDLE;
     };
     let (status, number) = rank_step(&records, index, handle.handle());
+    rows.put(alloc, records);
+    *place = number;
+    status
+}
+
+/// Tells the place of a record in a random index, counted from 0.
+#[unsafe(no_mangle)]
+pub extern "C" fn tc_rows_place(
+    alloc: Global,
+    rows: &mut Rows,
+    index: usize,
+    handle: &RowHandle,
+    place: &mut u64,
+) -> u8
+    ensures { Counts (led rows.old) (place_step index (handle_of handle.now)) result place.new (led rows.new) }
+{
+    let Some(records) = rows.take(alloc) else {
+        *place = 0;
+        return HANDLE;
+    };
+    let (status, number) = place_step(&records, index, handle.handle());
     rows.put(alloc, records);
     *place = number;
     status

@@ -108,8 +108,8 @@ fn key_of(
     }
 }
 
-// The search key that the cells are at the index of a number, or the status of why there is none.
-fn key_there(
+/// The search key that the cells are at the index of a number, or the status of why there is none.
+pub(crate) fn key_there(
     alloc: Global,
     records: &Records,
     search: Search,

@@ -64,6 +64,9 @@ pub const SPENT: u8 = 17;
 /// No table of the schema has the number.
 pub const TABLE: u8 = 18;
 
+/// The place is greater than the number of records.
+pub const PLACE: u8 = 19;
+
 // The status of a fault.
 pub(crate) fn number_of(fault: SchemaFault) -> u8
     ensures { result ≡ number_of fault }
@@ -78,7 +81,7 @@ pub(crate) fn number_of(fault: SchemaFault) -> u8
     }
 }
 
-// The status of a refusal. The last four are of no call that is made here.
+// The status of a refusal. The last three are of no call that is made here.
 pub(crate) fn refusal_number(why: Why) -> u8
     ensures { result ≡ refusal_number why }
 {
@@ -88,6 +91,7 @@ pub(crate) fn refusal_number(why: Why) -> u8
         Why::Full => FULL,
         Why::Spent => SPENT,
         Why::Memory => MEMORY,
-        Why::Kind | Why::Definition | Why::Place | Why::Order | Why::Clash { .. } => KIND,
+        Why::Place => PLACE,
+        Why::Kind | Why::Definition | Why::Order | Why::Clash { .. } => KIND,
     }
 }

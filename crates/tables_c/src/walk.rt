@@ -1,7 +1,7 @@
 //! Walks along an index, and places there.
 
 ghost use Rattle.std.specs.Prelude.{◌≡◌, IsTrue};
-ghost use Rattle.tables_c.specs.Rows.{first, is_walked, nth_step, rank_step, walk_step, walked};
+ghost use Rattle.tables_c.specs.Rows.{first, is_walked, nth_step, number_told, place_step, rank_step, walk_step, walked};
 
 use crate::status::{KIND, OK, refusal_number};
 use crate::told::Told;
@@ -71,12 +71,26 @@ pub(crate) fn nth_step(records: &Records, index: usize, place: u64) -> Told
     Told::found(records.container().nth(index, place))
 }
 
+/// The number, or why there is none.
+pub(crate) fn number_told(found: Result<u64, Why>) -> (u8, u64)
+    ensures { result ≡ number_told found }
+{
+    match found {
+        Ok(number) => (OK, number),
+        Err(why) => (refusal_number(why), 0),
+    }
+}
+
 /// Finds the rank of a record in the index of a number.
 pub(crate) fn rank_step(records: &Records, index: usize, handle: Handle) -> (u8, u64)
     ensures { result ≡ rank_step index handle records.now }
 {
-    match records.container().rank(index, Some(handle)) {
-        Ok(rank) => (OK, rank),
-        Err(why) => (refusal_number(why), 0),
-    }
+    number_told(records.container().rank(index, Some(handle)))
+}
+
+/// Finds the place of a record in the index of a number.
+pub(crate) fn place_step(records: &Records, index: usize, handle: Handle) -> (u8, u64)
+    ensures { result ≡ place_step index handle records.now }
+{
+    number_told(records.container().place_of(index, handle))
 }
