@@ -5,7 +5,7 @@ ghost use Rattle.std.specs.Prelude.{ℕ, IsTrue};
 use crate::book::INDICES;
 use crate::keys::{Key, Keys};
 use crate::record::Record;
-use field_keys::{Field, FieldKeys, Fields, KeyPart, Search, Value, pick, unsigned};
+use field_keys::{Field, FieldKeys, Fields, KeyPart, Search, Value, unsigned};
 use key_extract::Extract;
 use std::alloc::{AllocError, Global};
 
@@ -16,14 +16,12 @@ impl Fields for Record {
     ghost row_of = { λ row. unsigned row.id ∷ unsigned row.price ∷ unsigned row.owner ∷ [] };
 
     fn field(&self, column: usize) -> Option<Field<'_>> {
-        pick(
-            column,
-            &[
-                unsigned(self.id),
-                unsigned(self.price),
-                unsigned(self.owner),
-            ],
-        )
+        match column {
+            0 => Some(unsigned(self.id)),
+            1 => Some(unsigned(self.price)),
+            2 => Some(unsigned(self.owner)),
+            _ => None,
+        }
     }
 }
 

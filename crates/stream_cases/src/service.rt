@@ -1,4 +1,4 @@
-//! How threads end that serve connections. (Connections that are served are tried from outside, by tools/run_sockets.)
+//! How threads end that serve connections. (Connections that are served are tried from outside, by tools/gate/run_sockets.)
 
 use crate::input::Input;
 use shared_tables::{OpenGate, Pass, Shared};

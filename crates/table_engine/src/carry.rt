@@ -7,7 +7,7 @@ ghost use Rattle.table_step.specs.Step.{new_table};
 ghost use Rattle.table_engine.specs.Tables.{Replies, answer_to, carried, table_at};
 
 use crate::answers::Answers;
-use command_lines::{CommandFault, read_command};
+use command_lines::{CommandFault, LineReader};
 use std::alloc::{AllocError, Global};
 use std::convert::Infallible;
 use std::marker::Model;
@@ -19,7 +19,7 @@ use table_step::{Outcome, Table, refuse};
 /// The tables of a schema.
 #[derive(Drop)]
 pub(crate) struct Tables {
-    alloc: Global,
+    reader: LineReader,
     tables: Vec<Table>,
 }
 
@@ -42,7 +42,8 @@ impl Tables {
         for spec in specs {
             tables.push(Table::new(alloc, spec)?)?;
         }
-        Ok(Tables { alloc, tables })
+        let reader = LineReader::new(alloc)?;
+        Ok(Tables { reader, tables })
     }
 }
 
@@ -61,14 +62,14 @@ impl Answers<()> for Tables {
         line: &[u8],
         out: Ready<'o>,
     ) -> Told<'o, Result<(), Infallible>> {
-        let Told { what: _, out } = answer_line(self.alloc, &mut self.tables, line, out);
+        let Told { what: _, out } = answer_line(&mut self.reader, &mut self.tables, line, out);
         Told { what: Ok(()), out }
     }
 }
 
 // Answers a line that is neither blank nor too long.
 fn answer_line<'o>(
-    alloc: Global,
+    reader: &mut LineReader,
     tables: &mut [Table],
     line: &[u8],
     out: Ready<'o>,
@@ -76,7 +77,7 @@ fn answer_line<'o>(
     ensures answer { Replies out.entry.out.now.bytes result.out.now.bytes tables.old tables.new (answer_to tables.old (meaning line.now)) }
     ensures behind { IsBehind out.entry result }
 {
-    match read_command(alloc, line) {
+    match reader.read(line) {
         Ok(command) => {
             let told = carry_out(tables, &command, out);
             drop(command);
