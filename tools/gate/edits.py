@@ -45,13 +45,13 @@ class Edit:
 
     def settle(self, verdict, words):
         self.verdict, self.words = verdict, words
-        say(f"{self.name}: {self.told()}: {words[:300]}")
+        say(f"{self.name}: {self.verdict_and_kind()}: {words[:300]}")
 
     def kind(self):
         """By what it is refused."""
         return kind_of(self.words)
 
-    def told(self):
+    def verdict_and_kind(self):
         """The verdict, and where it is refused by what."""
         return f"{self.verdict} {self.kind()}" if self.verdict == "refused" else self.verdict
 
@@ -76,12 +76,19 @@ class Edit:
                 yield file, within, old, text
                 old = ""
 
+    def told(self, word):
+        """What stands behind this word, on each line that begins with it."""
+        lines = [line.partition(":") for line in read(self.path).split("\n")]
+        return [text.strip() for first, _, text in lines if first == word]
+
     def broken_examples(self):
         """What an edit of definitions says that it breaks, or None where it edits sources."""
-        lines = [line.partition(":") for line in read(self.path).split("\n")]
-        if any(word == "file" and not text.strip().startswith("specs/") for word, _, text in lines):
-            return None
-        return [text.strip() for word, _, text in lines if word == "breaks"]
+        return self.told("breaks") if all(it.startswith("specs/") for it in self.told("file")) else None
+
+    def refusing(self, names):
+        """Those of a check's names in which it has to be refused, where it changes no body: the laws that it breaks, and the functions that it names."""
+        laws = [it.removeprefix("law ") for it in self.told("breaks") if it.startswith("law ")]
+        return [it for it in names if it.split("::")[-1] in laws or it in self.told("refused in")]
 
     def apply(self):
         """Makes the edited texts, and finds the bodies in which they differ from the crate's."""

@@ -72,6 +72,8 @@ PLANTS = [
     ("d_right_turned_round", "if a < b { b } else { a }", "if b < a { a } else { b }", "NOT REFUSED", ""),
     ("e_least_of_the_two", "if a < b { b } else { a }", "if a < b { a } else { b }", "refused by values", "planted::greater: "),
     ("f_constant", "u64 = 7", "u64 = 8", "refused by values", "alone, planted::is_small: "),
+    ("f_constant_in_a_named_function", "u64 = 7", "u64 = 9\nrefused in: planted::is_small", "refused by search", "planted::is_small: "),
+    ("f_constant_in_another_function", "u64 = 7", "u64 = 6\nrefused in: planted::twice", "refused by values", "alone, planted::is_small: "),
     ("f_one_too_few", "while n < all", "while n + 1 < all", "refused by search", "planted::count: "),
     ("f_right_by_another_loop", "while n < all", "for _ in 0..all", "refused by form", "planted::count: "),
     ("f_right_from_another_number", "let mut n = 0", "let mut n = 0_usize", "NOT REFUSED", ""),

@@ -33,10 +33,10 @@ def after(text, at):
 
 
 class Function:
-    """A function with a body: its name, the type and the trait of its impl, its modules, and the places of its body."""
+    """A function with a body: its name, the type and the trait of its impl, what that trait is of, its modules, and the places of its body."""
 
     def __init__(self, file, name, owner, modules, start, body):
-        self.name, self.owner, self.modules, self.body = name, owner, modules, body
+        self.name, self.owner, self.of, self.modules, self.body = name, owner[:2], owner[2], modules, body
         self.key = (file, start)
 
     def symbols(self, crate, names):
@@ -50,6 +50,9 @@ class Function:
         # Of several types of one name, that of this module. (A method has the module of its type, which may stand in another file.)
         here = [it for it in own if it[0] == self.modules]
         own = here if len(own) > 1 and len(here) == 1 else own
+        # Of several impls of one trait for this type, that of the trait of the same.
+        same = [it for it in own if it[1].split("::")[-2].endswith("".join((*self.owner, self.of)))] if self.of else []
+        own = same if len(own) > 1 and len(same) == 1 else own
         return [name for _, name in own], [name for modules, name in inner if not own or modules == own[0][0]]
 
     def module_of(self, path):
@@ -72,7 +75,7 @@ def last_name(path):
 
 
 def owner_of(head):
-    """The type and the trait of an impl's head."""
+    """The type and the trait of an impl's head, and the last name of the type that the trait is of."""
     text = head.removeprefix("impl").rstrip("{").strip()
     if text.startswith("<"):
         depth = 0
@@ -82,14 +85,15 @@ def owner_of(head):
                 text = text[at + 1 :].strip()
                 break
     trait, word, kind = re.split(r"\bwhere\b", text)[0].rpartition(" for ")
-    return last_name(kind), last_name(trait) if word else ""
+    of = re.search(r"<(.*)>", trait, re.S) if word else None
+    return last_name(kind), last_name(trait) if word else "", last_name(of[1]) if of else ""
 
 
 # What stands before the brace of a clause, and not before a body's.
 CLAUSE = re.compile(r"\b(requires|ensures|ghost|decreases)\*?(\s+[^\s{}():]+)?\s*(:\s*)?\Z")
 HEAD = re.compile(r"\b(fn)\s+(\w+)|\b(impl|trait|mod)\b[^;{]*\{")
 # No type has this name: a trait's own body is checked at each impl that takes it.
-OF_TRAIT = ("\0", "")
+OF_TRAIT = ("\0", "", "")
 
 
 def body_after(blank, start, at):
@@ -118,7 +122,7 @@ def functions_of(file, text):
         body, at = body_after(blank, head.start(), after(blank, blank.index("(", head.end())))
         if body:
             owners = [it for it in blocks if it[1] != "mod"]
-            owner = ("", "") if not owners else owner_of(owners[-1][2]) if owners[-1][1] == "impl" else OF_TRAIT
+            owner = ("", "", "") if not owners else owner_of(owners[-1][2]) if owners[-1][1] == "impl" else OF_TRAIT
             modules = file_modules + [re.match(r"mod\s+(\w+)", it[2])[1] for it in blocks if it[1] == "mod"]
             found.append(Function(file, head[2], owner, modules, head.start(), body))
     return found
