@@ -89,3 +89,13 @@ IsNoCell kinds.Bool null field why.Bool = (b : Bool) → field ≡ bool_text b �
 IsNoCell kinds.Text null field why.Text = IsUtf8 (text_said null field) → ⊥
 IsNoCell kinds.Text null field why.Long = max_text < length (text_said null field)
 IsNoCell kind null field w = ⊥
+
+-- why an empty field is none: where the column may be null, it is null
+abbrev pub IsNoneEmptyIn : CellKind → Bool → CellWhy → Type 0
+IsNoneEmptyIn kind true w = ⊥
+IsNoneEmptyIn kind false w = IsNoCell kind false [] w
+
+-- why a field is no cell of a column
+abbrev pub IsNoCellIn : Column → List ℕ → CellWhy → Type 0
+IsNoCellIn column [] w = IsNoneEmptyIn column.cell column.null w
+IsNoCellIn column (byte ∷ rest) w = IsNoCell column.cell column.null (byte ∷ rest) w

@@ -1,7 +1,7 @@
 //! Fields of a row as cells.
 
 ghost use Rattle.std.specs.Prelude.{◌≡◌, IfErr, IfOk, false};
-ghost use Rattle.table_rows.specs.Csv.{IsCellIn, IsCellOf, IsNoCell, unmarked};
+ghost use Rattle.table_rows.specs.Csv.{IsCellIn, IsCellOf, IsNoCell, IsNoCellIn, unmarked};
 ghost use Rattle.table_schema.specs.declared.column.CellKind.TheVariants.{Int, Text as OfText, Bool};
 
 use crate::fault::CellWhy;
@@ -66,7 +66,7 @@ fn text_in(alloc: Global, field: &[u8]) -> Result<Cell, CellWhy>
 /// The cell that a field is in a column. O(length).
 pub fn cell_in(alloc: Global, column: &Column, field: &[u8]) -> Result<Cell, CellWhy>
     ensures cell { IfOk result (IsCellIn column.now field.now) }
-    ensures why { IfErr result (IsNoCell column.now.cell column.now.null field.now) }
+    ensures why { IfErr result (IsNoCellIn column.now field.now) }
 {
     if column.null && field.is_empty() {
         return Ok(Cell::Null);
