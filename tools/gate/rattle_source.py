@@ -51,7 +51,7 @@ class Function:
         here = [it for it in own if it[0] == self.modules]
         own = here if len(own) > 1 and len(here) == 1 else own
         # Of several impls of one trait for this type, that of the trait of the same.
-        same = [it for it in own if it[1].split("::")[-2].endswith("".join((*self.owner, self.of)))] if self.of else []
+        same = [it for it in own if it[1].split("::")[-2].endswith(f"{self.owner[1]}{self.of}")] if self.of else []
         own = same if len(own) > 1 and len(same) == 1 else own
         return [name for _, name in own], [name for modules, name in inner if not own or modules == own[0][0]]
 
@@ -64,6 +64,8 @@ class Function:
         is_fit = modules == self.modules
         if kind:
             owner, *rest = rest
+            # (a check writes the name of a built-in type as that of any other)
+            kind = kind[0].upper() + kind[1:]
             is_fit = owner.startswith(kind) and trait in owner[len(kind) :] if trait and trait != "Drop" else owner == kind
         return (modules,) if is_fit and rest[:1] == [self.name] and (is_inner or len(rest) == 1) else None
 
