@@ -66,7 +66,7 @@ class Function:
             owner, *rest = rest
             # (a check writes the name of a built-in type as that of any other)
             kind = kind[0].upper() + kind[1:]
-            is_fit = owner.startswith(kind) and trait in owner[len(kind) :] if trait and trait != "Drop" else owner == kind
+            is_fit = owner.startswith(kind) and trait in owner[len(kind) :] if trait and trait != "Drop" else owner.split("+")[0] == kind
         return (modules,) if is_fit and rest[:1] == [self.name] and (is_inner or len(rest) == 1) else None
 
 
