@@ -38,6 +38,27 @@ pub fn is_small(a: u64) -> bool
     a < LIMIT
 }
 
+/// A number that was found.
+pub struct Found {
+    number: u64,
+}
+
+impl From<u32> for Found {
+    ghost from_gives = { λ number found. found.number ≡ number };
+
+    fn from(number: u32) -> Found {
+        Found { number: u64::from(number) }
+    }
+}
+
+impl From<u16> for Found {
+    ghost from_gives = { λ number found. found.number ≡ number };
+
+    fn from(number: u16) -> Found {
+        Found { number: u64::from(number) }
+    }
+}
+
 /// How many bytes there are.
 pub fn count(bytes: &[u8]) -> usize
     ensures { result ≡ length bytes.now }
@@ -62,7 +83,7 @@ abbrev pub decreases-loop-n : goal.decreases-loop-n
 decreases-loop-n l = l.all - l.n
 """
 
-FUNCTIONS = ["planted::sum", "planted::twice", "planted::greater", "planted::is_small", "planted::count"]
+FUNCTIONS = ["planted::sum", "planted::twice", "planted::greater", "planted::is_small", "planted::FoundFromU32::from", "planted::FoundFromU16::from", "planted::count"]
 
 # An edit's name, what it changes to what, the verdict with which it has to end, by what it is refused, and how its reason begins.
 PLANTS = [
@@ -74,6 +95,8 @@ PLANTS = [
     ("f_constant", "u64 = 7", "u64 = 8", "refused by values", "alone, planted::is_small: "),
     ("f_constant_in_a_named_function", "u64 = 7", "u64 = 9\nrefused in: planted::is_small", "refused by search", "planted::is_small: "),
     ("f_constant_in_another_function", "u64 = 7", "u64 = 6\nrefused in: planted::twice", "refused by values", "alone, planted::is_small: "),
+    ("f_conversion_of_another", "(number: u16) -> Found {", "(number: u16) -> Found { if true { return Found { number: 1 }; }", "refused by values", "planted::FoundFromU16::from: "),
+    ("f_conversion_of_one_type", "(number: u32) -> Found {", "(number: u32) -> Found { if true { return Found { number: 1 }; }", "refused by values", "planted::FoundFromU32::from: "),
     ("f_one_too_few", "while n < all", "while n + 1 < all", "refused by search", "planted::count: "),
     ("f_right_by_another_loop", "while n < all", "for _ in 0..all", "refused by form", "planted::count: "),
     ("f_right_from_another_number", "let mut n = 0", "let mut n = 0_usize", "NOT REFUSED", ""),

@@ -64,16 +64,15 @@ class Function:
         is_fit = modules == self.modules
         if kind:
             owner, *rest = rest
-            # (a check writes the name of a built-in type as that of any other)
-            kind = kind[0].upper() + kind[1:]
             is_fit = owner.startswith(kind) and trait in owner[len(kind) :] if trait and trait != "Drop" else owner.split("+")[0] == kind
         return (modules,) if is_fit and rest[:1] == [self.name] and (is_inner or len(rest) == 1) else None
 
 
 def last_name(path):
-    """The last name of a path type, with no arguments."""
+    """The last name of a path type, with no arguments. (A check writes the name of a built-in type as that of any other.)"""
     path = re.sub(r"<.*", "", path.strip(), flags=re.S).strip().lstrip("&")
-    return path.split("::")[-1].strip()
+    name = path.split("::")[-1].strip()
+    return name[:1].upper() + name[1:]
 
 
 def owner_of(head):
