@@ -6,6 +6,7 @@ pub mod OneLine
 pub mod Orders
 pub mod Recorded
 pub mod Restorable
+pub mod Newlines
 pub mod Seeking
 pub mod Told
 pub mod Again

@@ -1,10 +1,12 @@
 -- Texts that are taken off the front of what is left.
-use Rattle.std.proofs.Common.{◌≡◌, ℕ, List, [], ◌∷◌, ◌++◌, Option, Some, refl, sym, ap, ◌∙◌, append_assoc, append-nil, zero, suc, ◌+◌, ◌<◌, ◌≤◌, length, take, drop, take-append-drop, subst, arith}
+use Rattle.std.proofs.Common.{◌≡◌, ℕ, List, [], ◌∷◌, ◌++◌, Option, Some, refl, sym, ap, ◌∙◌, append_assoc, append-nil, zero, suc, ◌+◌, ◌<◌, ◌≤◌, ◌==◌, false, length, take, drop, take-append-drop, subst, arith}
 use Rattle.std.specs.Prelude.{slice_index_or}
 use Rattle.std.proofs.Math.Seq.{drop-nil}
 use Rattle.std.proofs.lemmas.List.{drop_all}
+use Rattle.std.proofs.lemmas.List.Elements.{All-append}
+use Rattle.command_text.specs.Line.{IsOneLine}
 use Rattle.table_state.specs.declared.source.Source.{Source}
-use Rattle.table_state.specs.Reading.{Takes, held, left_of}
+use Rattle.table_state.specs.Reading.{Takes, TakesRun, held, left_of}
 
 -- nothing was taken
 pub takes_none : (contents : Option (List ℕ)) (source : Source) → Takes contents source [] source
@@ -77,3 +79,21 @@ pub all_read : (contents known : Option (List ℕ)) (old new : Source) (text : L
     → ((bytes : List ℕ) → known ≡ Some bytes → left_of bytes new ≡ []) → (bytes : List ℕ) → contents ≡ Some bytes → bytes ≡ text
 all_read contents known old new text same whole takes none bytes is =
     sym (whole bytes) ∙ takes bytes is ∙ ap (λ xs. text ++ xs) (none bytes (same ∙ is)) ∙ append-nil text
+
+-- what is held is a front of it and what stands behind
+pub held_parts : (piece : List ℕ) (start end n : ℕ) → drop start (take end piece) ≡ take n (drop start (take end piece)) ++ drop (start + n) (take end piece)
+held_parts piece start end n =
+    sym (take-append-drop n (drop start (take end piece))) ∙ ap (λ xs. take n (drop start (take end piece)) ++ xs) (sym (drop_add start n (take end piece)))
+
+-- bytes of those that were read were taken onto the line
+pub takes_run : (contents : Option (List ℕ)) (old mid new : Source) → Takes contents old mid.line.items mid → TakesRun mid new → new ≡ record mid { start = new.start; line = new.line } → Takes contents old new.line.items new
+takes_run contents old mid new go run kept bytes known =
+    go bytes known
+    ∙ ap (λ xs. mid.line.items ++ (xs ++ drop mid.at bytes)) run.held
+    ∙ ap (λ xs. mid.line.items ++ xs) (append_assoc run.run (held new) (drop mid.at bytes))
+    ∙ sym (append_assoc mid.line.items run.run (held new ++ drop mid.at bytes))
+    ∙ ap (λ n. (mid.line.items ++ run.run) ++ (held new ++ drop n bytes)) (sym (ap (λ source. source.at) kept))
+    ∙ ap (λ xs. xs ++ left_of bytes new) (sym run.line)
+
+pub still_one_line : (mid new : Source) → IsOneLine mid.line.items → TakesRun mid new → IsOneLine new.line.items
+still_one_line mid new one run = subst IsOneLine (sym run.line) (All-append (λ b. (b == 10) ≡ false) mid.line.items run.run one run.one_line)

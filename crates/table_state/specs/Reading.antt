@@ -1,5 +1,6 @@
 -- What is left of the bytes of a disk.
 use Rattle.std.specs.Prelude.{codes, ◌≡◌, ℕ, ◌+◌, ◌-◌, ◌<◌, ◌≤◌, List, [], ◌∷◌, ◌++◌, length, take, drop, Option, Some, None, Result, Ok, Err}
+use Rattle.command_text.specs.Line.{IsOneLine}
 use Rattle.table_cmd.specs.declared.command.Command.{Command}
 use Rattle.table_log.specs.declared.disk.Disk.{Ghosts}
 use Rattle.table_state.specs.declared.fault.StateWhy.{StateWhy}
@@ -41,6 +42,13 @@ unread source = (source.end - source.start) + (source.size - source.at)
 -- a text was taken off the front
 abbrev pub Takes : Option (List ℕ) → Source → List ℕ → Source → Type 0
 Takes contents old text new = (bytes : List ℕ) → contents ≡ Some bytes → left_of bytes old ≡ text ++ left_of bytes new
+
+-- bytes of one line were taken onto the line, off the front of those that were read
+pub record TakesRun (old new : Source) : Type 0 where
+  pub run : List ℕ
+  pub line : new.line.items ≡ old.line.items ++ run
+  pub held : held old ≡ run ++ held new
+  pub one_line : IsOneLine run
 
 -- the first byte was taken, or there is none
 abbrev pub TakesByte : Option (List ℕ) → Source → Option ℕ → Source → Type 0

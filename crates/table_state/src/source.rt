@@ -1,16 +1,17 @@
 //! The lines of a disk.
 
-ghost use Rattle.std.specs.Prelude.{◌≡◌, ◌∷◌, ◌+◌, ◌<◌, ◌++◌, ℕ, List, Some, [], codes, IfErr, IfOk, IfSome, OnOk};
+ghost use Rattle.std.specs.Prelude.{◌≡◌, ◌∷◌, ◌+◌, ◌<◌, ◌≤◌, ◌++◌, ℕ, List, Some, [], codes, length, take, IfErr, IfOk, IfSome, OnOk};
 ghost use Rattle.command_lines.specs.Fits.{CommandFits};
 ghost use Rattle.command_text.specs.Line.{IsOneLine};
 ghost use Rattle.table_cmd.specs.declared.command.Command.{Command};
-ghost use Rattle.table_state.specs.Reading.{IsReadOf, IsWithin, ReadsOn, Seeks, Takes, TakesByte, held, left_of, unread};
+ghost use Rattle.table_state.specs.Reading.{IsReadOf, IsWithin, ReadsOn, Seeks, Takes, TakesByte, TakesRun, held, left_of, unread};
 ghost use Rattle.table_state.specs.State.{line_of};
 ghost use Rattle.table_state.specs.Writing.{IsInterruption, failures_of_state};
 
 use crate::fault::StateWhy;
 use command_lines::{CommandFault, LineReader};
 use command_text::write_command;
+use memchr::memchr;
 use std::alloc::{AllocError, Global};
 use table_cmd::Command;
 use table_log::Disk;
@@ -18,6 +19,18 @@ use table_reply::Out;
 
 /// How many bytes are read at a time.
 const PIECE: usize = 65_536;
+
+// How many bytes stand before the first newline, or in all.
+#[tactic(auto, using(crate::proofs::Newlines::line_front, crate::proofs::Newlines::line_whole))]
+fn line_length(text: &[u8]) -> usize
+    ensures within { result ≤ length text.now }
+    ensures one_line { IsOneLine (take result text.now) }
+{
+    match memchr(b'\n', text) {
+        Some(place) => place,
+        None => text.len(),
+    }
+}
 
 /// The bytes of a disk, and where they are read.
 #[derive(Drop)]
@@ -121,6 +134,21 @@ impl Source {
         }
     }
 
+    // Takes what was read up to a newline, or all of it, onto the line.
+    fn take_run(&mut self) -> Result<(), AllocError>
+        requires within { IsWithin self.old.size self.old }
+        ensures run { OnOk result (TakesRun self.old self.new) }
+        ensures start { self.old.start ≤ self.new.start }
+        ensures end { self.new.start ≤ self.old.end }
+        ensures kept { self.new ≡ record self.old { start = self.new.start; line = self.new.line } }
+    {
+        let held = &self.piece[self.start..self.end];
+        let count = line_length(held);
+        self.line.extend_from_slice(&held[..count])?;
+        self.start += count;
+        Ok(())
+    }
+
     /// Takes the next line with its newline.
     pub(crate) fn next_line<D: Disk>(&mut self, disk: &mut D) -> Result<(), StateWhy>
         requires within { IsWithin (D.size disk.old) self.old }
@@ -132,6 +160,7 @@ impl Source {
         self.line.clear();
         self.number = self.number.saturating_add(1);
         loop {
+            self.take_run()?;
             let byte = match self.next_byte(disk) {
                 Ok(Some(byte)) => byte,
                 Ok(None) => return Err(self.wrong()),
@@ -140,9 +169,7 @@ impl Source {
             if byte == b'\n' {
                 return Ok(());
             }
-            if self.line.push(byte).is_err() {
-                return Err(StateWhy::Memory);
-            }
+            self.line.push(byte)?;
         }
     }
 
