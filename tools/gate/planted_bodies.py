@@ -125,24 +125,25 @@ OF_SERVERS = {
 
 # What no clause of the keeper's program says: when and in which order its files are written, synced, marked and removed, and which of them refuse a start.
 KEEPER = "crates/table_keeper/src"
-STARTS, MARKS, IMPORTS, FOLDER, HOSTS = (f"{KEEPER}/{it}.rt" for it in ("logs", "mark", "import", "folder", "host_folder"))
+STARTS, IMPORTS = (f"{KEEPER}/{it}.rt" for it in ("logs", "import"))
+MARKS, FOLDER, FILES = (f"crates/system_files/src/{it}.rt" for it in ("mark", "folder", "table_files"))
 SPENT, PUTS, SETTLES = (f"crates/table_folder/src/{it}.rt" for it in ("spent", "put", "settling"))
 DECIDES = "    let mut decided = Vec::new(rt.alloc());\n    for table in schema.tables() {\n        decided.push(ready(rt, folder, table)?)?;\n    }\n"
 OPENS = "    let mut logs = Vec::new(rt.alloc());\n    for table in decided {\n        logs.push(open(rt, folder, table)?)?;\n    }\n"
 LEFT = "        Some(OldLog::Left) => left.push(begin)?,\n"
 PUT = "        return Err(fault);\n    }\n    match folder.settle_names() {\n        Ok(()) => Ok(()),\n        Err(error) => Err(FolderFault::of_names(&error)),\n    }\n"
 OF_KEEPERS = {
-    "marks_are_not_written": (f"{KEEPS} lines_that_are_missing", [(MARKS, "        file.write_all_at(slot, at)?;\n", "        let _ = slot;\n")]),
-    "marks_are_never_synced": (f"{KEEPS} calls_of_a_start", [(MARKS, "        if !self.is_left && self.is_due() {\n            self.sync()?;\n        }\n", "")]),
-    "marks_that_fail_are_passed_over": (f"{KEEPS} mark_that_fails", [(MARKS, "        file.write_all_at(slot, at)?;\n", "        let _ = file.write_all_at(slot, at);\n")]),
+    "marks_are_not_written": (f"{KEEPS} lines_that_are_missing", [(MARKS, "        file.write_all_at(at, slot)?;\n", "        let _ = slot;\n")]),
+    "marks_are_never_synced": (f"{KEEPS} calls_of_a_start", [(MARKS, "        if !is_left && self.is_due() {\n            self.sync()?;\n        }\n", "")]),
+    "marks_that_fail_are_passed_over": (f"{KEEPS} mark_that_fails", [(MARKS, "        file.write_all_at(at, slot)?;\n", "        let _ = file.write_all_at(at, slot);\n")]),
     "logs_are_cut_before_all_are_decided": (f"{KEEPS} bad_line_behind_a_torn_log", [(STARTS, DECIDES + OPENS, "    let mut logs = Vec::new(rt.alloc());\n    for table in schema.tables() {\n        let decided = ready(rt, folder, table)?;\n        logs.push(open(rt, folder, decided)?)?;\n    }\n")]),
     "the_folder_is_not_synced_first": (f"{KEEPS} calls_of_a_start", [(SETTLES, "    settle_names(folder)?;\n    make_absent(folder, FileName::Log(begin))?;\n", "    make_absent(folder, FileName::Log(begin))?;\n")]),
-    "the_folder_is_never_synced": (CRASHES, [(FOLDER, "    File::open(rt, path)?.sync_all()\n", "    let _ = File::open(rt, path)?;\n    Ok(())\n")]),
+    "the_folder_is_never_synced": (CRASHES, [(FOLDER, "    Descriptor::open(path, TO_READ)?.sync_all()\n", "    let _ = Descriptor::open(path, TO_READ)?;\n    Ok(())\n")]),
     "no_mark_is_not_told": (f"{KEEPS} each_bit_of_a_mark", [(STARTS, "about.marks.mark.is_none() && about.recovered.end > 0 {\n", "about.marks.mark.is_none() && about.recovered.end > 1_000_000 {\n")]),
-    "an_old_journal_is_passed_over": (f"{KEEPS} journal_beside_its_state", [(STARTS, "    if let Err(fault) = refuse_plain(rt.alloc(), &files) {\n        return Err(files.told(fault));\n    }\n", "    let _ = refuse_plain(rt.alloc(), &files);\n")]),
+    "an_old_journal_is_passed_over": (f"{KEEPS} journal_beside_its_state", [(STARTS, "    if let Err(fault) = refuse_plain(rt.alloc(), &files) {\n        return Err(told(&files, fault));\n    }\n", "    let _ = refuse_plain(rt.alloc(), &files);\n")]),
     "an_old_log_goes_by_its_name": (f"{KEEPS} log_from_before_its_state", [(SPENT, LEFT, "        Some(OldLog::Left) => {\n            left.push(begin)?;\n            spent.push(begin)?;\n        }\n")]),
     "a_longer_old_log_is_passed_over": (f"{KEEPS} log_from_before_its_state", [(SPENT, "        Some(OldLog::Later) => return Err(FolderFault::Lacking(FileName::Log(begin))),\n", "        Some(OldLog::Later) => {}\n")]),
-    "a_state_is_renamed_before_it_is_synced": (CRASHES, [(HOSTS, "            file.shown.sync_all()\n", "            Ok(())\n")]),
+    "a_state_is_renamed_before_it_is_synced": (CRASHES, [(FILES, "            file.sync_all()\n", "            Ok(())\n")]),
     "a_state_has_its_name_unsynced": (f"{KEEPS} calls_of_a_compact", [(PUTS, PUT, "        return Err(fault);\n    }\n    Ok(())\n")]),
     "a_journal_is_taken_in_piece_by_piece": (f"{KEEPS} journals_that_come", [(IMPORTS, "        let _ = files.remove(FileName::LogDraft);\n        return Err(fault);\n", "        let _ = files.put_at(FileName::LogDraft, FileName::Log(None));\n        return Err(fault);\n")]),
 }

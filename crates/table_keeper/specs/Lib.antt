@@ -1,4 +1,2 @@
 pub mod Fault
-pub mod HostFolder
-pub mod Names
 pub mod Request

@@ -3,11 +3,12 @@
 use crate::decided::{carry_out, decide_for, put_beside, remove_beside};
 use crate::fault::Fault;
 use crate::fill::{Filling, fills_for, read_fillings, table_in};
-use crate::folder::Folder;
+use crate::folder::{check_table, taken};
 use crate::logs::{Declared, OpenLog, start};
 use crate::schema::schema_of;
 use crate::told::{tell_changes, unaltered};
 use keeper_words::Altering;
+use system_files::SystemFolder;
 use table_alter::altered;
 use table_schema::Schema;
 use table_step::Table;
@@ -27,7 +28,7 @@ pub(crate) fn alter(rt: &HostRuntime, asked: &Altering<'_>) -> Result<(), Fault>
     let old = schema_of(rt, asked.schema)?;
     let new = schema_of(rt, asked.new)?;
     let fillings = read_fillings(rt.alloc(), &old, &new, asked.fill)?;
-    let folder = Folder::taken(rt, asked.folder)?;
+    let folder = taken(rt, asked.folder)?;
     refuse_others(rt, &folder, &old, &new)?;
     let logs = start(rt, &folder, &old)?;
     let tables = all_altered(rt, logs, &new, &fillings)?;
@@ -47,13 +48,13 @@ pub(crate) fn alter(rt: &HostRuntime, asked: &Altering<'_>) -> Result<(), Fault>
 // Refuses a table that comes, where the folder has one of its name with another declaration.
 fn refuse_others(
     rt: &HostRuntime,
-    folder: &Folder,
+    folder: &SystemFolder,
     old: &Schema,
     new: &Schema,
 ) -> Result<(), Fault> {
     for table in new.tables() {
         if table_in(old, table.name()).is_none() {
-            folder.check_table(rt, table)?;
+            check_table(rt, folder, table)?;
         }
     }
     Ok(())
@@ -123,7 +124,7 @@ fn tell_tables(rt: &HostRuntime, old: &Schema, new: &Schema) -> Result<(), Fault
 }
 
 // Writes the new states beside, and decides for all of them once they are there.
-fn put_all(rt: &HostRuntime, folder: &Folder, tables: Vec<Altered<'_>>) -> Result<(), Fault> {
+fn put_all(rt: &HostRuntime, folder: &SystemFolder, tables: Vec<Altered<'_>>) -> Result<(), Fault> {
     let mut all = Vec::with_capacity(rt.alloc(), tables.len())?;
     for Altered {
         declared,

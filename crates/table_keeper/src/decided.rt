@@ -2,20 +2,25 @@
 //! moment that it is there the change is carried out, at the next start if need be; before that nothing is changed.
 
 use crate::fault::Fault;
-use crate::files::is_there;
-use crate::folder::Folder;
-use crate::host_folder::TableFiles;
+use crate::files::{Files, files_of, told};
+use crate::folder::sync;
 use crate::logs::Declared;
 use schema_file::read_schema;
 use std::alloc::Global;
+use system_files::SystemFolder;
 use table_folder::{
-    Begin, FileName, Folder as _, declare, install, put_state, read_begin, read_file,
+    Begin, FileName, Folder, FolderFault, declare, install, put_state, read_begin, read_file,
 };
 use table_schema::{Schema, SchemaFault, TableSpec};
 use table_step::Table;
 
 /// The name beside that of no table, whose declaration is the file that decides.
 const ALL: &str = "all.alter";
+
+/// How the name of a state ends that stands beside, and while it is written.
+const STATE: &str = ".alter.state";
+
+const STATE_DRAFT: &str = ".alter.state.new";
 
 // The name beside under which the new state of a table stands.
 fn beside(alloc: Global, table: &str) -> Result<String, Fault> {
@@ -25,16 +30,16 @@ fn beside(alloc: Global, table: &str) -> Result<String, Fault> {
 /// Writes the new state of a table beside, whose last write has this digest, and reads it back.
 pub(crate) fn put_beside(
     rt: &HostRuntime,
-    folder: &Folder,
+    folder: &SystemFolder,
     declared: &Declared<'_>,
     table: &Table,
     digest: u64,
 ) -> Result<(), Fault> {
     let name = beside(rt.alloc(), declared.spec.name())?;
-    let mut files = TableFiles::new(*rt, folder, name.as_str());
+    let mut files = files_of(rt, folder, name.as_str());
     let types = declared.types.as_str();
     if let Err(fault) = put_state(rt.alloc(), &mut files, table, types, digest) {
-        return Err(files.told(fault));
+        return Err(told(&files, fault));
     }
     read_beside(rt, &files, declared)?;
     Ok(())
@@ -43,7 +48,7 @@ pub(crate) fn put_beside(
 // The state of a table that stands beside.
 fn read_beside(
     rt: &HostRuntime,
-    files: &TableFiles<'_>,
+    files: &Files<'_>,
     declared: &Declared<'_>,
 ) -> Result<(Table, u64), Fault> {
     let types = declared.types.as_str();
@@ -54,39 +59,39 @@ fn read_beside(
                 table: Some(table),
             },
         ) => Ok((table, base.link.digest)),
-        Ok(_) => Err(files.told(table_folder::FolderFault::Missing(FileName::State))),
-        Err(fault) => Err(files.told(fault)),
+        Ok(_) => Err(told(files, FolderFault::Missing(FileName::State))),
+        Err(fault) => Err(told(files, fault)),
     }
 }
 
 /// Decides the change of these tables, whose new states all stand beside.
 pub(crate) fn decide_for(
     rt: &HostRuntime,
-    folder: &Folder,
+    folder: &SystemFolder,
     tables: &[Declared<'_>],
 ) -> Result<(), Fault> {
     let mut text = String::new(rt.alloc());
     for table in tables {
         text.push_str(table.text())?;
     }
-    let mut files = TableFiles::new(*rt, folder, ALL);
+    let mut files = files_of(rt, folder, ALL);
     match declare(&mut files, text.as_bytes()) {
         Ok(()) => Ok(()),
-        Err(fault) => Err(files.told(fault)),
+        Err(fault) => Err(told(&files, fault)),
     }
 }
 
 /// Carries out a change of tables that was decided, if there is one. It may be done again where it was broken off. Where none was decided, what one left beside goes.
-pub(crate) fn carry_out(rt: &HostRuntime, folder: &Folder) -> Result<(), Fault> {
+pub(crate) fn carry_out(rt: &HostRuntime, folder: &SystemFolder) -> Result<(), Fault> {
     let Some(schema) = decided_in(rt, folder)? else {
         return remove_undecided(rt, folder);
     };
     for table in schema.tables() {
         take_in(rt, folder, table)?;
     }
-    let mut files = TableFiles::new(*rt, folder, ALL);
+    let mut files = files_of(rt, folder, ALL);
     remove(&mut files, FileName::Declaration)?;
-    folder.sync(rt)?;
+    sync(rt, folder)?;
     for table in schema.tables() {
         remove_beside(rt, folder, table.name())?;
     }
@@ -94,64 +99,78 @@ pub(crate) fn carry_out(rt: &HostRuntime, folder: &Folder) -> Result<(), Fault> 
 }
 
 // The new declarations of the tables whose change is decided.
-fn decided_in(rt: &HostRuntime, folder: &Folder) -> Result<Option<Schema>, Fault> {
-    let files = TableFiles::new(*rt, folder, ALL);
+fn decided_in(rt: &HostRuntime, folder: &SystemFolder) -> Result<Option<Schema>, Fault> {
+    let files = files_of(rt, folder, ALL);
     let text = match read_file(rt.alloc(), &files, FileName::Declaration) {
         Ok(Some(text)) => text,
         Ok(None) => return Ok(None),
-        Err(fault) => return Err(files.told(fault)),
+        Err(fault) => return Err(told(&files, fault)),
     };
     match read_schema(rt.alloc(), text.as_slice()) {
         Ok(schema) => Ok(Some(schema)),
         Err(SchemaFault::Memory) => Err(Fault::Memory),
-        Err(_) => Err(Fault::State(folder.declaration_of(rt.alloc(), ALL)?)),
+        Err(_) => Err(Fault::State(files.path(FileName::Declaration)?)),
     }
 }
 
 // Puts the state that stands beside, and the new declaration, in the place of all that the folder has of a table.
-fn take_in(rt: &HostRuntime, folder: &Folder, table: &TableSpec) -> Result<(), Fault> {
+fn take_in(rt: &HostRuntime, folder: &SystemFolder, table: &TableSpec) -> Result<(), Fault> {
     let declared = Declared::new(rt, table)?;
     let name = beside(rt.alloc(), table.name())?;
-    let (new, digest) = read_beside(rt, &TableFiles::new(*rt, folder, name.as_str()), &declared)?;
-    let mut files = TableFiles::new(*rt, folder, table.name());
+    let (new, digest) = read_beside(rt, &files_of(rt, folder, name.as_str()), &declared)?;
+    let mut files = files_of(rt, folder, table.name());
     let types = declared.types.as_str();
     let text = declared.text().as_bytes();
     match install(rt.alloc(), &mut files, &new, types, text, digest) {
         Ok(()) => Ok(()),
-        Err(fault) => Err(files.told(fault)),
+        Err(fault) => Err(told(&files, fault)),
     }
 }
 
 // Removes what a change left beside that was broken off before it was decided, and tells it.
-fn remove_undecided(rt: &HostRuntime, folder: &Folder) -> Result<(), Fault> {
-    for table in folder.besides(rt)? {
+fn remove_undecided(rt: &HostRuntime, folder: &SystemFolder) -> Result<(), Fault> {
+    for table in besides(rt, folder)? {
         let name = beside(rt.alloc(), table.as_str())?;
-        let path = folder.state_of(rt.alloc(), name.as_str())?;
+        let path = folder.path_of(name.as_str(), FileName::State)?;
         remove_beside(rt, folder, table.as_str())?;
         let _ = eprintln!(rt; "removed: {path}: of a change that was not decided");
     }
-    let draft = folder.declaration_draft_of(rt.alloc(), ALL)?;
-    if is_there(rt, draft.as_str()) {
-        remove(
-            &mut TableFiles::new(*rt, folder, ALL),
-            FileName::DeclarationDraft,
-        )?;
+    remove(&mut files_of(rt, folder, ALL), FileName::DeclarationDraft)
+}
+
+// The tables of which a state stands beside, whole or not.
+fn besides(rt: &HostRuntime, folder: &SystemFolder) -> Result<Vec<String>, Fault> {
+    let mut tables = tables_of(rt, folder, STATE)?;
+    for table in tables_of(rt, folder, STATE_DRAFT)? {
+        tables.push(table)?;
     }
-    Ok(())
+    Ok(tables)
+}
+
+// The tables of which the name of a file ends so.
+fn tables_of(rt: &HostRuntime, folder: &SystemFolder, end: &str) -> Result<Vec<String>, Fault> {
+    match folder.tables_of(end) {
+        Ok(tables) => Ok(tables),
+        Err(error) => Err(Fault::of_file(&error, String::from_str(rt.alloc(), folder.path())?)),
+    }
 }
 
 /// Removes what stands beside of a table.
-pub(crate) fn remove_beside(rt: &HostRuntime, folder: &Folder, table: &str) -> Result<(), Fault> {
+pub(crate) fn remove_beside(
+    rt: &HostRuntime,
+    folder: &SystemFolder,
+    table: &str,
+) -> Result<(), Fault> {
     let name = beside(rt.alloc(), table)?;
-    let mut files = TableFiles::new(*rt, folder, name.as_str());
+    let mut files = files_of(rt, folder, name.as_str());
     remove(&mut files, FileName::StateDraft)?;
     remove(&mut files, FileName::State)
 }
 
 // Removes a file, where it is there.
-fn remove(files: &mut TableFiles<'_>, name: FileName) -> Result<(), Fault> {
+fn remove(files: &mut Files<'_>, name: FileName) -> Result<(), Fault> {
     match files.remove(name) {
         Ok(()) => Ok(()),
-        Err(_) => Err(files.told(table_folder::FolderFault::File(name))),
+        Err(_) => Err(told(files, FolderFault::File(name))),
     }
 }

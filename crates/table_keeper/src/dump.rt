@@ -1,13 +1,13 @@
 //! Prints the records of a table.
 
 use crate::fault::Fault;
-use crate::files::is_there;
-use crate::folder::Folder;
-use crate::host_folder::TableFiles;
+use crate::files::{files_of, told};
+use crate::folder::taken_there;
 use crate::logs::compared;
 use crate::schema::{schema_of, table_named};
 use keeper_words::Dumping;
 use std::io::{BufWriter, Write};
+use system_files::SystemFolder;
 use table_folder::{FileName, decide};
 use table_rows::{Unwritten, write_csv, write_inserts};
 use table_schema::TableSpec;
@@ -17,10 +17,7 @@ use table_step::Table;
 pub(crate) fn dump(rt: &HostRuntime, asked: &Dumping<'_>) -> Result<(), Fault> {
     let schema = schema_of(rt, asked.schema)?;
     let spec = table_named(rt, &schema, asked.table)?;
-    if !is_there(rt, asked.folder) {
-        return Err(Fault::Missing(String::from_str(rt.alloc(), asked.folder)?));
-    }
-    let folder = Folder::taken(rt, asked.folder)?;
+    let folder = taken_there(rt, asked.folder)?;
     let table = kept_table(rt, &folder, spec)?;
     let index = index_named(rt, table.records().spec(), asked.by)?;
     match print(rt, &table, index, asked.csv) {
@@ -31,9 +28,9 @@ pub(crate) fn dump(rt: &HostRuntime, asked: &Dumping<'_>) -> Result<(), Fault> {
 }
 
 // A table that a folder has, as a start would have it.
-fn kept_table(rt: &HostRuntime, folder: &Folder, spec: &TableSpec) -> Result<Table, Fault> {
+fn kept_table(rt: &HostRuntime, folder: &SystemFolder, spec: &TableSpec) -> Result<Table, Fault> {
     let declared = compared(rt, folder, spec)?;
-    let files = TableFiles::new(*rt, folder, spec.name());
+    let files = files_of(rt, folder, spec.name());
     let mut left = Vec::new(rt.alloc());
     let types = declared.types.as_str();
     let decided = match decide(
@@ -45,15 +42,15 @@ fn kept_table(rt: &HostRuntime, folder: &Folder, spec: &TableSpec) -> Result<Tab
         &mut left,
     ) {
         Ok(decided) => decided,
-        Err(fault) => return Err(files.told(fault)),
+        Err(fault) => return Err(told(&files, fault)),
     };
     if decided.about.base.is_state {
         return Ok(decided.table);
     }
     match table_folder::is_there(&files, FileName::Log(None)) {
         Ok(true) => Ok(decided.table),
-        Ok(false) => Err(Fault::Missing(folder.log_of(rt.alloc(), spec.name(), None)?)),
-        Err(fault) => Err(files.told(fault)),
+        Ok(false) => Err(Fault::Missing(files.path(FileName::Log(None))?)),
+        Err(fault) => Err(told(&files, fault)),
     }
 }
 

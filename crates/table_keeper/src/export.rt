@@ -1,9 +1,8 @@
 //! Prints the writes of a table's log.
 
 use crate::fault::Fault;
-use crate::files::{PIECE, is_there};
-use crate::folder::Folder;
-use crate::host_folder::TableFiles;
+use crate::files::{files_of, told};
+use crate::folder::taken_there;
 use crate::logs::{LogDisk, find_log};
 use crate::schema::{schema_of, table_named};
 use keeper_words::OneTable;
@@ -11,23 +10,23 @@ use std::io::Write;
 use table_folder::{FileName, FoundLog};
 use table_log::Disk;
 
+/// How many bytes are read at a time.
+const PIECE: usize = 65_536;
+
 /// Prints the writes of a table's log, a line each, and says behind which write they begin where that is not the first. Nothing is
 /// changed.
 pub(crate) fn export(rt: &HostRuntime, asked: &OneTable<'_>) -> Result<(), Fault> {
     let schema = schema_of(rt, asked.schema)?;
     let table = table_named(rt, &schema, asked.table)?;
-    if !is_there(rt, asked.folder) {
-        return Err(Fault::Missing(String::from_str(rt.alloc(), asked.folder)?));
-    }
-    let folder = Folder::taken(rt, asked.folder)?;
+    let folder = taken_there(rt, asked.folder)?;
     let FoundLog {
         mut disk,
         about,
         ..
     } = find_log(rt, &folder, table)?;
     let state = about.base.state();
-    let files = TableFiles::new(*rt, &folder, table.name());
-    let path = folder.log_of(rt.alloc(), table.name(), state)?;
+    let files = files_of(rt, &folder, table.name());
+    let path = files.path(FileName::Log(state))?;
     match state {
         Some(number) => {
             let _ = eprintln!(rt; "behind: {path}: the log begins behind write {number}");
@@ -35,7 +34,7 @@ pub(crate) fn export(rt: &HostRuntime, asked: &OneTable<'_>) -> Result<(), Fault
         None => match table_folder::is_there(&files, FileName::Log(None)) {
             Ok(true) => {}
             Ok(false) => return Err(Fault::Missing(path)),
-            Err(fault) => return Err(files.told(fault)),
+            Err(fault) => return Err(told(&files, fault)),
         },
     }
     print_all(rt, &mut disk, path)

@@ -1,19 +1,21 @@
 //! Takes a journal or rows of CSV into the log of an empty table.
 
 use crate::fault::Fault;
-use crate::folder::Folder;
-use crate::host_folder::{HostFile, TableFiles};
+use crate::files::{Files, files_of};
+use crate::folder::{sync, taken};
 use crate::logs::{Declared, OpenLog, start};
 use crate::mark::NoMark;
 use crate::rows::take_rows;
 use crate::schema::{schema_of, table_named};
+use crate::shown::Shown;
 use checked_disk::{Beside, CheckedDisk};
 use checked_log::read_marks;
 use command_lines::{CommandFault, read_command};
 use keeper_words::Importing;
 use std::io;
 use std::io::{BufRead, BufReader, ErrorKind};
-use table_folder::{Base, FileName, Folder as _};
+use system_files::{SystemFile, SystemFolder};
+use table_folder::{Base, FileName, Folder};
 use table_log::{LoggedTable, Opened};
 use table_reply::{Out, memory_line};
 use table_schema::TableSpec;
@@ -22,20 +24,20 @@ use table_schema::TableSpec;
 const INPUT: &str = "standard input";
 
 /// A log that is not at its name yet.
-pub(crate) type DraftDisk = CheckedDisk<Beside<HostFile, NoMark>>;
+pub(crate) type DraftDisk = CheckedDisk<Beside<SystemFile<Shown>, NoMark>>;
 
 /// Takes a journal or rows of CSV from standard input into the log of a table that has neither a state nor a write: all of it or nothing.
 pub(crate) fn import(rt: &HostRuntime, asked: &Importing<'_>) -> Result<(), Fault> {
     let schema = schema_of(rt, asked.schema)?;
     let table = table_named(rt, &schema, asked.table)?;
-    let folder = Folder::taken(rt, asked.folder)?;
+    let folder = taken(rt, asked.folder)?;
     refuse_filled(rt, &folder, start(rt, &folder, &schema)?, table.name())?;
-    let mut files = TableFiles::new(*rt, &folder, table.name());
-    if let Err(fault) = put_log(rt, &folder, &mut files, table, asked.csv) {
+    let mut files = files_of(rt, &folder, table.name());
+    if let Err(fault) = put_log(rt, &mut files, table, asked.csv) {
         let _ = files.remove(FileName::LogDraft);
         return Err(fault);
     }
-    folder.sync(rt)?;
+    sync(rt, &folder)?;
     start(rt, &folder, &schema)?;
     Ok(())
 }
@@ -43,7 +45,7 @@ pub(crate) fn import(rt: &HostRuntime, asked: &Importing<'_>) -> Result<(), Faul
 // Refuses a table of this name that has a state or a write.
 fn refuse_filled(
     rt: &HostRuntime,
-    folder: &Folder,
+    folder: &SystemFolder,
     logs: Vec<OpenLog<'_>>,
     table: &str,
 ) -> Result<(), Fault> {
@@ -51,7 +53,7 @@ fn refuse_filled(
         let base = log.about.base;
         let is_filled = base.is_state || log.about.recovered.last.number > 0;
         if log.table.name() == table && is_filled {
-            return Err(Fault::Filled(folder.log_of(rt.alloc(), table, base.state())?));
+            return Err(Fault::Filled(folder.path_of(table, FileName::Log(base.state()))?));
         }
     }
     Ok(())
@@ -60,12 +62,11 @@ fn refuse_filled(
 // Takes a journal or rows of CSV into a log beside, and puts it at its name once the system has it.
 fn put_log(
     rt: &HostRuntime,
-    folder: &Folder,
-    files: &mut TableFiles<'_>,
+    files: &mut Files<'_>,
     table: &TableSpec,
     csv: bool,
 ) -> Result<(), Fault> {
-    let path = folder.log_draft_of(rt.alloc(), table.name())?;
+    let path = files.path(FileName::LogDraft)?;
     let draft = match files.begin(FileName::LogDraft) {
         Ok(draft) => draft,
         Err(error) => return Err(Fault::of_file(&error, path)),
@@ -93,7 +94,7 @@ fn put_log(
 fn open_draft(
     rt: &HostRuntime,
     table: &TableSpec,
-    draft: HostFile,
+    draft: SystemFile<Shown>,
     path: &str,
 ) -> Result<LoggedTable<DraftDisk>, Fault> {
     let base = Base::empty(Declared::new(rt, table)?.digest());

@@ -1,19 +1,22 @@
 //! The logs of a folder, and the tables that they leave. Nothing is changed before all tables are decided.
 
-use crate::declaration::text_of;
 use crate::fault::Fault;
-use crate::folder::Folder;
-use crate::frame::types_of;
-use crate::host_folder::{HostLog, TableFiles};
+use crate::files::{files_of, told};
+use crate::folder::check_table;
+use crate::shown::Shown;
 use checked_disk::CheckedDisk;
 use checked_log::digest_of;
-use table_folder::{About, Decided, FoundLog, clean, decide, declare, refuse_plain, settle};
+use kept_tables::{text_of, types_of};
+use system_files::{SystemFolder, SystemLog};
+use table_folder::{
+    About, Decided, FileName, FoundLog, clean, decide, declare, refuse_plain, settle,
+};
 use table_log::LoggedTable;
 use table_schema::{Schema, TableSpec};
 use table_step::Table;
 
 /// The disk of a log.
-pub(crate) type LogDisk = CheckedDisk<HostLog>;
+pub(crate) type LogDisk = CheckedDisk<SystemLog<Shown>>;
 
 /// A table of the schema, with what its files are compared with.
 #[derive(Drop)]
@@ -70,7 +73,7 @@ struct ToServe<'a> {
 /// Makes the tables of a folder, in the order of a start: all are decided, and only then the files of each are settled.
 pub(crate) fn start<'a>(
     rt: &HostRuntime,
-    folder: &Folder,
+    folder: &SystemFolder,
     schema: &'a Schema,
 ) -> Result<Vec<OpenLog<'a>>, Fault> {
     let mut decided = Vec::new(rt.alloc());
@@ -87,13 +90,13 @@ pub(crate) fn start<'a>(
 /// A table, where the declaration that is there is its own, and no file is one of an older program.
 pub(crate) fn compared<'a>(
     rt: &HostRuntime,
-    folder: &Folder,
+    folder: &SystemFolder,
     table: &'a TableSpec,
 ) -> Result<Declared<'a>, Fault> {
-    folder.check_table(rt, table)?;
-    let files = TableFiles::new(*rt, folder, table.name());
+    check_table(rt, folder, table)?;
+    let files = files_of(rt, folder, table.name());
     if let Err(fault) = refuse_plain(rt.alloc(), &files) {
-        return Err(files.told(fault));
+        return Err(told(&files, fault));
     }
     Declared::new(rt, table)
 }
@@ -101,11 +104,11 @@ pub(crate) fn compared<'a>(
 /// Reads what a folder has of a table, up to its log.
 pub(crate) fn find_log(
     rt: &HostRuntime,
-    folder: &Folder,
+    folder: &SystemFolder,
     table: &TableSpec,
-) -> Result<FoundLog<HostLog>, Fault> {
+) -> Result<FoundLog<SystemLog<Shown>>, Fault> {
     let declared = compared(rt, folder, table)?;
-    let files = TableFiles::new(*rt, folder, table.name());
+    let files = files_of(rt, folder, table.name());
     let mut left = Vec::new(rt.alloc());
     let found = table_folder::find_log(
         rt.alloc(),
@@ -126,18 +129,18 @@ pub(crate) fn find_log(
             )?;
             Ok(found)
         }
-        Err(fault) => Err(files.told(fault)),
+        Err(fault) => Err(told(&files, fault)),
     }
 }
 
 // Decides whether a table may be served, and changes nothing.
 fn ready<'a>(
     rt: &HostRuntime,
-    folder: &Folder,
+    folder: &SystemFolder,
     table: &'a TableSpec,
 ) -> Result<ToServe<'a>, Fault> {
     let declared = compared(rt, folder, table)?;
-    let files = TableFiles::new(*rt, folder, table.name());
+    let files = files_of(rt, folder, table.name());
     let mut left = Vec::new(rt.alloc());
     let decided = decide(
         rt.alloc(),
@@ -158,25 +161,29 @@ fn ready<'a>(
             )?;
             Ok(ToServe { declared, decided })
         }
-        Err(fault) => Err(files.told(fault)),
+        Err(fault) => Err(told(&files, fault)),
     }
 }
 
 // Opens a table's log once its names are settled, makes sure of it, declares the table, and removes what is not needed.
-fn open<'a>(rt: &HostRuntime, folder: &Folder, decided: ToServe<'a>) -> Result<OpenLog<'a>, Fault> {
+fn open<'a>(
+    rt: &HostRuntime,
+    folder: &SystemFolder,
+    decided: ToServe<'a>,
+) -> Result<OpenLog<'a>, Fault> {
     let ToServe { declared, decided } = decided;
     let Decided { table, about } = decided;
-    let mut files = TableFiles::new(*rt, folder, declared.spec.name());
+    let mut files = files_of(rt, folder, declared.spec.name());
     let disk = match settle(rt.alloc(), &mut files, &about) {
         Ok(disk) => disk,
-        Err(fault) => return Err(files.told(fault)),
+        Err(fault) => return Err(told(&files, fault)),
     };
     tell(rt, folder, declared.spec.name(), &about)?;
     if let Err(fault) = declare(&mut files, declared.text.as_bytes()) {
-        return Err(files.told(fault));
+        return Err(told(&files, fault));
     }
     if let Err(fault) = clean(&mut files, &about.spent) {
-        return Err(files.told(fault));
+        return Err(told(&files, fault));
     }
     Ok(OpenLog {
         declared,
@@ -210,13 +217,13 @@ impl OpenLog<'_> {
 /// Tells which logs are left, beside a state of this last write.
 pub(crate) fn tell_left(
     rt: &HostRuntime,
-    folder: &Folder,
+    folder: &SystemFolder,
     table: &str,
     left: &[Option<u64>],
     number: u64,
 ) -> Result<(), Fault> {
     for begin in left {
-        tell_unended(rt, &folder.log_of(rt.alloc(), table, *begin)?, number);
+        tell_unended(rt, &folder.path_of(table, FileName::Log(*begin))?, number);
     }
     Ok(())
 }
@@ -227,8 +234,8 @@ pub(crate) fn tell_unended(rt: &HostRuntime, path: &str, number: u64) {
 }
 
 // Tells what was cut off, and that there was no mark, where the log had writes.
-fn tell(rt: &HostRuntime, folder: &Folder, table: &str, about: &About) -> Result<(), Fault> {
-    let path = folder.log_of(rt.alloc(), table, about.base.state())?;
+fn tell(rt: &HostRuntime, folder: &SystemFolder, table: &str, about: &About) -> Result<(), Fault> {
+    let path = folder.path_of(table, FileName::Log(about.base.state()))?;
     let behind = about.recovered.behind;
     let bytes = behind.bytes;
     let lines = behind.lines;
@@ -244,7 +251,7 @@ fn tell(rt: &HostRuntime, folder: &Folder, table: &str, about: &About) -> Result
         None => {}
     }
     if about.marks.mark.is_none() && about.recovered.end > 0 {
-        let mark = folder.mark_of(rt.alloc(), table)?;
+        let mark = folder.path_of(table, FileName::Mark)?;
         let _ = eprintln!(rt; "mark: {mark}: none");
     }
     Ok(())

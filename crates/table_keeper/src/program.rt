@@ -7,7 +7,7 @@ use crate::compact::compact;
 use crate::dump::dump;
 use crate::export::export;
 use crate::fault::Fault;
-use crate::folder::Folder;
+use crate::folder::taken;
 use crate::host::Host;
 use crate::import::import;
 use crate::listen::Listening;
@@ -21,6 +21,8 @@ use logged_tables::{LoggedTables, OverAt, Syncing};
 use std::env;
 use std::io::ErrorKind;
 use std::sync::{Arc, Condvar, Mutex};
+use system_files::SystemFolder;
+use table_folder::FileName;
 
 /// Does what the words ask for. Serving ends at a fault alone.
 pub(crate) fn run<R: Host>(rt: &HostRuntime, threads: &R) -> Result<(), Fault> {
@@ -48,7 +50,7 @@ fn given_words(rt: &HostRuntime) -> Result<Vec<String>, Fault> {
 // Starts, and writes the state of each table with an empty log behind it.
 fn begin_anew(rt: &HostRuntime, asked: &Tables<'_>) -> Result<(), Fault> {
     let schema = schema_of(rt, asked.schema)?;
-    let folder = Folder::taken(rt, asked.folder)?;
+    let folder = taken(rt, asked.folder)?;
     let logs = start(rt, &folder, &schema)?;
     compact(rt, &folder, logs)
 }
@@ -56,7 +58,7 @@ fn begin_anew(rt: &HostRuntime, asked: &Tables<'_>) -> Result<(), Fault> {
 // Starts, listens and serves.
 fn keep<R: Host>(rt: &HostRuntime, threads: &R, keeping: &Keeping<'_>) -> Result<(), Fault> {
     let schema = schema_of(rt, keeping.schema)?;
-    let folder = Folder::taken(rt, keeping.folder)?;
+    let folder = taken(rt, keeping.folder)?;
     let logs = start(rt, &folder, &schema)?;
     let Ok(listening) = Listening::at(rt, keeping.listen) else {
         return Err(Fault::Listen);
@@ -92,7 +94,7 @@ struct Kept {
 // Who waits for the logs, where all are synced once a second.
 fn syncers_of(
     rt: &HostRuntime,
-    folder: &Folder,
+    folder: &SystemFolder,
     logs: &[OpenLog<'_>],
     syncing: Syncing,
 ) -> Result<Vec<FileSyncer>, Fault> {
@@ -101,24 +103,27 @@ fn syncers_of(
         return Ok(syncers);
     }
     for log in logs {
-        match log.disk.files().syncer(*rt) {
-            Ok(syncer) => syncers.push(syncer)?,
-            Err(error) => {
-                let state = log.about.base.state();
-                let path = folder.log_of(rt.alloc(), log.table.name(), state)?;
-                return Err(Fault::of_file(&error, path));
-            }
+        let path = folder.path_of(log.table.name(), FileName::Log(log.about.base.state()))?;
+        let mark = folder.path_of(log.table.name(), FileName::Mark)?;
+        match log.disk.files().waiter(path.as_str(), mark.as_str()) {
+            Ok(files) => syncers.push(FileSyncer { files })?,
+            Err(error) => return Err(Fault::of_file(&error, path)),
         }
     }
     Ok(syncers)
 }
 
 // Puts tables behind locks.
-fn behind_locks(rt: &HostRuntime, folder: &Folder, logs: Vec<OpenLog<'_>>) -> Result<Kept, Fault> {
+fn behind_locks(
+    rt: &HostRuntime,
+    folder: &SystemFolder,
+    logs: Vec<OpenLog<'_>>,
+) -> Result<Kept, Fault> {
     let mut tables = Vec::with_capacity(rt.alloc(), logs.len())?;
     let mut paths = Vec::with_capacity(rt.alloc(), logs.len())?;
     for log in logs {
-        paths.push(folder.log_of(rt.alloc(), log.table.name(), log.about.base.state())?)?;
+        let begin = FileName::Log(log.about.base.state());
+        paths.push(folder.path_of(log.table.name(), begin)?)?;
         tables.push(log.logged(rt)?)?;
     }
     let tables = LoggedTables::new(rt.alloc(), tables)?;
