@@ -1,7 +1,8 @@
 /* Tables with several indices in a C program. docs/EMBED.md says how a program is built, docs/PROTOCOL.md what a schema file is.
 
-   There are two ways to call. tc_open and what follows it take lines of JSON for all tables of a schema, and tell answer lines:
-   docs/PROTOCOL.md has them. tc_rows_open and what follows it hold the records of one table, and take them as arrays of cells.
+   There are two ways to call. tc_open, tc_open_folder and what follows them take lines of JSON for all tables of a schema, in memory or
+   in a folder that keeps them, and tell answer lines: docs/PROTOCOL.md has them. tc_rows_open and what follows it hold the records of one
+   table, and take them as arrays of cells.
 
        tc_tables tables = TC_CLOSED;
        size_t taken, length;
@@ -96,7 +97,12 @@ enum tc_status {
     TC_FULL = 16,    /* there are as many records as the schema allows */
     TC_SPENT = 17,   /* there were as many changes as can be numbered */
     TC_TABLE = 18,   /* no table of the schema has the number */
-    TC_PLACE = 19    /* the place is greater than the number of records */
+    TC_PLACE = 19,   /* the place is greater than the number of records */
+    TC_DEVICE = 20,  /* a file or the folder can't be opened, read, made, written or synced */
+    TC_TAKEN = 21,   /* another program has the folder, or another handle */
+    TC_OTHER = 22,   /* the folder keeps a table of this name that is declared otherwise */
+    TC_HURT = 23,    /* what the folder has is not whole, or not of these tables */
+    TC_LOG = 24      /* a log can't be written or synced, now or before */
 };
 
 /* A column of an order: from its least cell up, where null is least, or from its greatest down. */
@@ -109,22 +115,37 @@ typedef struct tc_part {
    Answers TC_OK, or TC_MEMORY, TC_TOML to TC_KEY, or TC_HANDLE for a handle that is open. Then all is as before. */
 uint8_t tc_open(tc_tables *tables, const void *schema, size_t length);
 
+/* Opens the tables of a schema file that a folder keeps: with the files, the formats and the lock of table_keeper (docs/KEEPER.md), so
+   either may go on where the other left off. The folder is made where it is absent; a start is made as there. With is_synced, no answer
+   is told before the logs are synced; without it the system does that, or tc_sync.
+   Answers TC_OK, and a closed handle is then open. Or TC_MEMORY, TC_TOML to TC_KEY, TC_DEVICE, TC_TAKEN (a program that was killed has
+   its lock for a moment longer: try again), TC_OTHER, TC_HURT (table_keeper --compact tells which file and why), or TC_HANDLE for a
+   handle that is open. Then it is as before. */
+uint8_t tc_open_folder(tc_tables *tables, const void *schema, size_t length, const void *folder, size_t folder_length, bool is_synced);
+
+/* Syncs the logs of tables that a folder keeps: what was written until now no crash takes away. Answers TC_OK, TC_LOG or TC_HANDLE. */
+uint8_t tc_sync(tc_tables *tables);
+
 /* Hands in the next bytes of a stream of lines, cut anywhere: half a line, or many. Each newline ends a line, which is carried
    out, and its answer waits for tc_take. Bytes behind the last newline wait for the next call or for tc_end.
    Answers TC_OK, and *taken is length. Or TC_MEMORY: *taken is less, the lines before that byte are answered, and the line that
    it ends is not carried out, as there is no memory for its answer. Take the answers, and call again with the bytes from *taken on.
    Once tc_take has moved them out there is room for one answer, so a call then takes at least one byte more.
    A line that is refused memory itself is answered {"err":"memory"}, and has changed nothing. TC_HANDLE: the handle is closed,
-   and *taken is 0. */
+   and *taken is 0. TC_LOG: the log of the table that a line names can't be written. The lines before it are answered, *taken ends before
+   its newline, and the handle takes nothing more: close it, see to the disk, and open the folder again. */
 uint8_t tc_call(tc_tables *tables, const void *lines, size_t length, size_t *taken);
 
 /* Ends the stream: a line that has no newline is carried out as if it had one. What is handed in next begins a new line.
-   Answers TC_OK, TC_MEMORY (nothing is done: take the answers, and call again), or TC_HANDLE for a handle that is closed. */
+   Answers TC_OK, TC_MEMORY (nothing is done: take the answers, and call again), TC_LOG as tc_call does, or TC_HANDLE for a handle that is
+   closed. */
 uint8_t tc_end(tc_tables *tables);
 
 /* Moves the answers that wait to the front of the room: a line each, in the order of the lines, each with its newline.
    Answers TC_OK, and *length is how many bytes were written, 0 if none waited. Or TC_ROOM: *length is how many wait, the room is
    untouched, and they wait on. TC_HANDLE: the handle is closed, and *length is 0. It takes no memory.
+   Of a folder that was opened with is_synced it first syncs each log that has more than is synced. TC_LOG: one of them can't be; *length is
+   0, the room is untouched, and they wait on.
    What answers took is used for later ones, and goes back with the tables. */
 uint8_t tc_take(tc_tables *tables, void *room, size_t room_length, size_t *length);
 

@@ -62,7 +62,12 @@ enum class status : std::uint8_t {
     full = TC_FULL,
     spent = TC_SPENT,
     table = TC_TABLE,
-    place = TC_PLACE
+    place = TC_PLACE,
+    device = TC_DEVICE,
+    taken = TC_TAKEN,
+    other = TC_OTHER,
+    hurt = TC_HURT,
+    log = TC_LOG
 };
 
 // A status, and a number of bytes: those taken, those written, or those that wait.
@@ -155,6 +160,21 @@ class tables {
         return made;
     }
 
+    // tc_open_folder: the tables of a schema file that the folder at a path keeps. Where is_synced, answers are told once the logs are synced.
+    [[nodiscard]] static std::optional<tables> open_folder(std::string_view schema, std::string_view folder, bool is_synced = true, status *why = nullptr) noexcept
+    {
+        tables made;
+        status how{tc_open_folder(made.handle, parts::at(schema), schema.size(), parts::at(folder), folder.size(), is_synced)};
+        if (why)
+            *why = how;
+        if (how != status::ok)
+            return std::nullopt;
+        return made;
+    }
+
+    // tc_sync: syncs the logs of the tables that a folder keeps.
+    [[nodiscard]] status sync() noexcept { return status{tc_sync(handle)}; }
+
     // tc_call: hands in the next bytes of the stream, cut anywhere. Of status::memory hand in again what stands behind `length`.
     [[nodiscard]] told call(std::string_view lines) noexcept
     {
@@ -190,7 +210,7 @@ class tables {
 
     // Hands in one line, with its newline or without, and takes its answer, which is as long good as that of `answers`. An empty text
     // where the line has no answer. No answer may wait and no line be begun before it. Without a value: `answers` takes the answer later,
-    // where memory for its text is refused; where the tables are closed there is none.
+    // where memory for its text is refused; where the tables are closed, or a log can't be written (`end` or `sync` tells which), there is none.
     [[nodiscard]] std::optional<std::string_view> ask(std::string_view line) noexcept
     {
         if (!insist(line) || (!line.ends_with('\n') && !insist("\n")))

@@ -19,6 +19,7 @@ use Rattle.core.proofs.cell.Inside.{Good}
 use Rattle.table_engine.specs.Lines.{short}
 use Rattle.tables_c.specs.contracts.handle.Handle as handle
 use Rattle.tables_c.specs.contracts.held.Held as Held
+use Rattle.tables_c.specs.declared.held.Side.TheVariants.{Memory}
 use Rattle.tables_c.proofs.Boxed.{both_tt, owned, word}
 
 -- ---- a handle of tables
@@ -28,7 +29,7 @@ held = Held.the_row
 
 -- some tables; a closed handle leads to none, and says nothing of these
 abbrev pub nobody : held.Denot
-nobody = record { engine = record { tables = []; unfinished = short [] ∷ [] }; out = record { bytes = []; room = 0 }; one_stream = lit< tt }
+nobody = record { side = Memory (record { engine = record { tables = []; unfinished = short [] ∷ [] }; one_stream = lit< tt }); out = record { bytes = []; room = 0 } }
 
 pub word_good : (p : Ptr) (y : Bool) → Good (layout handle.the_row) (word p y)
 word_good p y = (both_tt (has_ty ty_ptr (ptr_val p)) true (Ptr-Good p).0 tt, ((Ptr-Good p).1, (tt, tt)))

@@ -1,72 +1,107 @@
 //! The tables that a handle leads to.
 
-ghost use Rattle.std.specs.Prelude.{◌<◌, ◌∷◌, [], ℕ, MatchResult, length};
+ghost use Rattle.std.specs.Prelude.{MatchResult};
 ghost use Rattle.schema_file.specs.Meaning.{schema_of};
 ghost use Rattle.table_schema.specs.Meaning.{Fails};
-ghost use Rattle.table_engine.specs.Run.{bytes_of, end};
 
-use crate::status::{MEMORY, OK, ROOM};
-use schema_file::read_schema;
+use crate::handing::hand_out;
+use crate::kept::{Kept, sync_number};
+use crate::memory::Memory;
+use crate::status::{MEMORY, OK};
 use std::alloc::Global;
-use table_engine::Engine;
 use table_reply::Out;
 use table_schema::SchemaFault;
+
+/// Tables in memory, or those that a folder keeps.
+#[derive(Drop)]
+pub enum Side {
+    Memory(Memory),
+    Folder(Kept),
+}
 
 /// Tables with one stream of lines, and the answers that wait to be taken.
 #[derive(Drop)]
 pub struct Held {
-    pub(crate) engine: Engine,
+    pub(crate) side: Side,
     pub(crate) out: Out,
-    ghost one_stream: { 0 < length engine.unfinished },
 }
 
 impl Held {
-    ghost use Rattle.tables_c.specs.Calls.{Carries, IsFresh, Moves};
+    ghost use Rattle.tables_c.specs.Calls.{Carried, EndCarried, IsFresh, IsKeeping, Moves, RefusesFolder, SyncsHeld};
 
     // The empty tables of a schema file.
     pub(crate) fn new(alloc: Global, schema: &[u8]) -> Result<Held, SchemaFault>
         ensures { MatchResult result (λ held. IsFresh (schema_of schema.now) held) (λ fault. Fails fault (schema_of schema.now)) }
     {
-        let schema = read_schema(alloc, schema)?;
-        let engine = Engine::new(alloc, &schema, 1)?;
+        let memory = Memory::new(alloc, schema)?;
         match Out::new(alloc) {
-            Ok(out) => Ok(Held { engine, out }),
+            Ok(out) => Ok(Held {
+                side: Side::Memory(memory),
+                out,
+            }),
             Err(_) => Err(SchemaFault::Memory),
+        }
+    }
+
+    // The tables of a schema file that the folder at a path keeps.
+    pub(crate) fn in_folder(
+        alloc: Global,
+        schema: &[u8],
+        path: &[u8],
+        is_synced: bool,
+    ) -> Result<Held, u8>
+        ensures { MatchResult result (λ held. IsKeeping (schema_of schema.now) is_synced held) (λ status. RefusesFolder (schema_of schema.now) status) }
+    {
+        let kept = match Kept::new(alloc, schema, path, is_synced) {
+            Ok(kept) => kept,
+            Err(status) => return Err(status),
+        };
+        match Out::new(alloc) {
+            Ok(out) => Ok(Held {
+                side: Side::Folder(kept),
+                out,
+            }),
+            Err(_) => Err(MEMORY),
         }
     }
 
     // Takes the next bytes of the stream, and keeps the answers to the lines that they end.
     pub(crate) fn call(&mut self, lines: &[u8]) -> (u8, usize)
-        ensures { Carries self.old (bytes_of 0 lines.now) result.0 result.1 self.new }
+        ensures { Carried self.old lines.now result.0 result.1 self.new }
     {
-        match self.engine.feed(0, lines, &mut self.out) {
-            Ok(()) => (OK, lines.len()),
-            Err(stop) => (MEMORY, stop.taken),
+        match &mut self.side {
+            Side::Memory(memory) => memory.call(lines, &mut self.out),
+            Side::Folder(kept) => kept.call(lines, &mut self.out),
         }
     }
 
     // Takes the end of the stream, and keeps the answer to a line that it ends.
     pub(crate) fn end(&mut self) -> u8
-        ensures { (taken : ℕ) × Carries self.old (end 0 ∷ []) result taken self.new }
+        ensures { EndCarried self.old result self.new }
     {
-        match self.engine.finish(0, &mut self.out) {
-            Ok(()) => OK,
-            Err(_) => MEMORY,
+        match &mut self.side {
+            Side::Memory(memory) => memory.end(&mut self.out),
+            Side::Folder(kept) => kept.end(&mut self.out),
         }
     }
 
-    // Moves the answers that wait to the front of the room, if they fit, and tells how long they are.
+    // Moves the answers that wait to the front of the room, if they fit, and tells how long they are. Those of a folder wait until its logs are settled.
     pub(crate) fn take(&mut self, room: &mut [u8]) -> (u8, usize)
         ensures { Moves self.old room.old result.0 result.1 room.new self.new }
     {
-        let bytes = self.out.bytes();
-        let length = bytes.len();
-        if length > room.len() {
-            return (ROOM, length);
+        match &mut self.side {
+            Side::Memory(_) => hand_out(&mut self.out, room),
+            Side::Folder(kept) => kept.hand_out(&mut self.out, room),
         }
-        let (front, _) = room.split_at_mut(length);
-        front.copy_from_slice(bytes);
-        self.out.clear();
-        (OK, length)
+    }
+
+    // Makes sure of what was written.
+    pub(crate) fn sync(&mut self) -> u8
+        ensures { SyncsHeld self.old result self.new }
+    {
+        match &mut self.side {
+            Side::Memory(_) => OK,
+            Side::Folder(kept) => sync_number(kept.sync()),
+        }
     }
 }

@@ -3,16 +3,19 @@
 
 ghost use Rattle.std.specs.Prelude.{◌≡◌, None};
 ghost use Rattle.schema_file.specs.Meaning.{schema_of};
-ghost use Rattle.tables_c.specs.Calls.{Calls, Ends, Opens, Takes, led};
+ghost use Rattle.tables_c.specs.Calls.{Calls, Ends, Opens, OpensFolder, SyncsAll, Takes, led};
 
 mod batch;
 mod cells;
 mod change;
 mod get;
+mod handing;
 mod handle;
 mod held;
+mod kept;
 mod keyed;
 mod made;
+mod memory;
 mod order;
 mod parts;
 mod row_calls;
@@ -29,8 +32,8 @@ pub use order::RowPart;
 pub use rows::Rows;
 use status::number_of;
 pub use status::{
-    BANNED, FULL, HANDLE, KEY, KIND, LIMIT, LOST, MEMORY, NAME, NONE, OK, PLACE, ROOM, ROW, SEARCH,
-    SHAPE, SPENT, STALE, TABLE, TOML,
+    BANNED, DEVICE, FULL, HANDLE, HURT, KEY, KIND, LIMIT, LOG, LOST, MEMORY, NAME, NONE, OK, OTHER,
+    PLACE, ROOM, ROW, SEARCH, SHAPE, SPENT, STALE, TABLE, TAKEN, TOML,
 };
 use std::alloc::Global;
 pub use told::RowHandle;
@@ -54,6 +57,46 @@ pub extern "C" fn tc_open(alloc: Global, tables: &mut Handle, schema: &[u8]) -> 
         },
         Err(fault) => number_of(fault),
     }
+}
+
+/// Opens the tables of a schema file that a folder keeps.
+#[unsafe(no_mangle)]
+pub extern "C" fn tc_open_folder(
+    alloc: Global,
+    tables: &mut Handle,
+    schema: &[u8],
+    folder: &[u8],
+    is_synced: bool,
+) -> u8
+    ensures { OpensFolder (led tables.old) (schema_of schema.now) is_synced result (led tables.new) }
+{
+    if let Some(held) = tables.take(alloc) {
+        tables.put(alloc, held);
+        return HANDLE;
+    }
+    match Held::in_folder(alloc, schema, folder, is_synced) {
+        Ok(held) => match Box::new(alloc, held) {
+            Ok(held) => {
+                tables.put(alloc, held);
+                OK
+            }
+            Err(_) => MEMORY,
+        },
+        Err(status) => status,
+    }
+}
+
+/// Makes sure of all writes of tables that a folder keeps.
+#[unsafe(no_mangle)]
+pub extern "C" fn tc_sync(alloc: Global, tables: &mut Handle) -> u8
+    ensures { SyncsAll (led tables.old) result (led tables.new) }
+{
+    let Some(mut held) = tables.take(alloc) else {
+        return HANDLE;
+    };
+    let status = held.sync();
+    tables.put(alloc, held);
+    status
 }
 
 /// Takes the next bytes of a stream of lines, however it is cut, and keeps the answers to the lines that they end.

@@ -67,6 +67,21 @@ pub const TABLE: u8 = 18;
 /// The place is greater than the number of records.
 pub const PLACE: u8 = 19;
 
+/// A file or the folder can't be opened, read, made, written or synced.
+pub const DEVICE: u8 = 20;
+
+/// Another program has the folder.
+pub const TAKEN: u8 = 21;
+
+/// The folder has a table of this name with another declaration.
+pub const OTHER: u8 = 22;
+
+/// What stands in the folder is not whole, or is not of these tables.
+pub const HURT: u8 = 23;
+
+/// A log can't be written or synced, now or before.
+pub const LOG: u8 = 24;
+
 // The status of a fault.
 pub(crate) fn number_of(fault: SchemaFault) -> u8
     ensures { result ≡ number_of fault }

@@ -1,6 +1,4 @@
 use Rattle.tables_c.proofs.tc_end.Goals as goal
 
 pub returns : goal.returns
-returns c =
-    let carries = c.end-status.ensures in
-    rw (← c.in-Some.ensures.taken) (c.end-status.new.self, c.put.ensures, carries.0, rw (← c.deref_mut.ensures.value) carries.1)
+returns c = rw (← c.in-Some.ensures.taken) (c.end-status.new.self, c.put.ensures, rw (← c.deref_mut.ensures.value) c.end-status.ensures)
