@@ -1,9 +1,10 @@
-"""Tables with several indices: in this process, or of a server.
+"""Tables with several indices: in this process, in a folder that keeps them, or of a server.
 
     from pathlib import Path
-    from thwartcornel import connect, Tables, Container
+    from thwartcornel import connect, open_folder, Tables, Container
 
     with Tables(Path("schema.toml")) as db:                   # in process, or
+    with open_folder("data", Path("schema.toml")) as db:      # in process, and kept in a folder, or
     with connect("unix:/run/tables") as db:                   # of a server, or
     with connect(process=["table_server", "run", "--schema", "schema.toml"]) as db:
         people = db["people"]
@@ -15,7 +16,7 @@
             person.age += 1
 
 `Container` has the same calls on records of a dataclass, in process and without JSON. See help(thwartcornel.Table), help(thwartcornel.Container)
-and help(thwartcornel.connect). Nothing is needed beside the standard library, and for Tables and Container libthwartcornel.so.
+and help(thwartcornel.connect). Nothing is needed beside the standard library, and for what is in process libthwartcornel.so.
 """
 from .containers import Container
 from .faults import (
@@ -32,6 +33,7 @@ from .faults import (
     Closed,
     Erased,
     Fault,
+    FolderError,
     Full,
     NoIndex,
     NoMemory,
@@ -43,7 +45,7 @@ from .faults import (
     Stale,
     WrongKind,
 )
-from .process import Tables
+from .process import FolderTables, Tables, open_folder
 from .records import Records
 from .schemas import Column, Index, hashed, ordered, random_access, ranked, schema_text, sequenced
 from .streams import Connection, connect
@@ -53,7 +55,7 @@ from .values import Cell, Handle, Row
 __version__ = "0.1.0"
 __all__ = [
     "BadCommand", "BadDefinition", "BadJson", "BadKey", "BadLine", "BadOrder", "BadPlace", "BadRow", "Banned", "Cell", "Clash", "Closed", "Column",
-    "Connection", "Container", "Database", "Erased", "Fault", "Full", "Handle", "Index", "Later", "NoIndex", "NoMemory", "NoTable", "Overflow", "Pipeline",
-    "Records", "Refused", "Row", "SchemaError", "Spent", "Stale", "Table", "Tables", "WrongKind", "connect", "hashed", "ordered", "random_access", "ranked",
-    "schema_text", "sequenced",
+    "Connection", "Container", "Database", "Erased", "Fault", "FolderError", "FolderTables", "Full", "Handle", "Index", "Later", "NoIndex", "NoMemory",
+    "NoTable", "Overflow", "Pipeline", "Records", "Refused", "Row", "SchemaError", "Spent", "Stale", "Table", "Tables", "WrongKind", "connect", "hashed",
+    "open_folder", "ordered", "random_access", "ranked", "schema_text", "sequenced",
 ]  # fmt: skip

@@ -29,6 +29,27 @@ class SchemaError(ValueError):
         return f"{self.fault}: {SCHEMAS[self.fault]}"
 
 
+FOLDERS = {
+    "device": "a file or the folder can't be opened, read, made, written or synced",
+    "taken": "another program has the folder, or other tables of this one",
+    "other": "the folder has a table of this name that is declared otherwise, and `table_keeper --alter` changes it",
+    "hurt": "what the folder has is not whole, or not of these tables, and `table_keeper --compact` tells which file and why",
+    "log": "a log can't be written or synced: see to the disk, and open the folder again",
+}
+
+
+class FolderError(OSError):
+    """Tables that a folder keeps can't be opened, or written any more: `fault` is device, taken, other, hurt or log, and `filename` the folder."""
+
+    def __init__(self, fault: str, folder: str | None = None) -> None:
+        super().__init__(fault)
+        self.fault = fault
+        self.filename = folder
+
+    def __str__(self) -> str:
+        return f"{self.fault}: {self.filename}: {FOLDERS[self.fault]}"
+
+
 class Closed(ValueError):
     """A call of tables that are closed, or whose connection has ended."""
 

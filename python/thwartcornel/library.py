@@ -8,15 +8,16 @@ import struct
 import threading
 from typing import Union
 
-from .faults import Closed, SchemaError
+from .faults import Closed, FolderError, SchemaError
 
 FILE = "libthwartcornel.so"
 HERE = os.path.dirname(os.path.abspath(__file__))
 # Where the library is sought, if the environment names none: in the package, and in the folder of docs/EMBED.md of a clone.
 PLACES = [f"{HERE}/{FILE}", f"{HERE}/../../out/{FILE}"]
 # What a call answers.
-OK, MEMORY, HANDLE, ROOM, NONE = 0, 1, 7, 8, 9
+OK, MEMORY, HANDLE, ROOM, NONE, LOG = 0, 1, 7, 8, 9, 24
 SCHEMA_FAULTS = {2: "toml", 3: "shape", 4: "limit", 5: "name", 6: "key"}
+FOLDER_FAULTS = {20: "device", 21: "taken", 22: "other", 23: "hurt", LOG: "log"}
 # The faults of calls on typed records, by their names in docs/PROTOCOL.md.
 ROW_FAULTS = {MEMORY: "memory", 10: "row", 11: "key", 12: "kind", 13: "handle", 14: "banned", 15: "erased", 16: "full", 17: "spent", 18: "table", 19: "place"}
 
@@ -43,7 +44,7 @@ class Part(ctypes.Structure):
 
 
 # The calls on tables by lines, and on typed records, by their names behind the prefix.
-LINES = ("tc_", "open call end take close")
+LINES = ("tc_", "open open_folder sync call end take close")
 ROWS = ("tc_rows_", "open insert insert_all modify erase erase_key clear size move sort get find lower upper count first last next previous nth rank place close")
 
 
@@ -90,7 +91,7 @@ class Held:
     """
 
     def __init__(self, calls: tuple[str, str], named: str | None) -> None:
-        self.opened, self._thread = Opened(), threading.get_ident()
+        self.opened, self._thread, self.folder = Opened(), threading.get_ident(), ""
         self.to = ctypes.byref(self.opened)
         library = loaded(path_of(named))
         prefix, names = calls
@@ -98,9 +99,19 @@ class Held:
 
     def open(self, text: bytes, *more: int) -> None:
         """Opens what a schema file's text tells. Raises SchemaError and MemoryError."""
-        status = self.calls["open"](self.to, text, *map(ctypes.c_size_t, (len(text), *more)))
+        self.check(self.calls["open"](self.to, text, *map(ctypes.c_size_t, (len(text), *more))))
+
+    def open_folder(self, text: bytes, folder: str, is_synced: bool) -> None:
+        """Opens the tables of a schema file's text that a folder keeps. Raises FolderError too."""
+        self.folder, path, size = folder, os.fsencode(folder), ctypes.c_size_t
+        self.check(self.calls["open_folder"](self.to, text, size(len(text)), path, size(len(path)), ctypes.c_bool(is_synced)))
+
+    def check(self, status: int) -> None:
+        """Raises what the status of an open or of a log tells."""
         if status == MEMORY:
             raise MemoryError
+        if status in FOLDER_FAULTS:
+            raise FolderError(FOLDER_FAULTS[status], self.folder)
         if status != OK:
             raise SchemaError(SCHEMA_FAULTS.get(status, "table"))
 
