@@ -5,6 +5,7 @@
 //                                    what each is answered goes to LINES.answers
 // asks SCHEMA LINES                  each line asked, with its newline or without; the answers go to LINES.answers
 // refused SCHEMA LINES               the same with each allocation refused in turn, of the library and of the answers' texts
+// folder SCHEMA FOLDER LINES         each line asked of tables that a folder keeps, one half before they are closed and opened again; the same
 // rows SCHEMA TABLE CALLS            the typed calls of tools/gate/typed_lines.py on the container of a table; what each is told goes to CALLS.answers
 // rows_refused SCHEMA TABLE CALLS    the same with each allocation refused in turn
 #include "thwartcornel.hpp"
@@ -259,6 +260,49 @@ static void ask(const std::vector<std::string> &words, bool refuses)
     std::printf("%ld\n", all);
 }
 
+// ---- tables that a folder keeps
+
+static tables opened_at(std::string_view schema, std::string_view folder, bool is_synced)
+{
+    status why = status::room;
+    auto found = tables::open_folder(schema, folder, is_synced, &why);
+    is("an open of a folder", found && why == status::ok);
+    return std::move(*found);
+}
+
+static std::string asked_of(tables held, std::string_view lines)
+{
+    std::string answers;
+    for (std::size_t length; !lines.empty(); lines.remove_prefix(length)) {
+        length = lines.find('\n') + 1;
+        answers += held.ask(lines.substr(0, length)).value();
+    }
+    is("a sync", held.sync() == status::ok);
+    return answers;
+}
+
+static void keep(const std::vector<std::string> &words)
+{
+    std::string schema = read_file(words[0]), lines = read_file(words[2]), answers;
+    std::string_view folder = words[1];
+    std::size_t half = lines.find('\n', lines.size() / 2) + 1;
+    {
+        status why{};
+        tables first = opened_at(schema, folder, true);
+        is("a second one", !tables::open_folder(schema, folder, true, &why) && why == status::taken);
+        is("another schema", !tables::open_folder("x", folder) && !tables::open_folder(schema, words[0], true, &why) && why == status::device);
+        tables moved = std::move(first);
+        is("a sync of closed tables", first.sync() == status::handle);
+        answers = asked_of(std::move(moved), std::string_view(lines).substr(0, half));
+    }
+    answers += asked_of(opened_at(schema, folder, false), std::string_view(lines).substr(half));
+    auto in_memory = tables::open(schema);
+    is("a sync of tables in memory", in_memory && in_memory->sync() == status::ok);
+    in_memory.reset();
+    is("all blocks given back", !live);
+    write_file(words[2] + ".answers", answers);
+}
+
 // ---- typed calls
 
 static std::string spelled(const handle &it)
@@ -496,6 +540,8 @@ int main(int many, char **all)
         hand_in_pieces(words);
     else if ((what == "asks" || what == "refused") && words.size() == 2)
         ask(words, what == "refused");
+    else if (what == "folder" && words.size() == 3)
+        keep(words);
     else if ((what == "rows" || what == "rows_refused") && words.size() == 3)
         call_rows(words, what == "rows_refused");
     else

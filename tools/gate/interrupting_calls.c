@@ -1,6 +1,7 @@
 /* Interrupts calls of a program: preloaded. INTERRUPTS=N: N times before each call of a kind is made, it is answered EINTR.
-   INTERRUPT_EVERY=N: each Nth call is. TICKS=N: a signal comes every N microseconds, and interrupts what waits. With COUNTED_FILE it writes how
-   many calls of each kind were answered EINTR, and how many signals came, to that file when the program ends by _exit. */
+   INTERRUPT_EVERY=N: each Nth call is. OF_FILES=1: so are calls on places and locks of files. TICKS=N: a signal comes every N microseconds,
+   and interrupts what waits. With COUNTED_FILE it writes how many calls of each kind were answered EINTR, and how many signals came, to that
+   file when the program ends by _exit. */
 #define _GNU_SOURCE
 #include <dlfcn.h>
 #include <errno.h>
@@ -10,6 +11,7 @@
 #include <stdatomic.h>
 #include <stdio.h>
 #include <stdlib.h>
+#include <sys/file.h>
 #include <sys/socket.h>
 #include <sys/syscall.h>
 #include <sys/time.h>
@@ -18,7 +20,7 @@
 enum kind { READ, RECV, WRITE, SEND, ACCEPT, OPEN, SYNC, KINDS };
 
 static const char *names[KINDS] = {"read", "recv", "write", "send", "accept", "open", "sync"};
-static long before_each, every;
+static long before_each, every, of_files;
 static atomic_long made, ticks, told[KINDS];
 static __thread long in_a_row[KINDS];
 
@@ -41,6 +43,7 @@ __attribute__((constructor)) static void begin(void)
     struct itimerval timer = {{wait / 1000000, wait % 1000000}, {wait / 1000000, wait % 1000000}};
     before_each = number("INTERRUPTS");
     every = number("INTERRUPT_EVERY");
+    of_files = number("OF_FILES");
     if (wait) {
         sigaction(SIGALRM, &action, NULL);
         setitimer(ITIMER_REAL, &timer, NULL);
@@ -101,6 +104,31 @@ int accept4(int file, struct sockaddr *address, socklen_t *size, int flags)
 {
     REAL(accept4);
     return interrupted(ACCEPT) ? -1 : real(file, address, size, flags);
+}
+
+/* (a read of no bytes waits for nothing) */
+ssize_t pread(int file, void *bytes, size_t count, off_t at)
+{
+    REAL(pread);
+    return of_files && count && interrupted(READ) ? -1 : real(file, bytes, count, at);
+}
+
+ssize_t pwrite(int file, const void *bytes, size_t count, off_t at)
+{
+    REAL(pwrite);
+    return of_files && interrupted(WRITE) ? -1 : real(file, bytes, count, at);
+}
+
+int ftruncate(int file, off_t count)
+{
+    REAL(ftruncate);
+    return of_files && interrupted(SYNC) ? -1 : real(file, count);
+}
+
+int flock(int file, int how)
+{
+    REAL(flock);
+    return of_files && interrupted(OPEN) ? -1 : real(file, how);
 }
 
 int fsync(int file)

@@ -1,6 +1,6 @@
 """Calls the package for Python in each way, for tools/gate/run_python, which puts the package on the path.
 
-python_trials.py PART LIBRARY PROGRAM ROOM [SCRIPTS [LINES]]     PART is tables, containers, servers, pipelines or edges
+python_trials.py PART LIBRARY PROGRAM ROOM [SCRIPTS [LINES]]     PART is tables, containers, servers, pipelines, folders or edges
 
 It ends with a sentence and status 1 where a call returns or raises something else than the plain machine answers.
 """
@@ -12,6 +12,7 @@ import json
 import os
 import pathlib
 import random
+import resource
 import socket
 import subprocess
 import sys
@@ -22,6 +23,7 @@ sys.dont_write_bytecode = True
 sys.path[0] = os.path.dirname(sys.path[0])
 from draw.drawing import Drawer
 from gate.python_calls import CALLS, answer, answered, call_of, row_of, wanted
+from reference.checked_log import read_marks
 from reference.plain_machine import Machine
 from reference.worked_examples import CASES, SCHEMA, SPEND
 
@@ -341,6 +343,104 @@ def fault_amid(database):
         return 1 // 0
 
 
+# ---- tables that a folder keeps
+
+
+def try_folders(library, _program, room, scripts):
+    """Drawn lines in a folder that is closed and opened again amid them, kills, and what a folder or a log is refused for."""
+    for seed in range(2):
+        machine_lines = scripts.drawn(400 + seed)
+        for at in range(0, len(machine_lines), 100):
+            with module.open_folder(f"{room}/drawn{seed}", SCHEMA, seed == 0, library) as tables:
+                play("a folder", tables, machine_lines[at : at + 100], random.Random(seed))
+    try_kills(library, room)
+    try_syncs(library, room)
+    try_folder_faults(library, room)
+    try_full_disk(library, room)
+
+
+# A program that prints each handle that it was told, and goes on until it is killed.
+WRITER = """import sys, thwartcornel
+with thwartcornel.open_folder(sys.argv[1], sys.argv[2], library=sys.argv[3]) as tables:
+    for n in range(tables["n"].size(), 10**6):
+        print(tables["n"].insert(id=n, m=n), flush=True)
+"""
+
+
+def try_kills(library, room):
+    """Kills of a program that writes: each write that was told is there."""
+    told = []
+    for seed in range(5):
+        with subprocess.Popen([sys.executable, "-c", WRITER, f"{room}/killed", SCHEMA, library], stdout=subprocess.PIPE, encoding="utf-8") as process:
+            found = [process.stdout.readline() for _ in range(3 + 4 * seed)]
+            same("a folder that another program has", raises("a folder", module.FolderError, module.open_folder, f"{room}/killed", SCHEMA, True, library).fault, "taken")
+            process.kill()
+            found += [it for it in process.stdout if it.endswith("\n")]
+        told += [it.strip() for it in found]
+        with module.open_folder(f"{room}/killed", SCHEMA, True, library) as tables:
+            there = [str(handle) for handle, _ in tables["n"].walk("u")]
+            same(f"what is there behind kill {seed}", there[: len(told)], told)
+            told = there
+
+
+def try_syncs(library, room):
+    """A write that is synced before its answer, and one that is not until it is asked for."""
+    for synced in (True, False):
+        folder = pathlib.Path(room, f"synced{synced}")
+        with module.open_folder(folder, SCHEMA, synced, library) as tables:
+            tables["n"].insert(id=1, m=2)
+            same("the mark", read_marks((folder / "n.mark").read_bytes())[0].number, int(synced))
+            tables.sync()
+            same("the mark behind a sync", read_marks((folder / "n.mark").read_bytes())[0].number, 1)
+
+
+def try_folder_faults(library, room):
+    """What a folder is refused for."""
+    folder, opened = pathlib.Path(room, "faults"), lambda schema=SCHEMA, at=None: module.open_folder(at or folder, schema, True, library)
+    with opened() as tables:
+        handle = tables["n"].insert(id=1, m=2)
+        why = raises("a second one", module.FolderError, opened)
+        same("a second one", (why.fault, why.filename, isinstance(why, OSError)), ("taken", str(folder), True))
+        if "another program has the folder" not in str(why) or str(folder) not in str(why) or "open" not in repr(tables):
+            stop(f"a taken folder is told as {why}, and tables as {tables!r}")
+        same("the folder", tables.folder, str(folder))
+        with tables.pipeline() as many:
+            handles = [many["n"].insert(id=n, m=n) for n in range(10, 30)]
+        tables.sync()
+    same("a ban behind it", [raises("a record", module.Closed, tables["n"].get, it) and None for it in (handle,)], [None])
+    raises("a sync of closed tables", module.Closed, tables.sync)
+    with opened() as tables:
+        same("what is there", [tables["n"][it.value].id for it in handles], list(range(10, 30)))
+    same("another schema", raises("another schema", module.FolderError, opened, SCHEMA.replace('"y"', '"z"')).fault, "other")
+    same("no schema", raises("no schema", module.SchemaError, opened, "[table").fault, "toml")
+    for at in ("/dev/null", f"{room}/none/data", b"\xff".decode(errors="surrogateescape")):
+        same(f"the folder {at!r}", raises("a folder", module.FolderError, opened, SCHEMA, at).fault, "device")
+    log = folder / "n.log"
+    log.write_bytes(log.read_bytes().replace(b'"m":2', b'"m":3'))
+    same("a line that is hurt", raises("a line", module.FolderError, opened).fault, "hurt")
+
+
+def try_full_disk(library, room):
+    """A log that can't grow: that is told by each call, and by no fault of a line, and the next open has what was answered."""
+    before = resource.getrlimit(resource.RLIMIT_FSIZE)
+    with module.open_folder(f"{room}/full", SCHEMA, True, library) as tables:
+        resource.setrlimit(resource.RLIMIT_FSIZE, (3000, before[1]))
+        told = []
+        for n in range(1000):
+            try:
+                told.append(tables["n"].insert(id=n, m=n))
+            except module.FolderError as why:
+                same("a log that can't grow", why.fault, "log")
+                break
+        for _ in range(3):
+            same("a call behind it", raises("a log", module.FolderError, tables["n"].size).fault, "log")
+        resource.setrlimit(resource.RLIMIT_FSIZE, before)
+        same("a call once there is room", raises("a log", module.FolderError, tables["n"].insert, id=5000, m=5000).fault, "log")
+    with module.open_folder(f"{room}/full", SCHEMA, True, library) as tables:
+        same("what is there", [handle for handle, _ in tables["n"].walk("u")], told)
+        tables["n"].insert(id=5000, m=5000)
+
+
 # ---- what fails
 
 
@@ -484,7 +584,7 @@ def try_help():
                 typing.get_type_hints(call)
 
 
-PARTS = {"tables": try_tables, "containers": try_containers, "servers": try_servers, "pipelines": try_pipelines, "edges": try_edges}
+PARTS = {"tables": try_tables, "containers": try_containers, "servers": try_servers, "pipelines": try_pipelines, "folders": try_folders, "edges": try_edges}
 
 
 def main():
