@@ -69,6 +69,12 @@ class Said:
             left += new
         return found
 
+    def refusal(self, symbol):
+        """What the check refuses of the function's own, or else of what its proof stands on; empty where it is proved, or waits for a callee."""
+        words = self.functions.get(symbol, "")
+        stands = re.search(r"it stands on (`[^`]*`)", words) if words.startswith("not proved") else None
+        return self.own_refusal(symbol) or (f"antt refuses {stands[1]}" if stands else "")
+
     def own_refusal(self, symbol):
         """What the check refuses of the function's own, whatever becomes of its callees; empty where it says nothing of that."""
         words = self.functions.get(symbol, "")
